@@ -1,0 +1,5 @@
+pub mod Chains
+pub mod Device
+pub mod Flags
+pub mod Objects
+pub mod Properties

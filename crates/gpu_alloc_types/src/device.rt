@@ -1,0 +1,61 @@
+//! A device that holds memory objects, and the handles of its objects.
+
+ghost use Rattle.std.specs.Prelude.{◌≡◌, ℕ, Option, IfSome};
+ghost use Rattle.std.specs.Result.{result_map_both};
+ghost use Rattle.gpu_alloc_types.specs.Flags.{allocation_bits};
+ghost use Rattle.gpu_alloc_types.specs.Properties.{Properties};
+ghost use Rattle.gpu_alloc_types.specs.Device.{Object, Event, Row, IsWellFormed, IsAskable, IsHeld};
+ghost use Rattle.gpu_alloc_types.specs.Device.Event.{Allocated, Deallocated};
+
+use crate::{AllocationFlags, OutOfMemory};
+
+/// A handle of a memory object. To let one go tells the device nothing.
+pub trait MemoryObject: Drop {
+    /// The name of the handle's object.
+    ghost object: { Self → ℕ };
+
+    /// The name of the handle's object. A device holds its objects by these names.
+    fn object(&self) -> u64
+        ensures { result ≡ object self.now };
+}
+
+/// A device, seen by the objects that it holds.
+///
+/// A call may refuse whatever can fail, each time anew. What a call does is its step, a relation that each device gives
+/// for itself; whatever the device, a step does what `Row` says and nothing else.
+pub trait MemoryDevice<M: MemoryObject> {
+    /// What the device offers.
+    ghost properties: { Self → Properties };
+
+    /// The objects that it holds, by name.
+    ghost objects: { Self → ℕ → Option Object };
+
+    /// Whether a call with these arguments and this answer may lead from the first state to the second.
+    ghost step: { Self → Event → Self → Type 0 };
+
+    /// Makes an object of `size` bytes of a memory type, or answers why not; then no object has changed.
+    ///
+    /// A new object has a name that was not held before. It is unmapped, and of its bytes nothing is known.
+    fn allocate_memory(
+        &mut self,
+        size: u64,
+        memory_type: u32,
+        flags: AllocationFlags,
+    ) -> Result<M, OutOfMemory>
+        requires { IsAskable (properties self.old) size memory_type (allocation_bits flags) }
+        ensures { step self.old (Allocated size memory_type (allocation_bits flags) (result_map_both M.object (λ e. e) result)) self.new };
+
+    /// Takes an object back, mapped or not. It cannot fail.
+    fn deallocate_memory(&mut self, memory: &M)
+        requires { IsHeld (objects self.old) (M.object memory.now) }
+        ensures { step self.old (Deallocated (M.object memory.now)) self.new };
+
+    /// A step does what its row says, and leaves all else as it was.
+    ghost row: { (old : Self) (e : Event) (new : Self) → step old e new → Row (properties old) (objects old) e (objects new) };
+
+    /// No call changes what the device offers.
+    ghost keeps_properties: { (old : Self) (e : Event) (new : Self) → step old e new → properties new ≡ properties old };
+
+    /// Each object has the bytes that its type and size ask for.
+    ghost well_formed: { (device : Self) (name : ℕ) → IfSome (objects device name) (IsWellFormed (properties device)) };
+}

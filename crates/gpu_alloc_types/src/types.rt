@@ -1,0 +1,89 @@
+//! What a device offers, and why it refuses.
+
+ghost use Rattle.std.specs.Prelude.{◌↔◌, IsTrue};
+ghost use Rattle.gpu_alloc_types.specs.Properties.{IsUsable, properties_of};
+
+use crate::MemoryPropertyFlags;
+
+/// Why a device gives no memory (Vulkan's `VK_ERROR_OUT_OF_DEVICE_MEMORY` and `VK_ERROR_OUT_OF_HOST_MEMORY`).
+#[derive(Clone, Copy, Debug, PartialEq, Eq, Hash)]
+pub enum OutOfMemory {
+    /// The device's memory is exhausted.
+    OutOfDeviceMemory,
+
+    /// The host's memory is exhausted.
+    OutOfHostMemory,
+}
+
+/// Why a device maps nothing.
+#[derive(Clone, Copy, Debug, PartialEq, Eq, Hash)]
+pub enum DeviceMapError {
+    /// The device's memory is exhausted.
+    OutOfDeviceMemory,
+
+    /// The host's memory is exhausted.
+    OutOfHostMemory,
+
+    /// The mapping failed for a reason of the device's own (Vulkan's `VK_ERROR_MEMORY_MAP_FAILED`).
+    MapFailed,
+}
+
+/// A type of memory. Types go by their index in [`DeviceProperties::memory_types`].
+#[derive(Clone, Copy, Debug, PartialEq, Eq, Hash)]
+pub struct MemoryType {
+    /// The index of its heap in [`DeviceProperties::memory_heaps`].
+    pub heap: u32,
+
+    /// Its properties.
+    pub props: MemoryPropertyFlags,
+}
+
+/// A heap, out of which memory of one type or more comes.
+#[derive(Clone, Copy, Debug, PartialEq, Eq, Hash)]
+pub struct MemoryHeap {
+    /// Its size in bytes.
+    pub size: u64,
+}
+
+/// What a device offers.
+#[derive(Clone, Debug, Drop)]
+pub struct DeviceProperties<'a> {
+    /// The memory types, by index.
+    pub memory_types: &'a [MemoryType],
+
+    /// The heaps, by index.
+    pub memory_heaps: &'a [MemoryHeap],
+
+    /// How many memory objects may be held at a time.
+    pub max_memory_allocation_count: u32,
+
+    /// The largest request that is served, in bytes.
+    pub max_memory_allocation_size: u64,
+
+    /// In bytes, what flushes and invalidates of non-coherent memory go by: their ranges begin at a multiple of it, and
+    /// end at one or where the object ends (Vulkan's `nonCoherentAtomSize`).
+    pub non_coherent_atom_size: u64,
+
+    /// Whether memory may be allocated with [`AllocationFlags::DEVICE_ADDRESS`](crate::AllocationFlags).
+    pub buffer_device_address: bool,
+}
+
+impl DeviceProperties<'_> {
+    /// Whether an allocator can stand on these properties: at most 32 memory types, fewer than 2^32 heaps, each type in
+    /// a heap that is there, and the atom a power of two of at most 2^62.
+    pub fn is_usable(&self) -> bool
+        ensures { IsTrue result ↔ IsUsable (properties_of self.now) }
+    {
+        if self.memory_types.len() > 32 || self.memory_heaps.len() as u64 >= 1 << 32 {
+            return false;
+        }
+        let known = self
+            .memory_types
+            .iter()
+            .all(|t| (t.heap as usize) < self.memory_heaps.len());
+        if !known || self.non_coherent_atom_size > 1 << 62 {
+            return false;
+        }
+        self.non_coherent_atom_size.is_power_of_two()
+    }
+}
