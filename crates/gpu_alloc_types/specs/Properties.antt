@@ -63,10 +63,16 @@ is_host_visible p t = has_bit (props_at p t) 2
 abbrev pub is_coherent : Properties → ℕ → Bool
 is_coherent p t = has_bit (props_at p t) 4
 
--- the host sees it, and has to flush and invalidate
-abbrev pub is_non_coherent : Properties → ℕ → Bool
-is_non_coherent p t = is_host_visible p t && not (is_coherent p t)
+-- the host sees memory with these property bits, and has to flush and invalidate it
+abbrev pub are_non_coherent : ℕ → Bool
+are_non_coherent bits = has_bit bits 2 && not (has_bit bits 4)
 
--- a memory type's atom: what its ranges are rounded to
+abbrev pub is_non_coherent : Properties → ℕ → Bool
+is_non_coherent p t = are_non_coherent (props_at p t)
+
+-- the atom of memory with these property bits: what its ranges are rounded to
+abbrev pub atom_for : Properties → ℕ → ℕ
+atom_for p bits = cond (are_non_coherent bits) p.non_coherent_atom_size 1
+
 abbrev pub atom_of : Properties → ℕ → ℕ
-atom_of p t = cond (is_non_coherent p t) p.non_coherent_atom_size 1
+atom_of p t = atom_for p (props_at p t)

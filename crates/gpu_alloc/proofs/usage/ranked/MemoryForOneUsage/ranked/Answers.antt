@@ -1,0 +1,21 @@
+use Rattle.std.proofs.Common.{◌+◌, refl, rules, arith}
+use Rattle.std.proofs.lemmas.Grind.{common_steps}
+use Rattle.gpu_alloc_types.specs.Flags.{usage_bits}
+use Rattle.gpu_alloc.specs.Ranking.{below_key}
+use Rattle.gpu_alloc.proofs.RankingSteps.{length-below_key-le, below_key-more}
+use Rattle.gpu_alloc.proofs.usage.ranked.MemoryForOneUsage.ranked.Goals as goal
+
+pub loop-key-init : goal.loop-key-init
+unfolding below_key
+loop-key-init c = search rules
+
+pub add_key-requires-clause-room : goal.add_key-requires-clause-room
+add_key-requires-clause-room c =
+    let usage = usage_bits c.args.usage in
+    let types = c.args.memory_types.now in
+    let few = rw (below_key-more usage c.loop-key.key types) at (length-below_key-le usage (c.loop-key.key + 1) types) in
+    rw c.loop-key.invariant (grind (arith, common_steps))
+
+pub loop-key-preserved : goal.loop-key-preserved
+loop-key-preserved c =
+    rw (c.add_key.ensures, below_key-more (usage_bits c.args.usage) c.loop-key.key c.args.memory_types.now, c.loop-key.invariant) refl

@@ -1,0 +1,167 @@
+-- How an allocation is decided: what is asked of the device for each candidate, and what the first one that is not
+-- passed answers.
+use Rattle.std.specs.Prelude.{◌≡◌, ◌⊎◌, ℕ, ◌+◌, ◌-◌, ◌%◌, ◌/◌, ◌<◌, ◌≤◌, ◌==◌, Bool, true, false, ◌&&◌, List, [], ◌∷◌, ◌++◌, length, Option, Some, None, Result, Ok, Err, cond, min, nat_lt, nat_le, nat_eq, MatchBool, IfSome}
+use Rattle.std.specs.FinMap as map
+use Rattle.std.specs.FinSet as set
+use Rattle.gpu_alloc_types.specs.Flags.{usage_bits, has_bit}
+use Rattle.gpu_alloc_types.specs.Properties.{Properties, heap_size, props_at, atom_of, is_host_visible, is_non_coherent}
+use Rattle.gpu_alloc_types.specs.Device.{Object, Event, HeldWith, IsFresh, put}
+use Rattle.gpu_alloc_types.specs.Device.Event.{Allocated}
+use Rattle.gpu_alloc_types.specs.declared.types.OutOfMemory.{OutOfMemory}
+use Rattle.gpu_alloc_types.specs.declared.types.OutOfMemory.TheVariants.{OutOfDeviceMemory as DeviceFull, OutOfHostMemory as HostFull}
+use Rattle.gpu_alloc.specs.declared.block.Kind.{Kind}
+use Rattle.gpu_alloc.specs.declared.block.Kind.TheVariants.{Dedicated as DedicatedObject, Imported, BuddyChunk, FreeListChunk}
+use Rattle.gpu_alloc.specs.declared.error.AllocationError.{AllocationError}
+use Rattle.gpu_alloc.specs.declared.error.AllocationError.TheVariants.{OutOfDeviceMemory, OutOfHostMemory, NoCompatibleMemoryTypes, TooManyObjects}
+use Rattle.gpu_alloc.specs.declared.request.Request.{Request}
+use Rattle.gpu_alloc.specs.declared.request.Dedicated.{Dedicated}
+use Rattle.gpu_alloc.specs.declared.request.Dedicated.TheVariants.{Required, Preferred}
+use Rattle.gpu_alloc.specs.Ranking.{candidates}
+use Rattle.gpu_alloc.specs.Request.{is_required}
+use Rattle.gpu_alloc.specs.Sizes.{up, preferred_threshold, transient_threshold, final_size}
+use Rattle.gpu_alloc.specs.State.{HeldObject, Span, Block, span_of, State, IsLive, IsOwned, AreApart}
+
+-- Which way a candidate is served.
+
+pub data Strategy : Type 0 where
+  OwnObject : Strategy
+  InBuddyChunk : Strategy
+  InFreeList : Strategy
+
+-- the request is small against a threshold, and against the candidate's heap
+abbrev pub is_small : State → Request → ℕ → ℕ → Bool
+is_small s r threshold t = nat_lt r.size (min threshold (heap_size s.properties t / 32))
+
+-- in whole atoms it fits a largest free-list chunk
+abbrev pub fits_a_chunk : State → Request → ℕ → Bool
+fits_a_chunk s r t =
+    let atom = atom_of s.properties t in
+    nat_le (up r.size atom) (final_size s.config (heap_size s.properties t) atom)
+
+abbrev pub unhinted : State → Request → ℕ → Strategy
+unhinted s r t =
+    cond (has_bit (usage_bits r.usage) 16)
+    (cond (is_small s r (transient_threshold s.config) t && fits_a_chunk s r t) InFreeList OwnObject)
+    (cond (is_small s r s.config.dedicated_threshold t) InBuddyChunk OwnObject)
+
+abbrev pub strategy : State → Request → Option Dedicated → ℕ → Strategy
+strategy s r (Some Required) t = OwnObject
+strategy s r (Some Preferred) t = cond (nat_le (preferred_threshold s.config) r.size) OwnObject (unhinted s r t)
+strategy s r None t = unhinted s r t
+
+-- What is asked of the device.
+
+-- the flags of every question: the address flag exactly where the device has the feature
+abbrev pub flags_of : Properties → ℕ
+flags_of p = cond p.buffer_device_address 1 0
+
+-- a question to allocate, with its answer
+abbrev pub asked : State → ℕ → ℕ → Result ℕ OutOfMemory → Event
+asked s size t answer = Allocated size t (flags_of s.properties) answer
+
+-- for a candidate without a place an object of this size is asked for: for an object of its own, the request's size
+abbrev pub Asks : Strategy → State → Request → ℕ → ℕ → Type 0
+Asks OwnObject s r t size = (0 < s.remaining) × (size ≡ r.size)
+Asks InBuddyChunk s r t size = ⊥
+Asks InFreeList s r t size = ⊥
+
+-- A candidate is passed: its heap is smaller than the request, or the device, asked exactly this, had no memory.
+abbrev pub IsPassed : State → Request → Option Dedicated → ℕ → List Event → Type 0
+IsPassed s r hint t es =
+    ((heap_size s.properties t < r.size) × (es ≡ []))
+    ⊎ ((r.size ≤ heap_size s.properties t)
+      × ((size : ℕ) × Asks (strategy s r hint t) s r t size × (es ≡ asked s size t (Err DeviceFull) ∷ [])))
+
+-- What a candidate that decides answers.
+
+-- an unmapped block that is the whole of an object of its own
+abbrev pub whole_block : State → ℕ → ℕ → ℕ → Block
+whole_block s object size t = record {
+  object = object;
+  offset = 0;
+  size = size;
+  memory_type = t;
+  props = props_at s.properties t;
+  kind = DedicatedObject;
+  mapping = None;
+}
+
+-- one more object is held, with the block in it
+abbrev pub holding : State → HeldObject → Block → State
+holding s h b = record s {
+  held = map.insert s.held b.object h;
+  live = set.insert s.live (span_of b);
+  remaining = s.remaining - 1;
+}
+
+abbrev pub DecidesBy : Strategy → State → Request → ℕ → List Event → Result Block AllocationError → State → Type 0
+DecidesBy OwnObject s r t es (Err TooManyObjects) new = (s.remaining ≡ 0) × (es ≡ []) × (new ≡ s)
+-- host memory was refused: to the allocator, before anything was asked, or to the device
+DecidesBy OwnObject s r t es (Err OutOfHostMemory) new =
+    (0 < s.remaining) × ((es ≡ []) ⊎ (es ≡ asked s r.size t (Err HostFull) ∷ [])) × (new ≡ s)
+DecidesBy OwnObject s r t es (Err OutOfDeviceMemory) new = ⊥
+DecidesBy OwnObject s r t es (Err NoCompatibleMemoryTypes) new = ⊥
+DecidesBy OwnObject s r t es (Ok b) new =
+    (0 < s.remaining)
+    × (es ≡ asked s r.size t (Ok b.object) ∷ [])
+    × (b ≡ whole_block s b.object r.size t)
+    × (new ≡ holding s (record { memory_type = t; counted = r.size; kind = DedicatedObject }) b)
+DecidesBy InBuddyChunk s r t es answer new = ⊥
+DecidesBy InFreeList s r t es answer new = ⊥
+
+abbrev pub Decides : State → Request → Option Dedicated → ℕ → List Event → Result Block AllocationError → State → Type 0
+Decides s r hint t es answer new = (r.size ≤ heap_size s.properties t) × DecidesBy (strategy s r hint t) s r t es answer new
+
+-- One candidate was tried: it is passed, or it decides.
+abbrev pub Tries : State → Request → Option Dedicated → ℕ → List Event → Result (Option Block) AllocationError → State → Type 0
+Tries s r hint t es (Ok None) new = IsPassed s r hint t es × (new ≡ s)
+Tries s r hint t es (Ok (Some b)) new = Decides s r hint t es (Ok b) new
+Tries s r hint t es (Err e) new = Decides s r hint t es (Err e) new
+
+-- In rank, the first candidate that is not passed decides. Where all are passed there is no device memory.
+abbrev pub TriesAll : State → Request → Option Dedicated → List ℕ → List Event → Result Block AllocationError → State → Type 0
+TriesAll s r hint [] es answer new = (es ≡ []) × (answer ≡ Err OutOfDeviceMemory) × (new ≡ s)
+TriesAll s r hint (t ∷ ts) es answer new =
+    ((first rest : List Event) × (es ≡ first ++ rest) × IsPassed s r hint t first × TriesAll s r hint ts rest answer new)
+    ⊎ Decides s r hint t es answer new
+
+-- nothing is asked, and nothing changes
+abbrev pub Refuses : State → AllocationError → List Event → Result Block AllocationError → State → Type 0
+Refuses s e es answer new = (es ≡ []) × (answer ≡ Err e) × (new ≡ s)
+
+-- the candidates of a request: the memory types for its usage whose bit it has set, the best first
+abbrev pub candidates_of : State → Request → List ℕ
+candidates_of s r = candidates s.properties.memory_types (usage_bits r.usage) r.memory_types
+
+-- An allocation: the checks before any candidate in their order, and then the candidates.
+abbrev pub Allocates : State → Request → Option Dedicated → List Event → Result Block AllocationError → State → Type 0
+Allocates s r hint es answer new =
+    MatchBool (nat_lt s.properties.max_memory_allocation_size r.size) (Refuses s OutOfDeviceMemory es answer new) (
+    MatchBool (is_required hint && (s.remaining == 0)) (Refuses s TooManyObjects es answer new) (
+    MatchBool (nat_eq (length (candidates_of s r)) 0) (Refuses s NoCompatibleMemoryTypes es answer new) (
+    TriesAll s r hint (candidates_of s r) es answer new)))
+
+-- What an allocation makes of the device's objects: one more, or nothing.
+abbrev pub ObjectsAfter : Result Block AllocationError → (ℕ → Option Object) → (ℕ → Option Object) → Type 0
+ObjectsAfter (Ok b) old new = (old b.object ≡ None) × ((o : Object) × IsFresh b.size b.memory_type o × (new ≡ put old b.object (Some o)))
+ObjectsAfter (Err e) old new = new ≡ old
+
+-- the same of one candidate that was tried
+abbrev pub ObjectsTried : Result (Option Block) AllocationError → (ℕ → Option Object) → (ℕ → Option Object) → Type 0
+ObjectsTried (Ok None) old new = new ≡ old
+ObjectsTried (Ok (Some b)) old new = ObjectsAfter (Ok b) old new
+ObjectsTried (Err e) old new = new ≡ old
+
+-- what a caller may know of a granted block without following the decision
+pub record IsGranted (s : State) (r : Request) (new : State) (b : Block) : Type 0 where
+  pub enough : r.size ≤ b.size
+  pub aligned : b.offset % (r.align_mask + 1) ≡ 0
+  pub unmapped : b.mapping ≡ None
+  pub owned : IsOwned new b
+  pub was_free : (span : Span) → IsLive s span → AreApart span (span_of b)
+
+-- the same of one candidate that was tried
+abbrev pub GrantsTried : State → Request → Result (Option Block) AllocationError → State → Type 0
+GrantsTried s r (Ok None) new = new ≡ s
+GrantsTried s r (Ok (Some b)) new = IsGranted s r new b
+GrantsTried s r (Err e) new = new ≡ s

@@ -1,0 +1,117 @@
+-- How the values that contracts see are stored.
+use Rattle.std.specs.Prelude.{◌≡◌, ℕ, ◌==◌, Bool, List, cond, Option, refl}
+use Rattle.std.specs.Coded.{Coded, code_by, coded×, coded_ℕ, coded_list, coded_bool, coded_option}
+use Rattle.std.specs.FinMap as map
+use Rattle.std.specs.FinSet as set
+use Rattle.std.specs.Ordering.{nat_cmp}
+use Rattle.gpu_alloc_types.specs.Properties.{Properties}
+use Rattle.gpu_alloc_types.specs.Flags.{property_bits}
+use Rattle.gpu_alloc_types.specs.declared.types.MemoryType.{MemoryType}
+use Rattle.gpu_alloc_types.specs.declared.types.MemoryHeap.{MemoryHeap}
+use Rattle.gpu_alloc.specs.State.{HeldObject, Span, span_cmp, Block, span_of, TypeState, State}
+use Rattle.gpu_alloc.specs.Spans.{Table}
+use Rattle.gpu_alloc.specs.declared.block.Kind.{Kind}
+use Rattle.gpu_alloc.specs.declared.block.Kind.TheVariants.{Dedicated, Imported, BuddyChunk, FreeListChunk}
+use Rattle.gpu_alloc.specs.declared.block.Mapping.{Mapping}
+use Rattle.gpu_alloc.specs.declared.config.Config.{Config}
+
+-- a kind as a number and the number of its chunk
+abbrev pub kind_numbers : Kind → ℕ × ℕ
+kind_numbers Dedicated = (0, 0)
+kind_numbers Imported = (1, 0)
+kind_numbers BuddyChunk = (2, 0)
+kind_numbers (FreeListChunk number) = (3, number)
+
+abbrev pub numbers_kind : ℕ × ℕ → Kind
+numbers_kind p = cond (p.0 == 0) Dedicated (cond (p.0 == 1) Imported (cond (p.0 == 2) BuddyChunk (FreeListChunk p.1)))
+
+pub numbers_kind-kind_numbers : (k : Kind) → numbers_kind (kind_numbers k) ≡ k
+numbers_kind-kind_numbers Dedicated = refl
+numbers_kind-kind_numbers Imported = refl
+numbers_kind-kind_numbers BuddyChunk = refl
+numbers_kind-kind_numbers (FreeListChunk number) = refl
+
+abbrev pub kind_code : Coded Kind
+kind_code = code_by (ℕ × ℕ) (coded× coded_ℕ coded_ℕ) kind_numbers numbers_kind numbers_kind-kind_numbers
+
+abbrev pub held_code : Coded HeldObject
+held_code =
+    code_by (ℕ × (ℕ × Kind)) (coded× coded_ℕ (coded× coded_ℕ kind_code))
+    (λ h. (h.memory_type, (h.counted, h.kind)))
+    (λ c. record { memory_type = c.0; counted = c.1.0; kind = c.1.1 }) (λ _. refl)
+
+abbrev pub span_code : Coded Span
+span_code =
+    code_by (ℕ × (ℕ × ℕ)) (coded× coded_ℕ (coded× coded_ℕ coded_ℕ))
+    (λ s. (s.object, (s.offset, s.size)))
+    (λ c. record { object = c.0; offset = c.1.0; size = c.1.1 }) (λ _. refl)
+
+abbrev pub mapping_code : Coded Mapping
+mapping_code =
+    code_by (ℕ × ℕ) (coded× coded_ℕ coded_ℕ) (λ m. (m.start, m.len)) (λ c. record { start = c.0; len = c.1 }) (λ _. refl)
+
+abbrev pub block_code : Coded Block
+block_code =
+    code_by (Span × ((ℕ × ℕ) × (Kind × Option Mapping))) (coded× span_code (coded× (coded× coded_ℕ coded_ℕ) (coded× kind_code (coded_option mapping_code))))
+    (λ b. (span_of b, ((b.memory_type, b.props), (b.kind, b.mapping))))
+    (λ c. record { object = c.0.object; offset = c.0.offset; size = c.0.size; memory_type = c.1.0.0; props = c.1.0.1; kind = c.1.1.0; mapping = c.1.1.1 })
+    (λ _. refl)
+
+abbrev pub type_state_code : Coded TypeState
+type_state_code =
+    code_by (ℕ × (ℕ × ℕ)) (coded× coded_ℕ (coded× coded_ℕ coded_ℕ))
+    (λ t. (t.next_chunk, (t.list_chunk, t.number)))
+    (λ c. record { next_chunk = c.0; list_chunk = c.1.0; number = c.1.1 }) (λ _. refl)
+
+abbrev pub config_code : Coded Config
+config_code =
+    code_by ((ℕ × (ℕ × ℕ)) × ((ℕ × ℕ) × (ℕ × ℕ))) (coded× (coded× coded_ℕ (coded× coded_ℕ coded_ℕ)) (coded× (coded× coded_ℕ coded_ℕ) (coded× coded_ℕ coded_ℕ)))
+    (λ c. ((c.dedicated_threshold, (c.preferred_dedicated_threshold, c.transient_dedicated_threshold)),
+      ((c.starting_free_list_chunk, c.final_free_list_chunk), (c.minimal_buddy_size, c.initial_buddy_dedicated_size))))
+    (λ n. record {
+      dedicated_threshold = n.0.0;
+      preferred_dedicated_threshold = n.0.1.0;
+      transient_dedicated_threshold = n.0.1.1;
+      starting_free_list_chunk = n.1.0.0;
+      final_free_list_chunk = n.1.0.1;
+      minimal_buddy_size = n.1.1.0;
+      initial_buddy_dedicated_size = n.1.1.1;
+    })
+    (λ _. refl)
+
+abbrev pub type_code : Coded MemoryType
+type_code =
+    code_by (ℕ × ℕ) (coded× coded_ℕ coded_ℕ) (λ t. (t.heap, property_bits t.props))
+    (λ c. record { heap = c.0; props = record { bits = c.1 } }) (λ _. refl)
+
+abbrev pub heap_code : Coded MemoryHeap
+heap_code = code_by ℕ coded_ℕ (λ h. h.size) (λ n. record { size = n }) (λ _. refl)
+
+abbrev pub properties_code : Coded Properties
+properties_code =
+    code_by (List MemoryType × (List MemoryHeap × ((ℕ × ℕ) × (ℕ × Bool))))
+    (coded× (coded_list type_code) (coded× (coded_list heap_code) (coded× (coded× coded_ℕ coded_ℕ) (coded× coded_ℕ coded_bool))))
+    (λ p. (p.memory_types, (p.memory_heaps, ((p.max_memory_allocation_count, p.max_memory_allocation_size), (p.non_coherent_atom_size, p.buffer_device_address)))))
+    (λ c. record {
+      memory_types = c.0;
+      memory_heaps = c.1.0;
+      max_memory_allocation_count = c.1.1.0.0;
+      max_memory_allocation_size = c.1.1.0.1;
+      non_coherent_atom_size = c.1.1.1.0;
+      buffer_device_address = c.1.1.1.1;
+    })
+    (λ _. refl)
+
+abbrev pub state_code : Coded State
+state_code =
+    code_by (map.FinMap nat_cmp HeldObject × (set.FinSet span_cmp × ((ℕ × List TypeState) × (Config × Properties))))
+    (coded× (map.code coded_ℕ held_code) (coded× (set.code span_code) (coded× (coded× coded_ℕ (coded_list type_state_code)) (coded× config_code properties_code))))
+    (λ s. (s.held, (s.live, ((s.remaining, s.types), (s.config, s.properties)))))
+    (λ c. record { held = c.0; live = c.1.0; remaining = c.1.1.0.0; types = c.1.1.0.1; config = c.1.1.1.0; properties = c.1.1.1.1 })
+    (λ _. refl)
+
+abbrev pub table_code : Coded Table
+table_code =
+    code_by (map.FinMap nat_cmp HeldObject × (set.FinSet span_cmp × ℕ)) (coded× (map.code coded_ℕ held_code) (coded× (set.code span_code) coded_ℕ))
+    (λ t. (t.held, (t.live, t.room)))
+    (λ c. record { held = c.0; live = c.1.0; room = c.1.1 }) (λ _. refl)

@@ -1,0 +1,15 @@
+pub mod Agreement
+pub mod Allocation
+pub mod Codes
+pub mod Config
+pub mod Errors
+pub mod Heap
+pub mod Inside
+pub mod Opening
+pub mod Ranked
+pub mod Ranking
+pub mod Release
+pub mod Request
+pub mod Sizes
+pub mod Spans
+pub mod State

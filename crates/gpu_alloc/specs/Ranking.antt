@@ -1,0 +1,109 @@
+-- Which memory types serve a usage, and the order in which they are tried. Usages and properties are numbers of flags.
+use Rattle.std.specs.Prelude.{ℕ, zero, suc, ◌+◌, ◌<◌, ◌≡◌, ◌==◌, Bool, true, false, not, ◌&&◌, ◌||◌, if◌then◌else◌, List, [], ◌∷◌, ◌++◌, length, filter, slice_get, slice_index, Contains, ◌⊎◌, ◌↔◌, bit_and, bit_or}
+use Rattle.std.specs.Int.{bit_at}
+use Rattle.gpu_alloc_types.specs.Flags.{property_bits, has_bit}
+use Rattle.gpu_alloc_types.specs.Properties.{bits_of}
+use Rattle.gpu_alloc_types.specs.declared.types.MemoryType.{MemoryType}
+
+-- What a usage means.
+
+-- no flag means FAST_DEVICE_ACCESS
+abbrev pub with_fast : ℕ → ℕ
+with_fast usage = if usage == 0 then 1 else usage
+
+-- DOWNLOAD and UPLOAD mean HOST_ACCESS too
+abbrev pub with_host : ℕ → ℕ
+with_host usage = if has_bit usage 12 then bit_or usage 2 else usage
+
+-- what a usage means; bits without a name fall away first
+abbrev pub implied : ℕ → ℕ
+implied usage = with_host (with_fast (bit_and usage 63))
+
+-- How well a memory type serves a usage.
+
+-- the host reads or writes: HOST_ACCESS, DOWNLOAD or UPLOAD
+abbrev pub by_host : ℕ → Bool
+by_host usage = has_bit usage 14
+
+-- the device's own memory is wanted: no flag, or FAST_DEVICE_ACCESS
+abbrev pub is_fast : ℕ → Bool
+is_fast usage = (usage == 0) || has_bit usage 1
+
+-- memory may serve a usage: neither LAZILY_ALLOCATED nor PROTECTED, and HOST_VISIBLE where the host reads or writes
+abbrev pub compatible : ℕ → ℕ → Bool
+compatible usage props = not (has_bit props 48) && (not (by_host usage) || has_bit props 2)
+
+-- n where the two differ, else 0
+abbrev pub where_differ : ℕ → Bool → Bool → ℕ
+where_differ n true true = 0
+where_differ n true false = n
+where_differ n false true = n
+where_differ n false false = 0
+
+-- how far memory is from what a usage wants: DEVICE_LOCAL counts 8, HOST_VISIBLE 4, HOST_CACHED 2, HOST_COHERENT 1
+abbrev pub key : ℕ → ℕ → ℕ
+key usage props =
+    where_differ 8 (has_bit props 1) (is_fast usage)
+    + where_differ 4 (has_bit props 2) (by_host usage)
+    + where_differ 2 (has_bit props 8) (has_bit usage 4)
+    + where_differ 1 (has_bit props 4) (has_bit usage 12)
+
+-- The ranking, as a function.
+
+-- memory may serve a usage, and has this key
+abbrev pub has_key : ℕ → ℕ → MemoryType → Bool
+has_key usage k t = compatible usage (property_bits t.props) && (key usage (property_bits t.props) == k)
+
+-- the indices of the compatible types of one key, rising, where the first type has index i
+unfoldable pub of_key : ℕ → ℕ → ℕ → List MemoryType → List ℕ
+of_key usage k i [] = []
+of_key usage k i (t ∷ ts) = if has_key usage k t then i ∷ of_key usage k (i + 1) ts else of_key usage k (i + 1) ts
+
+-- those of the keys below m, by key and then by index
+unfoldable pub below_key : ℕ → List MemoryType → ℕ → List ℕ
+below_key usage types zero = []
+below_key usage types (suc m) = below_key usage types m ++ of_key usage m 0 types
+
+-- the indices of the compatible types, by key and then by index. No key is over 15
+abbrev pub ranking : ℕ → List MemoryType → List ℕ
+ranking usage types = below_key usage types 16
+
+-- whether a type's bit is set in a mask
+abbrev pub is_asked : ℕ → ℕ → Bool
+is_asked mask t = bit_at mask t == 1
+
+-- the types that are tried for a request, in this order: those ranked for what its usage means whose bit is set
+abbrev pub candidates : List MemoryType → ℕ → ℕ → List ℕ
+candidates types usage mask = filter (is_asked mask) (ranking (implied usage) types)
+
+-- The ranking, by what it has and how it is ordered.
+
+-- the property bits of the type with index t, none where there is no such type
+abbrev pub props_of : List MemoryType → ℕ → ℕ
+props_of types t = bits_of (slice_get types t)
+
+-- there is a type with index t, and it may serve a usage
+abbrev pub Serves : ℕ → List MemoryType → ℕ → Type 0
+Serves usage types t = (t < length types) × (compatible usage (props_of types t) ≡ true)
+
+-- s comes before t: its key is lower, or the keys are equal and s is lower
+abbrev pub Before : (ℕ → ℕ) → ℕ → ℕ → Type 0
+Before k s t = (k s < k t) ⊎ ((k s ≡ k t) × (s < t))
+
+-- each comes before those after it
+abbrev pub IsRising : (ℕ → ℕ) → List ℕ → Type 0
+IsRising k xs = (a b : ℕ) → a < b → b < length xs → Before k (slice_index xs a) (slice_index xs b)
+
+-- a type's key for a usage
+abbrev pub key_of : ℕ → List MemoryType → ℕ → ℕ
+key_of usage types t = key usage (props_of types t)
+
+-- exactly the types that may serve a usage, the lowest key first, and of one key the lowest index first
+pub record IsRanking (usage : ℕ) (types : List MemoryType) (ranked : List ℕ) : Type 0 where
+  pub exactly : (t : ℕ) → Contains ranked t ↔ Serves usage types t
+  pub rising : IsRising (key_of usage types) ranked
+
+-- exactly those of them whose bit is set in a mask, in the same order
+pub record IsRankingWithin (usage : ℕ) (types : List MemoryType) (mask : ℕ) (ranked : List ℕ) : Type 0 where
+  pub exactly : (t : ℕ) → Contains ranked t ↔ Serves usage types t × (bit_at mask t ≡ 1)
+  pub rising : IsRising (key_of usage types) ranked

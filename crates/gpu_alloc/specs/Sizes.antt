@@ -1,0 +1,70 @@
+-- Sizes that follow from a configuration and from what a device offers. All are bytes.
+use Rattle.std.specs.Prelude.{ℕ, zero, suc, ◌+◌, ◌-◌, ◌*◌, ◌/◌, ◌==◌, min, max, nat_le, List, map, cond, if◌then◌else◌, slice_get}
+use Rattle.gpu_alloc_types.specs.Flags.{property_bits}
+use Rattle.gpu_alloc_types.specs.Properties.{Properties, size_of, atom_for, heap_size, atom_of}
+use Rattle.gpu_alloc_types.specs.declared.types.MemoryType.{MemoryType}
+use Rattle.gpu_alloc.specs.State.{TypeState}
+use Rattle.gpu_alloc.specs.declared.config.Config.{Config}
+
+-- the first of p, 2p, 4p, .. that is not below x, after at most n doublings
+unfoldable pub doubled_up : ℕ → ℕ → ℕ → ℕ
+doubled_up zero p x = p
+doubled_up (suc n) p x = if nat_le x p then p else doubled_up n (2 * p) x
+
+-- the least power of two not below a number of at most 2^64
+abbrev pub next_power_of_two : ℕ → ℕ
+next_power_of_two x = doubled_up 64 1 x
+
+-- the multiples of a next below or equal, and next above or equal
+abbrev pub down : ℕ → ℕ → ℕ
+down x a = x / a * a
+
+abbrev pub up : ℕ → ℕ → ℕ
+up x a = (x + (a - 1)) / a * a
+
+-- Thresholds. A preferred object of its own begins no later than any other, a transient one no earlier.
+
+abbrev pub preferred_threshold : Config → ℕ
+preferred_threshold c = min c.preferred_dedicated_threshold c.dedicated_threshold
+
+abbrev pub transient_threshold : Config → ℕ
+transient_threshold c = max c.transient_dedicated_threshold c.dedicated_threshold
+
+-- Chunks, for a memory type whose heap has this size. No chunk begins larger than a small part of its heap.
+
+-- the least buddy block
+abbrev pub minimal_size : Config → ℕ → ℕ
+minimal_size c heap = next_power_of_two (min c.minimal_buddy_size (heap / 1024))
+
+-- the first buddy chunk's least size
+abbrev pub initial_size : Config → ℕ → ℕ
+initial_size c heap = next_power_of_two (min c.initial_buddy_dedicated_size (heap / 32))
+
+-- a number of bytes cut at a part of the heap, in whole atoms, and one atom at least
+abbrev pub at_least_an_atom : ℕ → ℕ → ℕ
+at_least_an_atom atom size = cond (size == 0) atom size
+
+abbrev pub cut : ℕ → ℕ → ℕ → ℕ
+cut heap atom size = at_least_an_atom atom (down (min size (heap / 32)) atom)
+
+-- the first free-list chunk
+abbrev pub starting_size : Config → ℕ → ℕ → ℕ
+starting_size c heap atom = cut heap atom c.starting_free_list_chunk
+
+-- the largest free-list chunk
+abbrev pub final_size : Config → ℕ → ℕ → ℕ
+final_size c heap atom = cut heap atom (max (max c.final_free_list_chunk c.starting_free_list_chunk) (transient_threshold c))
+
+-- a memory type's chunk sizes at first: no free-list chunk has a number yet
+abbrev pub first_type_state : Config → Properties → MemoryType → TypeState
+first_type_state c p t =
+    let heap = size_of (slice_get p.memory_heaps t.heap) in
+    let atom = atom_for p (property_bits t.props) in
+    record {
+      next_chunk = max (initial_size c heap) (minimal_size c heap);
+      list_chunk = starting_size c heap atom;
+      number = 0;
+    }
+
+abbrev pub first_types : Config → Properties → List TypeState
+first_types c p = map (first_type_state c p) p.memory_types

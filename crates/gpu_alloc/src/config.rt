@@ -1,0 +1,103 @@
+//! The sizes by which an allocator decides.
+
+ghost use Rattle.std.specs.Prelude.{◌≡◌};
+ghost use Rattle.gpu_alloc.specs.Config.{potato, prototyping};
+
+/// 1024 bytes.
+const KIBIBYTE: u64 = 1 << 10;
+
+/// 1024 times as much.
+const MEBIBYTE: u64 = 1 << 20;
+
+/// The sizes by which an allocator decides, all in bytes. Any values will do, 0 among them.
+#[derive(Clone, Copy, Debug, PartialEq, Eq)]
+pub struct Config {
+    /// A request of at least this size gets a memory object of its own. A low value soon uses up the number of objects
+    /// that a device allows.
+    pub dedicated_threshold: u64,
+
+    /// The same for a request that prefers an object of its own. A value above [`Config::dedicated_threshold`] counts as
+    /// that one.
+    pub preferred_dedicated_threshold: u64,
+
+    /// The same for a transient request. A value below [`Config::dedicated_threshold`] counts as that one.
+    pub transient_dedicated_threshold: u64,
+
+    /// The size of the first object that transient requests share.
+    pub starting_free_list_chunk: u64,
+
+    /// The size up to which such objects grow, each time to twice the last one's size.
+    pub final_free_list_chunk: u64,
+
+    /// The least size of a block in an object that other requests share.
+    pub minimal_buddy_size: u64,
+
+    /// The least size of the first object that other requests share. A value below [`Config::minimal_buddy_size`] counts
+    /// as that one.
+    pub initial_buddy_dedicated_size: u64,
+}
+
+impl Config {
+    /// Sizes to begin with: 1024 times those of [`Config::i_am_potato`].
+    ///
+    /// Devices and programs differ, so a program that knows its own should choose other sizes.
+    pub fn i_am_prototyping() -> Config
+        ensures { result ≡ prototyping }
+    {
+        Config {
+            dedicated_threshold: 32 * MEBIBYTE,
+            preferred_dedicated_threshold: MEBIBYTE,
+            transient_dedicated_threshold: 128 * MEBIBYTE,
+            starting_free_list_chunk: 8 * MEBIBYTE,
+            final_free_list_chunk: 128 * MEBIBYTE,
+            minimal_buddy_size: KIBIBYTE,
+            initial_buddy_dedicated_size: 8 * MEBIBYTE,
+        }
+    }
+
+    /// Sizes for a device with very little memory.
+    pub fn i_am_potato() -> Config
+        ensures { result ≡ potato }
+    {
+        Config {
+            dedicated_threshold: 32 * KIBIBYTE,
+            preferred_dedicated_threshold: KIBIBYTE,
+            transient_dedicated_threshold: 128 * KIBIBYTE,
+            starting_free_list_chunk: 8 * KIBIBYTE,
+            final_free_list_chunk: 128 * KIBIBYTE,
+            minimal_buddy_size: 1,
+            initial_buddy_dedicated_size: 8 * KIBIBYTE,
+        }
+    }
+}
+
+#[cfg(test)]
+mod tests {
+    use super::*;
+
+    fn sizes(config: Config) -> [u64; 7] {
+        [
+            config.dedicated_threshold,
+            config.preferred_dedicated_threshold,
+            config.transient_dedicated_threshold,
+            config.starting_free_list_chunk,
+            config.final_free_list_chunk,
+            config.minimal_buddy_size,
+            config.initial_buddy_dedicated_size,
+        ]
+    }
+
+    #[test]
+    fn defaults_are_the_documented_sizes(rt: HostRuntime) {
+        assert_eq!(rt;
+            sizes(Config::i_am_potato()),
+            [32768, 1024, 131072, 8192, 131072, 1, 8192]
+        );
+        assert_eq!(rt;
+            sizes(Config::i_am_prototyping()),
+            [
+                33554432, 1048576, 134217728, 8388608, 134217728, 1024, 8388608
+            ]
+        );
+    }
+}

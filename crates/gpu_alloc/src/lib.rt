@@ -1,0 +1,22 @@
+//! Memory for Vulkan-like devices: blocks of few memory objects, which never touch each other.
+#![tactic(auto)]
+
+mod allocator;
+mod block;
+mod config;
+mod error;
+mod heap;
+pub mod laws;
+mod request;
+mod spans;
+mod usage;
+
+pub use allocator::GpuAllocator;
+pub use block::{Mapping, MemoryBlock};
+pub use config::Config;
+pub use error::AllocationError;
+pub use gpu_alloc_types::{
+    AllocationFlags, DeviceMapError, DeviceProperties, MemoryDevice, MemoryHeap, MemoryObject,
+    MemoryPropertyFlags, MemoryType, OutOfMemory, UsageFlags,
+};
+pub use request::{Dedicated, Request};

@@ -1,0 +1,154 @@
+//! The memory types that serve one usage, the best first.
+
+ghost use Rattle.std.specs.Prelude.{◌≡◌, ◌<◌, ◌≤◌, ◌+◌, true, [], ◌∷◌, ◌++◌, length, filter, All, if◌then◌else◌};
+ghost use Rattle.gpu_alloc_types.specs.Flags.{usage_bits, property_bits};
+ghost use Rattle.gpu_alloc.specs.Ranking.{by_host, is_fast, compatible, where_differ, key, has_key, is_asked, ranking, of_key};
+
+use gpu_alloc_types::{MemoryPropertyFlags, MemoryType, UsageFlags};
+
+/// More than any key of a type.
+const KEYS: u8 = 16;
+
+/// Memory types of one usage, by index, the best first. At most 32.
+#[derive(Clone, Copy)]
+pub(crate) struct MemoryForOneUsage {
+    types: [u32; 32],
+    count: usize,
+    ghost in_range: { count ≤ 32 },
+}
+
+impl MemoryForOneUsage {
+    ghost use Rattle.gpu_alloc.specs.Ranked.{ranked_types};
+
+    /// The types, the best first.
+    pub(crate) fn types(&self) -> &[u32]
+        ensures { result.now ≡ ranked_types self.now }
+    {
+        &self.types[..self.count]
+    }
+
+    /// The types that serve a usage, whatever a request allows.
+    pub(crate) fn ranked(usage: UsageFlags, memory_types: &[MemoryType]) -> MemoryForOneUsage
+        requires { length memory_types.now ≤ 32 }
+        ensures { ranked_types result ≡ ranking (usage_bits usage) memory_types.now }
+    {
+        let mut ranked = MemoryForOneUsage::none();
+        for key in 0..KEYS {
+            ranked.add_key(usage, key, memory_types);
+        }
+        ranked
+    }
+
+    /// Those of these types whose bit is set in a mask, in the same order.
+    pub(crate) fn within(&self, mask: u32) -> MemoryForOneUsage
+        requires { All (λ t. t < 32) (ranked_types self.now) }
+        ensures { ranked_types result ≡ filter (is_asked mask) (ranked_types self.now) }
+    {
+        let mut within = MemoryForOneUsage::none();
+        for memory_type in self.types() {
+            within.add_where(mask >> *memory_type & 1 == 1, *memory_type);
+        }
+        within
+    }
+
+    /// Adds the types that serve a usage and have a key, by rising index.
+    fn add_key(&mut self, usage: UsageFlags, key: u8, memory_types: &[MemoryType])
+        requires few { length memory_types.now ≤ 32 }
+        requires room { length (ranked_types self.old) + length (of_key (usage_bits usage) key 0 memory_types.now) ≤ 32 }
+        ensures { ranked_types self.new ≡ ranked_types self.old ++ of_key (usage_bits usage) key 0 memory_types.now }
+    {
+        for index in 0..memory_types.len() {
+            let has_key = has_key(usage, key, memory_types[index]);
+            self.add_where(has_key, index as u32);
+        }
+    }
+
+    /// No types.
+    fn none() -> MemoryForOneUsage
+        ensures { ranked_types result ≡ [] }
+    {
+        MemoryForOneUsage {
+            types: [0; 32],
+            count: 0,
+        }
+    }
+
+    /// Adds a type behind the others, where it is wanted.
+    fn add_where(&mut self, wanted: bool, index: u32)
+        requires room { wanted ≡ true → length (ranked_types self.old) < 32 }
+        ensures { ranked_types self.new ≡ ranked_types self.old ++ (if wanted then index ∷ [] else []) }
+    {
+        if wanted {
+            self.types[self.count] = index;
+            self.count += 1;
+        }
+    }
+}
+
+/// Whether a type may serve a usage and has this key.
+fn has_key(usage: UsageFlags, key: u8, memory_type: MemoryType) -> bool
+    ensures { result ≡ has_key (usage_bits usage) key memory_type }
+{
+    is_compatible(usage, memory_type.props) && distance(usage, memory_type.props) == key
+}
+
+/// Whether memory with these properties may serve a usage.
+fn is_compatible(usage: UsageFlags, props: MemoryPropertyFlags) -> bool
+    ensures { result ≡ compatible (usage_bits usage) (property_bits props) }
+{
+    let unused = MemoryPropertyFlags::LAZILY_ALLOCATED.bits()
+        | MemoryPropertyFlags::PROTECTED.bits();
+    let visible = MemoryPropertyFlags::HOST_VISIBLE.bits();
+    props.bits() & unused == 0 && (!is_by_host(usage) || props.bits() & visible != 0)
+}
+
+/// How far memory with these properties is from what a usage wants, from 0 to 15.
+fn distance(usage: UsageFlags, props: MemoryPropertyFlags) -> u8
+    ensures { result ≡ key (usage_bits usage) (property_bits props) }
+{
+    let has = props.bits();
+    let wants = usage.bits();
+    let download = UsageFlags::DOWNLOAD.bits();
+    let carried = download | UsageFlags::UPLOAD.bits();
+    cost(
+        8,
+        has & MemoryPropertyFlags::DEVICE_LOCAL.bits() != 0,
+        wants_fast(usage),
+    ) + cost(
+        4,
+        has & MemoryPropertyFlags::HOST_VISIBLE.bits() != 0,
+        is_by_host(usage),
+    ) + cost(
+        2,
+        has & MemoryPropertyFlags::HOST_CACHED.bits() != 0,
+        wants & download != 0,
+    ) + cost(
+        1,
+        has & MemoryPropertyFlags::HOST_COHERENT.bits() != 0,
+        wants & carried != 0,
+    )
+}
+
+/// `worth` where the two differ, else 0.
+fn cost(worth: u8, has: bool, wants: bool) -> u8
+    ensures { result ≡ where_differ worth has wants }
+{
+    if has == wants { 0 } else { worth }
+}
+
+/// Whether the host reads or writes.
+fn is_by_host(usage: UsageFlags) -> bool
+    ensures { result ≡ by_host (usage_bits usage) }
+{
+    let host = UsageFlags::HOST_ACCESS.bits()
+        | UsageFlags::DOWNLOAD.bits()
+        | UsageFlags::UPLOAD.bits();
+    usage.bits() & host != 0
+}
+
+/// Whether the device's own memory is wanted.
+fn wants_fast(usage: UsageFlags) -> bool
+    ensures { result ≡ is_fast (usage_bits usage) }
+{
+    usage.bits() == 0 || usage.bits() & UsageFlags::FAST_DEVICE_ACCESS.bits() != 0
+}

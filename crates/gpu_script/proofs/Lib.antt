@@ -1,0 +1,2 @@
+mod NumberedEntries
+mod SimNames

@@ -1,0 +1,27 @@
+-- Which names the simulated device has used.
+use Rattle.std.proofs.Common.{◌≡◌, ℕ, ◌+◌, ◌<◌, Bool, true, false, cond, Option, None, refl, ◌∙◌, arith}
+use Rattle.std.proofs.lemmas.Bool.Decides.{nat_tests}
+use Rattle.std.specs.Cmp.{nat_cmp_total}
+use Rattle.std.specs.FinMap as map
+use Rattle.std.specs.FinMap.{FinMap}
+use Rattle.std.specs.Ordering.{nat_cmp, eq_by_cmp}
+use Rattle.gpu_script.specs.declared.sim.object.SimObject.{SimObject}
+use Rattle.gpu_script.specs.Sim.{IsNamedUpTo}
+
+apart_test : (q name : ℕ) → name < q → eq_by_cmp nat_cmp q name ≡ false
+apart_test q name above = grind (arith, nat_tests)
+
+cond-none : {X : Type 0} (b : Bool) (x : Option X) → x ≡ None → cond b None x ≡ None
+cond-none true x none = refl
+cond-none false x none = none
+
+pub named_up_to-empty : (last : ℕ) → IsNamedUpTo last map.empty
+named_up_to-empty last name above = map.get-empty nat_cmp name
+
+pub named_up_to-insert : (last : ℕ) (objects : FinMap nat_cmp SimObject) (object : SimObject) → IsNamedUpTo last objects → IsNamedUpTo (last + 1) (map.insert objects (last + 1) object)
+named_up_to-insert last objects object named name above =
+    rw (map.get-insert nat_cmp_total objects (last + 1) object name, apart_test name (last + 1) above) (named name (omega arith))
+
+pub named_up_to-remove : (last : ℕ) (objects : FinMap nat_cmp SimObject) (gone : ℕ) → IsNamedUpTo last objects → IsNamedUpTo last (map.remove objects gone)
+named_up_to-remove last objects gone named name above =
+    map.get-remove nat_cmp_total objects gone name ∙ cond-none (eq_by_cmp nat_cmp name gone) (map.get objects name) (named name above)

@@ -1,0 +1,5 @@
+pub mod Question
+pub mod Setup
+pub mod Sim
+pub mod SimCode
+pub mod SimLaws

@@ -1,0 +1,119 @@
+//! The script language: setup lines that describe a device, and command lines that a session runs over it.
+
+ghost use Rattle.std.specs.Prelude.{◌≡◌, ◌≤◌, IfOk};
+ghost use Rattle.gpu_alloc_types.specs.Properties.{IsUsable};
+ghost use Rattle.gpu_script.specs.Setup.{offered};
+
+mod fields;
+mod line;
+mod parse;
+mod print;
+mod setup;
+
+use crate::sim::Sim;
+use gpu_session::Session;
+use line::LineError;
+use parse::{Script, parse};
+use print::print_replies;
+use setup::Setup;
+use std::alloc::{AllocError, Allocator};
+use std::io::{ErrorKind, Read, Write};
+
+/// Why a script has no replies.
+#[derive(Drop)]
+enum Stop {
+    /// A read failed.
+    Read,
+
+    /// A line is bad. Lines count from 1.
+    BadLine(u64, LineError),
+
+    /// The host's memory was refused to the program itself.
+    Memory,
+}
+
+impl From<AllocError> for Stop {
+    fn from(_e: AllocError) -> Stop {
+        Stop::Memory
+    }
+}
+
+/// Runs the script that a reader gives, and writes what it answers to a writer.
+///
+/// The whole script is read and parsed before anything runs, and the answer is written at once. The status is 0 where it
+/// ran; 1 where a read or a write failed, and then nothing is said of how much was written; 2 at a bad line, and then the
+/// output is `line N: ` and what is wrong with it; 3 where the host's memory was refused to the program itself, and then
+/// the output is `out of memory`.
+pub fn run_script<R: Read, W: Write, A: Allocator + Copy>(
+    alloc: A,
+    input: &mut R,
+    output: &mut W,
+) -> u8
+    ensures { result ≤ 3 }
+{
+    let (status, written) = match answer(alloc, input) {
+        Ok(text) => (0, output.write_all(text.as_bytes())),
+        Err(Stop::BadLine(number, error)) => (2, writeln!(output, "line {number}: {error}")),
+        Err(Stop::Memory) => (3, output.write_all(b"out of memory\n")),
+        Err(Stop::Read) => return 1,
+    };
+    if written.is_err() || output.flush().is_err() {
+        return 1;
+    }
+    status
+}
+
+/// What a script answers.
+fn answer<R: Read, A: Allocator + Copy>(alloc: A, input: &mut R) -> Result<String<A>, Stop> {
+    let text = read_all(alloc, input)?;
+    let script = parse(alloc, text.as_slice())?;
+    if !script.setup.properties().is_usable() {
+        let after = script.lines.saturating_add(1);
+        return Err(Stop::BadLine(after, LineError::BadProperties));
+    }
+    Ok(run(alloc, &script)?)
+}
+
+/// The bytes of a reader.
+fn read_all<R: Read, A: Allocator + Copy>(alloc: A, input: &mut R) -> Result<Vec<u8, A>, Stop> {
+    let mut text = Vec::new(alloc);
+    let mut buffer = [0u8; 4096];
+    for _ in 0..u64::MAX {
+        match input.read(&mut buffer) {
+            Ok(0) => return Ok(text),
+            Ok(count) => text.extend_from_slice(&buffer[..count])?,
+            Err(e) => {
+                if e.kind() != ErrorKind::Interrupted {
+                    return Err(Stop::Read);
+                }
+            }
+        }
+    }
+    Err(Stop::Read)
+}
+
+/// Runs a script's commands as one list over the device that it describes, and finishes the session.
+fn run<A: Allocator + Copy>(alloc: A, script: &Script<A>) -> Result<String<A>, AllocError>
+    requires { IsUsable (offered script.now.setup) }
+{
+    let device = device(alloc, &script.setup)?;
+    let props = script.setup.properties();
+    let mut session = match Session::new(alloc, script.setup.config, props, device) {
+        Ok(session) => session,
+        Err(_) => return Err(AllocError),
+    };
+    let replies = session.run(script.commands.as_slice());
+    let device = session.finish();
+    print_replies(alloc, replies?.as_slice(), &device)
+}
+
+/// The device that the setup lines describe, with the refusals that they plan.
+fn device<A: Allocator + Copy>(alloc: A, setup: &Setup<A>) -> Result<Sim<A>, AllocError>
+    ensures { IfOk result (λ device. device.properties ≡ offered setup.now) }
+{
+    let mut device = Sim::new(alloc, setup.properties())?;
+    for refusal in &setup.refusals {
+        device.refuse(refusal.kind, refusal.nth, refusal.cause)?;
+    }
+    Ok(device)
+}

@@ -1,0 +1,157 @@
+//! A script, line by line.
+
+ghost use Rattle.std.specs.Prelude.{All, IfOk};
+ghost use Rattle.gpu_session.specs.Sound.{IsForRequired};
+
+use crate::script::Stop;
+use crate::script::fields::Fields;
+use crate::script::line::{LineError, LineStop};
+use crate::script::setup::{Setup, SetupWord};
+use gpu_alloc::{Dedicated, Request, UsageFlags};
+use gpu_session::Command;
+use std::alloc::Allocator;
+
+/// The words that command lines begin with.
+#[derive(Clone, Copy, Debug, PartialEq, Eq)]
+enum CommandWord {
+    Required,
+    Free,
+    Counts,
+}
+
+/// The words that lines begin with.
+#[derive(Clone, Copy, Debug, PartialEq, Eq)]
+enum Word {
+    Setup(SetupWord),
+    Command(CommandWord),
+}
+
+/// What a script asks.
+#[derive(Drop)]
+pub(crate) struct Script<A: Allocator> {
+    /// What its setup lines describe.
+    pub(crate) setup: Setup<A>,
+
+    /// Its commands, in order.
+    pub(crate) commands: Vec<Command<A>, A>,
+
+    /// How many lines it has.
+    pub(crate) lines: u64,
+}
+
+/// The script that these bytes are, or the first bad line.
+///
+/// Each line ends with a line feed, which the last one may lack.
+pub(crate) fn parse<A: Allocator + Copy>(alloc: A, text: &[u8]) -> Result<Script<A>, Stop>
+    ensures { IfOk result (λ script. All IsForRequired script.commands.items) }
+{
+    let mut script = Script {
+        setup: Setup::new(alloc),
+        commands: Vec::new(alloc),
+        lines: 0,
+    };
+    let text = match text {
+        [lines @ .., b'\n'] => lines,
+        [] => return Ok(script),
+        _ => text,
+    };
+    for line in text.split(|byte| *byte == b'\n') {
+        script.lines = script.lines.saturating_add(1);
+        match script.take_line(line) {
+            Ok(()) => {}
+            Err(LineStop::Bad(error)) => return Err(Stop::BadLine(script.lines, error)),
+            Err(LineStop::Memory) => return Err(Stop::Memory),
+        }
+    }
+    Ok(script)
+}
+
+impl<A: Allocator + Copy> Script<A> {
+    /// Takes one line. Blank lines and comments say nothing.
+    fn take_line(&mut self, line: &[u8]) -> Result<(), LineStop>
+        requires { All IsForRequired self.old.commands.items }
+        ensures { All IsForRequired self.new.commands.items }
+    {
+        let mut fields = Fields::of(line);
+        let Some(first) = fields.next() else {
+            return Ok(());
+        };
+        if let [b'#', ..] = first {
+            return Ok(());
+        }
+        match word_of(first) {
+            None => return Err(LineStop::Bad(LineError::UnknownWord)),
+            Some(Word::Setup(word)) => {
+                if !self.commands.is_empty() {
+                    return Err(LineStop::Bad(LineError::SetupAfterCommands));
+                }
+                self.setup.take_line(word, fields)?;
+            }
+            Some(Word::Command(word)) => {
+                let command = command(word, fields)?;
+                self.commands.push(command)?;
+            }
+        }
+        Ok(())
+    }
+}
+
+fn word_of(field: &[u8]) -> Option<Word> {
+    match field {
+        b"config" => Some(Word::Setup(SetupWord::Config)),
+        b"heap" => Some(Word::Setup(SetupWord::Heap)),
+        b"type" => Some(Word::Setup(SetupWord::Type)),
+        b"limits" => Some(Word::Setup(SetupWord::Limits)),
+        b"atom" => Some(Word::Setup(SetupWord::Atom)),
+        b"address" => Some(Word::Setup(SetupWord::Address)),
+        b"refuse" => Some(Word::Setup(SetupWord::Refuse)),
+        b"required" => Some(Word::Command(CommandWord::Required)),
+        b"free" => Some(Word::Command(CommandWord::Free)),
+        b"counts" => Some(Word::Command(CommandWord::Counts)),
+        _ => None,
+    }
+}
+
+/// The command of a line that begins with a command word.
+fn command<A: Allocator>(word: CommandWord, mut fields: Fields<'_>) -> Result<Command<A>, LineError>
+    ensures { IfOk result IsForRequired }
+{
+    let wanted = match word {
+        CommandWord::Required => 5,
+        CommandWord::Free => 1,
+        CommandWord::Counts => 0,
+    };
+    if fields.count() != wanted {
+        return Err(LineError::WrongNumberOfFields);
+    }
+    match word {
+        CommandWord::Required => {
+            let name = fields.next_u32()?;
+            let request = request(&mut fields)?;
+            Ok(Command::Dedicated {
+                name,
+                request,
+                dedicated: Dedicated::Required,
+            })
+        }
+        CommandWord::Free => {
+            let name = fields.next_u32()?;
+            Ok(Command::Free { name })
+        }
+        CommandWord::Counts => Ok(Command::Counts),
+    }
+}
+
+/// A request by its size, alignment mask, usage and memory types.
+fn request(fields: &mut Fields<'_>) -> Result<Request, LineError> {
+    let size = fields.next_u64()?;
+    let align_mask = fields.next_u64()?;
+    let usage = UsageFlags::from_bits_retain(fields.next_u8(u8::MAX)?);
+    let memory_types = fields.next_u32()?;
+    Ok(Request {
+        size,
+        align_mask,
+        usage,
+        memory_types,
+    })
+}

@@ -1,0 +1,68 @@
+//! Values under numbers.
+
+ghost use Rattle.std.specs.Prelude.{◌≡◌, OnOk, OnErr};
+ghost use Rattle.std.specs.FinMap as map;
+
+use indexmap::IndexMap;
+use std::alloc::{AllocError, Allocator, Global};
+use std::hash::{BuildHasherDefault, FoldHasher};
+use std::marker::Model;
+
+/// Values under numbers, seen as the finite map. A call takes a number of steps that hangs on no count, on average.
+#[derive(Drop)]
+pub(super) struct Numbered<V, A: Allocator + Copy = Global> {
+    entries: IndexMap<u64, V, BuildHasherDefault<FoldHasher>, A>,
+}
+
+impl<V, A: Allocator + Copy> Model for Numbered<V, A> {
+    ghost use Rattle.std.specs.Coded.{coded_ℕ};
+    ghost use Rattle.std.specs.Ordering.{nat_cmp};
+    ghost use Rattle.std.specs.FinMap as map;
+
+    ghost Value = { map.FinMap nat_cmp V };
+
+    ghost coded = { map.code coded_ℕ V.code };
+
+    ghost view = { λ numbered. map.from_entries numbered.entries.entries };
+}
+
+impl<V: Copy, A: Allocator + Copy> Numbered<V, A> {
+    /// No values. It takes no memory.
+    pub(super) fn new(alloc: A) -> Numbered<V, A>
+        ensures { result ≡ map.empty }
+    {
+        Numbered {
+            entries: IndexMap::new(alloc),
+        }
+    }
+
+    /// How many values there are.
+    pub(super) fn len(&self) -> usize
+        ensures { result ≡ map.len self.now }
+    {
+        self.entries.len()
+    }
+
+    /// The value under a number.
+    pub(super) fn get(&self, number: u64) -> Option<V>
+        ensures { result ≡ map.get self.now number }
+    {
+        self.entries.get(&number).copied()
+    }
+
+    /// Puts a value under a number, in the place of one that is there. Without memory all is as before.
+    pub(super) fn insert(&mut self, number: u64, value: V) -> Result<(), AllocError>
+        ensures ok { OnOk result (self.new ≡ map.insert self.old number value) }
+        ensures err { OnErr result (self.new ≡ self.old) }
+    {
+        self.entries.insert(number, value)?;
+        Ok(())
+    }
+
+    /// Takes the value under a number away, if there is one.
+    pub(super) fn remove(&mut self, number: u64)
+        ensures { self.new ≡ map.remove self.old number }
+    {
+        self.entries.swap_remove(&number);
+    }
+}

@@ -1,0 +1,5 @@
+pub mod Books
+pub mod Does
+pub mod Faults
+pub mod Run
+pub mod Sound

@@ -1,0 +1,15 @@
+//! Laws of runs, over the definitions alone. The functions do nothing.
+
+ghost use Rattle.std.specs.Prelude.{◌++◌, List};
+ghost use Rattle.gpu_session.specs.Books.{SessionState};
+ghost use Rattle.gpu_session.specs.Run.{Step, Run};
+ghost use Rattle.gpu_session.specs.declared.command.Command.{Command as ACommand};
+ghost use Rattle.gpu_session.specs.declared.command.Reply.{Reply as AReply};
+
+use gpu_alloc_types::{MemoryDevice, MemoryObject};
+use std::alloc::Allocator;
+
+/// Two runs, one after the other, are a run of the joined lists.
+pub fn runs_join<M: MemoryObject, D: MemoryDevice<M>, A: Allocator>()
+    ensures { (old mid new : SessionState D) (commands later : List (ACommand A)) (replies answers : List (AReply A)) → Run (Step D.step) old commands replies mid → Run (Step D.step) mid later answers new → Run (Step D.step) old (commands ++ later) (replies ++ answers) new }
+{}

@@ -1,0 +1,249 @@
+//! A session: an allocator with its device, and live blocks by name.
+
+ghost use Rattle.std.specs.Prelude.{◌≡◌, ℕ, ◌+◌, ◌<◌, List, All, IfOk, IfErr, OnErr, Option, Some, None, IsSome, length, slice_get};
+ghost use Rattle.std.specs.FinMap as map;
+ghost use Rattle.gpu_alloc_types.specs.Properties.{IsUsable, properties_of};
+ghost use Rattle.gpu_alloc_types.specs.Device.{Event, Chain};
+ghost use Rattle.gpu_alloc.specs.Opening.{opened};
+ghost use Rattle.gpu_alloc.specs.State.{total, ledger};
+ghost use Rattle.gpu_session.specs.Books.{Books, SessionState};
+ghost use Rattle.gpu_session.specs.Does.{IsEachLedger};
+ghost use Rattle.gpu_session.specs.Faults.{fault_of_request};
+ghost use Rattle.gpu_session.specs.Run.{Step, Run};
+ghost use Rattle.gpu_session.specs.Sound.{IsSound, AreWholeObjects, ReturnsAll, IsForRequired};
+
+use crate::{Command, Fault, Ledgers, Reply};
+use gpu_alloc::{Config, Dedicated, DeviceProperties, GpuAllocator, MemoryBlock, Request};
+use gpu_alloc_types::{MemoryDevice, MemoryObject, UsageFlags};
+use indexmap::IndexMap;
+use std::alloc::{AllocError, Allocator, Global};
+use std::hash::{BuildHasherDefault, FoldHasher};
+use std::marker::Model;
+
+/// Blocks by name. Its hashes go by a fixed seed, so constant time is not promised for names that somebody picks.
+type Blocks<M, A> = IndexMap<u32, MemoryBlock<M>, BuildHasherDefault<FoldHasher>, A>;
+
+/// A session could not be opened for want of host memory.
+#[derive(Drop)]
+pub struct SessionOpenError<D> {
+    /// The device, as it was given.
+    pub device: D,
+}
+
+/// An allocator with its device, and live blocks by name. It cannot be let go: [`finish`](Session::finish) ends it.
+pub struct Session<M: MemoryObject, D: MemoryDevice<M>, A: Allocator + Copy = Global> {
+    alloc: A,
+    allocator: GpuAllocator<M, A>,
+    device: D,
+    blocks: Blocks<M, A>,
+    heaps: u32,
+    buffer_device_address: bool,
+}
+
+impl<M: MemoryObject, D: MemoryDevice<M>, A: Allocator + Copy> Model for Session<M, D, A> {
+    ghost use Rattle.gpu_session.specs.Books.{SessionState, session_code};
+
+    ghost Value = { SessionState D };
+
+    ghost coded = { session_code D.code };
+
+    ghost use Rattle.std.specs.FinMap.{from_entries};
+    ghost use Rattle.gpu_session.specs.Sound.{IsKept};
+
+    ghost view = { λ a. record {
+      books = record { allocator = a.allocator; blocks = from_entries a.blocks.entries };
+      device = a.device;
+    } };
+
+    ghost invariant = { λ a. IsKept (D.properties a.device) (D.objects a.device) (record { allocator = a.allocator; blocks = from_entries a.blocks.entries }) a.heaps a.buffer_device_address };
+}
+
+/// Why a request cannot be asked for: the first condition that it misses.
+fn fault_of(request: Request, buffer_device_address: bool) -> Option<Fault>
+    ensures { result ≡ fault_of_request buffer_device_address request }
+{
+    if request.size == 0 {
+        return Some(Fault::BadSize);
+    }
+    if request.align_mask >= 1 << 63 || !(request.align_mask + 1).is_power_of_two() {
+        return Some(Fault::BadAlignment);
+    }
+    if request.usage.bits() & UsageFlags::DEVICE_ADDRESS.bits() != 0 && !buffer_device_address {
+        return Some(Fault::NoDeviceAddress);
+    }
+    None
+}
+
+impl<M: MemoryObject, D: MemoryDevice<M>, A: Allocator + Copy> Session<M, D, A> {
+    /// A session over a device, with nothing held.
+    ///
+    /// The properties have to be usable (`DeviceProperties::is_usable`) and those of the device. Want of host memory
+    /// gives the device back as it was.
+    pub fn new(
+        alloc: A,
+        config: Config,
+        props: DeviceProperties<'_>,
+        device: D,
+    ) -> Result<Self, SessionOpenError<D>>
+        requires usable { IsUsable (properties_of props) }
+        requires same { D.properties device ≡ properties_of props }
+
+        ensures opened { IfOk result (λ session. session ≡ record {
+          books = record { allocator = opened config (properties_of props.entry); blocks = map.empty };
+          device = device;
+        }) }
+        ensures given_back { IfErr result (λ e. e.device ≡ device) }
+    {
+        let heaps = props.memory_heaps.len() as u32;
+        let buffer_device_address = props.buffer_device_address;
+        match GpuAllocator::new(alloc, config, props) {
+            Ok(allocator) => Ok(Session {
+                alloc,
+                allocator,
+                device,
+                blocks: IndexMap::new(alloc),
+                heaps,
+                buffer_device_address,
+            }),
+            Err(_) => Err(SessionOpenError { device }),
+        }
+    }
+
+    /// Answers the commands in order, one reply for each. The replies and the state after them are a run.
+    ///
+    /// Places for all replies are taken first: an error means that there was no memory for them, and nothing ran.
+    /// For now the hint of each `Dedicated` has to be `Required`.
+    pub fn run(&mut self, commands: &[Command<A>]) -> Result<Vec<Reply<A>, A>, AllocError>
+        requires required { All IsForRequired commands.now }
+
+        ensures run { IfOk result (λ replies. Run (Step D.step) self.old commands.now replies.items self.new) }
+        ensures err { OnErr result (self.new ≡ self.old) }
+
+        // Whatever came of it, live blocks are memory of their own, and no object is lost.
+        ensures sound { IsSound (D.properties self.new.device) (D.objects self.new.device) self.new.books }
+        ensures whole { AreWholeObjects (D.objects self.new.device) self.new.books }
+        ensures total { total (self.new.books).allocator ≡ total (self.old.books).allocator }
+    {
+        let mut replies = Vec::with_capacity(self.alloc, commands.len())?;
+        for command in commands {
+            let reply = self.serve(command);
+            replies.push(reply).unwrap();
+        }
+        Ok(replies)
+    }
+
+    /// Returns every live block, closes the allocator and gives the device back. It takes no memory and cannot fail.
+    pub fn finish(self) -> D
+        // Each held object goes back once, and nothing else is asked.
+        ensures returned { (es : List Event) × Chain D.step self.device es result × ReturnsAll self.books es }
+        ensures gone { (object : ℕ) → IsSome (map.get ((self.books).allocator).held object) → D.objects result object ≡ None }
+        ensures others { (object : ℕ) → map.get ((self.books).allocator).held object ≡ None → D.objects result object ≡ D.objects self.device object }
+        ensures properties { D.properties result ≡ D.properties self.device }
+    {
+        let Session {
+            alloc: _,
+            mut allocator,
+            mut device,
+            mut blocks,
+            heaps: _,
+            buffer_device_address: _,
+        } = self;
+        while let Some((_, block)) = blocks.pop() {
+            allocator.dealloc(&mut device, block);
+        }
+        blocks.destroy_empty();
+        allocator.close();
+        device
+    }
+
+    /// Answers one command.
+    fn serve(&mut self, command: &Command<A>) -> Reply<A>
+        requires required { IsForRequired command.now }
+        ensures step { Step D.step self.old command.now result self.new }
+        ensures total { total (self.new.books).allocator ≡ total (self.old.books).allocator }
+    {
+        match command {
+            Command::Dedicated {
+                name,
+                request,
+                dedicated,
+            } => self.dedicated(*name, *request, *dedicated),
+            Command::Free { name } => self.free(*name),
+            Command::Counts => self.counts(),
+            Command::Never(never, _) => match *never {},
+        }
+    }
+
+    fn dedicated(&mut self, name: u32, request: Request, dedicated: Dedicated) -> Reply<A>
+        requires required { dedicated ≡ Dedicated.Required }
+        ensures step { Step D.step self.old (Command.Dedicated name request dedicated) result self.new }
+        ensures total { total (self.new.books).allocator ≡ total (self.old.books).allocator }
+    {
+        if self.blocks.contains_key(&name) {
+            return Reply::Fault(Fault::NameInUse);
+        }
+        if let Some(fault) = fault_of(request, self.buffer_device_address) {
+            return Reply::Fault(fault);
+        }
+        if self.blocks.reserve(1).is_err() {
+            return Reply::Fault(Fault::NoMemory);
+        }
+        match self
+            .allocator
+            .alloc_with_dedicated(&mut self.device, request, dedicated)
+        {
+            Ok(block) => {
+                let reply = Reply::Granted {
+                    memory_type: block.memory_type(),
+                    object: block.memory().object(),
+                    offset: block.offset(),
+                    size: block.size(),
+                };
+                match self.blocks.insert(name, block) {
+                    Ok(None) => reply,
+                    Ok(Some(_older)) => unreachable!(),
+                    Err(_failed) => unreachable!(),
+                }
+            }
+            Err(e) => Reply::Refused(e),
+        }
+    }
+
+    fn free(&mut self, name: u32) -> Reply<A>
+        ensures step { Step D.step self.old (Command.Free name) result self.new }
+        ensures total { total (self.new.books).allocator ≡ total (self.old.books).allocator }
+    {
+        match self.blocks.swap_remove(&name) {
+            Some(block) => {
+                self.allocator.dealloc(&mut self.device, block);
+                Reply::Done
+            }
+            None => Reply::Fault(Fault::UnknownName),
+        }
+    }
+
+    fn counts(&mut self) -> Reply<A>
+        ensures step { Step D.step self.old Command.Counts result self.new }
+        ensures same { self.new ≡ self.old }
+    {
+        match self.ledgers() {
+            Ok(used) => Reply::Counts {
+                remaining: self.allocator.remaining_allocations(),
+                held: self.allocator.held_objects(),
+                used: Ledgers::from_vec(used),
+            },
+            Err(_) => Reply::Fault(Fault::NoMemory),
+        }
+    }
+
+    /// The ledger of each heap, in heap order.
+    fn ledgers(&self) -> Result<Vec<u128, A>, AllocError>
+        ensures { IfOk result (λ used. IsEachLedger (self.now.books).allocator used.items) }
+    {
+        let mut used = Vec::with_capacity(self.alloc, self.heaps as usize)?;
+        for heap in 0..self.heaps {
+            used.push(self.allocator.heap_used(heap))?;
+        }
+        Ok(used)
+    }
+}
