@@ -6,7 +6,7 @@ use Rattle.std.proofs.lemmas.List.Filters.{length-filter_both}
 use Rattle.std.specs.Int.{bit_at}
 use Rattle.std.specs.List.{All, Contains, filter}
 use Rattle.gpu_alloc_types.specs.declared.types.MemoryType.{MemoryType}
-use Rattle.gpu_alloc.specs.Ranking.{ranking, candidates, implied, is_asked, key_of, Before, IsRising, IsRankingWithin}
+use Rattle.gpu_alloc.specs.Ranking.{ranking, candidates, implied, is_allowed, key_of, Before, IsRising, IsRankingWithin}
 use Rattle.gpu_alloc.proofs.RankingOrder.{ranking_IsRanking, IsRising-append, IsRising-one, one-at, none-at}
 
 All-from_contains : (P : ℕ → Type 0) (xs : List ℕ) → ((x : ℕ) → Contains xs x → P x) → All P xs
@@ -18,7 +18,7 @@ ranking-within u ts = All-from_contains (λ t. t < length ts) (ranking u ts) (λ
 
 -- each candidate is a type of the device
 pub candidates-within : (ts : List MemoryType) (u m : ℕ) → All (λ t. t < length ts) (candidates ts u m)
-candidates-within ts u m = All-filter (is_asked m) (λ t. t < length ts) (ranking (implied u) ts) (ranking-within (implied u) ts)
+candidates-within ts u m = All-filter (is_allowed m) (λ t. t < length ts) (ranking (implied u) ts) (ranking-within (implied u) ts)
 
 -- What a filter leaves.
 
@@ -63,11 +63,11 @@ IsRising-filter k p (x ∷ xs) r =
       | false ↦ rest
     ]
 
-bit-from_asked : (b : ℕ) → (b == 1) ≡ true → b ≡ 1
-bit-from_asked b e = grind (arith, nat_tests)
+bit-from_allowed : (b : ℕ) → (b == 1) ≡ true → b ≡ 1
+bit-from_allowed b e = grind (arith, nat_tests)
 
-asked-from_bit : (b : ℕ) → b ≡ 1 → (b == 1) ≡ true
-asked-from_bit b e = grind (arith, nat_tests)
+allowed-from_bit : (b : ℕ) → b ≡ 1 → (b == 1) ≡ true
+allowed-from_bit b e = grind (arith, nat_tests)
 
 pub candidates_IsRankingWithin : (ts : List MemoryType) (u m : ℕ) → IsRankingWithin (implied u) ts m (candidates ts u m)
 candidates_IsRankingWithin ts u m =
@@ -75,8 +75,8 @@ candidates_IsRankingWithin ts u m =
     let is_ranking = ranking_IsRanking (implied u) ts in
     record {
       exactly = λ t. (
-        λ c. ((is_ranking.exactly t).0 (filter-kept (is_asked m) ranked t c), bit-from_asked (bit_at m t) (All-contains (λ x. is_asked m x ≡ true) (filter (is_asked m) ranked) t (filter_passes (is_asked m) ranked) c)),
-        λ s. filter-has (is_asked m) ranked t (asked-from_bit (bit_at m t) s.1) ((is_ranking.exactly t).1 s.0),
+        λ c. ((is_ranking.exactly t).0 (filter-kept (is_allowed m) ranked t c), bit-from_allowed (bit_at m t) (All-contains (λ x. is_allowed m x ≡ true) (filter (is_allowed m) ranked) t (filter_passes (is_allowed m) ranked) c)),
+        λ s. filter-has (is_allowed m) ranked t (allowed-from_bit (bit_at m t) s.1) ((is_ranking.exactly t).1 s.0),
       );
-      rising = IsRising-filter (key_of (implied u) ts) (is_asked m) ranked is_ranking.rising;
+      rising = IsRising-filter (key_of (implied u) ts) (is_allowed m) ranked is_ranking.rising;
     }

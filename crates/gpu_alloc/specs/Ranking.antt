@@ -7,15 +7,15 @@ use Rattle.gpu_alloc_types.specs.declared.types.MemoryType.{MemoryType}
 
 -- What a usage means.
 
--- no flag means FAST_DEVICE_ACCESS
+-- no flag means FAST_DEVICE_ACCESS, which is 1
 abbrev pub with_fast : ℕ → ℕ
 with_fast usage = if usage == 0 then 1 else usage
 
--- DOWNLOAD and UPLOAD mean HOST_ACCESS too
+-- DOWNLOAD and UPLOAD, 4 and 8, mean HOST_ACCESS too, which is 2
 abbrev pub with_host : ℕ → ℕ
 with_host usage = if has_bit usage 12 then bit_or usage 2 else usage
 
--- what a usage means; bits without a name fall away first
+-- what a usage means. The bits of 63 have names, and all others fall away first
 abbrev pub implied : ℕ → ℕ
 implied usage = with_host (with_fast (bit_and usage 63))
 
@@ -68,13 +68,13 @@ below_key usage types (suc m) = below_key usage types m ++ of_key usage m 0 type
 abbrev pub ranking : ℕ → List MemoryType → List ℕ
 ranking usage types = below_key usage types 16
 
--- whether a type's bit is set in a mask
-abbrev pub is_asked : ℕ → ℕ → Bool
-is_asked mask t = bit_at mask t == 1
+-- whether a mask has the bit of the type with index t
+abbrev pub is_allowed : ℕ → ℕ → Bool
+is_allowed mask t = bit_at mask t == 1
 
 -- the types that are tried for a request, in this order: those ranked for what its usage means whose bit is set
 abbrev pub candidates : List MemoryType → ℕ → ℕ → List ℕ
-candidates types usage mask = filter (is_asked mask) (ranking (implied usage) types)
+candidates types usage mask = filter (is_allowed mask) (ranking (implied usage) types)
 
 -- The ranking, by what it has and how it is ordered.
 

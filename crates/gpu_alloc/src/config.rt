@@ -6,7 +6,7 @@ ghost use Rattle.gpu_alloc.specs.Config.{potato, prototyping};
 /// 1024 bytes.
 const KIBIBYTE: u64 = 1 << 10;
 
-/// 1024 times as much.
+/// 1024 KiB, in bytes.
 const MEBIBYTE: u64 = 1 << 20;
 
 /// The sizes by which an allocator decides, all in bytes. Any values will do, 0 among them.
@@ -26,13 +26,14 @@ pub struct Config {
     /// The size of the first object that transient requests share.
     pub starting_free_list_chunk: u64,
 
-    /// The size up to which such objects grow, each time to twice the last one's size.
+    /// The size up to which such objects grow. A value below [`Config::starting_free_list_chunk`] or the threshold of
+    /// transient requests counts as the greater of these.
     pub final_free_list_chunk: u64,
 
-    /// The least size of a block in an object that other requests share.
+    /// The least size of a block in an object that requests share which aren't transient.
     pub minimal_buddy_size: u64,
 
-    /// The least size of the first object that other requests share. A value below [`Config::minimal_buddy_size`] counts
+    /// The least size of the first object that such requests share. A value below [`Config::minimal_buddy_size`] counts
     /// as that one.
     pub initial_buddy_dedicated_size: u64,
 }

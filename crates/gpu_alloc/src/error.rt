@@ -10,10 +10,12 @@ use std::fmt;
 /// Why an allocation is refused. What the allocator holds is then as it was.
 #[derive(Clone, Copy, Debug, PartialEq, Eq, Hash)]
 pub enum AllocationError {
-    /// The device's memory is exhausted. To give memory of the same heap back may help.
+    /// The device's memory is exhausted, or no heap that serves the request is large enough for it. To give memory of the
+    /// same heap back may help.
     OutOfDeviceMemory,
 
-    /// The host's memory is exhausted. To give memory of the host back may help.
+    /// The host's memory is exhausted, for the device or for the allocator itself. To give memory of the host back may
+    /// help.
     OutOfHostMemory,
 
     /// None of the memory types that the request allows serves its usage.

@@ -34,8 +34,8 @@ fn meaning(usage: UsageFlags) -> UsageFlags
         0 => UsageFlags::FAST_DEVICE_ACCESS.bits(),
         flags => flags,
     };
-    let carried = UsageFlags::DOWNLOAD.bits() | UsageFlags::UPLOAD.bits();
-    if named & carried == 0 {
+    let carries = UsageFlags::DOWNLOAD.bits() | UsageFlags::UPLOAD.bits();
+    if named & carries == 0 {
         UsageFlags::from_bits_retain(named)
     } else {
         UsageFlags::from_bits_retain(named | UsageFlags::HOST_ACCESS.bits())

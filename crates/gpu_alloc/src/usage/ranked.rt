@@ -2,7 +2,7 @@
 
 ghost use Rattle.std.specs.Prelude.{◌≡◌, ◌<◌, ◌≤◌, ◌+◌, true, [], ◌∷◌, ◌++◌, length, filter, All, if◌then◌else◌};
 ghost use Rattle.gpu_alloc_types.specs.Flags.{usage_bits, property_bits};
-ghost use Rattle.gpu_alloc.specs.Ranking.{by_host, is_fast, compatible, where_differ, key, has_key, is_asked, ranking, of_key};
+ghost use Rattle.gpu_alloc.specs.Ranking.{by_host, is_fast, compatible, where_differ, key, has_key, is_allowed, ranking, of_key};
 
 use gpu_alloc_types::{MemoryPropertyFlags, MemoryType, UsageFlags};
 
@@ -42,7 +42,7 @@ impl MemoryForOneUsage {
     /// Those of these types whose bit is set in a mask, in the same order.
     pub(crate) fn within(&self, mask: u32) -> MemoryForOneUsage
         requires { All (λ t. t < 32) (ranked_types self.now) }
-        ensures { ranked_types result ≡ filter (is_asked mask) (ranked_types self.now) }
+        ensures { ranked_types result ≡ filter (is_allowed mask) (ranked_types self.now) }
     {
         let mut within = MemoryForOneUsage::none();
         for memory_type in self.types() {
@@ -108,25 +108,16 @@ fn distance(usage: UsageFlags, props: MemoryPropertyFlags) -> u8
 {
     let has = props.bits();
     let wants = usage.bits();
-    let download = UsageFlags::DOWNLOAD.bits();
-    let carried = download | UsageFlags::UPLOAD.bits();
-    cost(
-        8,
-        has & MemoryPropertyFlags::DEVICE_LOCAL.bits() != 0,
-        wants_fast(usage),
-    ) + cost(
-        4,
-        has & MemoryPropertyFlags::HOST_VISIBLE.bits() != 0,
-        is_by_host(usage),
-    ) + cost(
-        2,
-        has & MemoryPropertyFlags::HOST_CACHED.bits() != 0,
-        wants & download != 0,
-    ) + cost(
-        1,
-        has & MemoryPropertyFlags::HOST_COHERENT.bits() != 0,
-        wants & carried != 0,
-    )
+    let local = has & MemoryPropertyFlags::DEVICE_LOCAL.bits() != 0;
+    let visible = has & MemoryPropertyFlags::HOST_VISIBLE.bits() != 0;
+    let cached = has & MemoryPropertyFlags::HOST_CACHED.bits() != 0;
+    let coherent = has & MemoryPropertyFlags::HOST_COHERENT.bits() != 0;
+    let downloads = wants & UsageFlags::DOWNLOAD.bits() != 0;
+    let carries = wants & (UsageFlags::DOWNLOAD.bits() | UsageFlags::UPLOAD.bits()) != 0;
+    cost(8, local, is_fast(usage))
+        + cost(4, visible, is_by_host(usage))
+        + cost(2, cached, downloads)
+        + cost(1, coherent, carries)
 }
 
 /// `worth` where the two differ, else 0.
@@ -147,7 +138,7 @@ fn is_by_host(usage: UsageFlags) -> bool
 }
 
 /// Whether the device's own memory is wanted.
-fn wants_fast(usage: UsageFlags) -> bool
+fn is_fast(usage: UsageFlags) -> bool
     ensures { result ≡ is_fast (usage_bits usage) }
 {
     usage.bits() == 0 || usage.bits() & UsageFlags::FAST_DEVICE_ACCESS.bits() != 0
