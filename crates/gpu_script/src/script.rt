@@ -1,11 +1,13 @@
 //! The script language: setup lines that describe a device, and command lines that a session runs over it.
 
-ghost use Rattle.std.specs.Prelude.{◌≡◌, ◌≤◌, IfOk};
+ghost use Rattle.std.specs.Prelude.{◌≡◌, ◌≤◌, All, IfOk};
 ghost use Rattle.gpu_alloc_types.specs.Properties.{IsUsable};
+ghost use Rattle.gpu_session.specs.Sound.{IsForRequired};
 ghost use Rattle.gpu_script.specs.Setup.{offered};
 
 mod fields;
 mod line;
+mod lines;
 mod parse;
 mod print;
 mod setup;
@@ -94,7 +96,8 @@ fn read_all<R: Read, A: Allocator + Copy>(alloc: A, input: &mut R) -> Result<Vec
 
 /// Runs a script's commands as one list over the device that it describes, and finishes the session.
 fn run<A: Allocator + Copy>(alloc: A, script: &Script<A>) -> Result<String<A>, AllocError>
-    requires { IsUsable (offered script.now.setup) }
+    requires usable { IsUsable (offered script.now.setup) }
+    requires required { All IsForRequired script.now.commands.items }
 {
     let device = device(alloc, &script.setup)?;
     let props = script.setup.properties();

@@ -6,6 +6,7 @@ ghost use Rattle.gpu_session.specs.Sound.{IsForRequired};
 use crate::script::Stop;
 use crate::script::fields::Fields;
 use crate::script::line::{LineError, LineStop};
+use crate::script::lines::Lines;
 use crate::script::setup::{Setup, SetupWord};
 use gpu_alloc::{Dedicated, Request, UsageFlags};
 use gpu_session::Command;
@@ -40,8 +41,6 @@ pub(crate) struct Script<A: Allocator> {
 }
 
 /// The script that these bytes are, or the first bad line.
-///
-/// Each line ends with a line feed, which the last one may lack.
 pub(crate) fn parse<A: Allocator + Copy>(alloc: A, text: &[u8]) -> Result<Script<A>, Stop>
     ensures { IfOk result (λ script. All IsForRequired script.commands.items) }
 {
@@ -50,12 +49,8 @@ pub(crate) fn parse<A: Allocator + Copy>(alloc: A, text: &[u8]) -> Result<Script
         commands: Vec::new(alloc),
         lines: 0,
     };
-    let text = match text {
-        [lines @ .., b'\n'] => lines,
-        [] => return Ok(script),
-        _ => text,
-    };
-    for line in text.split(|byte| *byte == b'\n') {
+    let mut lines = Lines::of(text);
+    while let Some(line) = lines.next() {
         script.lines = script.lines.saturating_add(1);
         match script.take_line(line) {
             Ok(()) => {}
