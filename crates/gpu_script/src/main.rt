@@ -4,6 +4,8 @@
 
 mod script;
 mod sim;
+#[cfg(test)]
+mod tests;
 
 use script::run_script;
 use std::io;

@@ -1,0 +1,231 @@
+//! Whole scripts, byte for byte.
+
+use crate::script::run_script;
+use std::alloc::Global;
+use std::process::Abort;
+
+/// Runs each script, and compares what it prints and its status.
+fn compare(rt: &impl Abort, alloc: Global, rows: &[(&str, &str, u8)]) {
+    for (script, printed, status) in rows {
+        let mut input = script.as_bytes();
+        let mut output = Vec::new(alloc);
+        let ended = run_script(alloc, &mut input, &mut output);
+        assert_eq!(rt; ended, *status, "the status of {script:?}");
+        assert_eq!(rt;
+            output.as_slice(),
+            printed.as_bytes(),
+            "what {script:?} prints"
+        );
+    }
+}
+
+#[test]
+fn two_blocks_come_and_go(rt: HostRuntime) {
+    compare(
+        &rt,
+        rt.alloc(),
+        &[
+            (
+                "heap 1048576\ntype 0 1\nrequired 1 100 0 0 1\nrequired 2 32768 0 0 1\nfree 1\ncounts\nfree 2\ncounts\n",
+                "block type 0 object 1 offset 0 size 100\nblock type 0 object 2 offset 0 size 32768\nok\ncounts remaining 4095 held 1 used 32768\nok\ncounts remaining 4096 held 0 used 0\nend objects 0 allocations 2\n",
+                0,
+            ),
+            (
+                "heap 1048576\ntype 0 1\nlimits 1 1000\nrequired 1 1000 0 0 1\nrequired 2 1 0 0 0\nrequired 3 1001 0 0 0\nfree 1\nrequired 2 1 0 0 0\ncounts\n",
+                "block type 0 object 1 offset 0 size 1000\nrefused: Reached limit on allocated memory objects count\nrefused: Device memory exhausted\nok\nrefused: No compatible memory types from requested types support requested usage\ncounts remaining 1 held 0 used 0\nend objects 0 allocations 1\n",
+                0,
+            ),
+        ],
+    );
+}
+
+#[test]
+fn empty_scripts_and_unusable_properties(rt: HostRuntime) {
+    compare(
+        &rt,
+        rt.alloc(),
+        &[
+            ("", "end objects 0 allocations 0\n", 0),
+            ("\n\n", "end objects 0 allocations 0\n", 0),
+            ("atom 3", "line 2: bad properties\n", 2),
+            ("atom 3\n", "line 2: bad properties\n", 2),
+            ("heap 1\ntype 1 1", "line 3: bad properties\n", 2),
+        ],
+    );
+}
+
+#[test]
+fn blocks_are_whole_objects_of_the_best_type(rt: HostRuntime) {
+    let base = "heap 1048576\ntype 0 1\n";
+    compare(
+        &rt,
+        rt.alloc(),
+        &[
+            // Nothing remains: nothing is asked.
+            (
+                "heap 1048576\ntype 0 1\nlimits 1 1073741824\nrequired 1 10 0 0 1\nrequired 2 32768 0 0 1\ncounts",
+                "block type 0 object 1 offset 0 size 10\nrefused: Reached limit on allocated memory objects count\ncounts remaining 0 held 1 used 10\nend objects 0 allocations 1\n",
+                0,
+            ),
+            // The device refuses the first type's question: the second type serves, and the first is as before.
+            (
+                "heap 1048576\nheap 1048576\ntype 0 1\ntype 1 1\nrefuse allocate 1 device\nrequired 1 100 0 0 3\ncounts",
+                "block type 1 object 1 offset 0 size 100\ncounts remaining 4095 held 1 used 0 100\nend objects 0 allocations 2\n",
+                0,
+            ),
+            // A refusal for want of host memory ends the request.
+            (
+                "heap 1048576\nheap 1048576\ntype 0 1\ntype 1 1\nrefuse allocate 1 host\nrequired 1 100 0 0 3\ncounts",
+                "refused: Host memory exhausted\ncounts remaining 4096 held 0 used 0 0\nend objects 0 allocations 1\n",
+                0,
+            ),
+            // A refused question uses no name.
+            (
+                "heap 1048576\ntype 0 1\nrefuse allocate 1 device\nrequired 1 100 0 0 1\nrequired 1 100 0 0 1",
+                "refused: Device memory exhausted\nblock type 0 object 1 offset 0 size 100\nend objects 0 allocations 2\n",
+                0,
+            ),
+            // Of two plans for one question the first counts.
+            (
+                "heap 1048576\ntype 0 1\nrefuse allocate 1 host\nrefuse allocate 1 device\nrequired 1 100 0 0 1",
+                "refused: Host memory exhausted\nend objects 0 allocations 1\n",
+                0,
+            ),
+            // The checks before any candidate, in their order: size, count, types.
+            (
+                "heap 1048576\ntype 0 1\nrequired 1 1 0 0 0",
+                "refused: No compatible memory types from requested types support requested usage\nend objects 0 allocations 0\n",
+                0,
+            ),
+            (
+                "heap 1048576\ntype 0 1\nlimits 0 1073741824\nrequired 1 1 0 0 0\nrequired 1 1073741825 0 0 0",
+                "refused: Reached limit on allocated memory objects count\nrefused: Device memory exhausted\nend objects 0 allocations 0\n",
+                0,
+            ),
+            // Heaps that are as small as the request, or smaller, and no types at all.
+            (
+                "heap 31\ntype 0 1\nrequired 1 31 0 0 1\nrequired 2 32 0 0 1",
+                "block type 0 object 1 offset 0 size 31\nrefused: Device memory exhausted\nend objects 0 allocations 1\n",
+                0,
+            ),
+            (
+                "heap 0\ntype 0 1\nrequired 1 1 0 0 1",
+                "refused: Device memory exhausted\nend objects 0 allocations 0\n",
+                0,
+            ),
+            (
+                "required 1 1 0 0 1",
+                "refused: No compatible memory types from requested types support requested usage\nend objects 0 allocations 0\n",
+                0,
+            ),
+            // The largest alignment, and a usage whose only bit has no name.
+            (
+                "heap 1048576\ntype 0 1\nrequired 1 1 9223372036854775807 0 1\nrequired 2 100 0 64 1",
+                "block type 0 object 1 offset 0 size 1\nblock type 0 object 2 offset 0 size 100\nend objects 0 allocations 2\n",
+                0,
+            ),
+            // An unnamed bit is dropped, so the device's own memory is best, as for an empty usage.
+            (
+                "heap 1048576\ntype 0 6\ntype 0 1\nrequired 1 100 0 64 3\nrequired 2 100 0 0 3\nrequired 3 100 0 16 3",
+                "block type 1 object 1 offset 0 size 100\nblock type 1 object 2 offset 0 size 100\nblock type 0 object 3 offset 0 size 100\nend objects 0 allocations 3\n",
+                0,
+            ),
+            (base, "end objects 0 allocations 0\n", 0),
+        ],
+    );
+}
+
+#[test]
+fn faults_come_in_their_order(rt: HostRuntime) {
+    compare(
+        &rt,
+        rt.alloc(),
+        &[(
+            "heap 1048576\ntype 0 1\nrequired 1 0 6 32 1\nrequired 1 8 6 32 1\nrequired 1 8 0 32 1\nfree 9\nrequired 1 8 0 0 1\nrequired 1 0 6 32 1\nrequired 2 8 18446744073709551615 0 1\nfree 1\nfree 1\ncounts",
+            "fault 3 BadSize\nfault 4 BadAlignment\nfault 5 NoDeviceAddress\nfault 2 UnknownName\nblock type 0 object 1 offset 0 size 8\nfault 1 NameInUse\nfault 4 BadAlignment\nok\nfault 2 UnknownName\ncounts remaining 4096 held 0 used 0\nend objects 0 allocations 1\n",
+            0,
+        )],
+    );
+}
+
+#[test]
+fn bad_lines_are_told_by_their_number(rt: HostRuntime) {
+    compare(
+        &rt,
+        rt.alloc(),
+        &[
+            ("heap 18446744073709551616", "line 1: bad number\n", 2),
+            (
+                "heap 10\ncounts\ntype 0 1",
+                "line 3: setup after commands\n",
+                2,
+            ),
+            ("\n# x\nfrob 1", "line 3: unknown word\n", 2),
+            ("config melon", "line 1: unknown word\n", 2),
+            ("config 1 2", "line 1: wrong number of fields\n", 2),
+            ("config", "line 1: wrong number of fields\n", 2),
+            ("config 1 2 3 4 5 6 x", "line 1: bad number\n", 2),
+            (
+                "config 1 2 3 4 5 6 7 8",
+                "line 1: wrong number of fields\n",
+                2,
+            ),
+            ("refuse map 0 melon", "line 1: bad number\n", 2),
+            ("refuse map 1 melon", "line 1: unknown word\n", 2),
+            ("refuse melon 0 melon", "line 1: unknown word\n", 2),
+            ("refuse allocate 1 failed", "line 1: unknown word\n", 2),
+            ("refuse map 1 failed", "end objects 0 allocations 0\n", 0),
+            ("type 0 64", "line 1: bad number\n", 2),
+            ("type 4294967296 1", "line 1: bad number\n", 2),
+            ("address 1", "line 1: wrong number of fields\n", 2),
+            ("limits 4294967296 1", "line 1: bad number\n", 2),
+            ("required 1 1 0 256 1", "line 1: bad number\n", 2),
+            ("required 1 100", "line 1: wrong number of fields\n", 2),
+            (
+                "required 1 1 0 0 1 1",
+                "line 1: wrong number of fields\n",
+                2,
+            ),
+            ("free 4294967296", "line 1: bad number\n", 2),
+            ("counts 1", "line 1: wrong number of fields\n", 2),
+            ("counts\nfrob\nheap", "line 2: unknown word\n", 2),
+            ("counts\nheap", "line 2: setup after commands\n", 2),
+            ("alloc 1 100", "line 1: unknown word\n", 2),
+            ("heap 1x", "line 1: bad number\n", 2),
+            ("heap -1", "line 1: bad number\n", 2),
+        ],
+    );
+}
+
+#[test]
+fn blanks_and_line_ends(rt: HostRuntime) {
+    let nothing = "counts remaining 4096 held 0 used\nend objects 0 allocations 0\n";
+    compare(
+        &rt,
+        rt.alloc(),
+        &[
+            ("counts\r\n", nothing, 0),
+            ("counts\r", nothing, 0),
+            ("counts \r\n", nothing, 0),
+            (" \t counts\t ", nothing, 0),
+            ("counts\r \n", "line 1: unknown word\n", 2),
+            ("counts\r\r\n", "line 1: unknown word\n", 2),
+            ("#\n \t\n\r\n  # heap\n", "end objects 0 allocations 0\n", 0),
+            (
+                "heap\t 0007 \ntype 0 1\ncounts",
+                "counts remaining 4096 held 0 used 0\nend objects 0 allocations 0\n",
+                0,
+            ),
+            (
+                "config 1 2 3 4 5 6 7\nconfig prototyping\nconfig potato",
+                "end objects 0 allocations 0\n",
+                0,
+            ),
+            (
+                "limits 1 1\nlimits 2 2\natom 3\natom 4\naddress\naddress\ncounts",
+                "counts remaining 2 held 0 used\nend objects 0 allocations 0\n",
+                0,
+            ),
+        ],
+    );
+}
