@@ -334,7 +334,7 @@ impl<M: MemoryObject, A: Allocator> GpuAllocator<M, A> {
 
     /// Ends the allocator, which may hold no object.
     pub fn close(self)
-        requires { self.held ≡ map.empty }
+        requires { map.len self.held ≡ 0 }
     {
         let GpuAllocator {
             limits: _,

@@ -8,8 +8,8 @@ ghost use Rattle.gpu_script.specs.Setup.{offered};
 mod fields;
 mod line;
 mod lines;
-mod parse;
-mod print;
+pub(crate) mod parse;
+pub(crate) mod print;
 mod setup;
 
 use crate::sim::Sim;
@@ -23,7 +23,7 @@ use std::io::{ErrorKind, Read, Write};
 
 /// Why a script has no replies.
 #[derive(Drop)]
-enum Stop {
+pub(crate) enum Stop {
     /// A read failed.
     Read,
 
@@ -111,7 +111,7 @@ fn run<A: Allocator + Copy>(alloc: A, script: &Script<A>) -> Result<String<A>, A
 }
 
 /// The device that the setup lines describe, with the refusals that they plan.
-fn device<A: Allocator + Copy>(alloc: A, setup: &Setup<A>) -> Result<Sim<A>, AllocError>
+pub(crate) fn device<A: Allocator + Copy>(alloc: A, setup: &Setup<A>) -> Result<Sim<A>, AllocError>
     ensures { IfOk result (λ device. device.properties ≡ offered setup.now) }
 {
     let mut device = Sim::new(alloc, setup.properties())?;

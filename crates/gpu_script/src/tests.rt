@@ -1,4 +1,5 @@
 //! What no contract says: what scripts print, that calls succeed with ample memory, and what is left where memory is refused.
 
 mod ends;
+mod memory;
 mod scripts;

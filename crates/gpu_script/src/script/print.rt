@@ -21,7 +21,11 @@ pub(crate) fn print_replies<A: Allocator + Copy>(
     Ok(text)
 }
 
-fn print_reply<A: Allocator>(text: &mut String<A>, reply: &Reply<A>) -> Result<(), AllocError> {
+/// The line of a reply, without its line feed.
+pub(crate) fn print_reply<A: Allocator>(
+    text: &mut String<A>,
+    reply: &Reply<A>,
+) -> Result<(), AllocError> {
     match reply {
         Reply::Granted {
             memory_type,

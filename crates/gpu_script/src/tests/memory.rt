@@ -1,0 +1,208 @@
+//! Host memory that is refused: to the program, and to each command in turn.
+//!
+//! A heap of the test's own gives out all that it has but one hole. The hole grows from nothing until the command fits, so
+//! each of its requests for memory is refused at some hole.
+
+ghost use Rattle.std.specs.Prelude.{All, IfOk};
+ghost use Rattle.gpu_session.specs.Sound.{IsForRequired};
+
+use crate::script::parse::{Script, parse};
+use crate::script::print::print_reply;
+use crate::script::{device, run_script};
+use crate::sim::{Sim, SimMemory};
+use gpu_alloc::AllocationError;
+use gpu_session::{Fault, Reply, Session, SessionOpenError};
+use linked_list_allocator::LocalHeap;
+use std::alloc::{AllocError, Global};
+use std::process::Abort;
+use std::test::Fail;
+
+/// All that a plugged heap gives out.
+type Plug<'a> = Vec<u8, &'a LocalHeap>;
+
+/// Takes all of the heap but one hole of this size.
+fn plug<'a>(alloc: Global, heap: &'a LocalHeap, hole: usize) -> Result<Vec<Plug<'a>>, AllocError> {
+    let gap: Plug<'a> = Vec::with_capacity(heap, hole)?;
+    let mut plugs = Vec::new(alloc);
+    for size in [1 << 16, 1 << 12, 1 << 8, 64, 32, 16, 1] {
+        for _ in 0..1024 {
+            match Vec::with_capacity(heap, size) {
+                Ok(taken) => plugs.push(taken)?,
+                Err(_) => break,
+            }
+        }
+    }
+    drop(gap);
+    Ok(plugs)
+}
+
+/// What one command came to.
+#[derive(Clone, Copy, Debug, PartialEq, Eq)]
+enum Outcome {
+    /// It met no refusal.
+    Served,
+
+    /// No place for its reply.
+    NothingRan,
+
+    /// The session's own memory was refused.
+    NoMemory,
+
+    /// The allocator's memory, or the device's, was refused.
+    Refused,
+}
+
+/// A session over memory of a test's own.
+type LocalSession<'a> = Session<SimMemory<&'a LocalHeap>, Sim<&'a LocalHeap>, &'a LocalHeap>;
+
+/// What one command was answered by.
+fn outcome_of(replies: Result<Vec<Reply<&LocalHeap>, &LocalHeap>, AllocError>) -> Outcome {
+    let Ok(replies) = replies else {
+        return Outcome::NothingRan;
+    };
+    match replies.as_slice() {
+        [Reply::Fault(Fault::NoMemory)] => Outcome::NoMemory,
+        [Reply::Refused(AllocationError::OutOfHostMemory)] => Outcome::Refused,
+        _ => Outcome::Served,
+    }
+}
+
+/// A script whose lines are good.
+fn good_script<'a>(heap: &'a LocalHeap, text: &str) -> Result<Script<&'a LocalHeap>, Fail>
+    ensures { IfOk result (λ script. All IsForRequired script.commands.items) }
+{
+    match parse(heap, text.as_bytes()) {
+        Ok(script) => Ok(script),
+        Err(_) => Err(Fail::from("a bad script")),
+    }
+}
+
+/// What is held, as a line of text.
+fn counted<'a>(
+    heap: &'a LocalHeap,
+    session: &mut LocalSession<'a>,
+    counts: &Script<&'a LocalHeap>,
+) -> Result<String<&'a LocalHeap>, AllocError>
+    requires { All IsForRequired counts.now.commands.items }
+{
+    let replies = session.run(counts.commands.as_slice())?;
+    let mut text = String::new(heap);
+    for reply in &replies {
+        print_reply(&mut text, reply)?;
+    }
+    Ok(text)
+}
+
+/// Runs the earlier commands with ample memory, and then one command with one hole of it left. Where that was refused,
+/// what is held is as before, and the device loses nothing.
+fn outcome_at(
+    rt: &impl Abort,
+    alloc: Global,
+    earlier: &str,
+    command: &str,
+    hole: usize,
+) -> Result<Outcome, Fail> {
+    let heap = LocalHeap::new(alloc, 1 << 16)?;
+    let earlier = good_script(&heap, earlier)?;
+    let command = good_script(&heap, command)?;
+    let counts = good_script(&heap, "counts")?;
+    let props = earlier.setup.properties();
+    assert!(rt; props.is_usable());
+    let device = device(&heap, &earlier.setup)?;
+    let mut session = match Session::new(&heap, earlier.setup.config, props, device) {
+        Ok(session) => session,
+        Err(SessionOpenError { device: _device }) => return Err(Fail::from("no session")),
+    };
+    let ran = session.run(earlier.commands.as_slice());
+    let before = counted(&heap, &mut session, &counts);
+    let plugs = plug(alloc, &heap, hole);
+    let outcome = outcome_of(session.run(command.commands.as_slice()));
+    drop(plugs);
+    let after = counted(&heap, &mut session, &counts);
+    let device = session.finish();
+    assert_eq!(rt; device.objects(), 0, "with {hole}");
+    assert_eq!(rt; ran?.len(), earlier.commands.len());
+    if outcome != Outcome::Served {
+        assert_eq!(rt; after?.as_str(), before?.as_str(), "with {hole}");
+    }
+    Ok(outcome)
+}
+
+/// How often a command came to each refusal, as the hole grows until it is served.
+fn refusals(
+    rt: &impl Abort,
+    alloc: Global,
+    earlier: &str,
+    command: &str,
+) -> Result<[u32; 3], Fail> {
+    let mut nothing_ran = 0u32;
+    let mut no_memory = 0u32;
+    let mut refused = 0u32;
+    for hole in 0..4096 {
+        match outcome_at(rt, alloc, earlier, command, hole << 4)? {
+            Outcome::NothingRan => nothing_ran = nothing_ran.saturating_add(1),
+            Outcome::NoMemory => no_memory = no_memory.saturating_add(1),
+            Outcome::Refused => refused = refused.saturating_add(1),
+            Outcome::Served => return Ok([nothing_ran, no_memory, refused]),
+        }
+    }
+    Err(Fail::from("never served"))
+}
+
+#[test]
+fn each_request_for_memory_is_refused_in_turn(rt: HostRuntime) -> Result<(), Fail> {
+    let base = "heap 1048576\ntype 0 1\n";
+    let held = "heap 1048576\ntype 0 1\nrequired 1 100 0 0 1\n";
+    let [nothing_ran, no_memory, refused] = refusals(
+        &rt,
+        rt.alloc(),
+        base,
+        "required 2 100 0 0 1",
+    )?;
+    assert!(rt;
+        nothing_ran > 0 && no_memory > 0 && refused > 0,
+        "a first block"
+    );
+    let [nothing_ran, no_memory, _] = refusals(&rt, rt.alloc(), held, "counts")?;
+    assert!(rt; nothing_ran > 0 && no_memory > 0, "counts");
+    let [nothing_ran, no_memory, refused] = refusals(&rt, rt.alloc(), held, "free 1")?;
+    assert!(rt; nothing_ran > 0, "the reply to a return");
+    assert_eq!(rt; (no_memory, refused), (0, 0), "a return takes no memory");
+    Ok(())
+}
+
+/// How a script ends over a heap of this many bytes, and how much it prints.
+fn script_over(alloc: Global, room: usize) -> Result<(u8, usize), Fail> {
+    let heap = LocalHeap::new(alloc, room)?;
+    let mut input =
+        "heap 4096\ntype 0 1\nrefuse map 1 failed\nrequired 1 8 0 0 1\nfree 1".as_bytes();
+    let mut output = Vec::new(alloc);
+    let status = run_script(&heap, &mut input, &mut output);
+    Ok((status, output.len()))
+}
+
+#[test]
+fn a_program_without_memory_says_so_alone(rt: HostRuntime) -> Result<(), Fail> {
+    let mut wanting = 0u32;
+    let mut ran = 0u32;
+    for room in 0..512 {
+        let (status, printed) = script_over(rt.alloc(), room << 4)?;
+        if status == 3 {
+            assert_eq!(rt; printed, "out of memory\n".len(), "over {room}");
+            wanting = wanting.saturating_add(1);
+        } else {
+            assert_eq!(rt; status, 0, "over {room}");
+            ran = ran.saturating_add(1);
+        }
+    }
+    assert!(rt; wanting > 0 && ran > 0, "{wanting} and {ran}");
+    Ok(())
+}
+
+#[test]
+fn want_of_memory_is_fault_twelve(rt: HostRuntime) -> Result<(), Fail> {
+    let mut text = String::new(rt.alloc());
+    print_reply(&mut text, &Reply::Fault(Fault::NoMemory))?;
+    assert_eq!(rt; text.as_str(), "fault 12 NoMemory");
+    Ok(())
+}
