@@ -1,5 +1,12 @@
+pub mod Agreeing
 pub mod Candidates
+pub mod Consistency
+pub mod Grants
+pub mod Ledgers
 pub mod Lists
+pub mod LiveSpans
 pub mod RankingOrder
 pub mod RankingSteps
+pub mod Returns
 pub mod Rows
+pub mod Trials

@@ -1,5 +1,5 @@
 -- The rows of the table: what is found of them, as one is added or taken off.
-use Rattle.std.proofs.Common.{◌≡◌, ◌≢◌, ℕ, suc, ◌+◌, ◌≤◌, Bool, true, false, cond, not, ◌&&◌, ◌==◌, ◌<◌, ◌⊎◌, inl, inr, List, [], ◌∷◌, ◌++◌, length, get_or, map, Option, Some, None, refl, sym, ◌∙◌, ap, subst, arith, Equal}
+use Rattle.std.proofs.Common.{◌≡◌, ◌≢◌, ℕ, suc, ◌+◌, ◌≤◌, Bool, true, false, cond, not, ◌&&◌, ◌==◌, ◌⊎◌, inl, inr, List, [], ◌∷◌, ◌++◌, length, get_or, map, Option, Some, None, refl, sym, ◌∙◌, ap, subst, arith, Equal}
 use Rattle.std.proofs.lemmas.Bool.Decides.{nat_tests, same_from_decides, Decides-and, Decides-not}
 use Rattle.std.proofs.lemmas.List.{map-append}
 use Rattle.std.specs.Bool.{Decides}
@@ -16,7 +16,7 @@ use Rattle.std.specs.FinMap as finite
 use Rattle.std.specs.FinMap.{nat_cmp-IsAntisymmetric, slice_cmp-IsAntisymmetric}
 use Rattle.std.specs.FinSet as set
 use Rattle.gpu_alloc.specs.State.{HeldObject, Span, span_cmp, span_numbers}
-use Rattle.gpu_alloc.specs.Spans.{Table, IsRowOf, HasNoRow, held_of, span_in, entry_of, same_object}
+use Rattle.gpu_alloc.specs.Spans.{IsRowOf, HasNoRow, held_of, span_in, entry_of, same_object}
 use Rattle.gpu_alloc.specs.declared.spans.Row.{Row}
 use Rattle.gpu_alloc.proofs.Lists.{contains_head, contains_later, contains_cases, contains_none, head_is_other, IsLess, seek, distinct_push}
 
@@ -82,6 +82,7 @@ seek_object name rows = elim (seek (λ row. row.object == name) rows) [
   where
     same : (a : ℕ) → (a == name) ≡ true → a ≡ name
     same a e = grind (arith, nat_tests)
+
     differs : (a : ℕ) → (a == name) ≡ false → a ≢ name
     differs a e = grind (arith, nat_tests)
 
@@ -161,23 +162,25 @@ row_live rows row has = (in_live (map span_in rows) (span_in row)).1 (contains_s
 in_less : (xs ys : List Row) (x : Row) → IsLess same_object xs ys x → (q : Span)
     → Decides (set.contains (set.from_list {R = span_cmp} (map span_in ys)) q) (((q ≡ span_in x) → ⊥) × ((row : Row) × Contains xs row × (span_in row ≡ q)))
 in_less xs ys x l q = (
-  (λ t. let f = live_row ys q t in
-    ((λ is. let test : same_object x f.0 ≡ false = l.other f.0 f.1 in
-      let same : f.0.object ≡ x.object = ap (λ (s : Span). s.object) (f.2 ∙ is) in
-      let e = eq-true x.object f.0.object (sym same) in absurd (cc)),
-    (f.0, l.kept f.0 f.1, f.2))),
+  (λ t. let f = live_row ys q t in (
+    (λ is. let test : same_object x f.0 ≡ false = l.other f.0 f.1 in
+        let same : f.0.object ≡ x.object = ap (λ (s : Span). s.object) (f.2 ∙ is) in
+        let e = eq-true x.object f.0.object (sym same) in absurd (cc)),
+    (f.0, l.kept f.0 f.1, f.2),
+  )),
   (λ h. elim (l.cases h.1.0 h.1.1) [
     | inl is ↦ absurd (h.0 (sym h.1.2 ∙ ap span_in is))
     | inr has ↦ subst (λ s. set.contains (set.from_list {R = span_cmp} (map span_in ys)) s ≡ true) h.1.2 (row_live ys h.1.0 has)
-  ]))
+  ]),
+)
 
 in_removed : (xs : List Row) (x : Row) (q : Span)
     → Decides (set.contains (set.remove (set.from_list {R = span_cmp} (map span_in xs)) (span_in x)) q) (((q ≡ span_in x) → ⊥) × ((row : Row) × Contains xs row × (span_in row ≡ q)))
 in_removed xs x q =
     let e = set.contains-remove span_total (set.from_list {R = span_cmp} (map span_in xs)) (span_in x) q in
     let d : Decides (not (eq_by_cmp span_cmp q (span_in x)) && set.contains (set.from_list {R = span_cmp} (map span_in xs)) q) ((q ≡ span_in x → ⊥) × ((row : Row) × Contains xs row × (span_in row ≡ q))) =
-      Decides-and _ _ (Decides-not _ (span_test q (span_in x)))
-        ((λ t. live_row xs q t), (λ h. subst (λ s. set.contains (set.from_list {R = span_cmp} (map span_in xs)) s ≡ true) h.2 (row_live xs h.0 h.1))) in
+    Decides-and _ _ (Decides-not _ (span_test q (span_in x)))
+    ((λ t. live_row xs q t), (λ h. subst (λ s. set.contains (set.from_list {R = span_cmp} (map span_in xs)) s ≡ true) h.2 (row_live xs h.0 h.1))) in
     ((λ t. d.0 (sym e ∙ t)), (λ h. e ∙ d.1 h))
 
 pub live_less : (xs ys : List Row) (x : Row) → IsLess same_object xs ys x
@@ -201,14 +204,15 @@ pub distinct_row : (rows : List Row) (row : Row) → IsDistinct same_object rows
 distinct_row rows row d none = distinct_push same_object same_object-flips rows row d (λ r has.
     elim (r.object == row.object) as (λ b. (r.object == row.object) ≡ b → (row.object == r.object) ≡ false) [
       | true ↦ λ e.
-        let same : r.object ≡ row.object = equal r.object row.object e in
-        let there : finite.find nat_cmp row.object (map entry_of rows) ≡ Some (held_of r) = subst (λ n. finite.find nat_cmp n (map entry_of rows) ≡ Some (held_of r)) same (find-row r rows d has) in
-        absurd (cc)
+          let same : r.object ≡ row.object = equal r.object row.object e in
+          let there : finite.find nat_cmp row.object (map entry_of rows) ≡ Some (held_of r) = subst (λ n. finite.find nat_cmp n (map entry_of rows) ≡ Some (held_of r)) same (find-row r rows d has) in
+          absurd (cc)
       | false ↦ λ e. turned r.object row.object e
     ] refl)
   where
     equal : (a b : ℕ) → (a == b) ≡ true → a ≡ b
     equal a b e = grind (arith, nat_tests)
+
     turned : (a b : ℕ) → (a == b) ≡ false → (b == a) ≡ false
     turned a b e = grind (arith, nat_tests)
 
@@ -219,11 +223,11 @@ one_row (r ∷ rows) a b d has_a has_b same = elim (contains_cases r a rows has_
   | inl a_is ↦ elim (contains_cases r b rows has_b) [
     | inl b_is ↦ a_is ∙ sym b_is
     | inr later ↦ absurd (let test = head_is_other same_object r b rows d later in
-      let e = eq-true r.object b.object (ap (λ (x : Row). x.object) (sym a_is) ∙ same) in cc)
+        let e = eq-true r.object b.object (ap (λ (x : Row). x.object) (sym a_is) ∙ same) in cc)
   ]
   | inr earlier ↦ elim (contains_cases r b rows has_b) [
     | inl b_is ↦ absurd (let test = head_is_other same_object r a rows d earlier in
-      let e = eq-true r.object a.object (ap (λ (x : Row). x.object) (sym b_is) ∙ sym same) in cc)
+        let e = eq-true r.object a.object (ap (λ (x : Row). x.object) (sym b_is) ∙ sym same) in cc)
     | inr later ↦ one_row rows a b (IsDistinct-tail same_object r rows d) earlier later same
   ]
 ]
@@ -242,9 +246,10 @@ row_at rows room name i row d at is =
       held = finite.get-from_entries nat_cmp_total (map entry_of rows) name ∙ subst (λ n. finite.find nat_cmp n (map entry_of rows) ≡ Some (held_of row)) named (find-row row rows d has);
       live = λ span of_it. (
         (λ t. let f = live_row rows span t in
-          let same : f.0.object ≡ row.object = ap (λ (s : Span). s.object) f.2 ∙ of_it ∙ sym named in
-          sym f.2 ∙ ap span_in (one_row rows f.0 row d f.1 has same)),
-        (λ e. subst (λ s. set.contains (set.from_list {R = span_cmp} (map span_in rows)) s ≡ true) (sym e) (row_live rows row has)));
+            let same : f.0.object ≡ row.object = ap (λ (s : Span). s.object) f.2 ∙ of_it ∙ sym named in
+            sym f.2 ∙ ap span_in (one_row rows f.0 row d f.1 has same)),
+        (λ e. subst (λ s. set.contains (set.from_list {R = span_cmp} (map span_in rows)) s ≡ true) (sym e) (row_live rows row has)),
+      );
     }
   where
     equal : (a : ℕ) → (a == name) ≡ true → a ≡ name
@@ -263,9 +268,11 @@ absent_at rows name none row has = differs row.object (negated (row.object == na
   where
     past : length rows ≤ prefix_len (λ r. not (r.object == name)) rows
     past = grind (arith, nat_tests)
+
     negated : (b : Bool) → not b ≡ true → b ≡ false
     negated true e = cc
     negated false e = refl
+
     differs : (a : ℕ) → (a == name) ≡ false → a ≢ name
     differs a e = grind (arith, nat_tests)
 

@@ -1,16 +1,15 @@
 -- How an allocation is decided: what is asked of the device for each candidate, and what the first one that is not
 -- passed answers.
-use Rattle.std.specs.Prelude.{◌≡◌, ◌⊎◌, ℕ, ◌+◌, ◌-◌, ◌%◌, ◌/◌, ◌<◌, ◌≤◌, ◌==◌, Bool, true, false, ◌&&◌, List, [], ◌∷◌, ◌++◌, length, Option, Some, None, Result, Ok, Err, cond, min, nat_lt, nat_le, nat_eq, MatchBool, IfSome}
+use Rattle.std.specs.Prelude.{◌≡◌, ◌⊎◌, ℕ, ◌+◌, ◌-◌, ◌%◌, ◌/◌, ◌<◌, ◌≤◌, ◌==◌, Bool, ◌&&◌, List, [], ◌∷◌, ◌++◌, length, Option, Some, None, Result, Ok, Err, cond, min, nat_lt, nat_le, nat_eq, MatchBool}
 use Rattle.std.specs.FinMap as map
 use Rattle.std.specs.FinSet as set
 use Rattle.gpu_alloc_types.specs.Flags.{usage_bits, has_bit}
-use Rattle.gpu_alloc_types.specs.Properties.{Properties, heap_size, props_at, atom_of, is_host_visible, is_non_coherent}
-use Rattle.gpu_alloc_types.specs.Device.{Object, Event, HeldWith, IsFresh, put}
+use Rattle.gpu_alloc_types.specs.Properties.{Properties, heap_size, props_at, atom_of}
+use Rattle.gpu_alloc_types.specs.Device.{Object, Event, IsFresh, put}
 use Rattle.gpu_alloc_types.specs.Device.Event.{Allocated}
 use Rattle.gpu_alloc_types.specs.declared.types.OutOfMemory.{OutOfMemory}
 use Rattle.gpu_alloc_types.specs.declared.types.OutOfMemory.TheVariants.{OutOfDeviceMemory as DeviceFull, OutOfHostMemory as HostFull}
-use Rattle.gpu_alloc.specs.declared.block.Kind.{Kind}
-use Rattle.gpu_alloc.specs.declared.block.Kind.TheVariants.{Dedicated as DedicatedObject, Imported, BuddyChunk, FreeListChunk}
+use Rattle.gpu_alloc.specs.declared.block.Kind.TheVariants.{Dedicated as DedicatedObject}
 use Rattle.gpu_alloc.specs.declared.error.AllocationError.{AllocationError}
 use Rattle.gpu_alloc.specs.declared.error.AllocationError.TheVariants.{OutOfDeviceMemory, OutOfHostMemory, NoCompatibleMemoryTypes, TooManyObjects}
 use Rattle.gpu_alloc.specs.declared.request.Request.{Request}
@@ -70,7 +69,7 @@ abbrev pub IsPassed : State → Request → Option Dedicated → ℕ → List Ev
 IsPassed s r hint t es =
     ((heap_size s.properties t < r.size) × (es ≡ []))
     ⊎ ((r.size ≤ heap_size s.properties t)
-      × ((size : ℕ) × Asks (strategy s r hint t) s r t size × (es ≡ asked s size t (Err DeviceFull) ∷ [])))
+    × ((size : ℕ) × Asks (strategy s r hint t) s r t size × (es ≡ asked s size t (Err DeviceFull) ∷ [])))
 
 -- What a candidate that decides answers.
 

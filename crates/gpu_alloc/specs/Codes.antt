@@ -66,8 +66,10 @@ type_state_code =
 abbrev pub config_code : Coded Config
 config_code =
     code_by ((ℕ × (ℕ × ℕ)) × ((ℕ × ℕ) × (ℕ × ℕ))) (coded× (coded× coded_ℕ (coded× coded_ℕ coded_ℕ)) (coded× (coded× coded_ℕ coded_ℕ) (coded× coded_ℕ coded_ℕ)))
-    (λ c. ((c.dedicated_threshold, (c.preferred_dedicated_threshold, c.transient_dedicated_threshold)),
-      ((c.starting_free_list_chunk, c.final_free_list_chunk), (c.minimal_buddy_size, c.initial_buddy_dedicated_size))))
+    (λ c. (
+      (c.dedicated_threshold, (c.preferred_dedicated_threshold, c.transient_dedicated_threshold)),
+      ((c.starting_free_list_chunk, c.final_free_list_chunk), (c.minimal_buddy_size, c.initial_buddy_dedicated_size)),
+    ))
     (λ n. record {
       dedicated_threshold = n.0.0;
       preferred_dedicated_threshold = n.0.1.0;

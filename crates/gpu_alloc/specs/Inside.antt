@@ -1,5 +1,5 @@
 -- What an allocator's fields stand for, and what they keep.
-use Rattle.std.specs.Prelude.{◌≡◌, ℕ, ◌+◌, ◌<◌, ◌^◌, true, List, [], ◌∷◌, map, length, slice_get, sum_by, Some, IfSome, IsTrue}
+use Rattle.std.specs.Prelude.{◌≡◌, ℕ, ◌+◌, ◌<◌, ◌^◌, List, [], ◌∷◌, map, length, slice_get, sum_by, Some, IfSome, IsTrue}
 use Rattle.std.specs.FinMap as map_of
 use Rattle.std.specs.FinSet as set
 use Rattle.gpu_alloc_types.specs.Properties.{Properties, IsUsable}
@@ -58,10 +58,10 @@ AreSmall (entry ∷ entries) = (entry.1.counted < 2 ^ 64) × AreSmall entries
 abbrev pub AreLedgers : Properties → List Heap → List (ℕ × HeldObject) → Type 0
 AreLedgers p heaps entries = (heap : ℕ) → IfSome (slice_get heaps heap) (λ h. h.used ≡ sum_by (share p heap) entries)
 
-pub record IsConsistent {A : Type 0} (l : Limits A) (heaps : List Heap) (t : Table) (remaining : ℕ) : Type 0 where
-  pub usable : IsUsable (properties_in l heaps)
+pub record IsConsistent (p : Properties) (heaps : List Heap) (t : Table) (remaining : ℕ) : Type 0 where
+  pub usable : IsUsable p
   pub count : remaining + map_of.len t.held < 2 ^ 32
-  pub whole : (object : ℕ) → IfSome (map_of.get t.held object) (IsWhole t (properties_in l heaps) object)
+  pub whole : (object : ℕ) → IfSome (map_of.get t.held object) (IsWhole t p object)
   pub spans : (span : Span) → IsTrue (set.contains t.live span) → IsWholeSpan t span
   pub small : AreSmall (map_of.entries t.held)
-  pub ledgers : AreLedgers (properties_in l heaps) heaps (map_of.entries t.held)
+  pub ledgers : AreLedgers p heaps (map_of.entries t.held)

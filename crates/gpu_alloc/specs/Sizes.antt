@@ -1,7 +1,7 @@
 -- Sizes that follow from a configuration and from what a device offers. All are bytes.
 use Rattle.std.specs.Prelude.{ℕ, zero, suc, ◌+◌, ◌-◌, ◌*◌, ◌/◌, ◌==◌, min, max, nat_le, List, map, cond, if◌then◌else◌, slice_get}
 use Rattle.gpu_alloc_types.specs.Flags.{property_bits}
-use Rattle.gpu_alloc_types.specs.Properties.{Properties, size_of, atom_for, heap_size, atom_of}
+use Rattle.gpu_alloc_types.specs.Properties.{Properties, size_of, atom_for}
 use Rattle.gpu_alloc_types.specs.declared.types.MemoryType.{MemoryType}
 use Rattle.gpu_alloc.specs.State.{TypeState}
 use Rattle.gpu_alloc.specs.declared.config.Config.{Config}

@@ -13,7 +13,7 @@ ghost use Rattle.gpu_alloc.specs.Request.{IsAskable};
 ghost use Rattle.gpu_alloc.specs.State.{IsOwned, ledger, total};
 
 use crate::block::Kind;
-use crate::heap::Heap;
+use crate::heap::{Heap, unused_heaps};
 use crate::spans::{Row, Spans};
 use crate::usage::candidates;
 use crate::{AllocationError, Config, Dedicated, MemoryBlock, Request};
@@ -81,11 +81,11 @@ impl<M: MemoryObject, A: Allocator> Model for GpuAllocator<M, A> {
 
     ghost coded = { state_code };
 
-    ghost use Rattle.gpu_alloc.specs.Inside.{state_in, IsConsistent};
+    ghost use Rattle.gpu_alloc.specs.Inside.{state_in, properties_in, IsConsistent};
 
     ghost view = { λ a. state_in a.limits a.heaps.items a.spans a.allocations_remains };
 
-    ghost invariant = { λ a. IsConsistent a.limits a.heaps.items a.spans a.allocations_remains };
+    ghost invariant = { λ a. IsConsistent (properties_in a.limits a.heaps.items) a.heaps.items a.spans a.allocations_remains };
 }
 
 impl<M: MemoryObject, A: Allocator + Copy> GpuAllocator<M, A> {
@@ -112,11 +112,7 @@ impl<M: MemoryObject, A: Allocator + Copy> GpuAllocator<M, A> {
         ensures { IfOk result (λ allocator. allocator ≡ opened config (properties_of props.entry)) }
     {
         let memory_types = Vec::from_slice(alloc, props.memory_types)?;
-        let heaps = props
-            .memory_heaps
-            .iter()
-            .map(|heap| Heap::new(heap.size))
-            .collect(alloc)?;
+        let heaps = unused_heaps(alloc, props.memory_heaps)?;
         Ok(GpuAllocator {
             limits: Limits {
                 config,

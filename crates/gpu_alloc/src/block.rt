@@ -6,7 +6,6 @@ ghost use Rattle.gpu_alloc_types.specs.Flags.{property_bits};
 use gpu_alloc_types::{MemoryObject, MemoryPropertyFlags};
 use std::marker::Model;
 
-
 /// What an object is held for.
 #[derive(Clone, Copy, Debug, PartialEq, Eq)]
 pub(crate) enum Kind {

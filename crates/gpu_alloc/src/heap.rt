@@ -1,6 +1,10 @@
 //! A heap's size, and the running ledger of what is held of it.
 
-ghost use Rattle.std.specs.Prelude.{◌≡◌, ◌+◌, ◌-◌, ◌≤◌, ◌<◌, ◌^◌};
+ghost use Rattle.std.specs.Prelude.{◌≡◌, ◌+◌, ◌-◌, ◌≤◌, ◌<◌, ◌^◌, map, IfOk};
+ghost use Rattle.gpu_alloc.specs.Heap.{unused};
+
+use gpu_alloc_types::MemoryHeap;
+use std::alloc::{AllocError, Allocator};
 
 /// A heap.
 #[derive(Clone, Copy, Debug, PartialEq, Eq)]
@@ -9,9 +13,17 @@ pub(crate) struct Heap {
     used: u128,
 }
 
-impl Heap {
-    ghost use Rattle.gpu_alloc.specs.Heap.{unused};
+/// The heaps that a device offers, of which nothing is held.
+pub(crate) fn unused_heaps<A: Allocator + Copy>(
+    alloc: A,
+    heaps: &[MemoryHeap],
+) -> Result<Vec<Heap, A>, AllocError>
+    ensures { IfOk result (λ all. all.items ≡ map (λ heap. unused heap.size) heaps.now) }
+{
+    heaps.iter().map(|heap| Heap::new(heap.size)).collect(alloc)
+}
 
+impl Heap {
     /// A heap of `size` bytes of which nothing is held.
     pub(crate) fn new(size: u64) -> Heap
         ensures { result ≡ unused size }

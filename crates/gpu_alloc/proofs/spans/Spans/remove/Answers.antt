@@ -1,5 +1,4 @@
-use Rattle.std.proofs.Common.{◌≡◌, ◌+◌, ◌-◌, ◌<◌, length, get_or, sym, ◌∙◌, ap, refl, arith, vec_len, vec_capacity, position, None, Some, true, IsSome}
-use Rattle.std.proofs.lemmas.Grind.{common_steps}
+use Rattle.std.proofs.Common.{◌≡◌, ◌+◌, ◌-◌, sym, ◌∙◌, ap, refl, arith, vec_len, vec_capacity}
 use Rattle.std.proofs.lemmas.List.Quantifiers.{position-Some}
 use Rattle.std.specs.FinMap as finite
 use Rattle.gpu_alloc.proofs.Lists.{less, none_is_some}
@@ -30,5 +29,5 @@ returns-clause-removed g c =
     let p = position-Some _ _ _ c.swap_remove.result (sym at ∙ c.in-Some.is) in
     let l = less same_object same_object-flips _ _ _ _ c.self.invariant p.0 c.swap_remove.ensures.value c.swap_remove.ensures.items in
     let room : vec_capacity c.swap_remove.new.self - vec_len c.swap_remove.new.self ≡ vec_capacity c.self.inside.rows - vec_len c.self.inside.rows + 1 =
-      omega (arith, c.swap_remove.ensures.len, c.swap_remove.ensures.capacity, c.swap_remove.new.self.ok) in
+    omega (arith, c.swap_remove.ensures.len, c.swap_remove.ensures.capacity, c.swap_remove.new.self.ok) in
     rw (← c.self.view_is, held_less _ _ _ c.self.invariant l, live_less _ _ _ l, room) refl

@@ -1,0 +1,99 @@
+-- An allocator and its device that agree, as both hold one object more, or one fewer.
+use Rattle.std.proofs.Common.{◌≡◌, ◌≢◌, inl, inr, ℕ, ◌==◌, Bool, true, false, cond, Option, Some, None, Ok, IfSome, refl, sym, ◌∙◌, ap, subst, arith}
+use Rattle.std.proofs.lemmas.Bool.Decides.{nat_tests}
+use Rattle.std.specs.Cmp.{nat_cmp_total}
+use Rattle.std.specs.FinMap as finite
+use Rattle.gpu_alloc_types.specs.Properties.{Properties}
+use Rattle.gpu_alloc_types.specs.Device.{Object, HeldWith, put}
+use Rattle.gpu_alloc_types.specs.Objects.{put-same, put-other}
+use Rattle.gpu_alloc.specs.State.{State, HeldObject, Span, Block, IsLive, span_of}
+use Rattle.gpu_alloc.specs.Agreement.{Agrees, IsThere, IsCounted, IsInside, IsMappedWhole}
+use Rattle.gpu_alloc.specs.Allocation.{ObjectsAfter, holding}
+use Rattle.gpu_alloc.specs.declared.block.Kind.{Kind}
+use Rattle.gpu_alloc.specs.declared.block.Kind.TheVariants.{Dedicated, Imported, BuddyChunk, FreeListChunk}
+use Rattle.gpu_alloc.proofs.Ledgers.{name_test}
+use Rattle.gpu_alloc.proofs.LiveSpans.{live_before}
+
+-- the spans of an object that are live were live
+abbrev pub IsOlder : State → State → ℕ → Type 0
+IsOlder s now name = (span : Span) → IsLive now span → span.object ≡ name → IsLive s span
+
+counted_kept : (kind : Kind) (s now : State) (name counted : ℕ) (o : Object) → now.properties ≡ s.properties → IsOlder s now name → IsCounted kind s name counted o → IsCounted kind now name counted o
+counted_kept Dedicated s now name counted o same older is = is
+counted_kept Imported s now name counted o same older is = λ span live of_it. subst (λ p. IsInside p span o) (sym same) (is span (older span live of_it) of_it)
+counted_kept BuddyChunk s now name counted o same older is = (is.0, subst (λ p. IsMappedWhole p o) (sym same) is.1)
+counted_kept (FreeListChunk number) s now name counted o same older is = (is.0, subst (λ p. IsMappedWhole p o) (sym same) is.1)
+
+there_kept : (s now : State) (name : ℕ) (h : HeldObject) (o : Object) → now.properties ≡ s.properties → IsOlder s now name → IsThere s name h o → IsThere now name h o
+there_kept s now name h o same older is = record { of_type = is.of_type; of_size = counted_kept h.kind s now name h.counted o same older is.of_size }
+
+-- a name that the device has not, the allocator has not
+pub not_held : (s : State) (p : Properties) (f : ℕ → Option Object) (name : ℕ) → Agrees s p f → f name ≡ None → finite.get s.held name ≡ None
+not_held s p f name a none = elim (finite.get s.held name) as (λ v. finite.get s.held name ≡ v → IfSome v (λ h. HeldWith f name (IsThere s name h)) → v ≡ None) [
+  | None ↦ λ e h. refl
+  | Some x ↦ λ e h. absurd (let there : f name ≡ Some h.0 = h.1 in cc)
+] refl (a.holds name)
+
+-- what is held is on the device
+pub on_device : (s : State) (p : Properties) (f : ℕ → Option Object) (name : ℕ) (h : HeldObject) → Agrees s p f → finite.get s.held name ≡ Some h → HeldWith f name (IsThere s name h)
+on_device s p f name h a is = subst (λ (v : Option HeldObject). IfSome v (λ x. HeldWith f name (IsThere s name x))) is (a.holds name)
+
+-- One object more, on both sides.
+
+there_more : (s now : State) (f : ℕ → Option Object) (name : ℕ) (h : HeldObject) (o : Object) (q : ℕ) (before : Option HeldObject) (b : Bool)
+    → (q == name) ≡ b → now.properties ≡ s.properties → (q ≢ name → IsOlder s now q) → IsThere now name h o → IfSome before (λ x. HeldWith f q (IsThere s q x))
+    → IfSome (cond b (Some h) before) (λ x. HeldWith (put f name (Some o)) q (IsThere now q x))
+there_more s now f name h o q before true e same older there was =
+    let here : q ≡ name = grind (arith, nat_tests) in
+    subst (λ n. HeldWith (put f name (Some o)) n (IsThere now n h)) (sym here) (o, put-same f name (Some o), there)
+there_more s now f name h o q None false e same older there was = was
+there_more s now f name h o q (Some x) false e same older there was =
+    let other : q ≢ name = grind (arith, nat_tests) in
+    (was.0, put-other f name (Some o) q other ∙ was.1, there_kept s now q x was.0 same (older other) was.2)
+
+agrees_more : (s now : State) (p : Properties) (f : ℕ → Option Object) (name : ℕ) (h : HeldObject) (o : Object) → Agrees s p f → now.properties ≡ s.properties
+    → now.held ≡ finite.insert s.held name h → ((q : ℕ) → q ≢ name → IsOlder s now q) → IsThere now name h o → Agrees now p (put f name (Some o))
+agrees_more s now p f name h o a same held older there = record {
+  properties = a.properties ∙ sym same;
+  holds = λ q.
+      let e : finite.get now.held q ≡ cond (q == name) (Some h) (finite.get s.held q) = ap (λ m. finite.get m q) held ∙ finite.get-insert nat_cmp_total s.held name h q ∙ ap (λ b. cond b (Some h) (finite.get s.held q)) (name_test q name) in
+      subst (λ (v : Option HeldObject). IfSome v (λ x. HeldWith (put f name (Some o)) q (IsThere now q x))) (sym e)
+      (there_more s now f name h o q (finite.get s.held q) (q == name) refl same (older q) there (a.holds q));
+}
+
+-- a granted object of its own keeps the two in agreement
+pub agrees_granted : (s : State) (p q : Properties) (f g : ℕ → Option Object) (b : Block) → Agrees s p f → q ≡ p → ObjectsAfter (Ok b) f g
+    → Agrees (holding s (record { memory_type = b.memory_type; counted = b.size; kind = Dedicated }) b) q g
+agrees_granted s p q f g b a same after =
+    let h : HeldObject = record { memory_type = b.memory_type; counted = b.size; kind = Dedicated } in
+    let now : State = holding s h b in
+    let fresh = after.1.1 in
+    subst (λ objects. Agrees now q objects) (sym after.1.2) (subst (λ p. Agrees now p (put f b.object (Some after.1.0))) (sym same)
+    (agrees_more s now p f b.object h after.1.0 a refl refl
+    (λ name other span live of_it. elim (live_before s.live (span_of b) span live) [
+      | inl new ↦ absurd (other (sym of_it ∙ ap (λ (x : Span). x.object) new))
+      | inr was ↦ was
+    ])
+    (record { of_type = fresh.of_type; of_size = fresh.of_size })))
+
+-- One object fewer, on both sides.
+
+there_fewer : (s now : State) (f : ℕ → Option Object) (name q : ℕ) (before : Option HeldObject) (b : Bool) → (q == name) ≡ b → now.properties ≡ s.properties → IsOlder s now q
+    → IfSome before (λ x. HeldWith f q (IsThere s q x)) → IfSome (cond b None before) (λ x. HeldWith (put f name None) q (IsThere now q x))
+there_fewer s now f name q before true e same older was = tt
+there_fewer s now f name q None false e same older was = was
+there_fewer s now f name q (Some x) false e same older was =
+    let other : q ≢ name = grind (arith, nat_tests) in
+    (was.0, put-other f name None q other ∙ was.1, there_kept s now q x was.0 same older was.2)
+
+-- a returned object of its own keeps the two in agreement
+pub agrees_returned : (s now : State) (p q : Properties) (f g : ℕ → Option Object) (b : Block) → Agrees s p f → q ≡ p → g ≡ put f b.object None → now.properties ≡ s.properties
+    → now.held ≡ finite.remove s.held b.object → ((span : Span) → IsLive now span → IsLive s span) → Agrees now q g
+agrees_returned s now p q f g b a same_p gone same held older =
+    subst (λ objects. Agrees now q objects) (sym gone) (record {
+      properties = same_p ∙ a.properties ∙ sym same;
+      holds = λ name.
+          let e : finite.get now.held name ≡ cond (name == b.object) None (finite.get s.held name) = ap (λ m. finite.get m name) held ∙ finite.get-remove nat_cmp_total s.held b.object name ∙ ap (λ t. cond t None (finite.get s.held name)) (name_test name b.object) in
+          subst (λ (v : Option HeldObject). IfSome v (λ x. HeldWith (put f b.object None) name (IsThere now name x))) (sym e)
+          (there_fewer s now f b.object name (finite.get s.held name) (name == b.object) refl same (λ span live of_it. older span live) (a.holds name));
+    })

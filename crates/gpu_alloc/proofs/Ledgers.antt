@@ -1,0 +1,105 @@
+-- Ledgers: sums over the entries of a map, as an entry is added or taken off.
+use Rattle.std.proofs.Common.{◌≡◌, ℕ, ◌+◌, ◌*◌, ◌^◌, ◌<◌, ◌≤◌, Bool, true, false, cond, ◌==◌, List, [], ◌∷◌, length, Some, None, refl, sym, ◌∙◌, ap, subst, arith, Less, Equal, Greater}
+use Rattle.std.proofs.lemmas.Bool.Decides.{nat_tests}
+use Rattle.std.proofs.lemmas.List.Sums.{sum_by-cons}
+use Rattle.std.specs.List.{sum_by}
+use Rattle.std.specs.Cmp.{nat_cmp_total}
+use Rattle.std.specs.Ordering.{nat_cmp, eq_by_cmp, is_eq}
+use Rattle.std.specs.FinMap as finite
+use Rattle.std.specs.FinMap.{nat_cmp-IsAntisymmetric}
+use Rattle.std.specs.FinMap.Entries.{by_order}
+use Rattle.gpu_alloc_types.specs.Properties.{Properties, heap_at}
+use Rattle.gpu_alloc.specs.State.{HeldObject, share}
+use Rattle.gpu_alloc.specs.Inside.{AreSmall}
+
+abbrev pub Held : Type 0
+Held = finite.FinMap nat_cmp HeldObject
+
+abbrev pub Entries : Type 0
+Entries = List (ℕ × HeldObject)
+
+-- Entries, with a new key put in its place.
+
+sum_by-put : (f : ℕ × HeldObject → ℕ) (k : ℕ) (v : HeldObject) (es : Entries) → finite.find nat_cmp k es ≡ None → sum_by f (finite.put nat_cmp k v es) ≡ f (k, v) + sum_by f es
+sum_by-put f k v [] none = sum_by-cons f (k, v) []
+sum_by-put f k v (e ∷ es) none = elim (nat_cmp k e.0) as (λ r. cond (is_eq r) (Some e.1) (finite.find nat_cmp k es) ≡ None
+    → sum_by f (by_order r ((k, v) ∷ e ∷ es) ((e.0, v) ∷ es) (e ∷ finite.put nat_cmp k v es)) ≡ f (k, v) + sum_by f (e ∷ es)) [
+      | Less ↦ λ _. sum_by-cons f (k, v) (e ∷ es)
+      | Equal ↦ λ some. absurd (cc)
+      | Greater ↦ λ rest. omega (arith, sum_by-cons f e (finite.put nat_cmp k v es), sum_by-cons f e es, sum_by-put f k v es rest)
+    ] none
+
+small-put : (k : ℕ) (v : HeldObject) (es : Entries) → finite.find nat_cmp k es ≡ None → v.counted < 2 ^ 64 → AreSmall es → AreSmall (finite.put nat_cmp k v es)
+small-put k v [] none small all = (small, tt)
+small-put k v (e ∷ es) none small all = elim (nat_cmp k e.0) as (λ r. cond (is_eq r) (Some e.1) (finite.find nat_cmp k es) ≡ None
+    → AreSmall (by_order r ((k, v) ∷ e ∷ es) ((e.0, v) ∷ es) (e ∷ finite.put nat_cmp k v es))) [
+      | Less ↦ λ _. (small, all)
+      | Equal ↦ λ some. absurd (cc)
+      | Greater ↦ λ rest. (all.0, small-put k v es rest small all.1)
+    ] none
+
+small-unput : (k : ℕ) (v : HeldObject) (es : Entries) → finite.find nat_cmp k es ≡ None → AreSmall (finite.put nat_cmp k v es) → AreSmall es
+small-unput k v [] none all = tt
+small-unput k v (e ∷ es) none all = elim (nat_cmp k e.0) as (λ r. cond (is_eq r) (Some e.1) (finite.find nat_cmp k es) ≡ None
+    → AreSmall (by_order r ((k, v) ∷ e ∷ es) ((e.0, v) ∷ es) (e ∷ finite.put nat_cmp k v es)) → AreSmall (e ∷ es)) [
+      | Less ↦ λ _ put. put.1
+      | Equal ↦ λ some _. absurd (cc)
+      | Greater ↦ λ rest put. (put.0, small-unput k v es rest put.1)
+    ] none all
+
+-- Maps, with a new name inserted or a held one removed.
+
+not_found : (m : Held) (k : ℕ) → finite.get m k ≡ None → finite.find nat_cmp k (finite.entries m) ≡ None
+not_found m k none = sym (finite.get-entries m k) ∙ none
+
+pub sum_by-insert : (f : ℕ × HeldObject → ℕ) (m : Held) (k : ℕ) (v : HeldObject) → finite.get m k ≡ None → sum_by f (finite.entries (finite.insert m k v)) ≡ f (k, v) + sum_by f (finite.entries m)
+sum_by-insert f m k v none = ap (sum_by f) (finite.entries-insert nat_cmp_total m k v) ∙ sum_by-put f k v (finite.entries m) (not_found m k none)
+
+pub small-insert : (m : Held) (k : ℕ) (v : HeldObject) → finite.get m k ≡ None → v.counted < 2 ^ 64 → AreSmall (finite.entries m) → AreSmall (finite.entries (finite.insert m k v))
+small-insert m k v none small all = subst AreSmall (sym (finite.entries-insert nat_cmp_total m k v)) (small-put k v (finite.entries m) (not_found m k none) small all)
+
+pub name_test : (q name : ℕ) → eq_by_cmp nat_cmp q name ≡ (q == name)
+name_test q name = grind (arith, nat_tests)
+
+pub gone : (m : Held) (k : ℕ) → finite.get (finite.remove m k) k ≡ None
+gone m k = finite.get-remove nat_cmp_total m k k ∙ ap (λ b. cond b None (finite.get m k)) (itself k)
+  where
+    itself : (a : ℕ) → eq_by_cmp nat_cmp a a ≡ true
+    itself a = grind (arith, nat_tests)
+
+-- what was removed and is inserted again is as it was
+pub back : (m : Held) (k : ℕ) (v : HeldObject) → finite.get m k ≡ Some v → finite.insert (finite.remove m k) k v ≡ m
+back m k v is = finite.same_map nat_cmp_total nat_cmp-IsAntisymmetric _ _ (λ q.
+    finite.get-insert nat_cmp_total (finite.remove m k) k v q ∙ ap (cond (eq_by_cmp nat_cmp q k) (Some v)) (finite.get-remove nat_cmp_total m k q) ∙ same q (eq_by_cmp nat_cmp q k) (name_test q k))
+  where
+    same : (q : ℕ) (b : Bool) → b ≡ (q == k) → cond b (Some v) (cond b None (finite.get m q)) ≡ finite.get m q
+    same q true e = let here : q ≡ k = grind (arith, nat_tests) in sym (ap (finite.get m) here ∙ is)
+    same q false e = refl
+
+pub sum_by-remove : (f : ℕ × HeldObject → ℕ) (m : Held) (k : ℕ) (v : HeldObject) → finite.get m k ≡ Some v → f (k, v) + sum_by f (finite.entries (finite.remove m k)) ≡ sum_by f (finite.entries m)
+sum_by-remove f m k v is = sym (sum_by-insert f (finite.remove m k) k v (gone m k)) ∙ ap (λ (n : Held). sum_by f (finite.entries n)) (back m k v is)
+
+pub small-remove : (m : Held) (k : ℕ) (v : HeldObject) → finite.get m k ≡ Some v → AreSmall (finite.entries m) → AreSmall (finite.entries (finite.remove m k))
+small-remove m k v is all =
+    let again : AreSmall (finite.entries (finite.insert (finite.remove m k) k v)) = subst (λ (n : Held). AreSmall (finite.entries n)) (sym (back m k v is)) all in
+    small-unput k v _ (not_found (finite.remove m k) k (gone m k)) (subst AreSmall (finite.entries-insert nat_cmp_total (finite.remove m k) k v) again)
+
+pub len_more : (m : Held) (k : ℕ) (v : HeldObject) → finite.get m k ≡ None → finite.len (finite.insert m k v) ≡ finite.len m + 1
+len_more m k v none = rw none at (finite.len-insert {K = ℕ} {X = HeldObject} {R = nat_cmp} nat_cmp_total m k v)
+
+pub len_less : (m : Held) (k : ℕ) (v : HeldObject) → finite.get m k ≡ Some v → finite.len (finite.remove m k) + 1 ≡ finite.len m
+len_less m k v is = sym (len_more (finite.remove m k) k v (gone m k)) ∙ ap (λ (n : Held). finite.len n) (back m k v is)
+
+-- How large a ledger may be.
+
+share-le : (b : Bool) (counted : ℕ) → counted < 2 ^ 64 → cond b counted 0 ≤ 2 ^ 64
+share-le true counted small = omega arith
+share-le false counted small = omega arith
+
+sum_by-small : (p : Properties) (heap : ℕ) (es : Entries) → AreSmall es → sum_by (share p heap) es ≤ length es * 2 ^ 64
+sum_by-small p heap [] all = omega arith
+sum_by-small p heap (e ∷ es) all = omega (arith, sum_by-cons (share p heap) e es, share-le (heap_at p e.1.memory_type == heap) e.1.counted all.0, sum_by-small p heap es all.1)
+
+-- a number of bytes more is still far below the largest number
+pub ledger-bound : (p : Properties) (heap : ℕ) (m : Held) (n : ℕ) → AreSmall (finite.entries m) → finite.len m < 2 ^ 32 → n < 2 ^ 64 → sum_by (share p heap) (finite.entries m) + n < 2 ^ 128
+ledger-bound p heap m n all few small = omega (arith, sum_by-small p heap (finite.entries m) all, finite.len-entries m)

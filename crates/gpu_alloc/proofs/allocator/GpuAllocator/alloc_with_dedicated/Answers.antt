@@ -1,0 +1,11 @@
+use Rattle.std.proofs.Common.{◌<◌, length, sym, subst, ◌∙◌}
+use Rattle.std.specs.List.{All}
+use Rattle.gpu_alloc_types.specs.Flags.{usage_bits}
+use Rattle.gpu_alloc.proofs.Candidates.{candidates-within}
+use Rattle.gpu_alloc.proofs.allocator.GpuAllocator.alloc_with_dedicated.Goals as goal
+
+pub try_all-requires-clause-known : goal.try_all-requires-clause-known
+try_all-requires-clause-known g c =
+    let types = c.self.inside.limits.memory_types.items in
+    let ranked = rw c.as_slice.ensures.value at c.candidates-candidates.ensures in
+    rw (← c.self.view_is) (subst (All (λ t. t < length types)) (sym (c.types-2.ensures ∙ ranked)) (candidates-within types (usage_bits c.args.request.usage) c.args.request.memory_types))
