@@ -5,6 +5,7 @@ pub mod Grants
 pub mod Ledgers
 pub mod Lists
 pub mod LiveSpans
+pub mod PowersOfTwo
 pub mod RankingOrder
 pub mod RankingSteps
 pub mod Returns

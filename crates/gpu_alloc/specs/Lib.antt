@@ -10,6 +10,7 @@ pub mod Ranked
 pub mod Ranking
 pub mod Release
 pub mod Request
+pub mod Samples
 pub mod Sizes
 pub mod Spans
 pub mod State

@@ -1,5 +1,5 @@
 -- Sizes that follow from a configuration and from what a device offers. All are bytes.
-use Rattle.std.specs.Prelude.{ℕ, zero, suc, ◌+◌, ◌-◌, ◌*◌, ◌/◌, ◌==◌, min, max, nat_le, List, map, cond, if◌then◌else◌, slice_get}
+use Rattle.std.specs.Prelude.{◌≡◌, ◌≤◌, ◌^◌, ℕ, zero, suc, ◌+◌, ◌-◌, ◌*◌, ◌/◌, ◌==◌, min, max, nat_le, List, map, cond, if◌then◌else◌, slice_get}
 use Rattle.gpu_alloc_types.specs.Flags.{property_bits}
 use Rattle.gpu_alloc_types.specs.Properties.{Properties, size_of, atom_for}
 use Rattle.gpu_alloc_types.specs.declared.types.MemoryType.{MemoryType}
@@ -14,6 +14,12 @@ doubled_up (suc n) p x = if nat_le x p then p else doubled_up n (2 * p) x
 -- the least power of two not below a number of at most 2^64
 abbrev pub next_power_of_two : ℕ → ℕ
 next_power_of_two x = doubled_up 64 1 x
+
+-- n is the least power of two not below x
+pub record IsNextPowerOfTwo (x n : ℕ) : Type 0 where
+  pub power : (k : ℕ) × (n ≡ 2 ^ k)
+  pub enough : x ≤ n
+  pub least : (k : ℕ) → x ≤ 2 ^ k → n ≤ 2 ^ k
 
 -- the multiples of a next below or equal, and next above or equal
 abbrev pub down : ℕ → ℕ → ℕ

@@ -1,8 +1,14 @@
-//! Laws of the definitions that contracts cite. The functions do nothing.
+//! Laws of the definitions that contracts cite, and those definitions computed on samples. The functions do nothing.
 
-ghost use Rattle.std.specs.Prelude.{ℕ, List};
+ghost use Rattle.std.specs.Prelude.{◌≡◌, ◌≤◌, ◌^◌, ℕ, List, [], ◌∷◌, Some, None};
 ghost use Rattle.gpu_alloc_types.specs.declared.types.MemoryType.{MemoryType};
+ghost use Rattle.gpu_alloc.specs.Allocation.{strategy};
+ghost use Rattle.gpu_alloc.specs.Allocation.Strategy.{OwnObject, InBuddyChunk, InFreeList};
+ghost use Rattle.gpu_alloc.specs.Config.{potato, prototyping};
 ghost use Rattle.gpu_alloc.specs.Ranking.{IsRanking, IsRankingWithin, ranking, candidates, implied};
+ghost use Rattle.gpu_alloc.specs.Samples.{one_type, over, bytes_for, buddy_config};
+ghost use Rattle.gpu_alloc.specs.Sizes.{IsNextPowerOfTwo, next_power_of_two, minimal_size, initial_size, starting_size, final_size, first_types};
+ghost use Rattle.gpu_alloc.specs.declared.request.Dedicated.TheVariants.{Required, Preferred};
 
 /// A ranking has exactly the types that may serve the usage, by key and then by index.
 pub fn ranking_is_exact_and_sorted()
@@ -13,4 +19,37 @@ pub fn ranking_is_exact_and_sorted()
 /// mask, by key and then by index.
 pub fn candidates_are_exact_and_sorted()
     ensures { (types : List MemoryType) (usage mask : ℕ) → IsRankingWithin (implied usage) types mask (candidates types usage mask) }
+{}
+
+/// The next power of two is the least one that is not below.
+pub fn next_power_of_two_is_least()
+    ensures { (x : ℕ) → x ≤ 2 ^ 64 → IsNextPowerOfTwo x (next_power_of_two x) }
+{}
+
+/// First chunk sizes: of both defaults, of a small heap with an atom, and of a minimum above the initial size.
+#[tactic(auto, unfolding(crate::specs::Sizes::doubled_up))]
+pub fn first_sizes_of_samples()
+    ensures potato { first_types potato (one_type 1048576 1 1) ≡ record { next_chunk = 8192; list_chunk = 8192; number = 0 } ∷ [] }
+    ensures potato_final { final_size potato 1048576 1 ≡ 32768 }
+    ensures potato_minimal { minimal_size potato 1048576 ≡ 1 }
+    ensures prototyping { first_types prototyping (one_type 4294967296 1 1) ≡ record { next_chunk = 8388608; list_chunk = 8388608; number = 0 } ∷ [] }
+    ensures prototyping_final { final_size prototyping 4294967296 1 ≡ 134217728 }
+    ensures atoms { first_types potato (one_type 3200 2 64) ≡ record { next_chunk = 128; list_chunk = 64; number = 0 } ∷ [] }
+    ensures one_atom { first_types potato (one_type 1024 2 64) ≡ record { next_chunk = 32; list_chunk = 64; number = 0 } ∷ [] }
+    ensures one_atom_at_most { final_size potato 1024 64 ≡ 64 }
+    ensures empty_heap { first_types potato (one_type 0 1 1) ≡ record { next_chunk = 1; list_chunk = 1; number = 0 } ∷ [] }
+    ensures minimum_wins { first_types (buddy_config 1024 1) (one_type 1048576 1 1) ≡ record { next_chunk = 1024; list_chunk = 1; number = 0 } ∷ [] }
+{}
+
+/// The strategy at its thresholds: exactly at one a request has an object of its own.
+pub fn strategy_of_samples()
+    ensures required { strategy (over 1048576 1 1) (bytes_for 1 16) (Some Required) 0 ≡ OwnObject }
+    ensures preferred { strategy (over 1048576 1 1) (bytes_for 1024 0) (Some Preferred) 0 ≡ OwnObject }
+    ensures preferred_below { strategy (over 1048576 1 1) (bytes_for 1023 0) (Some Preferred) 0 ≡ InBuddyChunk }
+    ensures large { strategy (over 1048576 1 1) (bytes_for 32768 0) None 0 ≡ OwnObject }
+    ensures large_below { strategy (over 1048576 1 1) (bytes_for 32767 0) None 0 ≡ InBuddyChunk }
+    ensures transient { strategy (over 1048576 1 1) (bytes_for 20000 16) None 0 ≡ InFreeList }
+    ensures transient_large { strategy (over 1048576 1 1) (bytes_for 32768 16) None 0 ≡ OwnObject }
+    ensures over_the_final_chunk { strategy (over 3200 2 64) (bytes_for 70 16) None 0 ≡ OwnObject }
+    ensures in_the_final_chunk { strategy (over 3200 2 64) (bytes_for 60 16) None 0 ≡ InFreeList }
 {}

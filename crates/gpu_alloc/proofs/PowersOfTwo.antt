@@ -1,0 +1,32 @@
+-- The next power of two.
+use Rattle.std.proofs.Common.{◌≡◌, ◌≤◌, ◌<◌, ◌⊎◌, inl, inr, ◌*◌, ◌+◌, ◌^◌, ℕ, zero, suc, Bool, true, false, cond, nat_le, refl, sym, subst, arith}
+use Rattle.std.proofs.lemmas.Bool.Decides.{nat_tests}
+use Rattle.std.proofs.Math.Pow.{pow_mono}
+use Rattle.gpu_alloc.specs.Sizes.{doubled_up, next_power_of_two, IsNextPowerOfTwo}
+
+-- a power that is above another has the greater exponent
+exponent : (j k : ℕ) → 2 ^ j < 2 ^ k → j < k
+exponent j k less = elim (split j k) [ inl lt ↦ lt | inr le ↦ absurd (let more : 2 ^ k ≤ 2 ^ j = pow_mono le in omega arith) ]
+  where
+    split : (a b : ℕ) → (a < b) ⊎ (b ≤ a)
+    split a b = elim (nat_le b a) as (λ t. nat_le b a ≡ t → (a < b) ⊎ (b ≤ a)) [ true ↦ λ e. inr (grind (arith, nat_tests)) | false ↦ λ e. inl (grind (arith, nat_tests)) ] refl
+
+-- what doubling finds from 2^j on, which is not above any power of two that is enough
+doubled : (n j x : ℕ) → x ≤ 2 ^ (j + n) → ((k : ℕ) → x ≤ 2 ^ k → 2 ^ j ≤ 2 ^ k) → IsNextPowerOfTwo x (doubled_up n (2 ^ j) x)
+unfolding doubled_up
+doubled zero j x enough least =
+    let same : j + 0 ≡ j = omega arith in
+    record { power = (j, refl); enough = subst (λ m. x ≤ 2 ^ m) same enough; least = least }
+doubled (suc n) j x enough least =
+    elim (nat_le x (2 ^ j)) as (λ b. nat_le x (2 ^ j) ≡ b → IsNextPowerOfTwo x (cond b (2 ^ j) (doubled_up n (2 * 2 ^ j) x))) [
+      | true ↦ λ e. record { power = (j, refl); enough = grind (arith, nat_tests); least = least }
+      | false ↦ λ e.
+        let above : 2 ^ j < x = grind (arith, nat_tests) in
+        let double : 2 ^ (suc j) ≡ 2 * 2 ^ j = omega arith in
+        let same : j + suc n ≡ suc j + n = omega arith in
+        let more : x ≤ 2 ^ (suc j + n) = subst (λ m. x ≤ 2 ^ m) same enough in
+        subst (λ p. IsNextPowerOfTwo x (doubled_up n p x)) double (doubled n (suc j) x more (λ k is. let lt : j < k = exponent j k (omega arith) in pow_mono {i = suc j} {j = k} (omega arith)))
+    ] refl
+
+pub is_next_power_of_two : (x : ℕ) → x ≤ 2 ^ 64 → IsNextPowerOfTwo x (next_power_of_two x)
+is_next_power_of_two x le = doubled 64 0 x le (λ k is. pow_mono {i = 0} {j = k} (omega arith))

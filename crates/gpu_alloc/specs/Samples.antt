@@ -1,0 +1,39 @@
+-- Samples on which definitions are computed.
+use Rattle.std.specs.Prelude.{ℕ, List, [], ◌∷◌, false}
+use Rattle.gpu_alloc_types.specs.Properties.{Properties}
+use Rattle.gpu_alloc.specs.declared.config.Config.{Config}
+use Rattle.gpu_alloc.specs.declared.request.Request.{Request}
+use Rattle.gpu_alloc.specs.Config.{potato}
+use Rattle.gpu_alloc.specs.Opening.{opened}
+use Rattle.gpu_alloc.specs.State.{State}
+
+-- a device with one memory type in one heap
+abbrev pub one_type : ℕ → ℕ → ℕ → Properties
+one_type heap bits atom = record {
+  memory_types = record { heap = 0; props = record { bits = bits } } ∷ [];
+  memory_heaps = record { size = heap } ∷ [];
+  max_memory_allocation_count = 4096;
+  max_memory_allocation_size = 1073741824;
+  non_coherent_atom_size = atom;
+  buffer_device_address = false;
+}
+
+-- the potato's allocator for it
+abbrev pub over : ℕ → ℕ → ℕ → State
+over heap bits atom = opened potato (one_type heap bits atom)
+
+-- a request for so many bytes of that type, for a usage
+abbrev pub bytes_for : ℕ → ℕ → Request
+bytes_for size usage = record { size = size; align_mask = 0; usage = record { bits = usage }; memory_types = 1 }
+
+-- a configuration with no number but these two
+abbrev pub buddy_config : ℕ → ℕ → Config
+buddy_config minimal initial = record {
+  dedicated_threshold = 0;
+  preferred_dedicated_threshold = 0;
+  transient_dedicated_threshold = 0;
+  starting_free_list_chunk = 0;
+  final_free_list_chunk = 0;
+  minimal_buddy_size = minimal;
+  initial_buddy_dedicated_size = initial;
+}
