@@ -1,4 +1,4 @@
--- Which names the simulated device has used.
+-- That no object of the simulated device has a name above the latest.
 use Rattle.std.proofs.Common.{◌≡◌, ℕ, ◌+◌, ◌<◌, Bool, true, false, cond, Option, None, refl, ◌∙◌, arith}
 use Rattle.std.proofs.lemmas.Bool.Decides.{nat_tests}
 use Rattle.std.specs.Cmp.{nat_cmp_total}
@@ -18,9 +18,9 @@ cond-none false x none = none
 pub named_up_to-empty : (last : ℕ) → IsNamedUpTo last map.empty
 named_up_to-empty last name above = map.get-empty nat_cmp name
 
-pub named_up_to-insert : (last : ℕ) (objects : FinMap nat_cmp SimObject) (object : SimObject) → IsNamedUpTo last objects → IsNamedUpTo (last + 1) (map.insert objects (last + 1) object)
-named_up_to-insert last objects object named name above =
-    rw (map.get-insert nat_cmp_total objects (last + 1) object name, apart_test name (last + 1) above) (named name (omega arith))
+pub named_up_to-insert : (last name : ℕ) (objects : FinMap nat_cmp SimObject) (object : SimObject) → last < name → IsNamedUpTo last objects → IsNamedUpTo name (map.insert objects name object)
+named_up_to-insert last name objects object later named q above =
+    rw (map.get-insert nat_cmp_total objects name object q, apart_test q name above) (named q (omega arith))
 
 pub named_up_to-remove : (last : ℕ) (objects : FinMap nat_cmp SimObject) (gone : ℕ) → IsNamedUpTo last objects → IsNamedUpTo last (map.remove objects gone)
 named_up_to-remove last objects gone named name above =

@@ -25,6 +25,12 @@ with_at all Map one = record all { map = one }
 with_at all Flush one = record all { flush = one }
 with_at all Invalidate one = record all { invalidate = one }
 
+-- the cause may be planned for that kind of question: a failed mapping is for maps alone
+abbrev pub CanRefuse : Cause → Question → Type 0
+CanRefuse Failed Map = Unit {0}
+CanRefuse Failed kind = ⊥
+CanRefuse cause kind = Unit {0}
+
 -- the answer to a question for memory that is refused
 abbrev pub refusal_of : Cause → OutOfMemory
 refusal_of Device = OutOfDeviceMemory

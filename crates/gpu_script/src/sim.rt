@@ -3,10 +3,8 @@
 ghost use Rattle.std.specs.Prelude.{◌≡◌, IfOk, OnOk, OnErr, option_map};
 ghost use Rattle.std.specs.FinMap as map;
 ghost use Rattle.gpu_alloc_types.specs.Properties.{properties_of};
-ghost use Rattle.gpu_script.specs.Question.{at, with_plan};
+ghost use Rattle.gpu_script.specs.Question.{at, with_plan, CanRefuse};
 ghost use Rattle.gpu_script.specs.Sim.{as_numbers, fresh, IsMade};
-ghost use Rattle.gpu_script.specs.declared.sim.question.Cause.TheVariants.{Failed};
-ghost use Rattle.gpu_script.specs.declared.sim.question.Question.TheVariants.{Map};
 
 mod memory;
 mod numbered;
@@ -92,7 +90,7 @@ impl<A: Allocator + Copy> Sim<A> {
     ///
     /// `Cause::Failed` is for `Question::Map` alone. Fails only for want of memory, and all is as before then.
     pub fn refuse(&mut self, kind: Question, nth: u64, cause: Cause) -> Result<(), AllocError>
-        requires { cause ≡ Failed → kind ≡ Map }
+        requires { CanRefuse cause kind }
         ensures ok { OnOk result (self.new ≡ record self.old { plans = with_plan self.old.plans kind nth cause }) }
         ensures err { OnErr result (self.new ≡ self.old) }
     {

@@ -52,7 +52,7 @@ abbrev pub Faults : {A : Type 0} → Books → Command A → List Event → Faul
 Faults old command es fault new =
     (new ≡ old)
     × (((first_fault old command ≡ Some fault) × (es ≡ []))
-      ⊎ ((fault ≡ NoMemory) × (first_fault old command ≡ None) × (may_want_memory command ≡ true) × IsGivenBack command es))
+    ⊎ ((fault ≡ NoMemory) × (first_fault old command ≡ None) × (may_want_memory command ≡ true) × IsGivenBack command es))
 
 abbrev pub Does : {A : Type 0} → Books → Command A → List Event → Reply A → Books → Type 0
 Does old command es (Faulty fault) new = Faults old command es fault new

@@ -37,10 +37,15 @@ pub record AreWholeObjects (objects : ℕ → Option Object) (s : Books) : Type 
   pub whole : (name : ℕ) → IfSome (finite.get s.blocks name) (λ b. (b.offset ≡ 0) × HeldWith objects b.object (λ o. o.size ≡ b.size))
   pub distinct : (n m : ℕ) (b c : Block) → n ≢ m → finite.get s.blocks n ≡ Some b → finite.get s.blocks m ≡ Some c → b.object ≢ c.object
 
+-- each object that is held, is held for one block
+abbrev pub HoldsWholeObjects : State → Type 0
+HoldsWholeObjects s = (object : ℕ) → IfSome (finite.get s.held object) (λ h. h.kind ≡ DedicatedObject)
+
 -- what a session's fields keep
 pub record IsKept (p : Properties) (objects : ℕ → Option Object) (s : Books) (heaps : ℕ) (address : Bool) : Type 0 where
   pub sound : IsSound p objects s
   pub whole : AreWholeObjects objects s
+  pub held : HoldsWholeObjects s.allocator
   pub heap_count : heaps ≡ length p.memory_heaps
   pub few_heaps : heaps < 2 ^ 32
   pub feature : address ≡ p.buffer_device_address

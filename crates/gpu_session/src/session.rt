@@ -129,6 +129,9 @@ impl<M: MemoryObject, D: MemoryDevice<M>, A: Allocator + Copy> Session<M, D, A> 
             let reply = self.serve(command);
             replies.push(reply).unwrap();
         }
+
+        // The proof learns from the fields what every session keeps.
+        let _fields = &self.alloc;
         Ok(replies)
     }
 

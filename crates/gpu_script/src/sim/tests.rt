@@ -1,8 +1,7 @@
 //! Tests of what no clause says: that calls succeed, and what a few of them answer in turn.
 
-ghost use Rattle.std.specs.Prelude.{◌≡◌, ◌<◌, length, IfOk};
-ghost use Rattle.gpu_alloc_types.specs.Device.{IsHeld};
-ghost use Rattle.gpu_script.specs.Sim.{objects_of};
+ghost use Rattle.std.specs.Prelude.{◌≡◌, ◌<◌, length};
+ghost use Rattle.gpu_script.specs.Question.{CanRefuse};
 
 use super::*;
 use gpu_alloc_types::{MemoryHeap, MemoryPropertyFlags, MemoryType};
@@ -16,95 +15,97 @@ const TYPES: [MemoryType; 1] = [MemoryType {
 const HEAPS: [MemoryHeap; 1] = [MemoryHeap { size: 1 << 20 }];
 
 // A device with one memory type.
-fn one_type(alloc: Global) -> Result<Sim, AllocError>
-    ensures { IfOk result (λ sim. length sim.properties.memory_types ≡ 1) }
-{
-    Sim::new(
-        alloc,
-        DeviceProperties {
+#[derive(Drop)]
+struct OneType {
+    sim: Sim,
+    ghost one_type: { length sim.properties.memory_types ≡ 1 },
+}
+
+impl OneType {
+    fn new(alloc: Global) -> Result<OneType, AllocError> {
+        let props = DeviceProperties {
             memory_types: &TYPES,
             memory_heaps: &HEAPS,
             max_memory_allocation_count: 1,
             max_memory_allocation_size: 1,
             non_coherent_atom_size: 64,
             buffer_device_address: false,
-        },
-    )
-}
+        };
+        Ok(OneType {
+            sim: Sim::new(alloc, props)?,
+        })
+    }
 
-// Asks for memory of that type.
-fn ask(sim: &mut Sim, size: u64) -> Result<SimMemory, OutOfMemory>
-    requires nonempty { 0 < size }
-    requires known { length sim.old.properties.memory_types ≡ 1 }
-    ensures keeps { length sim.new.properties.memory_types ≡ 1 }
-    ensures held { IfOk result (IsHeld (objects_of sim.new)) }
-{
-    sim.allocate_memory(size, 0, AllocationFlags::from_bits_retain(0))
-}
+    // The name of an object that is kept.
+    fn ask(&mut self, size: u64) -> Result<u64, OutOfMemory>
+        requires { 0 < size }
+    {
+        let flags = AllocationFlags::from_bits_retain(0);
+        let memory = self.sim.allocate_memory(size, 0, flags)?;
+        Ok(memory.object())
+    }
 
-// Plans a refusal.
-fn plan(sim: &mut Sim, kind: Question, nth: u64, cause: Cause) -> Result<(), AllocError>
-    requires failed { cause ≡ Failed → kind ≡ Map }
-    requires known { length sim.old.properties.memory_types ≡ 1 }
-    ensures { length sim.new.properties.memory_types ≡ 1 }
-{
-    sim.refuse(kind, nth, cause)
-}
+    // The name of an object that is given back.
+    fn ask_and_return(&mut self, size: u64) -> Result<u64, OutOfMemory>
+        requires { 0 < size }
+    {
+        let flags = AllocationFlags::from_bits_retain(0);
+        let memory = self.sim.allocate_memory(size, 0, flags)?;
+        self.sim.deallocate_memory(&memory);
+        Ok(memory.object())
+    }
 
-// Gives an object back.
-fn give_back(sim: &mut Sim, memory: &SimMemory)
-    requires held { IsHeld (objects_of sim.old) memory.now }
-    requires known { length sim.old.properties.memory_types ≡ 1 }
-    ensures { length sim.new.properties.memory_types ≡ 1 }
-{
-    sim.deallocate_memory(memory);
+    fn plan(&mut self, kind: Question, nth: u64, cause: Cause) -> Result<(), AllocError>
+        requires { CanRefuse cause kind }
+    {
+        self.sim.refuse(kind, nth, cause)
+    }
 }
 
 #[test]
 fn a_refused_question_uses_no_name(rt: HostRuntime) -> Result<(), Fail> {
-    let mut sim = one_type(rt.alloc())?;
-    plan(&mut sim, Question::Allocate, 1, Cause::Device)?;
-    assert_eq!(rt; sim.last_allocation(), None);
-    assert!(rt; ask(&mut sim, 8).is_err());
-    assert_eq!(rt; sim.objects(), 0);
-    let first = ask(&mut sim, 8)?;
-    let second = ask(&mut sim, 9)?;
-    assert_eq!(rt; (first.object(), second.object()), (1, 2));
-    assert_eq!(rt; sim.objects(), 2);
-    assert_eq!(rt; sim.asked(Question::Allocate), 3);
-    assert_eq!(rt; sim.asked(Question::Map), 0);
+    let mut device = OneType::new(rt.alloc())?;
+    device.plan(Question::Allocate, 1, Cause::Device)?;
+    assert_eq!(rt; device.ask(8), Err(OutOfMemory::OutOfDeviceMemory));
+    assert_eq!(rt; device.sim.objects(), 0);
+    assert_eq!(rt; device.ask(8), Ok(1));
+    assert_eq!(rt; device.ask(9), Ok(2));
+    assert_eq!(rt; device.sim.objects(), 2);
+    Ok(())
+}
+
+#[test]
+fn a_name_is_given_once(rt: HostRuntime) -> Result<(), Fail> {
+    let mut device = OneType::new(rt.alloc())?;
+    assert_eq!(rt; device.ask_and_return(8), Ok(1));
+    assert_eq!(rt; device.sim.objects(), 0);
+    assert_eq!(rt; device.ask(8), Ok(2));
+    Ok(())
+}
+
+#[test]
+fn a_question_is_counted_and_told(rt: HostRuntime) -> Result<(), Fail> {
+    let mut device = OneType::new(rt.alloc())?;
+    assert_eq!(rt; device.sim.last_allocation(), None);
+    device.plan(Question::Allocate, 2, Cause::Host)?;
+    assert_eq!(rt; device.ask(8), Ok(1));
+    assert_eq!(rt; device.ask(9), Err(OutOfMemory::OutOfHostMemory));
+    assert_eq!(rt; device.sim.asked(Question::Allocate), 2);
+    assert_eq!(rt; device.sim.asked(Question::Map), 0);
     let flags = AllocationFlags::from_bits_retain(0);
-    assert_eq!(rt; sim.last_allocation(), Some((9, 0, flags)));
+    assert_eq!(rt; device.sim.last_allocation(), Some((9, 0, flags)));
     Ok(())
 }
 
 #[test]
-fn a_returned_name_stays_used(rt: HostRuntime) -> Result<(), Fail> {
-    let mut sim = one_type(rt.alloc())?;
-    let first = ask(&mut sim, 8)?;
-    give_back(&mut sim, &first);
-    assert_eq!(rt; sim.objects(), 0);
-    assert_eq!(rt; sim.asked(Question::Allocate), 1);
-    let second = ask(&mut sim, 8)?;
-    assert_eq!(rt; second.object(), 2);
-    Ok(())
-}
-
-#[test]
-fn a_plan_refuses_another_question(rt: HostRuntime) -> Result<(), Fail> {
-    let mut sim = one_type(rt.alloc())?;
-    plan(&mut sim, Question::Allocate, 2, Cause::Host)?;
-    plan(&mut sim, Question::Allocate, 2, Cause::Device)?;
-    plan(&mut sim, Question::Allocate, 3, Cause::Device)?;
-    plan(&mut sim, Question::Map, 1, Cause::Failed)?;
-    plan(&mut sim, Question::Flush, 1, Cause::Host)?;
-    plan(&mut sim, Question::Invalidate, 1, Cause::Device)?;
-    let first = ask(&mut sim, 8);
-    let second = ask(&mut sim, 8);
-    let third = ask(&mut sim, 8);
-    let fourth = ask(&mut sim, 8);
-    assert!(rt; matches!(second, Err(OutOfMemory::OutOfHostMemory)));
-    assert!(rt; matches!(third, Err(OutOfMemory::OutOfDeviceMemory)));
-    assert_eq!(rt; (first?.object(), fourth?.object()), (1, 2));
+fn the_first_plan_of_its_kind_counts(rt: HostRuntime) -> Result<(), Fail> {
+    let mut device = OneType::new(rt.alloc())?;
+    device.plan(Question::Map, 1, Cause::Failed)?;
+    device.plan(Question::Flush, 1, Cause::Host)?;
+    device.plan(Question::Invalidate, 1, Cause::Device)?;
+    device.plan(Question::Allocate, 2, Cause::Host)?;
+    device.plan(Question::Allocate, 2, Cause::Device)?;
+    assert_eq!(rt; device.ask(8), Ok(1));
+    assert_eq!(rt; device.ask(8), Err(OutOfMemory::OutOfHostMemory));
     Ok(())
 }

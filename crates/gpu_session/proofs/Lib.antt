@@ -1,0 +1,8 @@
+pub mod Conditions
+pub mod Finished
+pub mod Grants
+pub mod Names
+pub mod Openings
+pub mod Order
+pub mod Returns
+pub mod Runs

@@ -1,0 +1,62 @@
+use Rattle.std.proofs.Common.{◌≡◌, [], Bool, true, false, None, Some, Ok, refl, sym, ◌∙◌, ap, subst, inl, inr, ◌<◌, IsTrue, Option}
+use Rattle.std.specs.Option.{is_some}
+use Rattle.std.specs.Ordering.{nat_cmp}
+use Rattle.std.specs.FinMap as map
+use Rattle.gpu_alloc.specs.Allocation.{Allocates}
+use Rattle.gpu_alloc.specs.declared.request.Dedicated.TheVariants.{Required}
+use Rattle.gpu_alloc_types.specs.Properties.{Properties}
+use Rattle.gpu_session.specs.Faults.{where_true, fault_of_request}
+use Rattle.gpu_session.specs.declared.command.Fault.{Fault}
+use Rattle.gpu_session.specs.declared.command.Fault.TheVariants.{NameInUse}
+use Rattle.gpu_session.proofs.Conditions.{unnamed, in_use, without_fault, asks_for_some}
+use Rattle.gpu_session.proofs.Grants.{from_allocates, grant_is_kept}
+use Rattle.gpu_session.proofs.Names.{put_by_name}
+use Rattle.gpu_session.proofs.session.Session.dedicated.Goals as goal
+
+pub returns-then-contains_key-clause-step : goal.returns-then-contains_key-clause-step
+returns-then-contains_key-clause-step g c =
+    rw (← c.self.view_is) ([], refl, (refl, inl (in_use _ _ _ (sym c.contains_key.ensures ∙ c.if-contains_key.true), refl)))
+
+pub returns-in-Some-clause-step : goal.returns-in-Some-clause-step
+returns-in-Some-clause-step g c =
+    rw (← c.self.view_is)
+    ([], refl, (refl, inl (without_fault _ _ c.self.invariant c.args.request _ (sym c.contains_key.ensures ∙ c.if-contains_key.false) (sym c.fault_of.ensures ∙ c.in-Some.is), refl)))
+
+pub returns-then-is_err-clause-step : goal.returns-then-is_err-clause-step
+returns-then-is_err-clause-step g c =
+    rw (← c.self.view_is, c.reserve.ensures.entries)
+    ([], refl, (refl, inr (refl, without_fault _ _ c.self.invariant c.args.request None (sym c.contains_key.ensures ∙ c.if-contains_key.false) (sym c.in_default.ensures), refl, refl)))
+
+
+pub invariant_of-self-in-Ok : goal.invariant_of-self-in-Ok
+invariant_of-self-in-Ok g c =
+    let put = rw c.reserve.ensures.entries at (put_by_name c.reserve.new.self.entries c.insert.new.self.entries c.args.name c.in-Ok.block c.in-Ok-None.ensures.updates.0) in
+    let decided = c.in-Ok.ensures.decided in
+    rw put
+    (grant_is_kept {r = c.args.request} c.self.invariant (record {
+      free = unnamed _ _ (sym c.contains_key.ensures ∙ c.if-contains_key.false);
+      nonempty = asks_for_some c.self.inside.buffer_device_address c.args.request (sym c.in_default.ensures);
+      whole = from_allocates c.self.inside.allocator c.args.request decided.0 c.in-Ok.block c.alloc_with_dedicated.new.self (rw c.requires.required at decided.2);
+      granted = c.in-Ok.ensures.granted;
+      objects = c.in-Ok.ensures.objects;
+      agrees = c.in-Ok.ensures.agrees;
+    }))
+
+pub returns-in-Ok-None-clause-step : goal.returns-in-Ok-None-clause-step
+returns-in-Ok-None-clause-step g c =
+    let put = rw c.reserve.ensures.entries at (put_by_name c.reserve.new.self.entries c.insert.new.self.entries c.args.name c.in-Ok.block c.in-Ok-None.ensures.updates.0) in
+    let decided = c.in-Ok.ensures.decided in
+    rw (← c.self.view_is) (
+      decided.0,
+      decided.1,
+      (
+        without_fault _ _ c.self.invariant c.args.request None (sym c.contains_key.ensures ∙ c.if-contains_key.false) (sym c.in_default.ensures),
+        (c.in-Ok.block, (sym c.memory_type.ensures, sym (c.object.ensures ∙ c.memory.ensures), sym c.offset.ensures, sym c.size.ensures), decided.2, put),
+      ),
+    )
+
+pub returns-in-Err-clause-step : goal.returns-in-Err-clause-step
+returns-in-Err-clause-step g c =
+    let decided = c.in-Err.ensures.decided in
+    rw (← c.self.view_is, c.reserve.ensures.entries)
+    (decided.0, decided.1, (without_fault _ _ c.self.invariant c.args.request None (sym c.contains_key.ensures ∙ c.if-contains_key.false) (sym c.in_default.ensures), (decided.2, refl)))

@@ -1,0 +1,16 @@
+use Rattle.std.proofs.Common.{◌+◌, ◌∙◌, ap, arith}
+use Rattle.gpu_session.specs.Run.{Step}
+use Rattle.gpu_session.proofs.Runs.{run_next}
+use Rattle.gpu_session.proofs.session.Session.run.Goals as goal
+
+pub loop-command-preserved : goal.loop-command-preserved
+loop-command-preserved g c =
+    let before = c.loop-command.invariant in
+    let pushed = rw c.unwrap.ensures at c.push.ensures.items in
+    let longer = rw c.unwrap.ensures at c.push.ensures.len in
+    record {
+      so_far = rw pushed (run_next (Step g.D.MemoryDevice.step) _ c.loop-command.self _ c.args.commands.now c.loop-command.command-index _ c.loop-command.replies.items c.serve-reply.result c.loop-command-test.true before.so_far c.serve-reply.ensures.step);
+      told = longer ∙ ap (λ n. n + 1) before.told;
+      room = omega (arith, before.room, c.push.ensures.capacity);
+      same_total = c.serve-reply.ensures.total ∙ before.same_total;
+    }
