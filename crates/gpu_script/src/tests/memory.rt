@@ -93,9 +93,67 @@ fn counted<'a>(
     Ok(text)
 }
 
-/// Runs the earlier commands with ample memory, and then one command with one hole of it left. Where that was refused,
-/// what is held is as before, and the device loses nothing.
-fn outcome_at(
+/// A session over the device that a script describes, whose memory all comes from the heap.
+fn open<'a>(
+    rt: &impl Abort,
+    heap: &'a LocalHeap,
+    script: &Script<&'a LocalHeap>,
+) -> Result<LocalSession<'a>, Fail> {
+    let props = script.setup.properties();
+    assert!(rt; props.is_usable());
+    let device = device(heap, &script.setup)?;
+    match Session::new(heap, script.setup.config, props, device) {
+        Ok(session) => Ok(session),
+        Err(SessionOpenError { device: _device }) => Err(Fail::from("no session")),
+    }
+}
+
+/// Runs a script's commands with one hole of memory left.
+fn run_in_hole<'a>(
+    alloc: Global,
+    heap: &'a LocalHeap,
+    session: &mut LocalSession<'a>,
+    script: &Script<&'a LocalHeap>,
+    hole: usize,
+) -> Result<Outcome, AllocError>
+    requires { All IsForRequired script.now.commands.items }
+{
+    let plugs = plug(alloc, heap, hole)?;
+    let replies = session.run(script.commands.as_slice());
+    drop(plugs);
+    Ok(outcome_of(replies))
+}
+
+/// Runs a command with one hole of memory left. Where that was refused, what is held has to be as before.
+fn outcome_at<'a>(
+    alloc: Global,
+    heap: &'a LocalHeap,
+    session: &mut LocalSession<'a>,
+    command: &Script<&'a LocalHeap>,
+    hole: usize,
+) -> Result<Outcome, Fail>
+    requires { All IsForRequired command.now.commands.items }
+{
+    let counts = good_script(heap, "counts")?;
+    let before = counted(heap, session, &counts)?;
+    let outcome = run_in_hole(alloc, heap, session, command, hole)?;
+    let after = counted(heap, session, &counts)?;
+    if outcome != Outcome::Served && before.as_str() != after.as_str() {
+        return Err(Fail::from("a refusal changed what is held"));
+    }
+    Ok(outcome)
+}
+
+/// Runs a script's commands, and tells whether there were places for their replies.
+fn runs<'a>(session: &mut LocalSession<'a>, script: &Script<&'a LocalHeap>) -> bool
+    requires { All IsForRequired script.now.commands.items }
+{
+    session.run(script.commands.as_slice()).is_ok()
+}
+
+/// Runs the earlier commands with ample memory, and then one command with one hole of it left. At the end the device holds
+/// nothing.
+fn outcome_of_script(
     rt: &impl Abort,
     alloc: Global,
     earlier: &str,
@@ -105,27 +163,13 @@ fn outcome_at(
     let heap = LocalHeap::new(alloc, 1 << 16)?;
     let earlier = good_script(&heap, earlier)?;
     let command = good_script(&heap, command)?;
-    let counts = good_script(&heap, "counts")?;
-    let props = earlier.setup.properties();
-    assert!(rt; props.is_usable());
-    let device = device(&heap, &earlier.setup)?;
-    let mut session = match Session::new(&heap, earlier.setup.config, props, device) {
-        Ok(session) => session,
-        Err(SessionOpenError { device: _device }) => return Err(Fail::from("no session")),
-    };
-    let ran = session.run(earlier.commands.as_slice());
-    let before = counted(&heap, &mut session, &counts);
-    let plugs = plug(alloc, &heap, hole);
-    let outcome = outcome_of(session.run(command.commands.as_slice()));
-    drop(plugs);
-    let after = counted(&heap, &mut session, &counts);
+    let mut session = open(rt, &heap, &earlier)?;
+    let ran = runs(&mut session, &earlier);
+    let outcome = outcome_at(alloc, &heap, &mut session, &command, hole);
     let device = session.finish();
+    assert!(rt; ran, "the earlier commands");
     assert_eq!(rt; device.objects(), 0, "with {hole}");
-    assert_eq!(rt; ran?.len(), earlier.commands.len());
-    if outcome != Outcome::Served {
-        assert_eq!(rt; after?.as_str(), before?.as_str(), "with {hole}");
-    }
-    Ok(outcome)
+    outcome
 }
 
 /// How often a command came to each refusal, as the hole grows until it is served.
@@ -139,7 +183,7 @@ fn refusals(
     let mut no_memory = 0u32;
     let mut refused = 0u32;
     for hole in 0..4096 {
-        match outcome_at(rt, alloc, earlier, command, hole << 4)? {
+        match outcome_of_script(rt, alloc, earlier, command, hole << 4)? {
             Outcome::NothingRan => nothing_ran = nothing_ran.saturating_add(1),
             Outcome::NoMemory => no_memory = no_memory.saturating_add(1),
             Outcome::Refused => refused = refused.saturating_add(1),
