@@ -34,10 +34,6 @@ not_held s p f name a none = elim (finite.get s.held name) as (λ v. finite.get 
   | Some x ↦ λ e h. absurd (let there : f name ≡ Some h.0 = h.1 in cc)
 ] refl (a.holds name)
 
--- what is held is on the device
-pub on_device : (s : State) (p : Properties) (f : ℕ → Option Object) (name : ℕ) (h : HeldObject) → Agrees s p f → finite.get s.held name ≡ Some h → HeldWith f name (IsThere s name h)
-on_device s p f name h a is = subst (λ (v : Option HeldObject). IfSome v (λ x. HeldWith f name (IsThere s name x))) is (a.holds name)
-
 -- One object more, on both sides.
 
 there_more : (s now : State) (f : ℕ → Option Object) (name : ℕ) (h : HeldObject) (o : Object) (q : ℕ) (before : Option HeldObject) (b : Bool)

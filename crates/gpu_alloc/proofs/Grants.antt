@@ -18,7 +18,7 @@ use Rattle.gpu_alloc.specs.declared.heap.Heap.{Heap}
 use Rattle.gpu_alloc.specs.declared.request.Request.{Request}
 use Rattle.gpu_alloc.specs.declared.request.Dedicated.TheVariants.{Required}
 use Rattle.gpu_alloc.specs.declared.spans.Row.{Row}
-use Rattle.gpu_alloc.proofs.Consistency.{state_kept}
+use Rattle.gpu_alloc.proofs.HeapLists.{state_kept}
 use Rattle.gpu_alloc.proofs.Ledgers.{len_more}
 use Rattle.gpu_alloc.proofs.LiveSpans.{live_new}
 

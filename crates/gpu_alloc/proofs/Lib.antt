@@ -2,6 +2,7 @@ pub mod Agreeing
 pub mod Candidates
 pub mod Consistency
 pub mod Grants
+pub mod HeapLists
 pub mod Ledgers
 pub mod Lists
 pub mod LiveSpans

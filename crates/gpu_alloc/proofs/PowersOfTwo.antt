@@ -1,5 +1,5 @@
 -- The next power of two.
-use Rattle.std.proofs.Common.{◌≡◌, ◌≤◌, ◌<◌, ◌⊎◌, inl, inr, ◌*◌, ◌+◌, ◌^◌, ℕ, zero, suc, Bool, true, false, cond, nat_le, refl, sym, subst, arith}
+use Rattle.std.proofs.Common.{◌≡◌, ◌≤◌, ◌<◌, ◌⊎◌, inl, inr, ◌*◌, ◌+◌, ◌^◌, ℕ, zero, suc, true, false, cond, nat_le, refl, subst, arith}
 use Rattle.std.proofs.lemmas.Bool.Decides.{nat_tests}
 use Rattle.std.proofs.Math.Pow.{pow_mono}
 use Rattle.gpu_alloc.specs.Sizes.{doubled_up, next_power_of_two, IsNextPowerOfTwo}
@@ -21,11 +21,11 @@ doubled (suc n) j x enough least =
     elim (nat_le x (2 ^ j)) as (λ b. nat_le x (2 ^ j) ≡ b → IsNextPowerOfTwo x (cond b (2 ^ j) (doubled_up n (2 * 2 ^ j) x))) [
       | true ↦ λ e. record { power = (j, refl); enough = grind (arith, nat_tests); least = least }
       | false ↦ λ e.
-        let above : 2 ^ j < x = grind (arith, nat_tests) in
-        let double : 2 ^ (suc j) ≡ 2 * 2 ^ j = omega arith in
-        let same : j + suc n ≡ suc j + n = omega arith in
-        let more : x ≤ 2 ^ (suc j + n) = subst (λ m. x ≤ 2 ^ m) same enough in
-        subst (λ p. IsNextPowerOfTwo x (doubled_up n p x)) double (doubled n (suc j) x more (λ k is. let lt : j < k = exponent j k (omega arith) in pow_mono {i = suc j} {j = k} (omega arith)))
+          let above : 2 ^ j < x = grind (arith, nat_tests) in
+          let double : 2 ^ (suc j) ≡ 2 * 2 ^ j = omega arith in
+          let same : j + suc n ≡ suc j + n = omega arith in
+          let more : x ≤ 2 ^ (suc j + n) = subst (λ m. x ≤ 2 ^ m) same enough in
+          subst (λ p. IsNextPowerOfTwo x (doubled_up n p x)) double (doubled n (suc j) x more (λ k is. let lt : j < k = exponent j k (omega arith) in pow_mono {i = suc j} {j = k} (omega arith)))
     ] refl
 
 pub is_next_power_of_two : (x : ℕ) → x ≤ 2 ^ 64 → IsNextPowerOfTwo x (next_power_of_two x)

@@ -12,7 +12,8 @@ use Rattle.gpu_alloc.specs.declared.block.Kind.{Kind}
 use Rattle.gpu_alloc.specs.declared.block.Kind.TheVariants.{Dedicated}
 use Rattle.gpu_alloc.specs.declared.heap.Heap.{Heap}
 use Rattle.gpu_alloc.specs.declared.spans.Row.{Row}
-use Rattle.gpu_alloc.proofs.Consistency.{state_kept, whole_row}
+use Rattle.gpu_alloc.proofs.Consistency.{whole_row}
+use Rattle.gpu_alloc.proofs.HeapLists.{state_kept}
 use Rattle.gpu_alloc.proofs.Ledgers.{len_less}
 
 -- the state without a block that was an object of its own

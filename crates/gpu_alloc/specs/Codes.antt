@@ -1,13 +1,11 @@
 -- How the values that contracts see are stored.
-use Rattle.std.specs.Prelude.{◌≡◌, ℕ, ◌==◌, Bool, List, cond, Option, refl}
-use Rattle.std.specs.Coded.{Coded, code_by, coded×, coded_ℕ, coded_list, coded_bool, coded_option}
+use Rattle.std.specs.Prelude.{◌≡◌, ℕ, ◌==◌, List, cond, Option, refl}
+use Rattle.std.specs.Coded.{Coded, code_by, coded×, coded_ℕ, coded_list, coded_option}
 use Rattle.std.specs.FinMap as map
 use Rattle.std.specs.FinSet as set
 use Rattle.std.specs.Ordering.{nat_cmp}
+use Rattle.gpu_alloc_types.specs.Codes.{properties_code}
 use Rattle.gpu_alloc_types.specs.Properties.{Properties}
-use Rattle.gpu_alloc_types.specs.Flags.{property_bits}
-use Rattle.gpu_alloc_types.specs.declared.types.MemoryType.{MemoryType}
-use Rattle.gpu_alloc_types.specs.declared.types.MemoryHeap.{MemoryHeap}
 use Rattle.gpu_alloc.specs.State.{HeldObject, Span, span_cmp, Block, span_of, TypeState, State}
 use Rattle.gpu_alloc.specs.Spans.{Table}
 use Rattle.gpu_alloc.specs.declared.block.Kind.{Kind}
@@ -78,29 +76,6 @@ config_code =
       final_free_list_chunk = n.1.0.1;
       minimal_buddy_size = n.1.1.0;
       initial_buddy_dedicated_size = n.1.1.1;
-    })
-    (λ _. refl)
-
-abbrev pub type_code : Coded MemoryType
-type_code =
-    code_by (ℕ × ℕ) (coded× coded_ℕ coded_ℕ) (λ t. (t.heap, property_bits t.props))
-    (λ c. record { heap = c.0; props = record { bits = c.1 } }) (λ _. refl)
-
-abbrev pub heap_code : Coded MemoryHeap
-heap_code = code_by ℕ coded_ℕ (λ h. h.size) (λ n. record { size = n }) (λ _. refl)
-
-abbrev pub properties_code : Coded Properties
-properties_code =
-    code_by (List MemoryType × (List MemoryHeap × ((ℕ × ℕ) × (ℕ × Bool))))
-    (coded× (coded_list type_code) (coded× (coded_list heap_code) (coded× (coded× coded_ℕ coded_ℕ) (coded× coded_ℕ coded_bool))))
-    (λ p. (p.memory_types, (p.memory_heaps, ((p.max_memory_allocation_count, p.max_memory_allocation_size), (p.non_coherent_atom_size, p.buffer_device_address)))))
-    (λ c. record {
-      memory_types = c.0;
-      memory_heaps = c.1.0;
-      max_memory_allocation_count = c.1.1.0.0;
-      max_memory_allocation_size = c.1.1.0.1;
-      non_coherent_atom_size = c.1.1.1.0;
-      buffer_device_address = c.1.1.1.1;
     })
     (λ _. refl)
 

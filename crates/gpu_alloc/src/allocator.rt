@@ -2,7 +2,7 @@
 
 ghost use Rattle.std.specs.Prelude.{◌≡◌, ◌↔◌, ℕ, ◌+◌, ◌<◌, length, List, All, IsTrue, IfOk, IfErr, OnErr, Some, None, cond, slice_get};
 ghost use Rattle.std.specs.FinMap as map;
-ghost use Rattle.gpu_alloc_types.specs.Properties.{IsUsable, properties_of, heap_of, bits_of};
+ghost use Rattle.gpu_alloc_types.specs.Properties.{IsUsable, properties_of, heap_of, heap_size, bits_of};
 ghost use Rattle.gpu_alloc_types.specs.Flags.{allocation_bits, property_bits};
 ghost use Rattle.gpu_alloc_types.specs.Device.{Event, Chain, put};
 ghost use Rattle.gpu_alloc.specs.Agreement.{Agrees};
@@ -163,10 +163,10 @@ impl<M: MemoryObject, A: Allocator> GpuAllocator<M, A> {
         ensures refused { OnErr result (self.new ≡ self.old) }
         ensures total { total self.new ≡ total self.old }
     {
-        if request.size > self.limits.max_memory_allocation_size {
+        if request.size > self.max_allocation_size() {
             return Err(AllocationError::OutOfDeviceMemory);
         }
-        if self.allocations_remains == 0 {
+        if self.remaining_allocations() == 0 {
             return Err(AllocationError::TooManyObjects);
         }
         let candidates = candidates(
@@ -174,10 +174,11 @@ impl<M: MemoryObject, A: Allocator> GpuAllocator<M, A> {
             request.usage,
             request.memory_types,
         );
-        if candidates.types().is_empty() {
+        let types = candidates.types();
+        if types.is_empty() {
             return Err(AllocationError::NoCompatibleMemoryTypes);
         }
-        self.try_all(device, request, candidates.types())
+        self.try_all(device, request, types)
     }
 
     /// Tries the candidates in rank.
@@ -226,8 +227,7 @@ impl<M: MemoryObject, A: Allocator> GpuAllocator<M, A> {
         ensures granted { GrantsTried self.old request result self.new }
         ensures total { total self.new ≡ total self.old }
     {
-        let heap = self.limits.heap_index(memory_type);
-        if self.heaps[heap].size() < request.size {
+        if self.heap_size(memory_type) < request.size {
             return Ok(None);
         }
         if self.allocations_remains == 0 {
@@ -237,31 +237,42 @@ impl<M: MemoryObject, A: Allocator> GpuAllocator<M, A> {
             return Err(AllocationError::OutOfHostMemory);
         }
         let flags = self.limits.flags();
-        match device.allocate_memory(request.size, memory_type, flags) {
+        let answer = device.allocate_memory(request.size, memory_type, flags);
+        match answer {
             Ok(memory) => {
-                self.spans.insert(Row {
+                let row = Row {
                     object: memory.object(),
                     offset: 0,
                     size: request.size,
                     memory_type,
                     counted: request.size,
                     kind: Kind::Dedicated,
-                });
-                self.heaps[heap].alloc(request.size);
+                };
+                self.spans.insert(row);
+                let heap = self.limits.heap_index(memory_type);
+                self.heaps[heap].alloc(row.counted);
                 self.allocations_remains -= 1;
                 let props = self.limits.props(memory_type);
                 Ok(Some(MemoryBlock::new(
                     memory,
-                    0,
-                    request.size,
-                    memory_type,
+                    row.offset,
+                    row.size,
+                    row.memory_type,
                     props,
-                    Kind::Dedicated,
+                    row.kind,
                 )))
             }
             Err(OutOfMemory::OutOfDeviceMemory) => Ok(None),
             Err(OutOfMemory::OutOfHostMemory) => Err(AllocationError::OutOfHostMemory),
         }
+    }
+
+    /// The size of a memory type's heap, in bytes.
+    fn heap_size(&self, memory_type: u32) -> u64
+        requires { memory_type < length (self.now.properties).memory_types }
+        ensures { result ≡ heap_size self.now.properties memory_type }
+    {
+        self.heaps[self.limits.heap_index(memory_type)].size()
     }
 
     /// Takes a block back: its object goes back to the device, and one more may be held.
@@ -310,7 +321,8 @@ impl<M: MemoryObject, A: Allocator> GpuAllocator<M, A> {
     pub fn remaining_allocations(&self) -> u32
         ensures { result ≡ self.now.remaining }
     {
-        self.allocations_remains
+        let remaining = self.allocations_remains;
+        remaining
     }
 
     /// How many objects are held.

@@ -1,5 +1,5 @@
 -- Laws of chains of steps.
-use Rattle.std.specs.Prelude.{◌≡◌, List, [], ◌∷◌, ◌++◌, refl}
+use Rattle.std.specs.Prelude.{List, [], ◌∷◌, ◌++◌, refl}
 use Rattle.std.proofs.Common.{subst}
 use Rattle.gpu_alloc_types.specs.Device.{Event, Chain}
 

@@ -1,8 +1,8 @@
 -- Flags as numbers.
 use Rattle.std.specs.Prelude.{ℕ, ◌==◌, Bool, not, bit_and}
-use Rattle.gpu_alloc_types.specs.declared.flags.UsageFlags.{UsageFlags}
-use Rattle.gpu_alloc_types.specs.declared.flags.MemoryPropertyFlags.{MemoryPropertyFlags}
-use Rattle.gpu_alloc_types.specs.declared.flags.AllocationFlags.{AllocationFlags}
+use Rattle.gpu_alloc_types.specs.declared.usage_flags.UsageFlags.{UsageFlags}
+use Rattle.gpu_alloc_types.specs.declared.memory_property_flags.MemoryPropertyFlags.{MemoryPropertyFlags}
+use Rattle.gpu_alloc_types.specs.declared.allocation_flags.AllocationFlags.{AllocationFlags}
 
 -- the number whose bits are the flags
 abbrev pub usage_bits : UsageFlags → ℕ

@@ -1,4 +1,5 @@
 pub mod Chains
+pub mod Codes
 pub mod Device
 pub mod Flags
 pub mod Objects

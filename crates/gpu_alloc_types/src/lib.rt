@@ -1,10 +1,14 @@
 //! What a graphics device offers of memory, and the device itself as a trait.
 #![tactic(auto)]
 
+mod allocation_flags;
 mod device;
-mod flags;
+mod memory_property_flags;
 mod types;
+mod usage_flags;
 
+pub use allocation_flags::AllocationFlags;
 pub use device::{MemoryDevice, MemoryObject};
-pub use flags::{AllocationFlags, MemoryPropertyFlags, UsageFlags};
+pub use memory_property_flags::MemoryPropertyFlags;
 pub use types::{DeviceMapError, DeviceProperties, MemoryHeap, MemoryType, OutOfMemory};
+pub use usage_flags::UsageFlags;

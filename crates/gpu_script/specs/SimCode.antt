@@ -1,28 +1,17 @@
 -- How a state of the simulated device is stored.
-use Rattle.std.specs.Prelude.{ℕ, Bool, List, Option, refl}
-use Rattle.std.specs.Coded.{Coded, code_by, coded×, coded_ℕ, coded_bool, coded_list, coded_option}
+use Rattle.std.specs.Prelude.{ℕ, Option, refl}
+use Rattle.std.specs.Coded.{Coded, code_by, coded×, coded_ℕ, coded_option}
 use Rattle.std.specs.FinMap as map
 use Rattle.std.specs.FinMap.{FinMap}
 use Rattle.std.specs.Ordering.{nat_cmp}
+use Rattle.gpu_alloc_types.specs.Codes.{properties_code}
 use Rattle.gpu_alloc_types.specs.Properties.{Properties}
-use Rattle.gpu_alloc_types.specs.declared.types.MemoryType.{MemoryType}
-use Rattle.gpu_alloc_types.specs.declared.types.MemoryHeap.{MemoryHeap}
-use Rattle.gpu_alloc_types.specs.contracts.types.MemoryType as memory_type
-use Rattle.gpu_alloc_types.specs.contracts.types.MemoryHeap as memory_heap
 use Rattle.gpu_script.specs.declared.sim.object.SimObject.{SimObject}
 use Rattle.gpu_script.specs.declared.sim.question.ByKind.{ByKind}
 use Rattle.gpu_script.specs.declared.sim.question.Cause.{Cause}
 use Rattle.gpu_script.specs.contracts.sim.object.SimObject as object
 use Rattle.gpu_script.specs.contracts.sim.question.Cause as cause
 use Rattle.gpu_script.specs.Sim.{SimState}
-
-abbrev pub properties_code : Coded Properties
-properties_code =
-    code_by (List MemoryType × (List MemoryHeap × ((ℕ × ℕ) × (ℕ × Bool))))
-    (coded× (coded_list memory_type.the_row.coded) (coded× (coded_list memory_heap.the_row.coded) (coded× (coded× coded_ℕ coded_ℕ) (coded× coded_ℕ coded_bool))))
-    (λ p. (p.memory_types, (p.memory_heaps, ((p.max_memory_allocation_count, p.max_memory_allocation_size), (p.non_coherent_atom_size, p.buffer_device_address)))))
-    (λ c. record { memory_types = c.0; memory_heaps = c.1.0; max_memory_allocation_count = c.1.1.0.0; max_memory_allocation_size = c.1.1.0.1; non_coherent_atom_size = c.1.1.1.0; buffer_device_address = c.1.1.1.1 })
-    (λ _. refl)
 
 abbrev pub by_kind_code : {T : Type 0} → Coded T → Coded (ByKind T)
 by_kind_code {T} code =

@@ -8,7 +8,6 @@ use Rattle.gpu_alloc_types.specs.Properties.{Properties}
 use Rattle.gpu_alloc_types.specs.Device.{Object}
 use Rattle.gpu_alloc.specs.State.{State, Block}
 use Rattle.gpu_alloc.specs.declared.request.Request.{Request}
-use Rattle.gpu_session.specs.Books.{Books}
 use Rattle.gpu_session.specs.Faults.{where_true, fault_of_request}
 use Rattle.gpu_session.specs.Sound.{IsKept}
 use Rattle.gpu_session.specs.declared.command.Fault.{Fault}

@@ -1,23 +1,21 @@
 -- What a grant of a whole object makes of the books.
-use Rattle.std.proofs.Common.{◌≡◌, ◌≢◌, ◌⊎◌, inl, inr, ℕ, ◌+◌, ◌<◌, ◌≤◌, Bool, true, false, MatchBool, List, [], ◌∷◌, length, Option, Some, None, Result, Ok, Err, refl, sym, ◌∙◌, ap, subst, arith}
+use Rattle.std.proofs.Common.{◌≡◌, ◌≢◌, ◌⊎◌, inl, inr, ℕ, ◌<◌, Bool, true, false, MatchBool, List, [], ◌∷◌, length, Option, Some, None, Ok, sym, ◌∙◌, ap, subst, arith}
 use Rattle.std.specs.FinMap as finite
-use Rattle.std.specs.FinSet as set
 use Rattle.std.specs.Ordering.{nat_cmp}
 use Rattle.gpu_alloc_types.specs.Properties.{Properties}
-use Rattle.gpu_alloc_types.specs.Device.{Event, Object, HeldWith, IsFresh, put}
+use Rattle.gpu_alloc_types.specs.Device.{Event, Object, IsFresh, put}
 use Rattle.gpu_alloc_types.specs.Objects.{put-same, put-other}
 use Rattle.gpu_alloc.specs.Agreement.{Agrees}
 use Rattle.gpu_alloc.specs.Allocation.{Allocates, TriesAll, Refuses, candidates_of, IsGranted, ObjectsAfter, whole_block, holding}
 use Rattle.gpu_alloc.specs.declared.error.AllocationError.{AllocationError}
 use Rattle.gpu_alloc.specs.declared.error.AllocationError.TheVariants.{OutOfDeviceMemory, NoCompatibleMemoryTypes, TooManyObjects}
-use Rattle.gpu_alloc.specs.State.{Span, span_of, HeldObject, Block, State, IsLive, IsOwned, AreApart}
+use Rattle.gpu_alloc.specs.State.{Span, span_of, HeldObject, Block, State, IsLive}
 use Rattle.gpu_alloc.specs.declared.block.Kind.TheVariants.{Dedicated as DedicatedObject}
 use Rattle.gpu_alloc.specs.declared.request.Request.{Request}
 use Rattle.gpu_alloc.specs.declared.request.Dedicated.TheVariants.{Required}
-use Rattle.gpu_session.specs.Books.{Books}
-use Rattle.gpu_session.specs.Sound.{IsBlock, IsChunkOfList, IsSound, AreWholeObjects, HoldsWholeObjects, IsKept}
+use Rattle.gpu_session.specs.Sound.{IsBlock, IsSound, AreWholeObjects, HoldsWholeObjects, IsKept}
 use Rattle.gpu_session.proofs.Names.{here, wherever, put-cases, get_put, get_put-other}
-use Rattle.gpu_session.proofs.Order.{put_in, put_in-new, put_in-kept, one_or_two}
+use Rattle.gpu_session.proofs.Order.{put_in, put_in-kept, one_or_two}
 
 -- an object of its own, held with the block in it
 abbrev pub owned_object : ℕ → ℕ → HeldObject

@@ -1,5 +1,5 @@
 -- What a session keeps, at first.
-use Rattle.std.proofs.Common.{◌≡◌, ◌≢◌, ℕ, ◌<◌, ◌^◌, Bool, true, false, List, length, Option, Some, None, refl, sym, ◌∙◌}
+use Rattle.std.proofs.Common.{◌≡◌, ◌≢◌, ℕ, ◌<◌, ◌^◌, true, false, length, Option, refl, sym, ◌∙◌}
 use Rattle.std.specs.Ordering.{nat_cmp}
 use Rattle.std.specs.Option.{IfSome}
 use Rattle.std.specs.FinMap as finite
@@ -7,7 +7,7 @@ use Rattle.std.specs.FinSet as set
 use Rattle.gpu_alloc_types.specs.Properties.{Properties}
 use Rattle.gpu_alloc_types.specs.Device.{Object}
 use Rattle.gpu_alloc.specs.Opening.{opened}
-use Rattle.gpu_alloc.specs.State.{Span, span_cmp, HeldObject, Block, State, IsLive}
+use Rattle.gpu_alloc.specs.State.{Span, span_cmp, Block}
 use Rattle.gpu_alloc.specs.declared.config.Config.{Config}
 use Rattle.gpu_session.specs.Sound.{IsKept}
 use Rattle.gpu_session.proofs.Names.{wherever}

@@ -1,19 +1,18 @@
 -- What the return of a whole object makes of the books.
-use Rattle.std.proofs.Common.{◌≡◌, ◌≢◌, ◌⊎◌, inl, inr, ℕ, ◌+◌, ◌<◌, ◌≤◌, Bool, true, false, List, [], ◌∷◌, length, map, Option, Some, None, refl, sym, ◌∙◌, ap, subst, arith}
+use Rattle.std.proofs.Common.{◌≡◌, ◌≢◌, inl, inr, ℕ, ◌+◌, Bool, List, [], ◌∷◌, length, Option, Some, None, sym, ◌∙◌, ap, subst}
 use Rattle.std.specs.FinMap as finite
 use Rattle.std.specs.FinSet as set
 use Rattle.std.specs.Ordering.{nat_cmp}
 use Rattle.gpu_alloc_types.specs.Properties.{Properties}
-use Rattle.gpu_alloc_types.specs.Device.{Event, Object, HeldWith, put}
+use Rattle.gpu_alloc_types.specs.Device.{Event, Object, put}
 use Rattle.gpu_alloc_types.specs.Device.Event.{Deallocated}
 use Rattle.gpu_alloc_types.specs.Objects.{put-same, put-other}
 use Rattle.gpu_alloc.specs.Agreement.{Agrees}
 use Rattle.gpu_alloc.specs.Release.{Frees, GoesWith, without_span}
-use Rattle.gpu_alloc.specs.State.{Span, span_of, HeldObject, Block, State, IsLive, IsOwned, AreApart}
+use Rattle.gpu_alloc.specs.State.{Span, span_of, Block, State, IsLive}
 use Rattle.gpu_alloc.specs.declared.block.Kind.{Kind}
 use Rattle.gpu_alloc.specs.declared.block.Kind.TheVariants.{Dedicated as DedicatedObject}
-use Rattle.gpu_session.specs.Books.{Books}
-use Rattle.gpu_session.specs.Sound.{IsBlock, IsChunkOfList, IsSound, AreWholeObjects, HoldsWholeObjects, IsKept}
+use Rattle.gpu_session.specs.Sound.{IsBlock, IsSound, AreWholeObjects, HoldsWholeObjects, IsKept}
 use Rattle.gpu_session.proofs.Names.{here, wherever, removed-cases, get_removed, get_removed-other}
 use Rattle.gpu_session.proofs.Order.{taken_out, taken_out-kept, one_or_two}
 

@@ -1,5 +1,5 @@
 -- Runs, one after the other.
-use Rattle.std.proofs.Common.{◌≡◌, ℕ, ◌+◌, ◌<◌, List, [], ◌∷◌, ◌++◌, length, take, get_or, add-one, refl, subst}
+use Rattle.std.proofs.Common.{ℕ, ◌+◌, ◌<◌, List, [], ◌∷◌, ◌++◌, length, take, get_or, add-one, refl, subst}
 use Rattle.std.proofs.Math.Seq.{take-suc}
 use Rattle.gpu_session.specs.Run.{Run}
 use Rattle.gpu_session.specs.declared.command.Command.{Command}

@@ -131,7 +131,7 @@ impl<M: MemoryObject, D: MemoryDevice<M>, A: Allocator + Copy> Session<M, D, A> 
         }
 
         // The proof learns from the fields what every session keeps.
-        let _fields = &self.alloc;
+        let _ = &self.alloc;
         Ok(replies)
     }
 
@@ -177,6 +177,7 @@ impl<M: MemoryObject, D: MemoryDevice<M>, A: Allocator + Copy> Session<M, D, A> 
         }
     }
 
+    /// Answers `Dedicated`. Room for the block's entry is made before the device is asked.
     fn dedicated(&mut self, name: u32, request: Request, dedicated: Dedicated) -> Reply<A>
         requires required { dedicated ≡ Dedicated.Required }
         ensures step { Step D.step self.old (Command.Dedicated name request dedicated) result self.new }
@@ -212,6 +213,7 @@ impl<M: MemoryObject, D: MemoryDevice<M>, A: Allocator + Copy> Session<M, D, A> 
         }
     }
 
+    /// Answers `Free`.
     fn free(&mut self, name: u32) -> Reply<A>
         ensures step { Step D.step self.old (Command.Free name) result self.new }
         ensures total { total (self.new.books).allocator ≡ total (self.old.books).allocator }
@@ -225,6 +227,7 @@ impl<M: MemoryObject, D: MemoryDevice<M>, A: Allocator + Copy> Session<M, D, A> 
         }
     }
 
+    /// Answers `Counts`. Places for the ledgers are taken first.
     fn counts(&mut self) -> Reply<A>
         ensures step { Step D.step self.old Command.Counts result self.new }
         ensures same { self.new ≡ self.old }

@@ -8,4 +8,4 @@ pub try_all-requires-clause-known : goal.try_all-requires-clause-known
 try_all-requires-clause-known g c =
     let types = c.self.inside.limits.memory_types.items in
     let ranked = rw c.as_slice.ensures.value at c.candidates-candidates.ensures in
-    rw (← c.self.view_is) (subst (All (λ t. t < length types)) (sym (c.types-2.ensures ∙ ranked)) (candidates-within types (usage_bits c.args.request.usage) c.args.request.memory_types))
+    rw (← c.self.view_is) (subst (All (λ t. t < length types)) (sym (c.types-types.ensures ∙ ranked)) (candidates-within types (usage_bits c.args.request.usage) c.args.request.memory_types))

@@ -6,7 +6,8 @@ use Rattle.gpu_alloc.specs.Spans.{IsRowOf}
 use Rattle.gpu_alloc.specs.State.{total}
 use Rattle.gpu_alloc.specs.declared.heap.Heap.{Heap}
 use Rattle.gpu_alloc.proofs.Agreeing.{agrees_returned}
-use Rattle.gpu_alloc.proofs.Consistency.{covers, consistent-gone, properties_kept, fits_again}
+use Rattle.gpu_alloc.proofs.Consistency.{covers, consistent-gone, fits_again}
+use Rattle.gpu_alloc.proofs.HeapLists.{properties_kept}
 use Rattle.gpu_alloc.proofs.LiveSpans.{live_other}
 use Rattle.gpu_alloc.proofs.Returns.{goes_with, owned_kind, state_returned, total_returned}
 use Rattle.gpu_alloc.proofs.allocator.GpuAllocator.dealloc.Goals as goal

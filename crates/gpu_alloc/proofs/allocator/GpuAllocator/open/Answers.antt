@@ -3,7 +3,8 @@ use Rattle.gpu_alloc_types.specs.Properties.{Properties, properties_of}
 use Rattle.gpu_alloc.specs.Inside.{offer_of, IsConsistent}
 use Rattle.gpu_alloc.specs.Opening.{opened}
 use Rattle.gpu_alloc.specs.Sizes.{first_types}
-use Rattle.gpu_alloc.proofs.Consistency.{consistent-opened, unused-offers}
+use Rattle.gpu_alloc.proofs.Consistency.{consistent-opened}
+use Rattle.gpu_alloc.proofs.HeapLists.{unused-offers}
 use Rattle.gpu_alloc.proofs.allocator.GpuAllocator.open.Given.{Over}
 use Rattle.gpu_alloc.proofs.allocator.GpuAllocator.open.Goals as goal
 

@@ -1,4 +1,4 @@
-use Rattle.std.proofs.Common.{◌≡◌, ◌-◌, ◌<◌, ◌∷◌, [], ◌^◌, None, Ok, Err, refl, sym, ap, ◌∙◌, arith, subst, inl, inr, length, vec_len}
+use Rattle.std.proofs.Common.{◌≡◌, ◌-◌, ◌<◌, ◌∷◌, [], ◌^◌, None, Ok, Err, refl, sym, ap, ◌∙◌, arith, subst, inr, length, vec_len}
 use Rattle.std.proofs.lemmas.Grind.{common_steps}
 use Rattle.std.specs.FinMap as finite
 use Rattle.gpu_alloc_types.specs.Device.Event.{Allocated}
@@ -6,32 +6,16 @@ use Rattle.gpu_alloc.specs.Agreement.{Agrees}
 use Rattle.gpu_alloc.specs.Allocation.{ObjectsAfter, whole_block, holding, flags_of, asked}
 use Rattle.gpu_alloc.specs.Inside.{state_in, properties_in}
 use Rattle.gpu_alloc.specs.Spans.{Table, with_row}
-use Rattle.gpu_alloc.specs.State.{State, total}
+use Rattle.gpu_alloc.specs.State.{State, Block, total}
 use Rattle.gpu_alloc.specs.declared.heap.Heap.{Heap}
+use Rattle.gpu_alloc.specs.declared.spans.Row.{Row}
 use Rattle.gpu_alloc.proofs.Agreeing.{agrees_granted, not_held}
-use Rattle.gpu_alloc.proofs.Consistency.{IsOwnRow, heap_there, heap_size-read, ledger-room, consistent-held, properties_kept}
+use Rattle.gpu_alloc.proofs.Consistency.{IsOwnRow, heap_there, ledger-room, consistent-held}
+use Rattle.gpu_alloc.proofs.HeapLists.{properties_kept}
 use Rattle.gpu_alloc.proofs.Grants.{own_row, own_object, state_held, decides_granted, granted, total_held}
 use Rattle.std.proofs.Math.ListN.{set}
 use Rattle.gpu_alloc.proofs.allocator.GpuAllocator.try_object.Given.{Over}
 use Rattle.gpu_alloc.proofs.allocator.GpuAllocator.try_object.Goals as goal
-
-pub returns-then-size-request-clause-tries : goal.returns-then-size-request-clause-tries
-returns-then-size-request-clause-tries g c =
-    let known = rw (← c.self.view_is) at c.requires.known in
-    let size = heap_size-read _ _ _ _ c.self.invariant refl c.args.memory_type _ c.index.result.now known c.heap_index-heap.ensures c.index.ensures in
-    rw (← c.self.view_is) ([], refl, (inl (omega (arith, size, c.size.ensures, c.if-size-request.true), refl), refl))
-
-pub returns-then-self-eq0-clause-tries : goal.returns-then-self-eq0-clause-tries
-returns-then-self-eq0-clause-tries g c =
-    let known = rw (← c.self.view_is) at c.requires.known in
-    let size = heap_size-read _ _ _ _ c.self.invariant refl c.args.memory_type _ c.index.result.now known c.heap_index-heap.ensures c.index.ensures in
-    rw (← c.self.view_is) ([], refl, (omega (arith, size, c.size.ensures, c.if-size-request.false), (c.if-self-eq0.true, refl, refl)))
-
-pub returns-then-is_err-clause-tries : goal.returns-then-is_err-clause-tries
-returns-then-is_err-clause-tries g c =
-    let known = rw (← c.self.view_is) at c.requires.known in
-    let size = heap_size-read _ _ _ _ c.self.invariant refl c.args.memory_type _ c.index.result.now known c.heap_index-heap.ensures c.index.ensures in
-    rw (← c.self.view_is) ([], refl, (omega (arith, size, c.size.ensures, c.if-size-request.false), (omega arith, inl refl, ap (λ t. state_in c.self.inside.limits c.self.inside.heaps.items t c.self.inside.allocations_remains) c.reserve.ensures.kept)))
 
 pub index_mut-requires : goal.index_mut-requires
 index_mut-requires g c =
@@ -42,64 +26,68 @@ index_mut-requires g c =
 pub alloc-requires : goal.alloc-requires
 alloc-requires g c =
     let known = rw (← c.self.view_is) at c.requires.known in
-    let small : c.args.request.size < 2 ^ 64 = omega (arith, c.size.type_inv, c.if-size-request.false) in
+    let small : c.args.request.size < 2 ^ 64 = omega (arith, c.heap_size.type_inv, c.if-heap_size-request.false) in
     ledger-room _ _ _ _ c.self.invariant refl c.args.memory_type _ _ c.index_mut.result.now known c.heap_index-heap.ensures c.index_mut.ensures.value small
 
--- What is known where the device granted an object: the state before, and what follows from the steps.
+-- What is known where the device granted an object: the state before, the new row and block, and what follows from the steps.
 
 abbrev before : (g : Over) → goal.After-new g → State
 before g c = state_in c.self.inside.limits c.self.inside.heaps.items c.self.inside.spans c.self.inside.allocations_remains
 
+abbrev row : (g : Over) → goal.After-new g → Row
+row g c = own_row c.object.result c.args.request.size c.args.memory_type
+
+abbrev block : (g : Over) → goal.After-new g → Block
+block g c = whole_block (before g c) c.object.result c.args.request.size c.args.memory_type
+
 free : (g : Over) (c : goal.After-new g) → finite.get (before g c).held c.object.result ≡ None
 free g c =
-    let row = g.met.D.MemoryDevice.row _ _ _ c.in-Ok.ensures in
-    let none : g.D.MemoryDevice.objects c.args.device.now c.object.result ≡ None = rw c.object.ensures row.0 in
+    let made = g.met.D.MemoryDevice.row _ _ _ c.in-Ok.ensures in
+    let none : g.D.MemoryDevice.objects c.args.device.now c.object.result ≡ None = rw c.object.ensures made.0 in
     ap (λ (s : State). finite.get s.held c.object.result) c.self.view_is ∙ not_held c.args.self.now _ _ _ c.requires.agrees none
 
-held_is : (g : Over) (c : goal.After-new g) → c.insert.new.self.held ≡ (with_row c.self.inside.spans (own_row c.object.result c.args.request.size c.args.memory_type)).held
-held_is g c = c.insert.ensures.held ∙ ap (λ (t : Table). (with_row t (own_row c.object.result c.args.request.size c.args.memory_type)).held) c.reserve.ensures.kept
+held_is : (g : Over) (c : goal.After-new g) → c.insert.new.self.held ≡ (with_row c.self.inside.spans (row g c)).held
+held_is g c = c.insert.ensures.held ∙ ap (λ (t : Table). (with_row t (row g c)).held) c.reserve.ensures.kept
 
-live_is : (g : Over) (c : goal.After-new g) → c.insert.new.self.live ≡ (with_row c.self.inside.spans (own_row c.object.result c.args.request.size c.args.memory_type)).live
-live_is g c = c.insert.ensures.live ∙ ap (λ (t : Table). (with_row t (own_row c.object.result c.args.request.size c.args.memory_type)).live) c.reserve.ensures.kept
+live_is : (g : Over) (c : goal.After-new g) → c.insert.new.self.live ≡ (with_row c.self.inside.spans (row g c)).live
+live_is g c = c.insert.ensures.live ∙ ap (λ (t : Table). (with_row t (row g c)).live) c.reserve.ensures.kept
 
 state_is : (g : Over) (c : goal.After-new g)
     → state_in c.self.inside.limits (set c.self.inside.heaps.items c.heap_index-heap.result c.alloc.new.self) c.insert.new.self (c.self.inside.allocations_remains - 1)
-    ≡ holding (before g c) (own_object c.args.request.size c.args.memory_type) (whole_block (before g c) c.object.result c.args.request.size c.args.memory_type)
+    ≡ holding (before g c) (own_object c.args.request.size c.args.memory_type) (block g c)
 state_is g c = state_held c.self.inside.limits _ _ _ c.index_mut.result.now c.self.inside.spans c.insert.new.self _ _ _ _ c.index_mut.ensures.value (ap (λ (h : Heap). h.size) c.alloc.ensures) (held_is g c) (live_is g c)
 
-block_is : (g : Over) (c : goal.After-new g) → c.new.result ≡ whole_block (before g c) c.object.result c.args.request.size c.args.memory_type
-block_is g c = c.new.ensures ∙ (λ k. record (whole_block (before g c) c.object.result c.args.request.size c.args.memory_type) { object = sym c.object.ensures k; props = c.props-props.ensures k })
+block_is : (g : Over) (c : goal.After-new g) → c.new.result ≡ block g c
+block_is g c = c.new.ensures ∙ (λ k. record (block g c) { object = sym c.object.ensures k; props = c.props-props.ensures k })
 
 pub invariant_of-self-in-Ok : goal.invariant_of-self-in-Ok
 invariant_of-self-in-Ok g c =
     let known = rw (← c.self.view_is) at c.requires.known in
-    let small : c.args.request.size < 2 ^ 64 = omega (arith, c.size.type_inv, c.if-size-request.false) in
-    let own : IsOwnRow (properties_in c.self.inside.limits c.self.inside.heaps.items) (own_row c.object.result c.args.request.size c.args.memory_type) =
+    let small : c.args.request.size < 2 ^ 64 = omega (arith, c.heap_size.type_inv, c.if-heap_size-request.false) in
+    let own : IsOwnRow (properties_in c.self.inside.limits c.self.inside.heaps.items) (row g c) =
     record { kind = refl; start = refl; all = refl; small = small; known = known } in
     rw (properties_kept c.self.inside.limits c.self.inside.heaps.items c.heap_index-heap.result c.alloc.new.self c.index_mut.result.now c.index_mut.ensures.value (ap (λ (h : Heap). h.size) c.alloc.ensures))
-    (consistent-held _ _ c.self.inside.spans c.insert.new.self _ (own_row c.object.result c.args.request.size c.args.memory_type) c.index_mut.result.now _ _ c.self.invariant refl
+    (consistent-held _ _ c.self.inside.spans c.insert.new.self _ (row g c) c.index_mut.result.now _ _ c.self.invariant refl
     (omega arith) own (free g c) (held_is g c) (live_is g c) c.heap_index-heap.ensures c.index_mut.ensures.value (ap (λ (h : Heap). h.used) c.alloc.ensures))
 
 pub returns-in-Ok-clause-tries : goal.returns-in-Ok-clause-tries
 returns-in-Ok-clause-tries g c =
-    let known = rw (← c.self.view_is) at c.requires.known in
-    let size = heap_size-read _ _ _ _ c.self.invariant refl c.args.memory_type _ c.index.result.now known c.heap_index-heap.ensures c.index.ensures in
+    let size = rw (← c.self.view_is) at c.heap_size.ensures in
     rw (← c.self.view_is) (
       asked (before g c) c.args.request.size c.args.memory_type (Ok c.object.result) ∷ [],
-      (c.allocate_memory.new.self, rw (← c.flags-flags.ensures, c.object.ensures) c.in-Ok.ensures, refl),
-      decides_granted (before g c) _ c.args.request c.args.memory_type c.object.result _ (block_is g c) (omega (arith, size, c.size.ensures, c.if-size-request.false)) (omega arith) (state_is g c),
+      (c.allocate_memory-answer.new.self, rw (← c.flags-flags.ensures, c.object.ensures) c.in-Ok.ensures, refl),
+      decides_granted (before g c) _ c.args.request c.args.memory_type c.object.result _ (block_is g c) (omega (arith, size, c.if-heap_size-request.false)) (omega arith) (state_is g c),
     )
 
 pub returns-in-Ok-clause-agrees : goal.returns-in-Ok-clause-agrees
 returns-in-Ok-clause-agrees g c =
     let agreed = rw (← c.self.view_is) at c.requires.agrees in
     let same = g.met.D.MemoryDevice.keeps_properties _ _ _ c.in-Ok.ensures in
-    let block = whole_block (before g c) c.object.result c.args.request.size c.args.memory_type in
-    let after : ObjectsAfter (Ok block) (g.D.MemoryDevice.objects c.args.device.now) (g.D.MemoryDevice.objects c.allocate_memory.new.self) =
-    subst (λ n. ObjectsAfter (Ok (whole_block (before g c) n c.args.request.size c.args.memory_type)) (g.D.MemoryDevice.objects c.args.device.now) (g.D.MemoryDevice.objects c.allocate_memory.new.self))
+    let after : ObjectsAfter (Ok (block g c)) (g.D.MemoryDevice.objects c.args.device.now) (g.D.MemoryDevice.objects c.allocate_memory-answer.new.self) =
+    subst (λ n. ObjectsAfter (Ok (whole_block (before g c) n c.args.request.size c.args.memory_type)) (g.D.MemoryDevice.objects c.args.device.now) (g.D.MemoryDevice.objects c.allocate_memory-answer.new.self))
     (sym c.object.ensures) (g.met.D.MemoryDevice.row _ _ _ c.in-Ok.ensures) in
-    subst (λ s. Agrees s (g.D.MemoryDevice.properties c.allocate_memory.new.self) (g.D.MemoryDevice.objects c.allocate_memory.new.self)) (sym (state_is g c))
-    (agrees_granted (before g c) _ _ _ _ block agreed same after)
+    subst (λ s. Agrees s (g.D.MemoryDevice.properties c.allocate_memory-answer.new.self) (g.D.MemoryDevice.objects c.allocate_memory-answer.new.self)) (sym (state_is g c))
+    (agrees_granted (before g c) _ _ _ _ (block g c) agreed same after)
 
 pub returns-in-Ok-clause-granted : goal.returns-in-Ok-clause-granted
 returns-in-Ok-clause-granted g c =
@@ -108,26 +96,24 @@ returns-in-Ok-clause-granted g c =
 
 pub returns-in-Ok-clause-total : goal.returns-in-Ok-clause-total
 returns-in-Ok-clause-total g c =
-    rw (← c.self.view_is) (ap total (state_is g c) ∙ total_held (before g c) _ (whole_block (before g c) c.object.result c.args.request.size c.args.memory_type) (omega arith) (free g c))
+    rw (← c.self.view_is) (ap total (state_is g c) ∙ total_held (before g c) _ (block g c) (omega arith) (free g c))
 
 pub returns-in-Err-OutOfDeviceMemory-clause-tries : goal.returns-in-Err-OutOfDeviceMemory-clause-tries
 returns-in-Err-OutOfDeviceMemory-clause-tries g c =
-    let known = rw (← c.self.view_is) at c.requires.known in
-    let size = heap_size-read _ _ _ _ c.self.invariant refl c.args.memory_type _ c.index.result.now known c.heap_index-heap.ensures c.index.ensures in
+    let size = rw (← c.self.view_is) at c.heap_size.ensures in
     let same = ap (λ t. state_in c.self.inside.limits c.self.inside.heaps.items t c.self.inside.allocations_remains) c.reserve.ensures.kept in
     rw (← c.self.view_is) (
       Allocated c.args.request.size c.args.memory_type (flags_of (properties_in c.self.inside.limits c.self.inside.heaps.items)) (Err c.in-Err-OutOfDeviceMemory.field-0) ∷ [],
-      (c.allocate_memory.new.self, rw (← c.flags-flags.ensures) c.in-Err-OutOfDeviceMemory.ensures, refl),
-      (inr (omega (arith, size, c.size.ensures, c.if-size-request.false), (c.args.request.size, (omega arith, refl), rw c.in-Err-OutOfDeviceMemory.field-0-is refl)), same),
+      (c.allocate_memory-answer.new.self, rw (← c.flags-flags.ensures) (rw c.in-Err-OutOfDeviceMemory.is at c.allocate_memory-answer.ensures), refl),
+      (inr (omega (arith, size, c.if-heap_size-request.false), (c.args.request.size, (omega arith, refl), rw (rw c.in-Err-OutOfDeviceMemory.is at c.in-Err-OutOfDeviceMemory.field-0-is) refl)), same),
     )
 
 pub returns-in-Err-OutOfHostMemory-clause-tries : goal.returns-in-Err-OutOfHostMemory-clause-tries
 returns-in-Err-OutOfHostMemory-clause-tries g c =
-    let known = rw (← c.self.view_is) at c.requires.known in
-    let size = heap_size-read _ _ _ _ c.self.invariant refl c.args.memory_type _ c.index.result.now known c.heap_index-heap.ensures c.index.ensures in
+    let size = rw (← c.self.view_is) at c.heap_size.ensures in
     let same = ap (λ t. state_in c.self.inside.limits c.self.inside.heaps.items t c.self.inside.allocations_remains) c.reserve.ensures.kept in
     rw (← c.self.view_is) (
       Allocated c.args.request.size c.args.memory_type (flags_of (properties_in c.self.inside.limits c.self.inside.heaps.items)) (Err c.in-Err-OutOfHostMemory.field-0) ∷ [],
-      (c.allocate_memory.new.self, rw (← c.flags-flags.ensures) c.in-Err-OutOfHostMemory.ensures, refl),
-      (omega (arith, size, c.size.ensures, c.if-size-request.false), (omega arith, inr (rw c.in-Err-OutOfHostMemory.field-0-is refl), same)),
+      (c.allocate_memory-answer.new.self, rw (← c.flags-flags.ensures) (rw c.in-Err-OutOfHostMemory.is at c.allocate_memory-answer.ensures), refl),
+      (omega (arith, size, c.if-heap_size-request.false), (omega arith, inr (rw (rw c.in-Err-OutOfHostMemory.is at c.in-Err-OutOfHostMemory.field-0-is) refl), same)),
     )

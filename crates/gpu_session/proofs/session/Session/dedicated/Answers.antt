@@ -1,13 +1,4 @@
-use Rattle.std.proofs.Common.{◌≡◌, [], Bool, true, false, None, Some, Ok, refl, sym, ◌∙◌, ap, subst, inl, inr, ◌<◌, IsTrue, Option}
-use Rattle.std.specs.Option.{is_some}
-use Rattle.std.specs.Ordering.{nat_cmp}
-use Rattle.std.specs.FinMap as map
-use Rattle.gpu_alloc.specs.Allocation.{Allocates}
-use Rattle.gpu_alloc.specs.declared.request.Dedicated.TheVariants.{Required}
-use Rattle.gpu_alloc_types.specs.Properties.{Properties}
-use Rattle.gpu_session.specs.Faults.{where_true, fault_of_request}
-use Rattle.gpu_session.specs.declared.command.Fault.{Fault}
-use Rattle.gpu_session.specs.declared.command.Fault.TheVariants.{NameInUse}
+use Rattle.std.proofs.Common.{[], None, refl, sym, ◌∙◌, inl, inr}
 use Rattle.gpu_session.proofs.Conditions.{unnamed, in_use, without_fault, asks_for_some}
 use Rattle.gpu_session.proofs.Grants.{from_allocates, grant_is_kept}
 use Rattle.gpu_session.proofs.Names.{put_by_name}
@@ -26,7 +17,6 @@ pub returns-then-is_err-clause-step : goal.returns-then-is_err-clause-step
 returns-then-is_err-clause-step g c =
     rw (← c.self.view_is, c.reserve.ensures.entries)
     ([], refl, (refl, inr (refl, without_fault _ _ c.self.invariant c.args.request None (sym c.contains_key.ensures ∙ c.if-contains_key.false) (sym c.in_default.ensures), refl, refl)))
-
 
 pub invariant_of-self-in-Ok : goal.invariant_of-self-in-Ok
 invariant_of-self-in-Ok g c =

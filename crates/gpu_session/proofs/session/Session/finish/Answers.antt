@@ -1,12 +1,11 @@
-use Rattle.std.proofs.Common.{◌≡◌, ◌∷◌, [], false, true, Some, None, refl, sym, ◌∙◌, ap, arith, map as map_list}
+use Rattle.std.proofs.Common.{◌≡◌, ◌∷◌, [], false, true, refl, ◌∙◌, ap, map as map_list}
 use Rattle.std.specs.Ordering.{nat_cmp}
 use Rattle.std.specs.FinMap as map
 use Rattle.gpu_alloc.specs.declared.block.Kind.TheVariants.{Dedicated}
 use Rattle.gpu_alloc.specs.State.{HeldObject}
 use Rattle.gpu_alloc_types.specs.Device.{Chain}
 use Rattle.gpu_alloc_types.specs.Device.Event.{Deallocated}
-use Rattle.gpu_session.specs.Books.{SessionState}
-use Rattle.gpu_session.specs.Sound.{IsSound, IsBlock}
+use Rattle.gpu_session.specs.Sound.{IsBlock}
 use Rattle.gpu_session.proofs.Finished.{none_returned, one_more, nothing_held, all_returned, all_absent}
 use Rattle.gpu_session.proofs.Names.{here, get_last, removed_by_name, none_to_take}
 use Rattle.gpu_session.proofs.Returns.{Returns, from_frees, return_is_sound, return_is_whole, return_holds_whole, properties_kept}
@@ -42,7 +41,6 @@ loop-block-preserved g c =
       returned = one_more i.returned r i.sound i.whole asked;
       properties = properties_kept r i.sound i.whole ∙ i.properties;
     })
-
 
 pub dealloc-requires-clause-owned : goal.dealloc-requires-clause-owned
 dealloc-requires-clause-owned g c =

@@ -2,14 +2,11 @@ use Rattle.std.proofs.Common.{◌≡◌, [], None, Some, refl, sym, ◌∙◌, a
 use Rattle.std.specs.Ordering.{nat_cmp}
 use Rattle.std.specs.FinMap as map
 use Rattle.gpu_alloc.specs.declared.block.Kind.TheVariants.{Dedicated}
-use Rattle.gpu_session.specs.Books.{Books}
 use Rattle.gpu_session.specs.Faults.{fault_of_block}
 use Rattle.gpu_session.specs.Sound.{IsBlock}
-use Rattle.gpu_session.proofs.Grants.{grant_is_kept}
 use Rattle.gpu_session.proofs.Names.{here, get_entries, removed_by_name}
 use Rattle.gpu_session.proofs.Returns.{from_frees, return_is_kept}
 use Rattle.gpu_session.proofs.session.Session.free.Goals as goal
-
 
 pub dealloc-requires-clause-owned : goal.dealloc-requires-clause-owned
 dealloc-requires-clause-owned g c =

@@ -1,0 +1,78 @@
+-- The list of heaps: what is read of it, and what stays as one heap's ledger changes.
+use Rattle.std.proofs.Common.{◌≡◌, ◌≢◌, ℕ, zero, suc, ◌<◌, true, false, ◌==◌, List, [], ◌∷◌, length, get_or, map, Option, Some, IfSome, refl, sym, ◌∙◌, ap, subst, arith, inl, inr}
+use Rattle.std.proofs.Math.ListN.{set}
+use Rattle.std.proofs.Math.Seq.{map-set_same}
+use Rattle.std.proofs.lemmas.Bool.Decides.{nat_tests}
+use Rattle.std.proofs.lemmas.Option.{slice_get_read, slice_get_cases}
+use Rattle.std.specs.List.{sum_by, slice_get}
+use Rattle.gpu_alloc_types.specs.Properties.{Properties, IsUsable, heap_at, heap_of}
+use Rattle.gpu_alloc_types.specs.declared.types.MemoryType.{MemoryType}
+use Rattle.gpu_alloc.specs.State.{share}
+use Rattle.gpu_alloc.specs.Spans.{Table}
+use Rattle.gpu_alloc.specs.Inside.{properties_in, state_in, AreLedgers, offer_of}
+use Rattle.gpu_alloc.specs.Heap.{unused}
+use Rattle.gpu_alloc.specs.Sizes.{first_types}
+use Rattle.gpu_alloc.specs.declared.allocator.Limits.{Limits}
+use Rattle.gpu_alloc_types.specs.declared.types.MemoryHeap.{MemoryHeap}
+use Rattle.gpu_alloc.specs.declared.heap.Heap.{Heap}
+use Rattle.gpu_alloc.proofs.Ledgers.{Entries}
+
+-- Heaps, as one of them changes.
+
+get-set_same : (heaps : List Heap) (i : ℕ) (h : Heap) → i < length heaps → slice_get (set heaps i h) i ≡ Some h
+get-set_same [] i h lt = absurd (omega arith)
+get-set_same (x ∷ heaps) zero h lt = refl
+get-set_same (x ∷ heaps) (suc i) h lt = get-set_same heaps i h (omega arith)
+
+get-set_other : (heaps : List Heap) (i q : ℕ) (h : Heap) → q ≢ i → slice_get (set heaps i h) q ≡ slice_get heaps q
+get-set_other [] i q h other = refl
+get-set_other (x ∷ heaps) zero zero h other = absurd (other refl)
+get-set_other (x ∷ heaps) zero (suc q) h other = refl
+get-set_other (x ∷ heaps) (suc i) zero h other = refl
+get-set_other (x ∷ heaps) (suc i) (suc q) h other = get-set_other heaps i q h (λ e. other (ap suc e))
+
+-- a ledger more or less is no other offer
+pub offers_kept : (heaps : List Heap) (i : ℕ) (h old : Heap) → old ≡ get_or heaps i old → h.size ≡ old.size → map offer_of (set heaps i h) ≡ map offer_of heaps
+offers_kept heaps i h old at same = map-set_same offer_of heaps i h old (λ k. record { size = (same ∙ ap (λ (x : Heap). x.size) at) k })
+
+-- a known memory type has a heap
+pub heap_inside : (p : Properties) (t : ℕ) → IsUsable p → t < length p.memory_types → heap_at p t < length p.memory_heaps
+heap_inside p t usable known = elim (slice_get_cases p.memory_types t).1 [
+  | inl found ↦
+      let at : slice_get p.memory_types t ≡ Some found.0 = found.2 in
+      let inside : (get_or p.memory_types t found.0).heap < length p.memory_heaps = usable.heap_known t found.0 found.1 in
+      subst (λ (o : Option MemoryType). heap_of o < length p.memory_heaps) (sym at) (subst (λ (m : MemoryType). m.heap < length p.memory_heaps) found.3 inside)
+  | inr past ↦ absurd (omega (arith, past.0))
+]
+
+-- What a ledger says.
+
+pub ledger_at : (p : Properties) (heaps : List Heap) (i : ℕ) (h : Heap) (entries : Entries) → AreLedgers p heaps entries → i < length heaps → h ≡ get_or heaps i h → h.used ≡ sum_by (share p i) entries
+ledger_at p heaps i h entries are lt at = subst (λ (o : Option Heap). IfSome o (λ x. x.used ≡ sum_by (share p i) entries)) (slice_get_read heaps (length heaps) i h refl lt at) (are i)
+
+-- one heap's ledger is changed, and no share of another heap is
+pub ledgers_set : (p : Properties) (heaps : List Heap) (i : ℕ) (h : Heap) (old new : Entries) → AreLedgers p heaps old → i < length heaps → h.used ≡ sum_by (share p i) new
+    → ((q : ℕ) → q ≢ i → sum_by (share p q) new ≡ sum_by (share p q) old) → AreLedgers p (set heaps i h) new
+ledgers_set p heaps i h old new are lt is others q = elim (q == i) as (λ b. (q == i) ≡ b → IfSome (slice_get (set heaps i h) q) (λ x. x.used ≡ sum_by (share p q) new)) [
+  | true ↦ λ e.
+      let here : i ≡ q = grind (arith, nat_tests) in
+      subst (λ k. IfSome (slice_get (set heaps i h) k) (λ x. x.used ≡ sum_by (share p k) new)) here
+      (subst (λ (o : Option Heap). IfSome o (λ x. x.used ≡ sum_by (share p i) new)) (sym (get-set_same heaps i h lt)) is)
+  | false ↦ λ e.
+      let other : q ≢ i = grind (arith, nat_tests) in
+      subst (λ (o : Option Heap). IfSome o (λ x. x.used ≡ sum_by (share p q) new)) (sym (get-set_other heaps i q h other))
+      (subst (λ n. IfSome (slice_get heaps q) (λ x. x.used ≡ n)) (sym (others q other)) (are q))
+] refl
+
+-- The properties and the state, as one heap's ledger changes.
+
+pub properties_kept : {A : Type 0} (l : Limits A) (heaps : List Heap) (i : ℕ) (h old : Heap) → old ≡ get_or heaps i old → h.size ≡ old.size → properties_in l (set heaps i h) ≡ properties_in l heaps
+properties_kept l heaps i h old at same = ap (λ (offers : List MemoryHeap). record (properties_in l heaps) { memory_heaps = offers }) (offers_kept heaps i h old at same)
+
+pub state_kept : {A : Type 0} (l : Limits A) (heaps : List Heap) (i : ℕ) (h old : Heap) (t : Table) (remaining : ℕ) → old ≡ get_or heaps i old → h.size ≡ old.size → state_in l (set heaps i h) t remaining ≡ state_in l heaps t remaining
+state_kept l heaps i h old t remaining at same = ap (λ (p : Properties). record (state_in l heaps t remaining) { types = first_types l.config p; properties = p }) (properties_kept l heaps i h old at same)
+
+-- heaps of which nothing is held are those that are offered
+pub unused-offers : (hs : List MemoryHeap) → map offer_of (map (λ h. unused h.size) hs) ≡ hs
+unused-offers [] = refl
+unused-offers (h ∷ hs) = λ k. h ∷ unused-offers hs k
