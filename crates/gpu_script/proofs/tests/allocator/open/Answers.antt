@@ -1,8 +1,6 @@
-use Rattle.std.proofs.Common.{refl}
 use Rattle.std.specs.Ordering.{nat_cmp}
 use Rattle.std.specs.FinMap as map
 use Rattle.gpu_alloc.specs.State.{HeldObject}
-use Rattle.gpu_alloc.specs.Agreement.{Agrees}
 use Rattle.gpu_script.proofs.tests.allocator.open.Goals as goal
 
 pub returns : goal.returns

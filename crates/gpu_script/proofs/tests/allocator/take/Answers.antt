@@ -1,4 +1,3 @@
-use Rattle.gpu_alloc.specs.Request.{IsAskable}
 use Rattle.gpu_script.proofs.tests.allocator.take.Goals as goal
 
 pub alloc_with_dedicated-requires-clause-askable : goal.alloc_with_dedicated-requires-clause-askable
