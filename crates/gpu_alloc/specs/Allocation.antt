@@ -140,15 +140,25 @@ Allocates s r hint es answer new =
     MatchBool (nat_eq (length (candidates_of s r)) 0) (Refuses s NoCompatibleMemoryTypes es answer new) (
     TriesAll s r hint (candidates_of s r) es answer new)))
 
--- What an allocation makes of the device's objects: one more, or nothing.
+-- the device has one object more: the block's whole
+abbrev pub HasOneMore : Block → (ℕ → Option Object) → (ℕ → Option Object) → Type 0
+HasOneMore b old new = (old b.object ≡ None) × ((o : Object) × IsFresh b.size b.memory_type o × (new ≡ put old b.object (Some o)))
+
+-- What an allocation makes of the device's objects: one more where the block is an object of its own, and nothing where
+-- it is refused. For the other kinds the chain of questions tells.
 abbrev pub ObjectsAfter : Result Block AllocationError → (ℕ → Option Object) → (ℕ → Option Object) → Type 0
-ObjectsAfter (Ok b) old new = (old b.object ≡ None) × ((o : Object) × IsFresh b.size b.memory_type o × (new ≡ put old b.object (Some o)))
+ObjectsAfter (Ok b) old new = b.kind ≡ DedicatedObject → HasOneMore b old new
 ObjectsAfter (Err e) old new = new ≡ old
+
+-- the same where every candidate is tried for an object of its own
+abbrev pub OwnObjectsAfter : Result Block AllocationError → (ℕ → Option Object) → (ℕ → Option Object) → Type 0
+OwnObjectsAfter (Ok b) old new = HasOneMore b old new
+OwnObjectsAfter (Err e) old new = new ≡ old
 
 -- the same of one candidate that was tried
 abbrev pub ObjectsTried : Result (Option Block) AllocationError → (ℕ → Option Object) → (ℕ → Option Object) → Type 0
 ObjectsTried (Ok None) old new = new ≡ old
-ObjectsTried (Ok (Some b)) old new = ObjectsAfter (Ok b) old new
+ObjectsTried (Ok (Some b)) old new = HasOneMore b old new
 ObjectsTried (Err e) old new = new ≡ old
 
 -- what a caller may know of a granted block without following the decision

@@ -6,7 +6,7 @@ ghost use Rattle.gpu_alloc_types.specs.Properties.{IsUsable, properties_of, heap
 ghost use Rattle.gpu_alloc_types.specs.Flags.{allocation_bits, property_bits};
 ghost use Rattle.gpu_alloc_types.specs.Device.{Event, Chain, put};
 ghost use Rattle.gpu_alloc.specs.Agreement.{Agrees};
-ghost use Rattle.gpu_alloc.specs.Allocation.{Tries, TriesAll, Allocates, ObjectsAfter, ObjectsTried, IsGranted, GrantsTried};
+ghost use Rattle.gpu_alloc.specs.Allocation.{Tries, TriesAll, Allocates, ObjectsAfter, OwnObjectsAfter, ObjectsTried, IsGranted, GrantsTried};
 ghost use Rattle.gpu_alloc.specs.Opening.{opened};
 ghost use Rattle.gpu_alloc.specs.Release.{Frees};
 ghost use Rattle.gpu_alloc.specs.Request.{IsAskable};
@@ -89,9 +89,10 @@ impl<M: MemoryObject, A: Allocator> Model for GpuAllocator<M, A> {
 }
 
 impl<M: MemoryObject, A: Allocator + Copy> GpuAllocator<M, A> {
-    /// An allocator that holds nothing, for a device with these properties.
+    /// An allocator that holds nothing, for a device with these properties. The device is not asked.
     ///
-    /// The properties have to be usable (`DeviceProperties::is_usable`). The only refusal is `OutOfHostMemory`.
+    /// `alloc` gives the memory of its tables. The properties have to be usable (`DeviceProperties::is_usable`). The only
+    /// refusal is `OutOfHostMemory`.
     pub fn new(
         alloc: A,
         config: Config,
@@ -131,9 +132,11 @@ impl<M: MemoryObject, A: Allocator + Copy> GpuAllocator<M, A> {
 }
 
 impl<M: MemoryObject, A: Allocator> GpuAllocator<M, A> {
-    /// Allocates a block as the request and the hint ask.
+    /// Allocates a block as the request and the hint ask: it starts at offset 0 of a new memory object of exactly the
+    /// request's size, and is not mapped.
     ///
-    /// The refusals, in the order in which they are tested:
+    /// The request has to be askable (`Request::is_askable`), and the device has to be the one that this allocator has
+    /// served, so that the two agree. The refusals, in the order in which they are tested (the original crate's):
     /// `OutOfDeviceMemory` where the size is over the limit given to `new`;
     /// `TooManyObjects` where an object of its own is required and no more may be held;
     /// `NoCompatibleMemoryTypes` where no memory type among the request's serves its usage.
@@ -193,7 +196,7 @@ impl<M: MemoryObject, A: Allocator> GpuAllocator<M, A> {
         requires agrees { Agrees self.old (D.properties device.old) (D.objects device.old) }
 
         ensures tries { (es : List Event) × Chain D.step device.old es device.new × TriesAll self.old request (Some Dedicated.Required) candidates.now es result self.new }
-        ensures objects { ObjectsAfter result (D.objects device.old) (D.objects device.new) }
+        ensures objects { OwnObjectsAfter result (D.objects device.old) (D.objects device.new) }
         ensures agrees { Agrees self.new (D.properties device.new) (D.objects device.new) }
 
         ensures granted { IfOk result (IsGranted self.old request self.new) }
@@ -277,13 +280,14 @@ impl<M: MemoryObject, A: Allocator> GpuAllocator<M, A> {
 
     /// Takes a block back: its object goes back to the device, and one more may be held.
     ///
-    /// The block has to be live here (`owns` tells). It takes no memory and cannot fail.
+    /// The block has to be live here (`owns` tells), and the device has to be the one that this allocator has served, so
+    /// that the two agree. It takes no memory and cannot fail.
     pub fn dealloc<D: MemoryDevice<M>>(&mut self, device: &mut D, block: MemoryBlock<M>)
         requires owned { IsOwned self.old block }
         requires agrees { Agrees self.old (D.properties device.old) (D.objects device.old) }
 
         ensures freed { (es : List Event) × Chain D.step device.old es device.new × Frees self.old block es self.new }
-        ensures objects { D.objects device.new ≡ put (D.objects device.old) block.object None }
+        ensures objects { block.kind ≡ Kind.Dedicated → D.objects device.new ≡ put (D.objects device.old) block.object None }
         ensures agrees { Agrees self.new (D.properties device.new) (D.objects device.new) }
         ensures total { total self.new ≡ total self.old }
     {
@@ -321,8 +325,7 @@ impl<M: MemoryObject, A: Allocator> GpuAllocator<M, A> {
     pub fn remaining_allocations(&self) -> u32
         ensures { result ≡ self.now.remaining }
     {
-        let remaining = self.allocations_remains;
-        remaining
+        self.allocations_remains
     }
 
     /// How many objects are held.
@@ -332,7 +335,8 @@ impl<M: MemoryObject, A: Allocator> GpuAllocator<M, A> {
         self.spans.len() as u32
     }
 
-    /// A heap's ledger: how many bytes the held objects of its memory types count. The heap has to be there.
+    /// A heap's ledger: how many bytes the held objects of its memory types count. It may be more than the heap's size,
+    /// which limits nothing. The heap has to be there.
     pub fn heap_used(&self, heap: u32) -> u128
         requires { heap < length (self.now.properties).memory_heaps }
         ensures { result ≡ ledger self.now heap }

@@ -12,29 +12,31 @@ const MEBIBYTE: u64 = 1 << 20;
 /// The sizes by which an allocator decides, all in bytes. Any values will do, 0 among them.
 #[derive(Clone, Copy, Debug, PartialEq, Eq)]
 pub struct Config {
-    /// A request of at least this size gets a memory object of its own. A low value soon uses up the number of objects
-    /// that a device allows.
+    /// A request of at least this size, or of the 32nd part of its heap where that is less, gets a memory object of its
+    /// own. A low value soon uses up the number of objects that a device allows.
     pub dedicated_threshold: u64,
 
-    /// The same for a request that prefers an object of its own. A value above [`Config::dedicated_threshold`] counts as
-    /// that one.
+    /// A request of at least this size that prefers an object of its own gets one. A value above
+    /// [`Config::dedicated_threshold`] counts as that one.
     pub preferred_dedicated_threshold: u64,
 
-    /// The same for a transient request. A value below [`Config::dedicated_threshold`] counts as that one.
+    /// [`Config::dedicated_threshold`] for a transient request. A value below that one counts as that one.
     pub transient_dedicated_threshold: u64,
 
-    /// The size of the first object that transient requests share.
+    /// The size of the first object that transient requests share, at most the 32nd part of its heap, in whole atoms, one
+    /// atom at least.
     pub starting_free_list_chunk: u64,
 
     /// The size up to which such objects grow. A value below [`Config::starting_free_list_chunk`] or the threshold of
-    /// transient requests counts as the greater of these.
+    /// transient requests counts as the greater of these. It is cut as that first size is.
     pub final_free_list_chunk: u64,
 
-    /// The least size of a block in an object that requests share which aren't transient.
+    /// The least size of a block in an object that requests share which aren't transient, at most the 1024th part of its
+    /// heap, raised to a power of two.
     pub minimal_buddy_size: u64,
 
-    /// The least size of the first object that such requests share. A value below [`Config::minimal_buddy_size`] counts
-    /// as that one.
+    /// The least size of the first object that such requests share, at most the 32nd part of its heap, raised to a power
+    /// of two. A value below [`Config::minimal_buddy_size`] counts as that one.
     pub initial_buddy_dedicated_size: u64,
 }
 

@@ -10,8 +10,8 @@ use std::fmt;
 /// Why an allocation is refused. What the allocator holds is then as it was.
 #[derive(Clone, Copy, Debug, PartialEq, Eq, Hash)]
 pub enum AllocationError {
-    /// The device's memory is exhausted, or no heap that serves the request is large enough for it. To give memory of the
-    /// same heap back may help.
+    /// The size is over the limit that `new` was given, no heap that serves the request is large enough for it, or the
+    /// device's memory is exhausted. In the last case to give memory of the same heap back may help.
     OutOfDeviceMemory,
 
     /// The host's memory is exhausted, for the device or for the allocator itself. To give memory of the host back may
@@ -26,7 +26,7 @@ pub enum AllocationError {
     TooManyObjects,
 }
 
-/// One line with no full stop, the same for each value.
+/// One line with no full stop, fixed for each variant.
 impl fmt::Display for AllocationError {
     ghost output = { λ e. Some (allocation_text e) };
 

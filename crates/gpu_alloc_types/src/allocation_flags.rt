@@ -10,7 +10,8 @@ pub struct AllocationFlags {
 }
 
 impl AllocationFlags {
-    /// The device will address the memory by a `u64` (Vulkan's `VK_MEMORY_ALLOCATE_DEVICE_ADDRESS_BIT`).
+    /// The device will address the memory by a `u64` (Vulkan's `VK_MEMORY_ALLOCATE_DEVICE_ADDRESS_BIT`; the number is
+    /// the original crate's).
     pub const DEVICE_ADDRESS: AllocationFlags = AllocationFlags { bits: 1 };
 
     /// The flags whose bits are set in `bits`, bits without a name among them.
@@ -25,5 +26,15 @@ impl AllocationFlags {
         ensures { result ≡ allocation_bits self.now }
     {
         self.bits
+    }
+}
+
+#[cfg(test)]
+mod tests {
+    use super::*;
+
+    #[test]
+    fn the_address_flag_is_the_first_bit(rt: HostRuntime) {
+        assert_eq!(rt; AllocationFlags::DEVICE_ADDRESS.bits(), 1);
     }
 }

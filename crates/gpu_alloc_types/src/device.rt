@@ -33,9 +33,12 @@ pub trait MemoryDevice<M: MemoryObject> {
     /// Whether a call with these arguments and this answer may lead from the first state to the second.
     ghost step: { Self → Event → Self → Type 0 };
 
-    /// Makes an object of `size` bytes of a memory type, or answers why not; then no object has changed.
+    /// Makes an object of `size` bytes of a memory type, or answers why not; then no object has changed
+    /// (Vulkan's `vkAllocateMemory`).
     ///
-    /// A new object has a name that was not held before. It is unmapped, and of its bytes nothing is known.
+    /// A new object has a name under which nothing is held. It is unmapped, and of its bytes nothing is known. The size
+    /// has to be at least 1, the memory type one that is there, and `DEVICE_ADDRESS` set only where the device has the
+    /// feature.
     fn allocate_memory(
         &mut self,
         size: u64,
@@ -45,7 +48,8 @@ pub trait MemoryDevice<M: MemoryObject> {
         requires { IsAskable (properties self.old) size memory_type (allocation_bits flags) }
         ensures { step self.old (Allocated size memory_type (allocation_bits flags) (result_map_both M.object (λ e. e) result)) self.new };
 
-    /// Takes an object back, mapped or not. It cannot fail.
+    /// Takes an object back, mapped or not (Vulkan's `vkFreeMemory`). It cannot fail. The device has to hold an object of
+    /// the handle's name.
     fn deallocate_memory(&mut self, memory: &M)
         requires { IsHeld (objects self.old) (M.object memory.now) }
         ensures { step self.old (Deallocated (M.object memory.now)) self.new };
@@ -56,6 +60,7 @@ pub trait MemoryDevice<M: MemoryObject> {
     /// No call changes what the device offers.
     ghost keeps_properties: { (old : Self) (e : Event) (new : Self) → step old e new → properties new ≡ properties old };
 
-    /// Each object has the bytes that its type and size ask for.
+    /// Each object has the bytes that its type and size ask for, equal lists of them where it is coherent, and its mapped
+    /// range lies inside it.
     ghost well_formed: { (device : Self) (name : ℕ) → IfSome (objects device name) (IsWellFormed (properties device)) };
 }

@@ -3,7 +3,7 @@
 ghost use Rattle.std.specs.Prelude.{◌≡◌};
 ghost use Rattle.gpu_alloc_types.specs.Flags.{property_bits};
 
-/// The properties of a memory type (Vulkan's `VkMemoryPropertyFlagBits`, with numbers of this project's own).
+/// The properties of a memory type (Vulkan's `VkMemoryPropertyFlagBits`, with its numbers).
 #[derive(Clone, Copy, Debug, PartialEq, Eq, Hash, PartialOrd, Ord)]
 pub struct MemoryPropertyFlags {
     bits: u8,
@@ -40,5 +40,20 @@ impl MemoryPropertyFlags {
         ensures { result ≡ property_bits self.now }
     {
         self.bits
+    }
+}
+
+#[cfg(test)]
+mod tests {
+    use super::*;
+
+    #[test]
+    fn flags_have_the_numbers_of_vulkan(rt: HostRuntime) {
+        assert_eq!(rt; MemoryPropertyFlags::DEVICE_LOCAL.bits(), 1);
+        assert_eq!(rt; MemoryPropertyFlags::HOST_VISIBLE.bits(), 2);
+        assert_eq!(rt; MemoryPropertyFlags::HOST_COHERENT.bits(), 4);
+        assert_eq!(rt; MemoryPropertyFlags::HOST_CACHED.bits(), 8);
+        assert_eq!(rt; MemoryPropertyFlags::LAZILY_ALLOCATED.bits(), 16);
+        assert_eq!(rt; MemoryPropertyFlags::PROTECTED.bits(), 32);
     }
 }

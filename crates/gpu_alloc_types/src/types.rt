@@ -54,23 +54,25 @@ pub struct DeviceProperties<'a> {
     /// The heaps, by index.
     pub memory_heaps: &'a [MemoryHeap],
 
-    /// How many memory objects may be held at a time.
+    /// How many memory objects may be held at a time (Vulkan's `maxMemoryAllocationCount`).
     pub max_memory_allocation_count: u32,
 
-    /// The largest request that is served, in bytes.
+    /// The largest request that is served, in bytes (Vulkan's `maxMemoryAllocationSize`).
     pub max_memory_allocation_size: u64,
 
     /// In bytes, what flushes and invalidates of non-coherent memory go by: their ranges begin at a multiple of it, and
     /// end at one or where the object ends (Vulkan's `nonCoherentAtomSize`).
     pub non_coherent_atom_size: u64,
 
-    /// Whether memory may be allocated with [`AllocationFlags::DEVICE_ADDRESS`](crate::AllocationFlags).
+    /// Whether memory may be allocated with [`AllocationFlags::DEVICE_ADDRESS`](crate::AllocationFlags) (Vulkan's
+    /// `bufferDeviceAddress`).
     pub buffer_device_address: bool,
 }
 
 impl DeviceProperties<'_> {
     /// Whether an allocator can stand on these properties: at most 32 memory types, fewer than 2^32 heaps, each type in
-    /// a heap that is there, and the atom a power of two of at most 2^62.
+    /// a heap that is there, and the atom a power of two of at most 2^62. There are never more types in Vulkan
+    /// (`VK_MAX_MEMORY_TYPES`); the atom's bound is the original crate's.
     pub fn is_usable(&self) -> bool
         ensures { IsTrue result ↔ IsUsable (properties_of self.now) }
     {

@@ -80,6 +80,7 @@ fn answer<R: Read, A: Allocator + Copy>(alloc: A, input: &mut R) -> Result<Strin
 fn read_all<R: Read, A: Allocator + Copy>(alloc: A, input: &mut R) -> Result<Vec<u8, A>, Stop> {
     let mut text = Vec::new(alloc);
     let mut buffer = [0u8; 4096];
+    // Bounded, so that it ends for every reader.
     for _ in 0..u64::MAX {
         match input.read(&mut buffer) {
             Ok(0) => return Ok(text),

@@ -111,7 +111,7 @@ impl<A: Allocator + Copy> Sim<A> {
         *self.asked.at(kind)
     }
 
-    /// The size, the memory type and the flags of the latest question to allocate, refused or not.
+    /// The size in bytes, the memory type and the flags of the latest question to allocate, refused or not.
     pub fn last_allocation(&self) -> Option<(u64, u32, AllocationFlags)>
         ensures { option_map as_numbers result ≡ self.now.last_allocation }
     {

@@ -70,13 +70,13 @@ module _ {s : State} {blocks : finite.FinMap nat_cmp Block} {r : Request} {name 
   of_kind = ap (λ (c : Block). c.kind) g.whole.block
 
   abbrev object : Object
-  object = g.objects.1.0
+  object = (g.objects of_kind).1.0
 
   fresh : IsFresh b.size b.memory_type object
-  fresh = g.objects.1.1
+  fresh = (g.objects of_kind).1.1
 
   after_is : after ≡ put before b.object (Some object)
-  after_is = g.objects.1.2
+  after_is = (g.objects of_kind).1.2
 
   there : after b.object ≡ Some object
   there = ap (λ f. f b.object) after_is ∙ put-same before b.object (Some object)
@@ -97,7 +97,7 @@ module _ {s : State} {blocks : finite.FinMap nat_cmp Block} {r : Request} {name 
   other n c at same =
       let held = (block_at n c at).inside in
       let had : before b.object ≡ Some held.0 = subst (λ k. before k ≡ Some held.0) same held.1 in
-      let none : before b.object ≡ None = g.objects.0 in cc
+      let none : before b.object ≡ None = (g.objects of_kind).0 in cc
 
   after_other : (k : ℕ) → k ≢ b.object → after k ≡ before k
   after_other k ne = ap (λ f. f k) after_is ∙ put-other before b.object (Some object) k ne

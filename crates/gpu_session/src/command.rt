@@ -20,7 +20,7 @@ pub enum Command<A: Allocator = Global> {
         /// What is asked for.
         request: Request,
 
-        /// The hint.
+        /// The hint; for now `Required`.
         dedicated: Dedicated,
     },
 
@@ -38,7 +38,8 @@ pub enum Command<A: Allocator = Global> {
     Never(Infallible, PhantomData<A>),
 }
 
-/// Why a command was not run. It has then changed nothing.
+/// Why a command was not run. It has then changed nothing. The numbers are those that scripts print; 6 to 11 are answered
+/// by no command yet.
 #[derive(Clone, Copy, Debug, PartialEq, Eq)]
 pub enum Fault {
     /// The name has a live block.
@@ -96,7 +97,7 @@ pub enum Reply<A: Allocator = Global> {
         size: u64,
     },
 
-    /// Why no block was granted.
+    /// Why no block was granted. Then nothing that is held has changed.
     Refused(AllocationError),
 
     /// It was done.

@@ -1,6 +1,7 @@
 use Rattle.std.proofs.Common.{◌<◌, length, sym, subst, ◌∙◌}
 use Rattle.std.specs.List.{All}
 use Rattle.gpu_alloc_types.specs.Flags.{usage_bits}
+use Rattle.gpu_alloc.proofs.Agreeing.{objects_after}
 use Rattle.gpu_alloc.proofs.Candidates.{candidates-within}
 use Rattle.gpu_alloc.proofs.allocator.GpuAllocator.alloc_with_dedicated.Goals as goal
 
@@ -9,3 +10,6 @@ try_all-requires-clause-known g c =
     let types = c.self.inside.limits.memory_types.items in
     let ranked = rw c.as_slice.ensures.value at c.candidates-candidates.ensures in
     rw (← c.self.view_is) (subst (All (λ t. t < length types)) (sym (c.types-types.ensures ∙ ranked)) (candidates-within types (usage_bits c.args.request.usage) c.args.request.memory_types))
+
+pub returns-clause-objects : goal.returns-clause-objects
+returns-clause-objects g c = objects_after _ _ _ c.try_all.ensures.objects

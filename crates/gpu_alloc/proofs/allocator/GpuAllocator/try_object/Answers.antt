@@ -3,7 +3,7 @@ use Rattle.std.proofs.lemmas.Grind.{common_steps}
 use Rattle.std.specs.FinMap as finite
 use Rattle.gpu_alloc_types.specs.Device.Event.{Allocated}
 use Rattle.gpu_alloc.specs.Agreement.{Agrees}
-use Rattle.gpu_alloc.specs.Allocation.{ObjectsAfter, whole_block, holding, flags_of, asked}
+use Rattle.gpu_alloc.specs.Allocation.{HasOneMore, whole_block, holding, flags_of, asked}
 use Rattle.gpu_alloc.specs.Inside.{state_in, properties_in}
 use Rattle.gpu_alloc.specs.Spans.{Table, with_row}
 use Rattle.gpu_alloc.specs.State.{State, Block, total}
@@ -83,8 +83,8 @@ pub returns-in-Ok-clause-agrees : goal.returns-in-Ok-clause-agrees
 returns-in-Ok-clause-agrees g c =
     let agreed = rw (← c.self.view_is) at c.requires.agrees in
     let same = g.met.D.MemoryDevice.keeps_properties _ _ _ c.in-Ok.ensures in
-    let after : ObjectsAfter (Ok (block g c)) (g.D.MemoryDevice.objects c.args.device.now) (g.D.MemoryDevice.objects c.allocate_memory-answer.new.self) =
-    subst (λ n. ObjectsAfter (Ok (whole_block (before g c) n c.args.request.size c.args.memory_type)) (g.D.MemoryDevice.objects c.args.device.now) (g.D.MemoryDevice.objects c.allocate_memory-answer.new.self))
+    let after : HasOneMore (block g c) (g.D.MemoryDevice.objects c.args.device.now) (g.D.MemoryDevice.objects c.allocate_memory-answer.new.self) =
+    subst (λ n. HasOneMore (whole_block (before g c) n c.args.request.size c.args.memory_type) (g.D.MemoryDevice.objects c.args.device.now) (g.D.MemoryDevice.objects c.allocate_memory-answer.new.self))
     (sym c.object.ensures) (g.met.D.MemoryDevice.row _ _ _ c.in-Ok.ensures) in
     subst (λ s. Agrees s (g.D.MemoryDevice.properties c.allocate_memory-answer.new.self) (g.D.MemoryDevice.objects c.allocate_memory-answer.new.self)) (sym (state_is g c))
     (agrees_granted (before g c) _ _ _ _ (block g c) agreed same after)
