@@ -25,6 +25,27 @@ impl Read for BrokenReader<'_> {
     }
 }
 
+/// A reader that is interrupted before each byte that it gives.
+#[derive(Drop)]
+struct InterruptedReader<'a> {
+    left: &'a [u8],
+    is_ready: bool,
+}
+
+impl Read for InterruptedReader<'_> {
+    fn read(&mut self, buf: &mut [u8]) -> io::Result<usize> {
+        self.is_ready = !self.is_ready;
+        if self.is_ready {
+            return Err(Error::from(ErrorKind::Interrupted));
+        }
+        let count = self.left.len().min(buf.len()).min(1);
+        let (now, later) = self.left.split_at(count);
+        buf[..count].copy_from_slice(now);
+        self.left = later;
+        Ok(count)
+    }
+}
+
 /// A writer that takes so many bytes, and fails after them.
 #[derive(Drop)]
 struct BrokenWriter {
@@ -67,6 +88,17 @@ fn a_failed_read_prints_nothing(rt: HostRuntime) {
         );
         assert_eq!(rt; output.len(), 0, "at {good}");
     }
+}
+
+#[test]
+fn an_interrupted_read_is_tried_again(rt: HostRuntime) {
+    let mut input = InterruptedReader {
+        left: SCRIPT.as_bytes(),
+        is_ready: false,
+    };
+    let mut output = Vec::new(rt.alloc());
+    assert_eq!(rt; run_script(rt.alloc(), &mut input, &mut output), 0);
+    assert_eq!(rt; output.as_slice(), ANSWER.as_bytes());
 }
 
 #[test]
