@@ -6,9 +6,11 @@ pub mod HeapLists
 pub mod Ledgers
 pub mod Lists
 pub mod LiveSpans
+pub mod Masks
 pub mod PowersOfTwo
 pub mod RankingOrder
 pub mod RankingSteps
 pub mod Returns
+pub mod Rising
 pub mod Rows
 pub mod Trials

@@ -1,35 +1,16 @@
--- The ranking has exactly the types that may serve, the lowest key first, and of one key the lowest index first.
-use Rattle.std.proofs.Common.{ℕ, zero, suc, ◌+◌, ◌-◌, ◌<◌, ◌≤◌, ◌≡◌, ◌∙◌, sym, refl, Bool, true, false, ◌&&◌, ◌==◌, List, [], ◌∷◌, ◌++◌, length, get_or, add-zero, zero-add, arith, inl, inr, if◌then◌else◌}
-use Rattle.std.proofs.lemmas.Grind.{common_steps}
-use Rattle.std.proofs.lemmas.Bool.{cases_lt, cases_eq}
+-- The ranking has exactly the types that may serve, the lowest key first, and of one key the lowest index first; it is the
+-- only such list, and what is worked out key by key.
+use Rattle.std.proofs.Common.{ℕ, zero, suc, ◌+◌, ◌-◌, ◌<◌, ◌≤◌, ◌≡◌, ◌∙◌, sym, refl, Bool, true, false, ◌&&◌, ◌==◌, List, [], ◌∷◌, length, get_or, add-zero, zero-add, arith, inl, inr, if◌then◌else◌}
+use Rattle.std.proofs.lemmas.Bool.{cases_eq}
 use Rattle.std.proofs.lemmas.Bool.Decides.{nat_tests}
-use Rattle.std.proofs.lemmas.List.{get_or_append_left, get_or-append_right}
-use Rattle.std.proofs.lemmas.List.Elements.{Contains-get_or, Contains-append_left, Contains-append_right, Contains-append_cases}
-use Rattle.std.specs.List.{Contains}
+use Rattle.std.proofs.lemmas.List.Elements.{All-contains, filter_passes, Contains-get_or, Contains-append_left, Contains-append_right, Contains-append_cases}
+use Rattle.std.proofs.lemmas.List.FromFn.{length-range_with_len, get_or-range_with_len}
+use Rattle.std.specs.List.{Contains, range_with_len}
 use Rattle.gpu_alloc_types.specs.Flags.{has_bit}
 use Rattle.gpu_alloc_types.specs.declared.types.MemoryType.{MemoryType}
-use Rattle.gpu_alloc.specs.Ranking.{has_key, compatible, key, where_differ, by_host, is_fast, of_key, below_key, ranking, props_of, key_of, Serves, Before, IsRising, IsRanking}
-
-pub IsRising-append : (k : ℕ → ℕ) (xs ys : List ℕ) → IsRising k xs → IsRising k ys → ((x y : ℕ) → Contains xs x → Contains ys y → Before k x y) → IsRising k (xs ++ ys)
-IsRising-append k xs ys rx ry across a b less inside =
-    let total : length (xs ++ ys) ≡ length xs + length ys = grind (arith, common_steps) in
-    elim (cases_lt b (length xs)) [
-      | inl b_in ↦ rw (get_or_append_left xs ys 0 a (omega arith), get_or_append_left xs ys 0 b b_in) (rx a b less b_in)
-      | inr b_out ↦ elim (cases_lt a (length xs)) [
-        | inl a_in ↦ rw (get_or_append_left xs ys 0 a a_in, get_or-append_right xs ys (length xs) b 0 refl b_out) (across (get_or xs a 0) (get_or ys (b - length xs) 0) (Contains-get_or xs a 0 a_in) (Contains-get_or ys (b - length xs) 0 (omega arith)))
-        | inr a_out ↦ rw (get_or-append_right xs ys (length xs) a 0 refl a_out, get_or-append_right xs ys (length xs) b 0 refl b_out) (ry (a - length xs) (b - length xs) (omega arith) (omega arith))
-      ]
-    ]
-
-pub IsRising-one : (k : ℕ → ℕ) (x : ℕ) → IsRising k (x ∷ [])
-IsRising-one k x a b less inside = let none : ⊥ = omega arith in absurd none
-
-pub one-at : (b i n : ℕ) → n < 1 → get_or (b ∷ []) n i ≡ i → b ≡ i
-one-at b i zero l e = e
-one-at b i (suc n) l e = omega arith
-
-pub none-at : (i : ℕ) → Contains [] i → ⊥
-none-at i c = let h : c.0 < 0 = c.1 in omega arith
+use Rattle.gpu_alloc.specs.KeyByKey.{has_key, of_key, below_key}
+use Rattle.gpu_alloc.specs.Ranking.{compatible, key, where_differ, by_host, is_fast, ranking, serving, props_of, key_of, Serves, IsRising, IsRanking}
+use Rattle.gpu_alloc.proofs.Rising.{one-at, none-at, IsRising-append, IsRising-one, IsRising-filter, filter-kept, filter-has, in_order-found, in_order-has, in_order-rising, same_from_rising}
 
 -- the type with index j may serve, and has this key
 abbrev has_key_at : ℕ → ℕ → List MemoryType → ℕ → Bool
@@ -154,20 +135,67 @@ key-small u p =
     let d = where_differ-le 1 (has_bit p 4) (has_bit u 12) in
     omega arith
 
-there : (u i : ℕ) (ts : List MemoryType) → Contains (ranking u ts) i → Serves u ts i
-there u i ts c =
+-- Key by key.
+
+below_key-there : (u i : ℕ) (ts : List MemoryType) → Contains (below_key u ts 16) i → Serves u ts i
+below_key-there u i ts c =
     let w = below_key-found u 16 i ts c in
     let f = of_key-at u w.0 i ts w.2 in
     (f.0, f.1)
 
-back : (u i : ℕ) (ts : List MemoryType) → Serves u ts i → Contains (ranking u ts) i
-back u i ts s =
+below_key-back : (u i : ℕ) (ts : List MemoryType) → Serves u ts i → Contains (below_key u ts 16) i
+below_key-back u i ts s =
     let k = key u (props_of ts i) in
     let c = of_key-has u k 0 i ts s.0 (both-back (compatible u (props_of ts i)) k s.1) in
     below_key-has u 16 k i ts (key-small u (props_of ts i)) (rw (zero-add i) at c)
 
-pub ranking_IsRanking : (u : ℕ) (ts : List MemoryType) → IsRanking u ts (ranking u ts)
-ranking_IsRanking u ts = record {
-  exactly = λ i. (there u i ts, back u i ts);
+below_key_IsRanking : (u : ℕ) (ts : List MemoryType) → IsRanking u ts (below_key u ts 16)
+below_key_IsRanking u ts = record {
+  exactly = λ i. (below_key-there u i ts, below_key-back u i ts);
   rising = below_key-IsRising u 16 ts;
 }
+
+-- Put in order.
+
+range-found : (n t : ℕ) → Contains (range_with_len 0 n) t → t < n
+range-found n t c =
+    let inside : c.0 < n = rw (length-range_with_len 0 n) at c.1 in
+    let same : 0 + c.0 ≡ t = sym (get_or-range_with_len 0 n c.0 t inside) ∙ c.2 in
+    omega arith
+
+range-has : (n t : ℕ) → t < n → Contains (range_with_len 0 n) t
+range-has n t less = (t, rw (length-range_with_len 0 n) less, get_or-range_with_len 0 n t t less ∙ zero-add t)
+
+range-rising : (n : ℕ) → IsRising (λ _. 0) (range_with_len 0 n)
+range-rising n a b less inside =
+    let b_in : b < n = rw (length-range_with_len 0 n) at inside in
+    inr (refl, rw (get_or-range_with_len 0 n a 0 (omega arith), get_or-range_with_len 0 n b 0 b_in) (omega arith))
+
+serving-there : (u i : ℕ) (ts : List MemoryType) → Contains (ranking u ts) i → Serves u ts i
+serving-there u i ts c =
+    let serves = in_order-found (key_of u ts) (serving u ts) i c in
+    let test : ℕ → Bool = λ t. compatible u (props_of ts t) in
+    let all = range_with_len 0 (length ts) in
+    (range-found (length ts) i (filter-kept test all i serves), All-contains (λ t. test t ≡ true) (serving u ts) i (filter_passes test all) serves)
+
+serving-back : (u i : ℕ) (ts : List MemoryType) → Serves u ts i → Contains (ranking u ts) i
+serving-back u i ts s =
+    in_order-has (key_of u ts) (serving u ts) i (filter-has (λ t. compatible u (props_of ts t)) (range_with_len 0 (length ts)) i s.1 (range-has (length ts) i s.0))
+
+pub ranking_IsRanking : (u : ℕ) (ts : List MemoryType) → IsRanking u ts (ranking u ts)
+ranking_IsRanking u ts = record {
+  exactly = λ i. (serving-there u i ts, serving-back u i ts);
+  rising = in_order-rising (key_of u ts) (serving u ts) (IsRising-filter (λ _. 0) (λ t. compatible u (props_of ts t)) (range_with_len 0 (length ts)) (range-rising (length ts)));
+}
+
+-- There is only one.
+
+same_rankings : (u : ℕ) (ts : List MemoryType) (xs ys : List ℕ) → IsRanking u ts xs → IsRanking u ts ys → xs ≡ ys
+same_rankings u ts xs ys x y =
+    same_from_rising (key_of u ts) xs ys x.rising y.rising (λ t c. (y.exactly t).1 ((x.exactly t).0 c)) (λ t c. (x.exactly t).1 ((y.exactly t).0 c))
+
+pub ranking-only : (u : ℕ) (ts : List MemoryType) (ranked : List ℕ) → IsRanking u ts ranked → ranked ≡ ranking u ts
+ranking-only u ts ranked is_ranking = same_rankings u ts ranked (ranking u ts) is_ranking (ranking_IsRanking u ts)
+
+pub ranking-from_keys : (u : ℕ) (ts : List MemoryType) → below_key u ts 16 ≡ ranking u ts
+ranking-from_keys u ts = ranking-only u ts (below_key u ts 16) (below_key_IsRanking u ts)

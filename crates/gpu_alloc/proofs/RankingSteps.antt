@@ -5,7 +5,8 @@ use Rattle.std.proofs.lemmas.Bool.Decides.{nat_tests}
 use Rattle.std.proofs.lemmas.List.{take-append-drop, take_more}
 use Rattle.gpu_alloc_types.specs.Flags.{property_bits}
 use Rattle.gpu_alloc_types.specs.declared.types.MemoryType.{MemoryType}
-use Rattle.gpu_alloc.specs.Ranking.{has_key, compatible, key, of_key, below_key}
+use Rattle.gpu_alloc.specs.KeyByKey.{has_key, of_key, below_key}
+use Rattle.gpu_alloc.specs.Ranking.{compatible, key}
 
 -- How long it is.
 

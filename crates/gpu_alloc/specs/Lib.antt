@@ -5,6 +5,8 @@ pub mod Config
 pub mod Errors
 pub mod Heap
 pub mod Inside
+pub mod KeyByKey
+pub mod Masks
 pub mod Opening
 pub mod Ranked
 pub mod Ranking

@@ -1,7 +1,8 @@
 -- Which memory types serve a usage, and the order in which they are tried. Usages and properties are numbers of flags.
-use Rattle.std.specs.Prelude.{ℕ, zero, suc, ◌+◌, ◌<◌, ◌≡◌, ◌==◌, Bool, true, false, not, ◌&&◌, ◌||◌, if◌then◌else◌, List, [], ◌∷◌, ◌++◌, length, filter, slice_get, slice_index, Contains, ◌⊎◌, ◌↔◌, bit_and, bit_or}
+use Rattle.std.specs.Prelude.{ℕ, ◌+◌, ◌<◌, ◌≡◌, ◌==◌, Bool, true, false, not, ◌&&◌, ◌||◌, if◌then◌else◌, List, [], ◌∷◌, length, filter, nat_lt, slice_get, slice_index, slice_index_or, Contains, ◌⊎◌, ◌↔◌, bit_and, bit_or}
 use Rattle.std.specs.Int.{bit_at}
-use Rattle.gpu_alloc_types.specs.Flags.{property_bits, has_bit}
+use Rattle.std.specs.List.{range_with_len}
+use Rattle.gpu_alloc_types.specs.Flags.{has_bit}
 use Rattle.gpu_alloc_types.specs.Properties.{bits_of}
 use Rattle.gpu_alloc_types.specs.declared.types.MemoryType.{MemoryType}
 
@@ -48,25 +49,33 @@ key usage props =
     + where_differ 2 (has_bit props 8) (has_bit usage 4)
     + where_differ 1 (has_bit props 4) (has_bit usage 12)
 
--- The ranking, as a function.
+-- The ranking: the types that may serve a usage, put in order.
 
--- memory may serve a usage, and has this key
-abbrev pub has_key : ℕ → ℕ → MemoryType → Bool
-has_key usage k t = compatible usage (property_bits t.props) && (key usage (property_bits t.props) == k)
+-- the property bits of the type with index t, none where there is no such type
+abbrev pub props_of : List MemoryType → ℕ → ℕ
+props_of types t = bits_of (slice_get types t)
 
--- the indices of the compatible types of one key, rising, where the first type has index i
-unfoldable pub of_key : ℕ → ℕ → ℕ → List MemoryType → List ℕ
-of_key usage k i [] = []
-of_key usage k i (t ∷ ts) = if has_key usage k t then i ∷ of_key usage k (i + 1) ts else of_key usage k (i + 1) ts
+-- a type's key for a usage
+abbrev pub key_of : ℕ → List MemoryType → ℕ → ℕ
+key_of usage types t = key usage (props_of types t)
 
--- those of the keys below m, by key and then by index
-unfoldable pub below_key : ℕ → List MemoryType → ℕ → List ℕ
-below_key usage types zero = []
-below_key usage types (suc m) = below_key usage types m ++ of_key usage m 0 types
+-- the types that may serve a usage, by index
+abbrev pub serving : ℕ → List MemoryType → List ℕ
+serving usage types = filter (λ t. compatible usage (props_of types t)) (range_with_len 0 (length types))
 
--- the indices of the compatible types, by key and then by index. No key is over 15
+-- t put in front of the first whose key is not lower
+unfoldable pub put_in : (ℕ → ℕ) → ℕ → List ℕ → List ℕ
+put_in k t [] = t ∷ []
+put_in k t (s ∷ rest) = if nat_lt (k s) (k t) then s ∷ put_in k t rest else t ∷ s ∷ rest
+
+-- the lowest key first, and those of one key as they stood
+unfoldable pub in_order : (ℕ → ℕ) → List ℕ → List ℕ
+in_order k [] = []
+in_order k (t ∷ rest) = put_in k t (in_order k rest)
+
+-- the types that may serve a usage, by key and then by index
 abbrev pub ranking : ℕ → List MemoryType → List ℕ
-ranking usage types = below_key usage types 16
+ranking usage types = in_order (key_of usage types) (serving usage types)
 
 -- whether a mask has the bit of the type with index t
 abbrev pub is_allowed : ℕ → ℕ → Bool
@@ -77,10 +86,6 @@ abbrev pub candidates : List MemoryType → ℕ → ℕ → List ℕ
 candidates types usage mask = filter (is_allowed mask) (ranking (implied usage) types)
 
 -- The ranking, by what it has and how it is ordered.
-
--- the property bits of the type with index t, none where there is no such type
-abbrev pub props_of : List MemoryType → ℕ → ℕ
-props_of types t = bits_of (slice_get types t)
 
 -- there is a type with index t, and it may serve a usage
 abbrev pub Serves : ℕ → List MemoryType → ℕ → Type 0
@@ -94,10 +99,6 @@ Before k s t = (k s < k t) ⊎ ((k s ≡ k t) × (s < t))
 abbrev pub IsRising : (ℕ → ℕ) → List ℕ → Type 0
 IsRising k xs = (a b : ℕ) → a < b → b < length xs → Before k (slice_index xs a) (slice_index xs b)
 
--- a type's key for a usage
-abbrev pub key_of : ℕ → List MemoryType → ℕ → ℕ
-key_of usage types t = key usage (props_of types t)
-
 -- exactly the types that may serve a usage, the lowest key first, and of one key the lowest index first
 pub record IsRanking (usage : ℕ) (types : List MemoryType) (ranked : List ℕ) : Type 0 where
   pub exactly : (t : ℕ) → Contains ranked t ↔ Serves usage types t
@@ -107,3 +108,18 @@ pub record IsRanking (usage : ℕ) (types : List MemoryType) (ranked : List ℕ)
 pub record IsRankingWithin (usage : ℕ) (types : List MemoryType) (mask : ℕ) (ranked : List ℕ) : Type 0 where
   pub exactly : (t : ℕ) → Contains ranked t ↔ Serves usage types t × (bit_at mask t ≡ 1)
   pub rising : IsRising (key_of usage types) ranked
+
+-- The table of all usages.
+
+-- a mask has exactly the bits of these types
+abbrev pub IsMaskOf : ℕ → List ℕ → Type 0
+IsMaskOf mask types = (t : ℕ) → (bit_at mask t ≡ 1) ↔ Contains types t
+
+-- a usage's row of a table, bits of the usage without a name dropped
+abbrev pub row : List (List ℕ) → ℕ → List ℕ
+row table usage = slice_index_or table (bit_and usage 63) []
+
+-- there is a row for each set of named flags, and it is the ranking for that usage
+pub record IsTable (types : List MemoryType) (table : List (List ℕ)) : Type 0 where
+  pub rows : length table ≡ 64
+  pub ranked : (usage : ℕ) → usage < 64 → slice_index_or table usage [] ≡ ranking usage types

@@ -3,20 +3,22 @@
 ghost use Rattle.std.specs.Prelude.{◌≡◌, ◌↔◌, ℕ, ◌+◌, ◌<◌, length, List, All, IsTrue, IfOk, IfErr, OnErr, Some, None, cond, slice_get};
 ghost use Rattle.std.specs.FinMap as map;
 ghost use Rattle.gpu_alloc_types.specs.Properties.{IsUsable, properties_of, heap_of, heap_size, bits_of};
-ghost use Rattle.gpu_alloc_types.specs.Flags.{allocation_bits, property_bits};
+ghost use Rattle.gpu_alloc_types.specs.Flags.{allocation_bits, property_bits, usage_bits};
 ghost use Rattle.gpu_alloc_types.specs.Device.{Event, Chain, put};
 ghost use Rattle.gpu_alloc.specs.Agreement.{Agrees};
 ghost use Rattle.gpu_alloc.specs.Allocation.{Tries, TriesAll, Allocates, ObjectsAfter, OwnObjectsAfter, ObjectsTried, IsGranted, GrantsTried};
 ghost use Rattle.gpu_alloc.specs.Opening.{opened};
 ghost use Rattle.gpu_alloc.specs.Release.{Frees};
+ghost use Rattle.gpu_alloc.specs.Ranked.{ranked_types};
+ghost use Rattle.gpu_alloc.specs.Ranking.{candidates, IsTable};
 ghost use Rattle.gpu_alloc.specs.Request.{IsAskable};
 ghost use Rattle.gpu_alloc.specs.State.{IsOwned, ledger, total};
 
 use crate::block::Kind;
 use crate::heap::{Heap, unused_heaps};
 use crate::spans::{Row, Spans};
-use crate::usage::candidates;
-use crate::{AllocationError, Config, Dedicated, MemoryBlock, Request};
+use crate::usage::MemoryForOneUsage;
+use crate::{AllocationError, Config, Dedicated, MemoryBlock, MemoryForUsage, Request};
 use gpu_alloc_types::{
     AllocationFlags, DeviceProperties, MemoryDevice, MemoryObject, MemoryPropertyFlags, MemoryType,
     OutOfMemory,
@@ -29,10 +31,12 @@ use std::marker::{Model, PhantomData};
 pub(crate) struct Limits<A: Allocator = Global> {
     config: Config,
     memory_types: Vec<MemoryType, A>,
+    memory_for_usage: MemoryForUsage,
     max_memory_allocation_count: u32,
     max_memory_allocation_size: u64,
     non_coherent_atom_size: u64,
     buffer_device_address: bool,
+    ghost ranked: { IsTable memory_types.items memory_for_usage },
 }
 
 impl<A: Allocator> Limits<A> {
@@ -50,6 +54,14 @@ impl<A: Allocator> Limits<A> {
         ensures { property_bits result ≡ bits_of (slice_get self.now.memory_types.items memory_type) }
     {
         self.memory_types[memory_type as usize].props
+    }
+
+    /// The memory types to be tried for a request, the best first.
+    fn candidates(&self, request: Request) -> MemoryForOneUsage
+        ensures { ranked_types result ≡ candidates self.now.memory_types.items (usage_bits request.usage) request.memory_types }
+    {
+        self.memory_for_usage
+            .candidates(request.usage, request.memory_types)
     }
 
     /// The flags of every question.
@@ -114,10 +126,12 @@ impl<M: MemoryObject, A: Allocator + Copy> GpuAllocator<M, A> {
     {
         let memory_types = Vec::from_slice(alloc, props.memory_types)?;
         let heaps = unused_heaps(alloc, props.memory_heaps)?;
+        let memory_for_usage = MemoryForUsage::new(props.memory_types);
         Ok(GpuAllocator {
             limits: Limits {
                 config,
                 memory_types,
+                memory_for_usage,
                 max_memory_allocation_count: props.max_memory_allocation_count,
                 max_memory_allocation_size: props.max_memory_allocation_size,
                 non_coherent_atom_size: props.non_coherent_atom_size,
@@ -172,11 +186,7 @@ impl<M: MemoryObject, A: Allocator> GpuAllocator<M, A> {
         if self.remaining_allocations() == 0 {
             return Err(AllocationError::TooManyObjects);
         }
-        let candidates = candidates(
-            self.limits.memory_types.as_slice(),
-            request.usage,
-            request.memory_types,
-        );
+        let candidates = self.limits.candidates(request);
         let types = candidates.types();
         if types.is_empty() {
             return Err(AllocationError::NoCompatibleMemoryTypes);

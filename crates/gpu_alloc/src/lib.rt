@@ -20,3 +20,4 @@ pub use gpu_alloc_types::{
     MemoryPropertyFlags, MemoryType, OutOfMemory, UsageFlags,
 };
 pub use request::{Dedicated, Request};
+pub use usage::MemoryForUsage;

@@ -2,28 +2,82 @@
 
 mod ranked;
 
-ghost use Rattle.std.specs.Prelude.{◌≡◌, ◌≤◌, length};
+ghost use Rattle.std.specs.Prelude.{◌≡◌, ◌≤◌, length, filter};
 ghost use Rattle.gpu_alloc_types.specs.Flags.{usage_bits};
-ghost use Rattle.gpu_alloc.specs.Ranking.{implied, candidates};
+ghost use Rattle.gpu_alloc.specs.Ranking.{implied, is_allowed, row, IsMaskOf, IsTable};
 ghost use Rattle.gpu_alloc.specs.Ranked.{ranked_types};
 
-use crate::usage::ranked::MemoryForOneUsage;
+pub(crate) use crate::usage::ranked::MemoryForOneUsage;
 use gpu_alloc_types::{MemoryType, UsageFlags};
+use std::marker::Model;
+
+/// How many usages there are, which are the sets of named flags.
+const USAGES: usize = 64;
 
 /// The bits of a usage that have a name.
 const NAMED: u8 = 0x3f;
 
-/// The memory types to be tried for a request, the best first: those that serve what the usage means and whose bit is
-/// set in `mask`. Bits of a usage without a name are dropped.
-pub(crate) fn candidates(
-    memory_types: &[MemoryType],
-    usage: UsageFlags,
-    mask: u32,
-) -> MemoryForOneUsage
-    requires { length memory_types.now ≤ 32 }
-    ensures { ranked_types result ≡ candidates memory_types.now (usage_bits usage) mask }
-{
-    MemoryForOneUsage::ranked(meaning(usage), memory_types).within(mask)
+/// The memory types that serve each usage, ranked once.
+///
+/// A type serves a usage unless it is `LAZILY_ALLOCATED` or `PROTECTED`; where the host reads or writes (`HOST_ACCESS`,
+/// `UPLOAD` or `DOWNLOAD`) it has to be `HOST_VISIBLE` too. The types that serve are ranked by how far they are from what
+/// the usage wants, the nearest first, and those that are equally far by rising index (the original crate's order, which
+/// leaves the last open).
+#[derive(Drop)]
+pub struct MemoryForUsage {
+    usages: [MemoryForOneUsage; 64],
+}
+
+impl Model for MemoryForUsage {
+    ghost use Rattle.std.specs.Prelude.{ℕ, List, map};
+    ghost use Rattle.gpu_alloc.specs.Ranked.{ranked_types};
+
+    ghost Value = { List (List ℕ) };
+
+    ghost view = { λ m. map ranked_types m.usages };
+}
+
+impl MemoryForUsage {
+    /// Ranks a device's memory types, of which there are at most 32 (Vulkan's `VK_MAX_MEMORY_TYPES`), for each usage.
+    pub fn new(memory_types: &[MemoryType]) -> MemoryForUsage
+        requires { length memory_types.now ≤ 32 }
+        ensures { IsTable memory_types.now result }
+    {
+        let mut usages = [MemoryForOneUsage::none(); USAGES];
+        for bits in 0..USAGES {
+            let usage = UsageFlags::from_bits_retain(bits as u8);
+            usages[bits] = MemoryForOneUsage::ranked(usage, memory_types);
+        }
+        MemoryForUsage { usages }
+    }
+
+    /// The mask that has exactly the bits of the types that serve a usage: bit 0 for the type with index 0.
+    pub fn mask(&self, usage: UsageFlags) -> u32
+        ensures { IsMaskOf result (row self.now (usage_bits usage)) }
+    {
+        self.row(usage).mask()
+    }
+
+    /// The indices of the types that serve a usage, the best first. Bits of the usage without a name are dropped.
+    pub fn types(&self, usage: UsageFlags) -> &[u32]
+        ensures { result.now ≡ row self.now (usage_bits usage) }
+    {
+        self.row(usage).types()
+    }
+
+    /// The memory types to be tried for a request, the best first: those that serve what its usage means and whose bit is
+    /// set in `mask`.
+    pub(crate) fn candidates(&self, usage: UsageFlags, mask: u32) -> MemoryForOneUsage
+        ensures { ranked_types result ≡ filter (is_allowed mask) (row self.now (implied (usage_bits usage))) }
+    {
+        self.row(meaning(usage)).within(mask)
+    }
+
+    fn row(&self, usage: UsageFlags) -> &MemoryForOneUsage
+        ensures { ranked_types result.now ≡ row self.now (usage_bits usage) }
+    {
+        &self.usages[(usage.bits() & NAMED) as usize]
+    }
 }
 
 /// The usage that is meant: no flag means `FAST_DEVICE_ACCESS`, and `DOWNLOAD` and `UPLOAD` mean `HOST_ACCESS` too.

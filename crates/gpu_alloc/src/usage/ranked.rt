@@ -1,20 +1,24 @@
 //! The memory types that serve one usage, the best first.
 
-ghost use Rattle.std.specs.Prelude.{◌≡◌, ◌<◌, ◌≤◌, ◌+◌, true, [], ◌∷◌, ◌++◌, length, filter, All, if◌then◌else◌};
+ghost use Rattle.std.specs.Prelude.{◌≡◌, ◌<◌, ◌≤◌, ◌+◌, true, [], ◌∷◌, ◌++◌, length, take, filter, if◌then◌else◌};
 ghost use Rattle.gpu_alloc_types.specs.Flags.{usage_bits, property_bits};
-ghost use Rattle.gpu_alloc.specs.Ranking.{by_host, is_fast, compatible, where_differ, key, has_key, is_allowed, ranking, of_key};
+ghost use Rattle.gpu_alloc.specs.Masks.{with_bits};
+ghost use Rattle.gpu_alloc.specs.KeyByKey.{has_key, of_key};
+ghost use Rattle.gpu_alloc.specs.Ranking.{by_host, is_fast, compatible, where_differ, key, is_allowed, ranking, IsMaskOf};
 
 use gpu_alloc_types::{MemoryPropertyFlags, MemoryType, UsageFlags};
 
 /// More than any key of a type.
 const KEYS: u8 = 16;
 
-/// Memory types of one usage, by index, the best first. At most 32.
+/// Memory types of one usage, by index, the best first, at most 32; and the mask that has exactly their bits.
 #[derive(Clone, Copy)]
 pub(crate) struct MemoryForOneUsage {
     types: [u32; 32],
     count: usize,
+    mask: u32,
     ghost in_range: { count ≤ 32 },
+    ghost exact: { mask ≡ with_bits 0 (take count types) },
 }
 
 impl MemoryForOneUsage {
@@ -25,6 +29,13 @@ impl MemoryForOneUsage {
         ensures { result.now ≡ ranked_types self.now }
     {
         &self.types[..self.count]
+    }
+
+    /// The mask that has exactly the bits of the types.
+    pub(crate) fn mask(&self) -> u32
+        ensures { IsMaskOf result (ranked_types self.now) }
+    {
+        self.mask
     }
 
     /// The types that serve a usage, whatever a request allows.
@@ -41,7 +52,6 @@ impl MemoryForOneUsage {
 
     /// Those of these types whose bit is set in a mask, in the same order.
     pub(crate) fn within(&self, mask: u32) -> MemoryForOneUsage
-        requires { All (λ t. t < 32) (ranked_types self.now) }
         ensures { ranked_types result ≡ filter (is_allowed mask) (ranked_types self.now) }
     {
         let mut within = MemoryForOneUsage::none();
@@ -64,23 +74,27 @@ impl MemoryForOneUsage {
     }
 
     /// No types.
-    fn none() -> MemoryForOneUsage
+    #[tactic(auto, unfolding(crate::specs::Masks::with_bits))]
+    pub(crate) fn none() -> MemoryForOneUsage
         ensures { ranked_types result ≡ [] }
     {
         MemoryForOneUsage {
             types: [0; 32],
             count: 0,
+            mask: 0,
         }
     }
 
     /// Adds a type behind the others, where it is wanted.
     fn add_where(&mut self, wanted: bool, index: u32)
         requires room { wanted ≡ true → length (ranked_types self.old) < 32 }
+        requires bit { index < 32 }
         ensures { ranked_types self.new ≡ ranked_types self.old ++ (if wanted then index ∷ [] else []) }
     {
         if wanted {
             self.types[self.count] = index;
             self.count += 1;
+            self.mask |= 1 << index;
         }
     }
 }

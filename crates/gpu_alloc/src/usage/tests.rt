@@ -4,6 +4,7 @@ ghost use Rattle.std.specs.Prelude.{◌≡◌, length};
 
 use super::*;
 use gpu_alloc_types::MemoryPropertyFlags;
+use std::process::Abort;
 
 fn memory_type(props: u8) -> MemoryType {
     MemoryType {
@@ -19,35 +20,144 @@ fn three_types() -> [MemoryType; 3]
     [memory_type(1), memory_type(6), memory_type(14)]
 }
 
+/// Eight types as a graphics card of its own offers them: of none, DEVICE_LOCAL, one that is LAZILY_ALLOCATED, one that is
+/// PROTECTED, the two that the host sees, one that both see, and DEVICE_LOCAL again.
+fn card() -> [MemoryType; 8]
+    ensures { length result ≡ 8 }
+{
+    [0, 1, 17, 33, 6, 14, 7, 1].map(memory_type)
+}
+
+/// Eight types that the host sees, five of them non-coherent, with two pairs that are alike.
+fn shared_memory() -> [MemoryType; 8]
+    ensures { length result ≡ 8 }
+{
+    [2, 10, 3, 15, 11, 2, 7, 10].map(memory_type)
+}
+
+/// For each usage from 0 on, a digit for each type in rank: of `three_types`, of `card` and of `shared_memory`.
+const RANKED: [[&str; 3]; 64] = [
+    ["012", "176045", "26430517"],
+    ["012", "176045", "26430517"],
+    ["12", "456", "05172643"],
+    ["12", "645", "26430517"],
+    ["21", "546", "17053462"],
+    ["21", "654", "34621705"],
+    ["21", "546", "17053462"],
+    ["21", "654", "34621705"],
+    ["12", "456", "05176234"],
+    ["12", "645", "62340517"],
+    ["12", "456", "05176234"],
+    ["12", "645", "62340517"],
+    ["21", "546", "17053462"],
+    ["21", "654", "34621705"],
+    ["21", "546", "17053462"],
+    ["21", "654", "34621705"],
+    ["120", "045176", "05172643"],
+    ["012", "176045", "26430517"],
+    ["12", "456", "05172643"],
+    ["12", "645", "26430517"],
+    ["21", "546", "17053462"],
+    ["21", "654", "34621705"],
+    ["21", "546", "17053462"],
+    ["21", "654", "34621705"],
+    ["12", "456", "05176234"],
+    ["12", "645", "62340517"],
+    ["12", "456", "05176234"],
+    ["12", "645", "62340517"],
+    ["21", "546", "17053462"],
+    ["21", "654", "34621705"],
+    ["21", "546", "17053462"],
+    ["21", "654", "34621705"],
+    ["120", "045176", "05172643"],
+    ["012", "176045", "26430517"],
+    ["12", "456", "05172643"],
+    ["12", "645", "26430517"],
+    ["21", "546", "17053462"],
+    ["21", "654", "34621705"],
+    ["21", "546", "17053462"],
+    ["21", "654", "34621705"],
+    ["12", "456", "05176234"],
+    ["12", "645", "62340517"],
+    ["12", "456", "05176234"],
+    ["12", "645", "62340517"],
+    ["21", "546", "17053462"],
+    ["21", "654", "34621705"],
+    ["21", "546", "17053462"],
+    ["21", "654", "34621705"],
+    ["120", "045176", "05172643"],
+    ["012", "176045", "26430517"],
+    ["12", "456", "05172643"],
+    ["12", "645", "26430517"],
+    ["21", "546", "17053462"],
+    ["21", "654", "34621705"],
+    ["21", "546", "17053462"],
+    ["21", "654", "34621705"],
+    ["12", "456", "05176234"],
+    ["12", "645", "62340517"],
+    ["12", "456", "05176234"],
+    ["12", "645", "62340517"],
+    ["21", "546", "17053462"],
+    ["21", "654", "34621705"],
+    ["21", "546", "17053462"],
+    ["21", "654", "34621705"],
+];
+
+#[test]
+fn each_usage_ranks_the_types_of_three_devices(rt: HostRuntime) {
+    let few = MemoryForUsage::new(&three_types());
+    let card = MemoryForUsage::new(&card());
+    let shared = MemoryForUsage::new(&shared_memory());
+    for usage in 0..64 {
+        let [of_few, of_card, of_shared] = RANKED[usage];
+        is_ranked(&rt, &few, usage as u8, of_few);
+        is_ranked(&rt, &card, usage as u8, of_card);
+        is_ranked(&rt, &shared, usage as u8, of_shared);
+    }
+}
+
+fn is_ranked(rt: &impl Abort, table: &MemoryForUsage, usage: u8, digits: &str) {
+    let types = table.types(UsageFlags::from_bits_retain(usage));
+    assert_eq!(rt; types.len(), digits.len(), "usage {usage}");
+    for (place, digit) in digits.as_bytes().iter().enumerate() {
+        let want = u32::from(digit.wrapping_sub(b'0'));
+        assert_eq!(rt;
+            types.get(place),
+            Some(&want),
+            "usage {usage}, place {place}"
+        );
+    }
+}
+
 #[test]
 fn a_usage_ranks_the_types_that_it_wants_first(rt: HostRuntime) {
     let types = three_types();
-    let cases: [(u8, &[u32]); 12] = [
-        (0x00, &[0, 1, 2]),
-        (0x40, &[0, 1, 2]),
-        (0xc0, &[0, 1, 2]),
-        (0x01, &[0, 1, 2]),
-        (0x02, &[1, 2]),
-        (0x03, &[1, 2]),
-        (0x08, &[1, 2]),
-        (0x0c, &[2, 1]),
-        (0x20, &[1, 2, 0]),
-        (0x10, &[1, 2, 0]),
-        (0x06, &[2, 1]),
-        (0xd0, &[1, 2, 0]),
+    let table = MemoryForUsage::new(&types);
+    let cases: [(u8, &[u32], u32); 12] = [
+        (0x00, &[0, 1, 2], 7),
+        (0x40, &[0, 1, 2], 7),
+        (0xc0, &[0, 1, 2], 7),
+        (0x01, &[0, 1, 2], 7),
+        (0x02, &[1, 2], 6),
+        (0x03, &[1, 2], 6),
+        (0x08, &[1, 2], 6),
+        (0x0c, &[2, 1], 6),
+        (0x20, &[1, 2, 0], 7),
+        (0x10, &[1, 2, 0], 7),
+        (0x06, &[2, 1], 6),
+        (0xd0, &[1, 2, 0], 7),
     ];
-    for (bits, want) in cases {
-        let tried = candidates(&types, UsageFlags::from_bits_retain(bits), u32::MAX);
-        assert_eq!(rt; tried.types(), want, "tried for usage {bits}");
-        let named = UsageFlags::from_bits_retain(bits & NAMED);
-        let ranked = MemoryForOneUsage::ranked(named, &types);
-        assert_eq!(rt; ranked.types(), want, "ranked for usage {bits}");
+    for (bits, want, mask) in cases {
+        let usage = UsageFlags::from_bits_retain(bits);
+        assert_eq!(rt; table.types(usage), want, "usage {bits}");
+        assert_eq!(rt; table.mask(usage), mask, "mask of usage {bits}");
     }
 }
 
 #[test]
 fn only_types_whose_bit_is_set_are_tried(rt: HostRuntime) {
     let types = three_types();
+    let table = MemoryForUsage::new(&types);
     let cases: [(u8, u32, &[u32]); 6] = [
         (0x00, 0b110, &[1, 2]),
         (0x10, 0b101, &[2, 0]),
@@ -57,30 +167,51 @@ fn only_types_whose_bit_is_set_are_tried(rt: HostRuntime) {
         (0x01, 0xffff_fff8, &[]),
     ];
     for (bits, mask, want) in cases {
-        let tried = candidates(&types, UsageFlags::from_bits_retain(bits), mask);
+        let tried = table.candidates(UsageFlags::from_bits_retain(bits), mask);
         assert_eq!(rt; tried.types(), want, "usage {bits}, mask {mask}");
     }
 }
 
 #[test]
-fn lazily_allocated_and_protected_types_are_never_tried(rt: HostRuntime) {
+fn what_a_usage_means_is_tried(rt: HostRuntime) {
+    let types = three_types();
+    let table = MemoryForUsage::new(&types);
+    let cases: [(u8, &[u32]); 5] = [
+        (0x00, &[0, 1, 2]),
+        (0x40, &[0, 1, 2]),
+        (0x04, &[2, 1]),
+        (0x08, &[1, 2]),
+        (0x10, &[1, 2, 0]),
+    ];
+    for (bits, want) in cases {
+        let tried = table.candidates(UsageFlags::from_bits_retain(bits), u32::MAX);
+        assert_eq!(rt; tried.types(), want, "usage {bits}");
+    }
+}
+
+#[test]
+fn lazily_allocated_and_protected_types_are_never_ranked(rt: HostRuntime) {
     let types = [
         memory_type(1),
         memory_type(1),
         memory_type(17),
         memory_type(33),
     ];
-    let tried = candidates(&types, UsageFlags::FAST_DEVICE_ACCESS, u32::MAX);
-    assert_eq!(rt; tried.types(), [0, 1].as_slice());
+    let table = MemoryForUsage::new(&types);
+    let usage = UsageFlags::FAST_DEVICE_ACCESS;
+    assert_eq!(rt; table.types(usage), [0, 1].as_slice());
+    assert_eq!(rt; table.mask(usage), 3);
 }
 
 #[test]
 fn from_none_to_32_types_are_ranked(rt: HostRuntime) {
-    let none = candidates(&[], UsageFlags::FAST_DEVICE_ACCESS, u32::MAX);
-    assert_eq!(rt; none.types(), [].as_slice());
+    let none = MemoryForUsage::new(&[]);
+    assert_eq!(rt; none.types(UsageFlags::FAST_DEVICE_ACCESS), [].as_slice());
+    assert_eq!(rt; none.mask(UsageFlags::FAST_DEVICE_ACCESS), 0);
     let types = [memory_type(1); 32];
-    let ends = candidates(&types, UsageFlags::HOST_ACCESS, 0x8000_0001);
-    assert_eq!(rt; ends.types(), [].as_slice());
-    let ends = candidates(&types, UsageFlags::TRANSIENT, 0x8000_0001);
+    let table = MemoryForUsage::new(&types);
+    assert_eq!(rt; table.mask(UsageFlags::HOST_ACCESS), 0);
+    assert_eq!(rt; table.mask(UsageFlags::TRANSIENT), u32::MAX);
+    let ends = table.candidates(UsageFlags::TRANSIENT, 0x8000_0001);
     assert_eq!(rt; ends.types(), [0, 31].as_slice());
 }

@@ -8,8 +8,7 @@ use Rattle.gpu_alloc.proofs.allocator.GpuAllocator.alloc_with_dedicated.Goals as
 pub try_all-requires-clause-known : goal.try_all-requires-clause-known
 try_all-requires-clause-known g c =
     let types = c.self.inside.limits.memory_types.items in
-    let ranked = rw c.as_slice.ensures.value at c.candidates-candidates.ensures in
-    rw (← c.self.view_is) (subst (All (λ t. t < length types)) (sym (c.types-types.ensures ∙ ranked)) (candidates-within types (usage_bits c.args.request.usage) c.args.request.memory_types))
+    rw (← c.self.view_is) (subst (All (λ t. t < length types)) (sym (c.types-types.ensures ∙ c.candidates-candidates.ensures)) (candidates-within types (usage_bits c.args.request.usage) c.args.request.memory_types))
 
 pub returns-clause-objects : goal.returns-clause-objects
 returns-clause-objects g c = objects_after _ _ _ c.try_all.ensures.objects

@@ -1,29 +1,38 @@
-use Rattle.std.proofs.Common.{◌≡◌, ◌<◌, ◌^◌, sym, ap, ◌∙◌, arith, map, subst}
+use Rattle.std.proofs.Common.{◌≡◌, ◌<◌, ◌^◌, sym, ap, ◌∙◌, arith, map, subst, List}
 use Rattle.gpu_alloc_types.specs.Properties.{Properties, properties_of}
+use Rattle.gpu_alloc_types.specs.declared.types.MemoryType.{MemoryType}
+use Rattle.gpu_alloc.specs.declared.heap.Heap.{Heap}
+use Rattle.gpu_alloc.specs.Heap.{unused}
 use Rattle.gpu_alloc.specs.Inside.{offer_of, IsConsistent}
 use Rattle.gpu_alloc.specs.Opening.{opened}
+use Rattle.gpu_alloc.specs.Ranking.{IsTable}
 use Rattle.gpu_alloc.specs.Sizes.{first_types}
 use Rattle.gpu_alloc.proofs.Consistency.{consistent-opened}
 use Rattle.gpu_alloc.proofs.HeapLists.{unused-offers}
-use Rattle.gpu_alloc.proofs.allocator.GpuAllocator.open.Given.{Over}
 use Rattle.gpu_alloc.proofs.allocator.GpuAllocator.open.Goals as goal
 
 -- the properties that the fields stand for are those that were given
-properties_is : (g : Over) (c : goal.After-new g) → ◌≡◌ {A = Properties} (record (properties_of c.args.props) { memory_types = c.in_ok-memory_types.memory_types.items; memory_heaps = map offer_of c.in_ok-heaps.heaps.items }) (properties_of c.args.props)
-properties_is g c =
-    let offers = ap (map offer_of) c.in_ok-heaps.ensures ∙ unused-offers c.args.props.memory_heaps.now in
-    λ k. record (properties_of c.args.props) { memory_types = c.in_ok-memory_types.ensures.items k; memory_heaps = offers k }
+properties_is : (p : Properties) (types : List MemoryType) (heaps : List Heap) → types ≡ p.memory_types → heaps ≡ map (λ heap. unused heap.size) p.memory_heaps → ◌≡◌ {A = Properties} (record p { memory_types = types; memory_heaps = map offer_of heaps }) p
+properties_is p types heaps same_types same_heaps =
+    let offers = ap (map offer_of) same_heaps ∙ unused-offers p.memory_heaps in
+    λ k. record p { memory_types = same_types k; memory_heaps = offers k }
 
 pub invariant_of-result : goal.invariant_of-result
-invariant_of-result g c =
+invariant_of-result g c = record { ranked = subst (λ types. IsTable types c.new-memory_for_usage.result) (sym c.in_ok-memory_types.ensures.items) c.new-memory_for_usage.ensures }
+
+pub invariant_of-result-2 : goal.invariant_of-result-2
+invariant_of-result-2 g c =
     let few : c.args.props.max_memory_allocation_count < 2 ^ 32 = omega arith in
-    subst (λ p. IsConsistent p c.in_ok-heaps.heaps.items c.new.result c.args.props.max_memory_allocation_count) (sym (properties_is g c))
+    let given = properties_is (properties_of c.args.props) _ _ c.in_ok-memory_types.ensures.items c.in_ok-heaps.ensures in
+    subst (λ p. IsConsistent p c.in_ok-heaps.heaps.items c.new.result c.args.props.max_memory_allocation_count) (sym given)
     (consistent-opened (properties_of c.args.props) _ _ _ c.requires few c.new.ensures.held c.new.ensures.live c.in_ok-heaps.ensures)
 
 pub returns : goal.returns
-returns g c = λ k. record (opened c.args.config (properties_of c.args.props)) {
-  held = c.new.ensures.held k;
-  live = c.new.ensures.live k;
-  types = first_types c.args.config (properties_is g c k);
-  properties = properties_is g c k;
-}
+returns g c =
+    let given = properties_is (properties_of c.args.props) _ _ c.in_ok-memory_types.ensures.items c.in_ok-heaps.ensures in
+    λ k. record (opened c.args.config (properties_of c.args.props)) {
+      held = c.new.ensures.held k;
+      live = c.new.ensures.live k;
+      types = first_types c.args.config (given k);
+      properties = given k;
+    }

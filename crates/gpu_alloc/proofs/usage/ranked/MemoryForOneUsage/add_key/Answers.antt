@@ -2,7 +2,7 @@ use Rattle.std.proofs.Common.{ℕ, ◌≡◌, ◌∙◌, Bool, if◌then◌else�
 use Rattle.std.proofs.lemmas.Grind.{common_steps}
 use Rattle.std.proofs.lemmas.List.{append_assoc}
 use Rattle.gpu_alloc_types.specs.Flags.{usage_bits}
-use Rattle.gpu_alloc.specs.Ranking.{of_key}
+use Rattle.gpu_alloc.specs.KeyByKey.{of_key}
 use Rattle.gpu_alloc.proofs.RankingSteps.{of_key-more, of_key-room}
 use Rattle.gpu_alloc.proofs.usage.ranked.MemoryForOneUsage.add_key.Goals as goal
 
@@ -16,6 +16,7 @@ add_where-requires c =
       room = λ is_one.
           let h = of_key-room (usage_bits c.args.usage) c.args.key c.loop-index.index c.args.memory_types.now _ c.loop-index-test.true (sym c.has_key-has_key.ensures ∙ is_one) in
           rw c.loop-index.invariant (grind (arith, common_steps));
+      bit = omega arith;
     }
 
 joined : (new old before part more : List ℕ) (i : ℕ) (tested has : Bool) → new ≡ old ++ (if tested then i ∷ [] else []) → tested ≡ has → old ≡ before ++ part → more ≡ part ++ (if has then i ∷ [] else []) → new ≡ before ++ more

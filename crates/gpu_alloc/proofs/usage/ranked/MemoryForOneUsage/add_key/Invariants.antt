@@ -1,6 +1,6 @@
 use Rattle.std.proofs.Common.{◌≡◌, ◌++◌, take}
 use Rattle.gpu_alloc_types.specs.Flags.{usage_bits}
-use Rattle.gpu_alloc.specs.Ranking.{of_key}
+use Rattle.gpu_alloc.specs.KeyByKey.{of_key}
 use Rattle.gpu_alloc.specs.Ranked.{ranked_types}
 use Rattle.gpu_alloc.proofs.usage.ranked.MemoryForOneUsage.add_key.Given as goal
 

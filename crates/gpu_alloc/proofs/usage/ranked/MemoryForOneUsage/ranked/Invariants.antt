@@ -1,6 +1,6 @@
 use Rattle.std.proofs.Common.{◌≡◌}
 use Rattle.gpu_alloc_types.specs.Flags.{usage_bits}
-use Rattle.gpu_alloc.specs.Ranking.{below_key}
+use Rattle.gpu_alloc.specs.KeyByKey.{below_key}
 use Rattle.gpu_alloc.specs.Ranked.{ranked_types}
 use Rattle.gpu_alloc.proofs.usage.ranked.MemoryForOneUsage.ranked.Given as goal
 
