@@ -1,5 +1,5 @@
 -- Flags as numbers.
-use Rattle.std.specs.Prelude.{ℕ, ◌==◌, Bool, not, bit_and}
+use Rattle.std.specs.Prelude.{ℕ, ◌-◌, ◌==◌, Bool, not, bit_and}
 use Rattle.gpu_alloc_types.specs.declared.usage_flags.UsageFlags.{UsageFlags}
 use Rattle.gpu_alloc_types.specs.declared.memory_property_flags.MemoryPropertyFlags.{MemoryPropertyFlags}
 use Rattle.gpu_alloc_types.specs.declared.allocation_flags.AllocationFlags.{AllocationFlags}
@@ -14,6 +14,26 @@ property_bits flags = flags.bits
 abbrev pub allocation_bits : AllocationFlags → ℕ
 allocation_bits flags = flags.bits
 
+-- the bits that have a name: six of usages
+abbrev pub named_usage_bits : ℕ
+named_usage_bits = 63
+
+-- six of properties
+abbrev pub named_property_bits : ℕ
+named_property_bits = 63
+
+-- one of what is asked of a device
+abbrev pub named_allocation_bits : ℕ
+named_allocation_bits = 1
+
 -- whether a number has any bit of a mask
 abbrev pub has_bit : ℕ → ℕ → Bool
 has_bit bits mask = not (bit_and bits mask == 0)
+
+-- whether a number has every bit of a mask
+abbrev pub has_all_bits : ℕ → ℕ → Bool
+has_all_bits bits mask = bit_and bits mask == mask
+
+-- the bits of a number without those of a mask, both of eight bits
+abbrev pub bits_without : ℕ → ℕ → ℕ
+bits_without bits mask = bit_and bits (255 - mask)

@@ -1,9 +1,18 @@
 //! What is asked of a device, as a set of flags.
 
-ghost use Rattle.std.specs.Prelude.{◌≡◌};
-ghost use Rattle.gpu_alloc_types.specs.Flags.{allocation_bits};
+ghost use Rattle.std.specs.Prelude.{⊤, ◌≡◌, ◌↔◌, ◌==◌, [], ◌∷◌, codes, bit_and, bit_or, bit_xor, if◌then◌else◌, IsTrue, IsSome, IfSome};
+ghost use Rattle.gpu_alloc_types.specs.Flags.{allocation_bits, named_allocation_bits, has_bit, has_all_bits, bits_without};
+
+use bitflags::{Flag, Flags};
+use std::ops::{
+    BitAnd, BitAndAssign, BitOr, BitOrAssign, BitXor, BitXorAssign, Not, Sub, SubAssign,
+};
 
 /// What is asked of a device beside a size and a memory type.
+///
+/// The calls and operators are those of the crate `bitflags`, on which the original crate's flags stand. They keep bits
+/// without a name, but for [`all`](Self::all), [`from_bits`](Self::from_bits),
+/// [`from_bits_truncate`](Self::from_bits_truncate) and [`complement`](Self::complement), whose answers have none.
 #[derive(Clone, Copy, Debug, PartialEq, Eq, Hash, PartialOrd, Ord)]
 pub struct AllocationFlags {
     bits: u8,
@@ -14,11 +23,19 @@ impl AllocationFlags {
     /// the original crate's).
     pub const DEVICE_ADDRESS: AllocationFlags = AllocationFlags { bits: 1 };
 
-    /// The flags whose bits are set in `bits`, bits without a name among them.
-    pub fn from_bits_retain(bits: u8) -> AllocationFlags
-        ensures { allocation_bits result ≡ bits }
+    /// No flags.
+    pub fn empty() -> AllocationFlags
+        ensures { allocation_bits result ≡ 0 }
     {
-        AllocationFlags { bits }
+        <AllocationFlags as Flags>::empty()
+    }
+
+    /// Each flag that has a name.
+    #[tactic(auto, unfolding(bitflags::proofs::OnLiterals::bitflags_on_literals))]
+    pub fn all() -> AllocationFlags
+        ensures { allocation_bits result ≡ named_allocation_bits }
+    {
+        <AllocationFlags as Flags>::all()
     }
 
     /// The number whose bits are these flags.
@@ -26,6 +43,242 @@ impl AllocationFlags {
         ensures { result ≡ allocation_bits self.now }
     {
         self.bits
+    }
+
+    /// The flags whose bits are set in `bits`, where each of those has a name, and else `None`.
+    #[tactic(auto, unfolding(bitflags::proofs::OnLiterals::bitflags_on_literals))]
+    pub fn from_bits(bits: u8) -> Option<AllocationFlags>
+        ensures named { IsSome result ↔ IsTrue (has_all_bits named_allocation_bits bits) }
+        ensures kept { IfSome result (λ flags. allocation_bits flags ≡ bits) }
+    {
+        <AllocationFlags as Flags>::from_bits(bits)
+    }
+
+    /// The flags whose bits are set in `bits`, without the bits that have no name.
+    #[tactic(auto, unfolding(bitflags::proofs::OnLiterals::bitflags_on_literals))]
+    pub fn from_bits_truncate(bits: u8) -> AllocationFlags
+        ensures { allocation_bits result ≡ bit_and bits named_allocation_bits }
+    {
+        <AllocationFlags as Flags>::from_bits_truncate(bits)
+    }
+
+    /// The flags whose bits are set in `bits`, bits without a name among them.
+    pub fn from_bits_retain(bits: u8) -> AllocationFlags
+        ensures { allocation_bits result ≡ bits }
+    {
+        AllocationFlags { bits }
+    }
+
+    /// Whether no bit is set, with a name or without.
+    pub fn is_empty(&self) -> bool
+        ensures { result ≡ (allocation_bits self.now == 0) }
+    {
+        <AllocationFlags as Flags>::is_empty(self)
+    }
+
+    /// Whether each bit that has a name is set. Others may be set too.
+    pub fn is_all(&self) -> bool
+        ensures { result ≡ has_all_bits (allocation_bits self.now) named_allocation_bits }
+    {
+        self.contains(AllocationFlags::all())
+    }
+
+    /// Whether each bit of `other` is set, with a name or without. Every value contains the empty one.
+    pub fn contains(&self, other: AllocationFlags) -> bool
+        ensures { result ≡ has_all_bits (allocation_bits self.now) (allocation_bits other) }
+    {
+        <AllocationFlags as Flags>::contains(self, other)
+    }
+
+    /// Whether at least one bit of `other` is set, with a name or without.
+    pub fn intersects(&self, other: AllocationFlags) -> bool
+        ensures { result ≡ has_bit (allocation_bits self.now) (allocation_bits other) }
+    {
+        <AllocationFlags as Flags>::intersects(self, other)
+    }
+
+    /// The bits of either.
+    pub fn union(self, other: AllocationFlags) -> AllocationFlags
+        ensures { allocation_bits result ≡ bit_or (allocation_bits self) (allocation_bits other) }
+    {
+        <AllocationFlags as Flags>::union(self, other)
+    }
+
+    /// The bits of both.
+    pub fn intersection(self, other: AllocationFlags) -> AllocationFlags
+        ensures { allocation_bits result ≡ bit_and (allocation_bits self) (allocation_bits other) }
+    {
+        <AllocationFlags as Flags>::intersection(self, other)
+    }
+
+    /// These bits without those of `other`.
+    pub fn difference(self, other: AllocationFlags) -> AllocationFlags
+        ensures { allocation_bits result ≡ bits_without (allocation_bits self) (allocation_bits other) }
+    {
+        <AllocationFlags as Flags>::difference(self, other)
+    }
+
+    /// The bits of exactly one of the two.
+    pub fn symmetric_difference(self, other: AllocationFlags) -> AllocationFlags
+        ensures { allocation_bits result ≡ bit_xor (allocation_bits self) (allocation_bits other) }
+    {
+        <AllocationFlags as Flags>::symmetric_difference(self, other)
+    }
+
+    /// The flags with a name that are not set here.
+    #[tactic(auto, unfolding(bitflags::proofs::OnLiterals::bitflags_on_literals))]
+    pub fn complement(self) -> AllocationFlags
+        ensures { allocation_bits result ≡ bits_without named_allocation_bits (allocation_bits self) }
+    {
+        <AllocationFlags as Flags>::complement(self)
+    }
+
+    /// Sets the bits of `other`.
+    pub fn insert(&mut self, other: AllocationFlags)
+        ensures { allocation_bits self.new ≡ bit_or (allocation_bits self.old) (allocation_bits other) }
+    {
+        <AllocationFlags as Flags>::insert(self, other);
+    }
+
+    /// Clears the bits of `other`.
+    pub fn remove(&mut self, other: AllocationFlags)
+        ensures { allocation_bits self.new ≡ bits_without (allocation_bits self.old) (allocation_bits other) }
+    {
+        <AllocationFlags as Flags>::remove(self, other);
+    }
+
+    /// Sets those bits of `other` that are clear here, and clears those that are set.
+    pub fn toggle(&mut self, other: AllocationFlags)
+        ensures { allocation_bits self.new ≡ bit_xor (allocation_bits self.old) (allocation_bits other) }
+    {
+        <AllocationFlags as Flags>::toggle(self, other);
+    }
+
+    /// Sets the bits of `other` where `on`, and else clears them.
+    pub fn set(&mut self, other: AllocationFlags, on: bool)
+        ensures { allocation_bits self.new ≡ (if on then bit_or (allocation_bits self.old) (allocation_bits other)
+            else bits_without (allocation_bits self.old) (allocation_bits other)) }
+    {
+        <AllocationFlags as Flags>::set(self, other, on);
+    }
+}
+
+/// The bits of either, as [`AllocationFlags::union`].
+impl BitOr for AllocationFlags {
+    type Output = AllocationFlags;
+
+    ghost bitor_gives = { λ a b r. allocation_bits r ≡ bit_or (allocation_bits a) (allocation_bits b) };
+
+    fn bitor(self, other: AllocationFlags) -> AllocationFlags {
+        self.union(other)
+    }
+}
+
+impl BitOrAssign for AllocationFlags {
+    ghost bitor_assign_gives = { λ a b r. allocation_bits r ≡ bit_or (allocation_bits a) (allocation_bits b) };
+
+    fn bitor_assign(&mut self, other: AllocationFlags) {
+        *self = self.union(other);
+    }
+}
+
+/// The bits of both, as [`AllocationFlags::intersection`].
+impl BitAnd for AllocationFlags {
+    type Output = AllocationFlags;
+
+    ghost bitand_gives = { λ a b r. allocation_bits r ≡ bit_and (allocation_bits a) (allocation_bits b) };
+
+    fn bitand(self, other: AllocationFlags) -> AllocationFlags {
+        self.intersection(other)
+    }
+}
+
+impl BitAndAssign for AllocationFlags {
+    ghost bitand_assign_gives = { λ a b r. allocation_bits r ≡ bit_and (allocation_bits a) (allocation_bits b) };
+
+    fn bitand_assign(&mut self, other: AllocationFlags) {
+        *self = self.intersection(other);
+    }
+}
+
+/// The bits of exactly one of the two, as [`AllocationFlags::symmetric_difference`].
+impl BitXor for AllocationFlags {
+    type Output = AllocationFlags;
+
+    ghost bitxor_gives = { λ a b r. allocation_bits r ≡ bit_xor (allocation_bits a) (allocation_bits b) };
+
+    fn bitxor(self, other: AllocationFlags) -> AllocationFlags {
+        self.symmetric_difference(other)
+    }
+}
+
+impl BitXorAssign for AllocationFlags {
+    ghost bitxor_assign_gives = { λ a b r. allocation_bits r ≡ bit_xor (allocation_bits a) (allocation_bits b) };
+
+    fn bitxor_assign(&mut self, other: AllocationFlags) {
+        *self = self.symmetric_difference(other);
+    }
+}
+
+/// These bits without those of the other, as [`AllocationFlags::difference`].
+impl Sub for AllocationFlags {
+    type Output = AllocationFlags;
+
+    ghost sub_gives = { λ a b r. allocation_bits r ≡ bits_without (allocation_bits a) (allocation_bits b) };
+
+    fn sub(self, other: AllocationFlags) -> AllocationFlags {
+        self.difference(other)
+    }
+}
+
+impl SubAssign for AllocationFlags {
+    ghost sub_assign_gives = { λ a b r. allocation_bits r ≡ bits_without (allocation_bits a) (allocation_bits b) };
+
+    fn sub_assign(&mut self, other: AllocationFlags) {
+        *self = self.difference(other);
+    }
+}
+
+/// The flags with a name that are not set here, as [`AllocationFlags::complement`].
+impl Not for AllocationFlags {
+    type Output = AllocationFlags;
+
+    ghost not_gives = { λ a r. allocation_bits r ≡ bits_without named_allocation_bits (allocation_bits a) };
+
+    fn not(self) -> AllocationFlags {
+        self.complement()
+    }
+}
+
+impl AllocationFlags {
+    // The flags that have a name.
+    const FLAGS: &'static [Flag<AllocationFlags>] = &[
+        Flag {
+            name: "DEVICE_ADDRESS",
+            value: AllocationFlags::DEVICE_ADDRESS,
+        },
+    ];
+}
+
+impl Flags for AllocationFlags {
+    type Bits = u8;
+
+    ghost exact = { ⊤ };
+
+    ghost table = { (codes "DEVICE_ADDRESS", 1) ∷ [] };
+
+    ghost set_of = { allocation_bits };
+
+    fn flags<'a>() -> &'a [Flag<AllocationFlags>] {
+        AllocationFlags::FLAGS
+    }
+
+    fn bits(&self) -> u8 {
+        AllocationFlags::bits(self)
+    }
+
+    fn from_bits_retain(bits: u8) -> AllocationFlags {
+        AllocationFlags::from_bits_retain(bits)
     }
 }
 

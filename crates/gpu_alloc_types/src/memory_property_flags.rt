@@ -1,9 +1,18 @@
 //! The properties of memory types, as sets of flags.
 
-ghost use Rattle.std.specs.Prelude.{◌≡◌};
-ghost use Rattle.gpu_alloc_types.specs.Flags.{property_bits};
+ghost use Rattle.std.specs.Prelude.{⊤, ◌≡◌, ◌↔◌, ◌==◌, [], ◌∷◌, codes, bit_and, bit_or, bit_xor, if◌then◌else◌, IsTrue, IsSome, IfSome};
+ghost use Rattle.gpu_alloc_types.specs.Flags.{property_bits, named_property_bits, has_bit, has_all_bits, bits_without};
+
+use bitflags::{Flag, Flags};
+use std::ops::{
+    BitAnd, BitAndAssign, BitOr, BitOrAssign, BitXor, BitXorAssign, Not, Sub, SubAssign,
+};
 
 /// The properties of a memory type (Vulkan's `VkMemoryPropertyFlagBits`, with its numbers).
+///
+/// The calls and operators are those of the crate `bitflags`, on which the original crate's flags stand. They keep bits
+/// without a name, but for [`all`](Self::all), [`from_bits`](Self::from_bits),
+/// [`from_bits_truncate`](Self::from_bits_truncate) and [`complement`](Self::complement), whose answers have none.
 #[derive(Clone, Copy, Debug, PartialEq, Eq, Hash, PartialOrd, Ord)]
 pub struct MemoryPropertyFlags {
     bits: u8,
@@ -28,11 +37,19 @@ impl MemoryPropertyFlags {
     /// Only protected queues may use it. The allocator never uses such a type.
     pub const PROTECTED: MemoryPropertyFlags = MemoryPropertyFlags { bits: 32 };
 
-    /// The flags whose bits are set in `bits`, bits without a name among them.
-    pub fn from_bits_retain(bits: u8) -> MemoryPropertyFlags
-        ensures { property_bits result ≡ bits }
+    /// No flags.
+    pub fn empty() -> MemoryPropertyFlags
+        ensures { property_bits result ≡ 0 }
     {
-        MemoryPropertyFlags { bits }
+        <MemoryPropertyFlags as Flags>::empty()
+    }
+
+    /// Each flag that has a name.
+    #[tactic(auto, unfolding(bitflags::proofs::OnLiterals::bitflags_on_literals))]
+    pub fn all() -> MemoryPropertyFlags
+        ensures { property_bits result ≡ named_property_bits }
+    {
+        <MemoryPropertyFlags as Flags>::all()
     }
 
     /// The number whose bits are these flags.
@@ -40,6 +57,262 @@ impl MemoryPropertyFlags {
         ensures { result ≡ property_bits self.now }
     {
         self.bits
+    }
+
+    /// The flags whose bits are set in `bits`, where each of those has a name, and else `None`.
+    #[tactic(auto, unfolding(bitflags::proofs::OnLiterals::bitflags_on_literals))]
+    pub fn from_bits(bits: u8) -> Option<MemoryPropertyFlags>
+        ensures named { IsSome result ↔ IsTrue (has_all_bits named_property_bits bits) }
+        ensures kept { IfSome result (λ flags. property_bits flags ≡ bits) }
+    {
+        <MemoryPropertyFlags as Flags>::from_bits(bits)
+    }
+
+    /// The flags whose bits are set in `bits`, without the bits that have no name.
+    #[tactic(auto, unfolding(bitflags::proofs::OnLiterals::bitflags_on_literals))]
+    pub fn from_bits_truncate(bits: u8) -> MemoryPropertyFlags
+        ensures { property_bits result ≡ bit_and bits named_property_bits }
+    {
+        <MemoryPropertyFlags as Flags>::from_bits_truncate(bits)
+    }
+
+    /// The flags whose bits are set in `bits`, bits without a name among them.
+    pub fn from_bits_retain(bits: u8) -> MemoryPropertyFlags
+        ensures { property_bits result ≡ bits }
+    {
+        MemoryPropertyFlags { bits }
+    }
+
+    /// Whether no bit is set, with a name or without.
+    pub fn is_empty(&self) -> bool
+        ensures { result ≡ (property_bits self.now == 0) }
+    {
+        <MemoryPropertyFlags as Flags>::is_empty(self)
+    }
+
+    /// Whether each bit that has a name is set. Others may be set too.
+    pub fn is_all(&self) -> bool
+        ensures { result ≡ has_all_bits (property_bits self.now) named_property_bits }
+    {
+        self.contains(MemoryPropertyFlags::all())
+    }
+
+    /// Whether each bit of `other` is set, with a name or without. Every value contains the empty one.
+    pub fn contains(&self, other: MemoryPropertyFlags) -> bool
+        ensures { result ≡ has_all_bits (property_bits self.now) (property_bits other) }
+    {
+        <MemoryPropertyFlags as Flags>::contains(self, other)
+    }
+
+    /// Whether at least one bit of `other` is set, with a name or without.
+    pub fn intersects(&self, other: MemoryPropertyFlags) -> bool
+        ensures { result ≡ has_bit (property_bits self.now) (property_bits other) }
+    {
+        <MemoryPropertyFlags as Flags>::intersects(self, other)
+    }
+
+    /// The bits of either.
+    pub fn union(self, other: MemoryPropertyFlags) -> MemoryPropertyFlags
+        ensures { property_bits result ≡ bit_or (property_bits self) (property_bits other) }
+    {
+        <MemoryPropertyFlags as Flags>::union(self, other)
+    }
+
+    /// The bits of both.
+    pub fn intersection(self, other: MemoryPropertyFlags) -> MemoryPropertyFlags
+        ensures { property_bits result ≡ bit_and (property_bits self) (property_bits other) }
+    {
+        <MemoryPropertyFlags as Flags>::intersection(self, other)
+    }
+
+    /// These bits without those of `other`.
+    pub fn difference(self, other: MemoryPropertyFlags) -> MemoryPropertyFlags
+        ensures { property_bits result ≡ bits_without (property_bits self) (property_bits other) }
+    {
+        <MemoryPropertyFlags as Flags>::difference(self, other)
+    }
+
+    /// The bits of exactly one of the two.
+    pub fn symmetric_difference(self, other: MemoryPropertyFlags) -> MemoryPropertyFlags
+        ensures { property_bits result ≡ bit_xor (property_bits self) (property_bits other) }
+    {
+        <MemoryPropertyFlags as Flags>::symmetric_difference(self, other)
+    }
+
+    /// The flags with a name that are not set here.
+    #[tactic(auto, unfolding(bitflags::proofs::OnLiterals::bitflags_on_literals))]
+    pub fn complement(self) -> MemoryPropertyFlags
+        ensures { property_bits result ≡ bits_without named_property_bits (property_bits self) }
+    {
+        <MemoryPropertyFlags as Flags>::complement(self)
+    }
+
+    /// Sets the bits of `other`.
+    pub fn insert(&mut self, other: MemoryPropertyFlags)
+        ensures { property_bits self.new ≡ bit_or (property_bits self.old) (property_bits other) }
+    {
+        <MemoryPropertyFlags as Flags>::insert(self, other);
+    }
+
+    /// Clears the bits of `other`.
+    pub fn remove(&mut self, other: MemoryPropertyFlags)
+        ensures { property_bits self.new ≡ bits_without (property_bits self.old) (property_bits other) }
+    {
+        <MemoryPropertyFlags as Flags>::remove(self, other);
+    }
+
+    /// Sets those bits of `other` that are clear here, and clears those that are set.
+    pub fn toggle(&mut self, other: MemoryPropertyFlags)
+        ensures { property_bits self.new ≡ bit_xor (property_bits self.old) (property_bits other) }
+    {
+        <MemoryPropertyFlags as Flags>::toggle(self, other);
+    }
+
+    /// Sets the bits of `other` where `on`, and else clears them.
+    pub fn set(&mut self, other: MemoryPropertyFlags, on: bool)
+        ensures { property_bits self.new ≡ (if on then bit_or (property_bits self.old) (property_bits other)
+            else bits_without (property_bits self.old) (property_bits other)) }
+    {
+        <MemoryPropertyFlags as Flags>::set(self, other, on);
+    }
+}
+
+/// The bits of either, as [`MemoryPropertyFlags::union`].
+impl BitOr for MemoryPropertyFlags {
+    type Output = MemoryPropertyFlags;
+
+    ghost bitor_gives = { λ a b r. property_bits r ≡ bit_or (property_bits a) (property_bits b) };
+
+    fn bitor(self, other: MemoryPropertyFlags) -> MemoryPropertyFlags {
+        self.union(other)
+    }
+}
+
+impl BitOrAssign for MemoryPropertyFlags {
+    ghost bitor_assign_gives = { λ a b r. property_bits r ≡ bit_or (property_bits a) (property_bits b) };
+
+    fn bitor_assign(&mut self, other: MemoryPropertyFlags) {
+        *self = self.union(other);
+    }
+}
+
+/// The bits of both, as [`MemoryPropertyFlags::intersection`].
+impl BitAnd for MemoryPropertyFlags {
+    type Output = MemoryPropertyFlags;
+
+    ghost bitand_gives = { λ a b r. property_bits r ≡ bit_and (property_bits a) (property_bits b) };
+
+    fn bitand(self, other: MemoryPropertyFlags) -> MemoryPropertyFlags {
+        self.intersection(other)
+    }
+}
+
+impl BitAndAssign for MemoryPropertyFlags {
+    ghost bitand_assign_gives = { λ a b r. property_bits r ≡ bit_and (property_bits a) (property_bits b) };
+
+    fn bitand_assign(&mut self, other: MemoryPropertyFlags) {
+        *self = self.intersection(other);
+    }
+}
+
+/// The bits of exactly one of the two, as [`MemoryPropertyFlags::symmetric_difference`].
+impl BitXor for MemoryPropertyFlags {
+    type Output = MemoryPropertyFlags;
+
+    ghost bitxor_gives = { λ a b r. property_bits r ≡ bit_xor (property_bits a) (property_bits b) };
+
+    fn bitxor(self, other: MemoryPropertyFlags) -> MemoryPropertyFlags {
+        self.symmetric_difference(other)
+    }
+}
+
+impl BitXorAssign for MemoryPropertyFlags {
+    ghost bitxor_assign_gives = { λ a b r. property_bits r ≡ bit_xor (property_bits a) (property_bits b) };
+
+    fn bitxor_assign(&mut self, other: MemoryPropertyFlags) {
+        *self = self.symmetric_difference(other);
+    }
+}
+
+/// These bits without those of the other, as [`MemoryPropertyFlags::difference`].
+impl Sub for MemoryPropertyFlags {
+    type Output = MemoryPropertyFlags;
+
+    ghost sub_gives = { λ a b r. property_bits r ≡ bits_without (property_bits a) (property_bits b) };
+
+    fn sub(self, other: MemoryPropertyFlags) -> MemoryPropertyFlags {
+        self.difference(other)
+    }
+}
+
+impl SubAssign for MemoryPropertyFlags {
+    ghost sub_assign_gives = { λ a b r. property_bits r ≡ bits_without (property_bits a) (property_bits b) };
+
+    fn sub_assign(&mut self, other: MemoryPropertyFlags) {
+        *self = self.difference(other);
+    }
+}
+
+/// The flags with a name that are not set here, as [`MemoryPropertyFlags::complement`].
+impl Not for MemoryPropertyFlags {
+    type Output = MemoryPropertyFlags;
+
+    ghost not_gives = { λ a r. property_bits r ≡ bits_without named_property_bits (property_bits a) };
+
+    fn not(self) -> MemoryPropertyFlags {
+        self.complement()
+    }
+}
+
+impl MemoryPropertyFlags {
+    // The flags that have a name.
+    const FLAGS: &'static [Flag<MemoryPropertyFlags>] = &[
+        Flag {
+            name: "DEVICE_LOCAL",
+            value: MemoryPropertyFlags::DEVICE_LOCAL,
+        },
+        Flag {
+            name: "HOST_VISIBLE",
+            value: MemoryPropertyFlags::HOST_VISIBLE,
+        },
+        Flag {
+            name: "HOST_COHERENT",
+            value: MemoryPropertyFlags::HOST_COHERENT,
+        },
+        Flag {
+            name: "HOST_CACHED",
+            value: MemoryPropertyFlags::HOST_CACHED,
+        },
+        Flag {
+            name: "LAZILY_ALLOCATED",
+            value: MemoryPropertyFlags::LAZILY_ALLOCATED,
+        },
+        Flag {
+            name: "PROTECTED",
+            value: MemoryPropertyFlags::PROTECTED,
+        },
+    ];
+}
+
+impl Flags for MemoryPropertyFlags {
+    type Bits = u8;
+
+    ghost exact = { ⊤ };
+
+    ghost table = { (codes "DEVICE_LOCAL", 1) ∷ (codes "HOST_VISIBLE", 2) ∷ (codes "HOST_COHERENT", 4) ∷ (codes "HOST_CACHED", 8) ∷ (codes "LAZILY_ALLOCATED", 16) ∷ (codes "PROTECTED", 32) ∷ [] };
+
+    ghost set_of = { property_bits };
+
+    fn flags<'a>() -> &'a [Flag<MemoryPropertyFlags>] {
+        MemoryPropertyFlags::FLAGS
+    }
+
+    fn bits(&self) -> u8 {
+        MemoryPropertyFlags::bits(self)
+    }
+
+    fn from_bits_retain(bits: u8) -> MemoryPropertyFlags {
+        MemoryPropertyFlags::from_bits_retain(bits)
     }
 }
 
