@@ -71,7 +71,7 @@ impl<A: Allocator> Limits<A> {
         if self.buffer_device_address {
             AllocationFlags::DEVICE_ADDRESS
         } else {
-            AllocationFlags::from_bits_retain(0)
+            AllocationFlags::empty()
         }
     }
 }

@@ -84,15 +84,16 @@ impl MemoryForUsage {
 fn meaning(usage: UsageFlags) -> UsageFlags
     ensures { usage_bits result ≡ implied (usage_bits usage) }
 {
-    let named = match usage.bits() & NAMED {
-        0 => UsageFlags::FAST_DEVICE_ACCESS.bits(),
-        flags => flags,
-    };
-    let carries = UsageFlags::DOWNLOAD.bits() | UsageFlags::UPLOAD.bits();
-    if named & carries == 0 {
-        UsageFlags::from_bits_retain(named)
+    let named = UsageFlags::from_bits_retain(usage.bits() & NAMED);
+    let wanted = if named.is_empty() {
+        UsageFlags::FAST_DEVICE_ACCESS
     } else {
-        UsageFlags::from_bits_retain(named | UsageFlags::HOST_ACCESS.bits())
+        named
+    };
+    if wanted.intersects(UsageFlags::DOWNLOAD | UsageFlags::UPLOAD) {
+        wanted | UsageFlags::HOST_ACCESS
+    } else {
+        wanted
     }
 }
 

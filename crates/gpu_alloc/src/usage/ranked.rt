@@ -110,24 +110,21 @@ fn has_key(usage: UsageFlags, key: u8, memory_type: MemoryType) -> bool
 fn is_compatible(usage: UsageFlags, props: MemoryPropertyFlags) -> bool
     ensures { result ≡ compatible (usage_bits usage) (property_bits props) }
 {
-    let unused = MemoryPropertyFlags::LAZILY_ALLOCATED.bits()
-        | MemoryPropertyFlags::PROTECTED.bits();
-    let visible = MemoryPropertyFlags::HOST_VISIBLE.bits();
-    props.bits() & unused == 0 && (!is_by_host(usage) || props.bits() & visible != 0)
+    let unused = MemoryPropertyFlags::LAZILY_ALLOCATED | MemoryPropertyFlags::PROTECTED;
+    let visible = props.intersects(MemoryPropertyFlags::HOST_VISIBLE);
+    !props.intersects(unused) && (!is_by_host(usage) || visible)
 }
 
 /// How far memory with these properties is from what a usage wants, from 0 to 15.
 fn distance(usage: UsageFlags, props: MemoryPropertyFlags) -> u8
     ensures { result ≡ key (usage_bits usage) (property_bits props) }
 {
-    let has = props.bits();
-    let wants = usage.bits();
-    let local = has & MemoryPropertyFlags::DEVICE_LOCAL.bits() != 0;
-    let visible = has & MemoryPropertyFlags::HOST_VISIBLE.bits() != 0;
-    let cached = has & MemoryPropertyFlags::HOST_CACHED.bits() != 0;
-    let coherent = has & MemoryPropertyFlags::HOST_COHERENT.bits() != 0;
-    let downloads = wants & UsageFlags::DOWNLOAD.bits() != 0;
-    let carries = wants & (UsageFlags::DOWNLOAD.bits() | UsageFlags::UPLOAD.bits()) != 0;
+    let local = props.intersects(MemoryPropertyFlags::DEVICE_LOCAL);
+    let visible = props.intersects(MemoryPropertyFlags::HOST_VISIBLE);
+    let cached = props.intersects(MemoryPropertyFlags::HOST_CACHED);
+    let coherent = props.intersects(MemoryPropertyFlags::HOST_COHERENT);
+    let downloads = usage.intersects(UsageFlags::DOWNLOAD);
+    let carries = usage.intersects(UsageFlags::DOWNLOAD | UsageFlags::UPLOAD);
     cost(8, local, is_fast(usage))
         + cost(4, visible, is_by_host(usage))
         + cost(2, cached, downloads)
@@ -145,15 +142,12 @@ fn cost(worth: u8, has: bool, wants: bool) -> u8
 fn is_by_host(usage: UsageFlags) -> bool
     ensures { result ≡ by_host (usage_bits usage) }
 {
-    let host = UsageFlags::HOST_ACCESS.bits()
-        | UsageFlags::DOWNLOAD.bits()
-        | UsageFlags::UPLOAD.bits();
-    usage.bits() & host != 0
+    usage.intersects(UsageFlags::HOST_ACCESS | UsageFlags::DOWNLOAD | UsageFlags::UPLOAD)
 }
 
 /// Whether the device's own memory is wanted.
 fn is_fast(usage: UsageFlags) -> bool
     ensures { result ≡ is_fast (usage_bits usage) }
 {
-    usage.bits() == 0 || usage.bits() & UsageFlags::FAST_DEVICE_ACCESS.bits() != 0
+    usage.is_empty() || usage.intersects(UsageFlags::FAST_DEVICE_ACCESS)
 }
