@@ -13,9 +13,9 @@ use Rattle.gpu_alloc.specs.State.{Span, span_of, HeldObject, Block, State, IsLiv
 use Rattle.gpu_alloc.specs.declared.block.Kind.TheVariants.{Dedicated as DedicatedObject}
 use Rattle.gpu_alloc.specs.declared.request.Request.{Request}
 use Rattle.gpu_alloc.specs.declared.request.Dedicated.TheVariants.{Required}
+use Rattle.gpu_alloc.proofs.LiveSpans.{live_still, live_before}
 use Rattle.gpu_session.specs.Sound.{IsBlock, IsSound, AreWholeObjects, HoldsWholeObjects, IsKept}
-use Rattle.gpu_session.proofs.Names.{here, wherever, put-cases, get_put, get_put-other}
-use Rattle.gpu_session.proofs.Order.{put_in, put_in-kept, one_or_two}
+use Rattle.gpu_session.proofs.Names.{one_or_two, here, wherever, put-cases, get_put, get_put-other}
 
 -- an object of its own, held with the block in it
 abbrev pub owned_object : ℕ → ℕ → HeldObject
@@ -109,10 +109,10 @@ module _ {s : State} {blocks : finite.FinMap nat_cmp Block} {r : Request} {name 
   held_new = ap (λ (t : State). finite.get t.held b.object) g.whole.state ∙ get_put s.held b.object (owned_object g.whole.of_type r.size)
 
   live_kept : (span : Span) → IsLive s span → IsLive new span
-  live_kept span live = subst (λ (t : State). IsLive t span) (sym g.whole.state) (put_in-kept s.live (span_of b) span live)
+  live_kept span live = subst (λ (t : State). IsLive t span) (sym g.whole.state) (live_still s.live (span_of b) span live)
 
   live_cases : (span : Span) → IsLive new span → (span ≡ span_of b) ⊎ IsLive s span
-  live_cases span live = put_in s.live (span_of b) span (subst (λ (t : State). IsLive t span) g.whole.state live)
+  live_cases span live = live_before s.live (span_of b) span (subst (λ (t : State). IsLive t span) g.whole.state live)
 
   kept : (c : Block) → c.object ≢ b.object → IsBlock s before c → IsBlock new after c
   kept c ne k = record {

@@ -3,6 +3,5 @@ pub mod Finished
 pub mod Grants
 pub mod Names
 pub mod Openings
-pub mod Order
 pub mod Returns
 pub mod Runs

@@ -1,13 +1,31 @@
 -- A finite map by name, as an `IndexMap` keeps it.
 use Rattle.std.proofs.Common.{◌≡◌, ◌≢◌, ◌⊎◌, inl, inr, ℕ, ◌+◌, ◌-◌, ◌<◌, Bool, true, false, cond, ◌==◌, List, [], ◌∷◌, ◌++◌, length, Option, Some, None, refl, sym, ◌∙◌, ap, subst, arith, nat_eq}
 use Rattle.std.proofs.lemmas.Bool.Decides.{nat_tests}
-use Rattle.std.specs.Ordering.{nat_cmp}
+use Rattle.std.specs.Ordering.{nat_cmp, eq_by_cmp}
 use Rattle.std.specs.Cmp.{nat_cmp_total}
 use Rattle.std.specs.Map.{lookup}
 use Rattle.std.specs.Option.{IfSome, IsSome, is_some}
 use Rattle.std.specs.FinMap as finite
 use Rattle.std.specs.FinMap.{nat_cmp-IsAntisymmetric}
-use Rattle.gpu_session.proofs.Order.{name_test, same_name, other_name, one_or_two}
+
+name_test : (q name : ℕ) → eq_by_cmp nat_cmp q name ≡ (q == name)
+name_test q name = grind (arith, nat_tests)
+
+same_name : (a b : ℕ) → a ≡ b → (a == b) ≡ true
+same_name a b e = grind (arith, nat_tests)
+
+other_name : (a b : ℕ) → a ≢ b → (a == b) ≡ false
+other_name a b ne = grind (arith, nat_tests)
+
+-- two names are one or two
+pub one_or_two : (a b : ℕ) → (a ≡ b) ⊎ (a ≢ b)
+one_or_two a b = elim (a == b) as (λ t. (a == b) ≡ t → (a ≡ b) ⊎ (a ≢ b)) [ true ↦ λ e. inl (one e) | false ↦ λ e. inr (two e) ] refl
+  where
+    one : (a == b) ≡ true → a ≡ b
+    one e = grind (arith, nat_tests)
+
+    two : (a == b) ≡ false → a ≢ b
+    two e = grind (arith, nat_tests)
 
 module _ {X : Type 0} where
   -- what holds of a value that may be there, of the value that is

@@ -12,9 +12,9 @@ use Rattle.gpu_alloc.specs.Release.{Frees, GoesWith, without_span}
 use Rattle.gpu_alloc.specs.State.{Span, span_of, Block, State, IsLive}
 use Rattle.gpu_alloc.specs.declared.block.Kind.{Kind}
 use Rattle.gpu_alloc.specs.declared.block.Kind.TheVariants.{Dedicated as DedicatedObject}
+use Rattle.gpu_alloc.proofs.LiveSpans.{live_kept as span_kept, live_other}
 use Rattle.gpu_session.specs.Sound.{IsBlock, IsSound, AreWholeObjects, HoldsWholeObjects, IsKept}
-use Rattle.gpu_session.proofs.Names.{here, wherever, removed-cases, get_removed, get_removed-other}
-use Rattle.gpu_session.proofs.Order.{taken_out, taken_out-kept, one_or_two}
+use Rattle.gpu_session.proofs.Names.{one_or_two, here, wherever, removed-cases, get_removed, get_removed-other}
 
 -- one object is held no more, and its block is live no more
 abbrev pub letting_go : State → Block → State
@@ -61,10 +61,10 @@ module _ {s : State} {blocks : finite.FinMap nat_cmp Block} {name : ℕ} {b : Bl
   held_no_more = ap (λ (t : State). finite.get t.held b.object) r.state ∙ get_removed s.held b.object
 
   live_kept : (span : Span) → span ≢ span_of b → IsLive s span → IsLive new span
-  live_kept span ne live = subst (λ (t : State). IsLive t span) (sym r.state) (taken_out-kept s.live (span_of b) span ne live)
+  live_kept span ne live = subst (λ (t : State). IsLive t span) (sym r.state) (span_kept s.live (span_of b) span ne live)
 
   live_before : (span : Span) → IsLive new span → (span ≢ span_of b) × IsLive s span
-  live_before span live = taken_out s.live (span_of b) span (subst (λ (t : State). IsLive t span) r.state live)
+  live_before span live = live_other s.live (span_of b) span (subst (λ (t : State). IsLive t span) r.state live)
 
   elsewhere : (span : Span) → span.object ≢ b.object → span ≢ span_of b
   elsewhere span ne is = ne (ap (λ (x : Span). x.object) is)

@@ -1,7 +1,10 @@
-//! Laws of runs, over the definitions alone. The functions do nothing.
+//! Laws of runs and faults, over the definitions alone. The functions do nothing.
 
-ghost use Rattle.std.specs.Prelude.{◌++◌, List};
+ghost use Rattle.std.specs.Prelude.{◌≡◌, ◌++◌, ◌↔◌, Bool, List, None};
+ghost use Rattle.gpu_alloc.specs.Request.{IsAskable};
+ghost use Rattle.gpu_alloc.specs.declared.request.Request.{Request};
 ghost use Rattle.gpu_session.specs.Books.{SessionState};
+ghost use Rattle.gpu_session.specs.Faults.{fault_of_request};
 ghost use Rattle.gpu_session.specs.Run.{Step, Run};
 ghost use Rattle.gpu_session.specs.declared.command.Command.{Command as ACommand};
 ghost use Rattle.gpu_session.specs.declared.command.Reply.{Reply as AReply};
@@ -12,4 +15,9 @@ use std::alloc::Allocator;
 /// Two runs, one after the other, are a run of the joined lists.
 pub fn runs_join<M: MemoryObject, D: MemoryDevice<M>, A: Allocator>()
     ensures { (old mid new : SessionState D) (commands later : List (ACommand A)) (replies answers : List (AReply A)) → Run (Step D.step) old commands replies mid → Run (Step D.step) mid later answers new → Run (Step D.step) old (commands ++ later) (replies ++ answers) new }
+{}
+
+/// A request has no fault exactly where an allocator can be asked for it.
+pub fn askable_is_without_fault()
+    ensures { (address : Bool) (r : Request) → (fault_of_request address r ≡ None) ↔ IsAskable address r }
 {}

@@ -1,5 +1,5 @@
 use Rattle.std.proofs.Common.{[], None, refl, sym, ◌∙◌, inl, inr}
-use Rattle.gpu_session.proofs.Conditions.{unnamed, in_use, without_fault, asks_for_some}
+use Rattle.gpu_session.proofs.Conditions.{unnamed, in_use, without_fault, faultless_is_askable}
 use Rattle.gpu_session.proofs.Grants.{from_allocates, grant_is_kept}
 use Rattle.gpu_session.proofs.Names.{put_by_name}
 use Rattle.gpu_session.proofs.session.Session.dedicated.Goals as goal
@@ -25,7 +25,7 @@ invariant_of-self-in-Ok g c =
     rw put
     (grant_is_kept {r = c.args.request} c.self.invariant (record {
       free = unnamed _ _ (sym c.contains_key.ensures ∙ c.if-contains_key.false);
-      nonempty = asks_for_some c.self.inside.buffer_device_address c.args.request (sym c.in_default.ensures);
+      nonempty = ((faultless_is_askable c.self.inside.buffer_device_address c.args.request).0 (sym c.in_default.ensures)).nonempty;
       whole = from_allocates c.self.inside.allocator c.args.request decided.0 c.in-Ok.block c.alloc_with_dedicated.new.self (rw c.requires.required at decided.2);
       granted = c.in-Ok.ensures.granted;
       objects = c.in-Ok.ensures.objects;
