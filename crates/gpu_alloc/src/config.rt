@@ -3,6 +3,8 @@
 ghost use Rattle.std.specs.Prelude.{◌≡◌};
 ghost use Rattle.gpu_alloc.specs.Config.{potato, prototyping};
 
+use serde::{Deserialize, Serialize};
+
 /// 1024 bytes.
 const KIBIBYTE: u64 = 1 << 10;
 
@@ -10,7 +12,11 @@ const KIBIBYTE: u64 = 1 << 10;
 const MEBIBYTE: u64 = 1 << 20;
 
 /// The sizes by which an allocator decides, all in bytes. Any values will do, 0 among them.
-#[derive(Clone, Copy, Debug, PartialEq, Eq)]
+///
+/// `serde` writes it by the names of its fields, and reads them in any order, or a list of the seven values. A text
+/// that lacks a field, has one twice, or has a value that is no `u64` is an error; a field of another name is skipped,
+/// as in the original crate.
+#[derive(Clone, Copy, Debug, PartialEq, Eq, Serialize, Deserialize)]
 pub struct Config {
     /// A request of at least this size, or of the 32nd part of its heap where that is less, gets a memory object of its
     /// own. A low value soon uses up the number of objects that a device allows.

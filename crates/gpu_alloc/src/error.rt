@@ -1,9 +1,9 @@
-//! Why an allocation is refused.
+//! Why an allocation or a mapping is refused.
 
 ghost use Rattle.std.specs.Prelude.{◌≡◌, Some};
-ghost use Rattle.gpu_alloc.specs.Errors.{allocation_text, like_memory};
+ghost use Rattle.gpu_alloc.specs.Errors.{allocation_text, like_memory, map_like_device, map_like_memory, map_text};
 
-use gpu_alloc_types::OutOfMemory;
+use gpu_alloc_types::{DeviceMapError, OutOfMemory};
 use std::error::Error;
 use std::fmt;
 
@@ -59,6 +59,70 @@ impl From<OutOfMemory> for AllocationError {
     }
 }
 
+/// Why a mapping is refused. A block that was not mapped is then still not mapped, and a device that refused to map is
+/// asked nothing further.
+#[derive(Clone, Copy, Debug, PartialEq, Eq, Hash)]
+pub enum MapError {
+    /// The device's memory is exhausted. To give memory of the same heap back may help.
+    OutOfDeviceMemory,
+
+    /// The host's memory is exhausted. To give memory of the host back may help.
+    OutOfHostMemory,
+
+    /// The host doesn't see the block's memory type; the device is asked nothing. A request whose block is to be mapped
+    /// should have `HOST_ACCESS` of [`UsageFlags`](crate::UsageFlags) in its usage.
+    NonHostVisible,
+
+    /// The device failed to map for a reason of its own, as where it finds no range of addresses that is large enough
+    /// (Vulkan's `VK_ERROR_MEMORY_MAP_FAILED`).
+    MapFailed,
+
+    /// The block is mapped already, and stays so; the device is asked nothing. To unmap it first helps.
+    AlreadyMapped,
+}
+
+/// One line with no full stop, fixed for each variant.
+impl fmt::Display for MapError {
+    ghost output = { λ e. Some (map_text e) };
+
+    fn fmt<W: fmt::Write>(&self, f: &mut fmt::Formatter<W>) -> fmt::Result {
+        match self {
+            MapError::OutOfDeviceMemory => write!(f, "Device memory exhausted"),
+            MapError::OutOfHostMemory => write!(f, "Host memory exhausted"),
+            MapError::NonHostVisible => write!(f, "Impossible to map non-host-visible memory"),
+            MapError::MapFailed => write!(f, "Failed to map memory object"),
+            MapError::AlreadyMapped => write!(f, "Block is already mapped"),
+        }
+    }
+}
+
+impl Error for MapError {}
+
+/// A device's refusal to map becomes the mapping's, by the same name.
+impl From<DeviceMapError> for MapError {
+    ghost from_gives = { λ cause e. e ≡ map_like_device cause };
+
+    fn from(cause: DeviceMapError) -> MapError {
+        match cause {
+            DeviceMapError::OutOfDeviceMemory => MapError::OutOfDeviceMemory,
+            DeviceMapError::OutOfHostMemory => MapError::OutOfHostMemory,
+            DeviceMapError::MapFailed => MapError::MapFailed,
+        }
+    }
+}
+
+/// A refusal of memory becomes the mapping's, by the same name.
+impl From<OutOfMemory> for MapError {
+    ghost from_gives = { λ cause e. e ≡ map_like_memory cause };
+
+    fn from(cause: OutOfMemory) -> MapError {
+        match cause {
+            OutOfMemory::OutOfDeviceMemory => MapError::OutOfDeviceMemory,
+            OutOfMemory::OutOfHostMemory => MapError::OutOfHostMemory,
+        }
+    }
+}
+
 #[cfg(test)]
 mod tests {
     use super::*;
@@ -83,6 +147,41 @@ mod tests {
                 AllocationError::TooManyObjects,
                 "Reached limit on allocated memory objects count",
             ),
+        ];
+        for (error, text) in cases {
+            assert_eq!(rt; format!(in rt.alloc(); "{error}")?.as_str(), text);
+        }
+        Ok(())
+    }
+
+    #[test]
+    fn map_errors_print_their_texts(rt: HostRuntime) -> Result<(), AllocError> {
+        let cases = [
+            (
+                MapError::from(DeviceMapError::OutOfDeviceMemory),
+                "Device memory exhausted",
+            ),
+            (
+                MapError::from(DeviceMapError::OutOfHostMemory),
+                "Host memory exhausted",
+            ),
+            (
+                MapError::from(DeviceMapError::MapFailed),
+                "Failed to map memory object",
+            ),
+            (
+                MapError::from(OutOfMemory::OutOfDeviceMemory),
+                "Device memory exhausted",
+            ),
+            (
+                MapError::from(OutOfMemory::OutOfHostMemory),
+                "Host memory exhausted",
+            ),
+            (
+                MapError::NonHostVisible,
+                "Impossible to map non-host-visible memory",
+            ),
+            (MapError::AlreadyMapped, "Block is already mapped"),
         ];
         for (error, text) in cases {
             assert_eq!(rt; format!(in rt.alloc(); "{error}")?.as_str(), text);

@@ -14,7 +14,7 @@ mod usage;
 pub use allocator::GpuAllocator;
 pub use block::{Mapping, MemoryBlock};
 pub use config::Config;
-pub use error::AllocationError;
+pub use error::{AllocationError, MapError};
 pub use gpu_alloc_types::{
     AllocationFlags, DeviceMapError, DeviceProperties, MemoryDevice, MemoryHeap, MemoryObject,
     MemoryPropertyFlags, MemoryType, OutOfMemory, UsageFlags,
