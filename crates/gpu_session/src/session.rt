@@ -68,7 +68,7 @@ fn fault_of(request: Request, buffer_device_address: bool) -> Option<Fault>
     if request.align_mask >= 1 << 63 || !(request.align_mask + 1).is_power_of_two() {
         return Some(Fault::BadAlignment);
     }
-    if request.usage.bits() & UsageFlags::DEVICE_ADDRESS.bits() != 0 && !buffer_device_address {
+    if request.usage.intersects(UsageFlags::DEVICE_ADDRESS) && !buffer_device_address {
         return Some(Fault::NoDeviceAddress);
     }
     None
