@@ -1,6 +1,8 @@
-//! What no contract says: what scripts print, that calls succeed with ample memory, and what is left where memory is refused.
+//! What no contract says: what scripts print, that calls succeed with ample memory, what is left where memory is refused,
+//! and configurations as text.
 
 mod allocator;
+mod config;
 mod ends;
 mod memory;
 mod scripts;
