@@ -14,15 +14,15 @@ property_bits flags = flags.bits
 abbrev pub allocation_bits : AllocationFlags → ℕ
 allocation_bits flags = flags.bits
 
--- the bits that have a name: six of usages
+-- the bits of usages that have a name: the six lowest
 abbrev pub named_usage_bits : ℕ
 named_usage_bits = 63
 
--- six of properties
+-- the bits of properties that have a name: the six lowest
 abbrev pub named_property_bits : ℕ
 named_property_bits = 63
 
--- one of what is asked of a device
+-- the bits of what is asked of a device that have a name: the lowest alone
 abbrev pub named_allocation_bits : ℕ
 named_allocation_bits = 1
 

@@ -10,9 +10,9 @@ use std::ops::{
 
 /// What is asked of a device beside a size and a memory type.
 ///
-/// The calls and operators are those of the crate `bitflags`, on which the original crate's flags stand. They keep bits
-/// without a name, but for [`all`](Self::all), [`from_bits`](Self::from_bits),
-/// [`from_bits_truncate`](Self::from_bits_truncate) and [`complement`](Self::complement), whose answers have none.
+/// The calls and operators are those of the crate `bitflags`, on which the original crate's flags stand. A bit without a
+/// name is kept like any other, but [`from_bits`](Self::from_bits) refuses it, and
+/// [`from_bits_truncate`](Self::from_bits_truncate) and [`complement`](Self::complement) drop it.
 #[derive(Clone, Copy, Debug, PartialEq, Eq, Hash, PartialOrd, Ord)]
 pub struct AllocationFlags {
     bits: u8,
@@ -23,14 +23,14 @@ impl AllocationFlags {
     /// the original crate's).
     pub const DEVICE_ADDRESS: AllocationFlags = AllocationFlags { bits: 1 };
 
-    /// No flags.
+    /// The value with no bit set.
     pub fn empty() -> AllocationFlags
         ensures { allocation_bits result ≡ 0 }
     {
         <AllocationFlags as Flags>::empty()
     }
 
-    /// Each flag that has a name.
+    /// All flags that have a name.
     #[tactic(auto, unfolding(bitflags::proofs::OnLiterals::bitflags_on_literals))]
     pub fn all() -> AllocationFlags
         ensures { allocation_bits result ≡ named_allocation_bits }
@@ -45,7 +45,7 @@ impl AllocationFlags {
         self.bits
     }
 
-    /// The flags whose bits are set in `bits`, where each of those has a name, and else `None`.
+    /// The flags whose bits are set in `bits`, or `None` where one of those bits has no name.
     #[tactic(auto, unfolding(bitflags::proofs::OnLiterals::bitflags_on_literals))]
     pub fn from_bits(bits: u8) -> Option<AllocationFlags>
         ensures named { IsSome result ↔ IsTrue (has_all_bits named_allocation_bits bits) }
@@ -125,7 +125,7 @@ impl AllocationFlags {
         <AllocationFlags as Flags>::symmetric_difference(self, other)
     }
 
-    /// The flags with a name that are not set here.
+    /// The flags that have a name and are not set here.
     #[tactic(auto, unfolding(bitflags::proofs::OnLiterals::bitflags_on_literals))]
     pub fn complement(self) -> AllocationFlags
         ensures { allocation_bits result ≡ bits_without named_allocation_bits (allocation_bits self) }
@@ -178,7 +178,7 @@ impl BitOrAssign for AllocationFlags {
     ghost bitor_assign_gives = { λ a b r. allocation_bits r ≡ bit_or (allocation_bits a) (allocation_bits b) };
 
     fn bitor_assign(&mut self, other: AllocationFlags) {
-        *self = self.union(other);
+        *self = *self | other;
     }
 }
 
@@ -197,7 +197,7 @@ impl BitAndAssign for AllocationFlags {
     ghost bitand_assign_gives = { λ a b r. allocation_bits r ≡ bit_and (allocation_bits a) (allocation_bits b) };
 
     fn bitand_assign(&mut self, other: AllocationFlags) {
-        *self = self.intersection(other);
+        *self = *self & other;
     }
 }
 
@@ -216,7 +216,7 @@ impl BitXorAssign for AllocationFlags {
     ghost bitxor_assign_gives = { λ a b r. allocation_bits r ≡ bit_xor (allocation_bits a) (allocation_bits b) };
 
     fn bitxor_assign(&mut self, other: AllocationFlags) {
-        *self = self.symmetric_difference(other);
+        *self = *self ^ other;
     }
 }
 
@@ -235,11 +235,11 @@ impl SubAssign for AllocationFlags {
     ghost sub_assign_gives = { λ a b r. allocation_bits r ≡ bits_without (allocation_bits a) (allocation_bits b) };
 
     fn sub_assign(&mut self, other: AllocationFlags) {
-        *self = self.difference(other);
+        *self = *self - other;
     }
 }
 
-/// The flags with a name that are not set here, as [`AllocationFlags::complement`].
+/// The flags that have a name and are not set here, as [`AllocationFlags::complement`].
 impl Not for AllocationFlags {
     type Output = AllocationFlags;
 
@@ -252,12 +252,10 @@ impl Not for AllocationFlags {
 
 impl AllocationFlags {
     // The flags that have a name.
-    const FLAGS: &'static [Flag<AllocationFlags>] = &[
-        Flag {
-            name: "DEVICE_ADDRESS",
-            value: AllocationFlags::DEVICE_ADDRESS,
-        },
-    ];
+    const FLAGS: &'static [Flag<AllocationFlags>] = &[Flag {
+        name: "DEVICE_ADDRESS",
+        value: AllocationFlags::DEVICE_ADDRESS,
+    }];
 }
 
 impl Flags for AllocationFlags {

@@ -3,6 +3,7 @@
 
 mod allocation_flags;
 mod device;
+pub mod laws;
 mod memory_property_flags;
 mod types;
 mod usage_flags;
@@ -12,3 +13,6 @@ pub use device::{MemoryDevice, MemoryObject};
 pub use memory_property_flags::MemoryPropertyFlags;
 pub use types::{DeviceMapError, DeviceProperties, MemoryHeap, MemoryType, OutOfMemory};
 pub use usage_flags::UsageFlags;
+
+#[cfg(test)]
+mod tests;

@@ -10,9 +10,9 @@ use std::ops::{
 
 /// The properties of a memory type (Vulkan's `VkMemoryPropertyFlagBits`, with its numbers).
 ///
-/// The calls and operators are those of the crate `bitflags`, on which the original crate's flags stand. They keep bits
-/// without a name, but for [`all`](Self::all), [`from_bits`](Self::from_bits),
-/// [`from_bits_truncate`](Self::from_bits_truncate) and [`complement`](Self::complement), whose answers have none.
+/// The calls and operators are those of the crate `bitflags`, on which the original crate's flags stand. A bit without a
+/// name is kept like any other, but [`from_bits`](Self::from_bits) refuses it, and
+/// [`from_bits_truncate`](Self::from_bits_truncate) and [`complement`](Self::complement) drop it.
 #[derive(Clone, Copy, Debug, PartialEq, Eq, Hash, PartialOrd, Ord)]
 pub struct MemoryPropertyFlags {
     bits: u8,
@@ -37,14 +37,14 @@ impl MemoryPropertyFlags {
     /// Only protected queues may use it. The allocator never uses such a type.
     pub const PROTECTED: MemoryPropertyFlags = MemoryPropertyFlags { bits: 32 };
 
-    /// No flags.
+    /// The value with no bit set.
     pub fn empty() -> MemoryPropertyFlags
         ensures { property_bits result ≡ 0 }
     {
         <MemoryPropertyFlags as Flags>::empty()
     }
 
-    /// Each flag that has a name.
+    /// All flags that have a name.
     #[tactic(auto, unfolding(bitflags::proofs::OnLiterals::bitflags_on_literals))]
     pub fn all() -> MemoryPropertyFlags
         ensures { property_bits result ≡ named_property_bits }
@@ -59,7 +59,7 @@ impl MemoryPropertyFlags {
         self.bits
     }
 
-    /// The flags whose bits are set in `bits`, where each of those has a name, and else `None`.
+    /// The flags whose bits are set in `bits`, or `None` where one of those bits has no name.
     #[tactic(auto, unfolding(bitflags::proofs::OnLiterals::bitflags_on_literals))]
     pub fn from_bits(bits: u8) -> Option<MemoryPropertyFlags>
         ensures named { IsSome result ↔ IsTrue (has_all_bits named_property_bits bits) }
@@ -139,7 +139,7 @@ impl MemoryPropertyFlags {
         <MemoryPropertyFlags as Flags>::symmetric_difference(self, other)
     }
 
-    /// The flags with a name that are not set here.
+    /// The flags that have a name and are not set here.
     #[tactic(auto, unfolding(bitflags::proofs::OnLiterals::bitflags_on_literals))]
     pub fn complement(self) -> MemoryPropertyFlags
         ensures { property_bits result ≡ bits_without named_property_bits (property_bits self) }
@@ -192,7 +192,7 @@ impl BitOrAssign for MemoryPropertyFlags {
     ghost bitor_assign_gives = { λ a b r. property_bits r ≡ bit_or (property_bits a) (property_bits b) };
 
     fn bitor_assign(&mut self, other: MemoryPropertyFlags) {
-        *self = self.union(other);
+        *self = *self | other;
     }
 }
 
@@ -211,7 +211,7 @@ impl BitAndAssign for MemoryPropertyFlags {
     ghost bitand_assign_gives = { λ a b r. property_bits r ≡ bit_and (property_bits a) (property_bits b) };
 
     fn bitand_assign(&mut self, other: MemoryPropertyFlags) {
-        *self = self.intersection(other);
+        *self = *self & other;
     }
 }
 
@@ -230,7 +230,7 @@ impl BitXorAssign for MemoryPropertyFlags {
     ghost bitxor_assign_gives = { λ a b r. property_bits r ≡ bit_xor (property_bits a) (property_bits b) };
 
     fn bitxor_assign(&mut self, other: MemoryPropertyFlags) {
-        *self = self.symmetric_difference(other);
+        *self = *self ^ other;
     }
 }
 
@@ -249,11 +249,11 @@ impl SubAssign for MemoryPropertyFlags {
     ghost sub_assign_gives = { λ a b r. property_bits r ≡ bits_without (property_bits a) (property_bits b) };
 
     fn sub_assign(&mut self, other: MemoryPropertyFlags) {
-        *self = self.difference(other);
+        *self = *self - other;
     }
 }
 
-/// The flags with a name that are not set here, as [`MemoryPropertyFlags::complement`].
+/// The flags that have a name and are not set here, as [`MemoryPropertyFlags::complement`].
 impl Not for MemoryPropertyFlags {
     type Output = MemoryPropertyFlags;
 

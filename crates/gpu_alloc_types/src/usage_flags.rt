@@ -10,9 +10,9 @@ use std::ops::{
 
 /// What memory is used for (the original crate's `UsageFlags`).
 ///
-/// The calls and operators are those of the crate `bitflags`, on which the original crate's flags stand. They keep bits
-/// without a name, but for [`all`](Self::all), [`from_bits`](Self::from_bits),
-/// [`from_bits_truncate`](Self::from_bits_truncate) and [`complement`](Self::complement), whose answers have none.
+/// The calls and operators are those of the crate `bitflags`, on which the original crate's flags stand. A bit without a
+/// name is kept like any other, but [`from_bits`](Self::from_bits) refuses it, and
+/// [`from_bits_truncate`](Self::from_bits_truncate) and [`complement`](Self::complement) drop it.
 #[derive(Clone, Copy, Debug, PartialEq, Eq, Hash, PartialOrd, Ord)]
 pub struct UsageFlags {
     bits: u8,
@@ -37,14 +37,14 @@ impl UsageFlags {
     /// The device addresses it by a `u64`.
     pub const DEVICE_ADDRESS: UsageFlags = UsageFlags { bits: 0x20 };
 
-    /// No flags.
+    /// The value with no bit set.
     pub fn empty() -> UsageFlags
         ensures { usage_bits result ≡ 0 }
     {
         <UsageFlags as Flags>::empty()
     }
 
-    /// Each flag that has a name.
+    /// All flags that have a name.
     #[tactic(auto, unfolding(bitflags::proofs::OnLiterals::bitflags_on_literals))]
     pub fn all() -> UsageFlags
         ensures { usage_bits result ≡ named_usage_bits }
@@ -59,7 +59,7 @@ impl UsageFlags {
         self.bits
     }
 
-    /// The flags whose bits are set in `bits`, where each of those has a name, and else `None`.
+    /// The flags whose bits are set in `bits`, or `None` where one of those bits has no name.
     #[tactic(auto, unfolding(bitflags::proofs::OnLiterals::bitflags_on_literals))]
     pub fn from_bits(bits: u8) -> Option<UsageFlags>
         ensures named { IsSome result ↔ IsTrue (has_all_bits named_usage_bits bits) }
@@ -139,7 +139,7 @@ impl UsageFlags {
         <UsageFlags as Flags>::symmetric_difference(self, other)
     }
 
-    /// The flags with a name that are not set here.
+    /// The flags that have a name and are not set here.
     #[tactic(auto, unfolding(bitflags::proofs::OnLiterals::bitflags_on_literals))]
     pub fn complement(self) -> UsageFlags
         ensures { usage_bits result ≡ bits_without named_usage_bits (usage_bits self) }
@@ -192,7 +192,7 @@ impl BitOrAssign for UsageFlags {
     ghost bitor_assign_gives = { λ a b r. usage_bits r ≡ bit_or (usage_bits a) (usage_bits b) };
 
     fn bitor_assign(&mut self, other: UsageFlags) {
-        *self = self.union(other);
+        *self = *self | other;
     }
 }
 
@@ -211,7 +211,7 @@ impl BitAndAssign for UsageFlags {
     ghost bitand_assign_gives = { λ a b r. usage_bits r ≡ bit_and (usage_bits a) (usage_bits b) };
 
     fn bitand_assign(&mut self, other: UsageFlags) {
-        *self = self.intersection(other);
+        *self = *self & other;
     }
 }
 
@@ -230,7 +230,7 @@ impl BitXorAssign for UsageFlags {
     ghost bitxor_assign_gives = { λ a b r. usage_bits r ≡ bit_xor (usage_bits a) (usage_bits b) };
 
     fn bitxor_assign(&mut self, other: UsageFlags) {
-        *self = self.symmetric_difference(other);
+        *self = *self ^ other;
     }
 }
 
@@ -249,11 +249,11 @@ impl SubAssign for UsageFlags {
     ghost sub_assign_gives = { λ a b r. usage_bits r ≡ bits_without (usage_bits a) (usage_bits b) };
 
     fn sub_assign(&mut self, other: UsageFlags) {
-        *self = self.difference(other);
+        *self = *self - other;
     }
 }
 
-/// The flags with a name that are not set here, as [`UsageFlags::complement`].
+/// The flags that have a name and are not set here, as [`UsageFlags::complement`].
 impl Not for UsageFlags {
     type Output = UsageFlags;
 

@@ -1,0 +1,103 @@
+//! Laws of what the flag types derive and of how generic code sees them, by their numbers. The functions do nothing.
+
+ghost use Rattle.std.specs.Prelude.{◌≡◌, ◌<◌, ◌↔◌, [], ◌∷◌, IsTrue, Some};
+ghost use Rattle.std.specs.Ordering.{nat_cmp, partial_lt};
+ghost use Rattle.bitflags.specs.Sets.{known_bits};
+ghost use Rattle.gpu_alloc_types.specs.Flags.{usage_bits, property_bits, allocation_bits, named_usage_bits, named_property_bits, named_allocation_bits};
+
+use crate::{AllocationFlags, MemoryPropertyFlags, UsageFlags};
+use bitflags::Flags;
+use std::hash::Hash;
+
+/// `==` on [`UsageFlags`] holds exactly where the numbers are equal.
+pub fn usage_equality()
+    ensures { (a b : UsageFlags) → IsTrue (⟦<UsageFlags as PartialEq>⟧.eq a b) ↔ (usage_bits a ≡ usage_bits b) }
+{}
+
+/// `cmp`, `partial_cmp` and `<` on [`UsageFlags`] go by the numbers.
+pub fn usage_order()
+    ensures total { (a b : UsageFlags) → ⟦<UsageFlags as Ord>⟧.cmp a b ≡ nat_cmp (usage_bits a) (usage_bits b) }
+    ensures partial { (a b : UsageFlags) → ⟦<UsageFlags as PartialOrd>⟧.partial_cmp a b ≡ Some (nat_cmp (usage_bits a) (usage_bits b)) }
+    ensures less { (a b : UsageFlags) → IsTrue (partial_lt ⟦<UsageFlags as PartialOrd>⟧.partial_cmp a b) ↔ (usage_bits a < usage_bits b) }
+{}
+
+/// A clone of [`UsageFlags`] never fails and has the same number.
+pub fn usage_clone()
+    ensures infallible { (a : UsageFlags) → ⟦<UsageFlags as Clone>⟧.is_infallible a }
+    ensures same { (a b : UsageFlags) → ⟦<UsageFlags as Clone>⟧.is_clone a b → usage_bits b ≡ usage_bits a }
+{}
+
+/// A hasher is given the number of [`UsageFlags`] as one byte, and no more.
+pub fn usage_hash()
+    ensures { (a : UsageFlags) → ⟦<UsageFlags as Hash>⟧.hash_input a ≡ (usage_bits a ∷ []) ∷ [] }
+{}
+
+/// Code that is generic over [`Flags`] sees the same number of [`UsageFlags`], and the same bits with a name.
+#[tactic(auto, unfolding(bitflags::proofs::OnLiterals::bitflags_on_literals))]
+pub fn usage_as_flags()
+    ensures exact { ⟦<UsageFlags as Flags>⟧.exact }
+    ensures number { (a : UsageFlags) → ⟦<UsageFlags as Flags>⟧.set_of a ≡ usage_bits a }
+    ensures named { known_bits ⟦<UsageFlags as Flags>⟧.table ≡ named_usage_bits }
+{}
+
+/// `==` on [`MemoryPropertyFlags`] holds exactly where the numbers are equal.
+pub fn property_equality()
+    ensures { (a b : MemoryPropertyFlags) → IsTrue (⟦<MemoryPropertyFlags as PartialEq>⟧.eq a b) ↔ (property_bits a ≡ property_bits b) }
+{}
+
+/// `cmp`, `partial_cmp` and `<` on [`MemoryPropertyFlags`] go by the numbers.
+pub fn property_order()
+    ensures total { (a b : MemoryPropertyFlags) → ⟦<MemoryPropertyFlags as Ord>⟧.cmp a b ≡ nat_cmp (property_bits a) (property_bits b) }
+    ensures partial { (a b : MemoryPropertyFlags) → ⟦<MemoryPropertyFlags as PartialOrd>⟧.partial_cmp a b ≡ Some (nat_cmp (property_bits a) (property_bits b)) }
+    ensures less { (a b : MemoryPropertyFlags) → IsTrue (partial_lt ⟦<MemoryPropertyFlags as PartialOrd>⟧.partial_cmp a b) ↔ (property_bits a < property_bits b) }
+{}
+
+/// A clone of [`MemoryPropertyFlags`] never fails and has the same number.
+pub fn property_clone()
+    ensures infallible { (a : MemoryPropertyFlags) → ⟦<MemoryPropertyFlags as Clone>⟧.is_infallible a }
+    ensures same { (a b : MemoryPropertyFlags) → ⟦<MemoryPropertyFlags as Clone>⟧.is_clone a b → property_bits b ≡ property_bits a }
+{}
+
+/// A hasher is given the number of [`MemoryPropertyFlags`] as one byte, and no more.
+pub fn property_hash()
+    ensures { (a : MemoryPropertyFlags) → ⟦<MemoryPropertyFlags as Hash>⟧.hash_input a ≡ (property_bits a ∷ []) ∷ [] }
+{}
+
+/// Code that is generic over [`Flags`] sees the same number of [`MemoryPropertyFlags`], and the same bits with a name.
+#[tactic(auto, unfolding(bitflags::proofs::OnLiterals::bitflags_on_literals))]
+pub fn property_as_flags()
+    ensures exact { ⟦<MemoryPropertyFlags as Flags>⟧.exact }
+    ensures number { (a : MemoryPropertyFlags) → ⟦<MemoryPropertyFlags as Flags>⟧.set_of a ≡ property_bits a }
+    ensures named { known_bits ⟦<MemoryPropertyFlags as Flags>⟧.table ≡ named_property_bits }
+{}
+
+/// `==` on [`AllocationFlags`] holds exactly where the numbers are equal.
+pub fn allocation_equality()
+    ensures { (a b : AllocationFlags) → IsTrue (⟦<AllocationFlags as PartialEq>⟧.eq a b) ↔ (allocation_bits a ≡ allocation_bits b) }
+{}
+
+/// `cmp`, `partial_cmp` and `<` on [`AllocationFlags`] go by the numbers.
+pub fn allocation_order()
+    ensures total { (a b : AllocationFlags) → ⟦<AllocationFlags as Ord>⟧.cmp a b ≡ nat_cmp (allocation_bits a) (allocation_bits b) }
+    ensures partial { (a b : AllocationFlags) → ⟦<AllocationFlags as PartialOrd>⟧.partial_cmp a b ≡ Some (nat_cmp (allocation_bits a) (allocation_bits b)) }
+    ensures less { (a b : AllocationFlags) → IsTrue (partial_lt ⟦<AllocationFlags as PartialOrd>⟧.partial_cmp a b) ↔ (allocation_bits a < allocation_bits b) }
+{}
+
+/// A clone of [`AllocationFlags`] never fails and has the same number.
+pub fn allocation_clone()
+    ensures infallible { (a : AllocationFlags) → ⟦<AllocationFlags as Clone>⟧.is_infallible a }
+    ensures same { (a b : AllocationFlags) → ⟦<AllocationFlags as Clone>⟧.is_clone a b → allocation_bits b ≡ allocation_bits a }
+{}
+
+/// A hasher is given the number of [`AllocationFlags`] as one byte, and no more.
+pub fn allocation_hash()
+    ensures { (a : AllocationFlags) → ⟦<AllocationFlags as Hash>⟧.hash_input a ≡ (allocation_bits a ∷ []) ∷ [] }
+{}
+
+/// Code that is generic over [`Flags`] sees the same number of [`AllocationFlags`], and the same bits with a name.
+#[tactic(auto, unfolding(bitflags::proofs::OnLiterals::bitflags_on_literals))]
+pub fn allocation_as_flags()
+    ensures exact { ⟦<AllocationFlags as Flags>⟧.exact }
+    ensures number { (a : AllocationFlags) → ⟦<AllocationFlags as Flags>⟧.set_of a ≡ allocation_bits a }
+    ensures named { known_bits ⟦<AllocationFlags as Flags>⟧.table ≡ named_allocation_bits }
+{}
