@@ -12,8 +12,8 @@ pub(crate) mod parse;
 pub(crate) mod print;
 mod setup;
 
-use crate::sim::Sim;
-use gpu_session::Session;
+use crate::sim::{Sim, SimMemory};
+use gpu_session::{Session, SessionOpenError};
 use line::LineError;
 use parse::{Script, parse};
 use print::print_replies;
@@ -100,19 +100,28 @@ fn run<A: Allocator + Copy>(alloc: A, script: &Script<A>) -> Result<String<A>, A
     requires usable { IsUsable (offered script.now.setup) }
     requires required { All IsForRequired script.now.commands.items }
 {
-    let device = device(alloc, &script.setup)?;
-    let props = script.setup.properties();
-    let mut session = match Session::new(alloc, script.setup.config, props, device) {
-        Ok(session) => session,
-        Err(_) => return Err(AllocError),
-    };
+    let mut session = open(alloc, &script.setup)?;
     let replies = session.run(script.commands.as_slice());
     let device = session.finish();
     print_replies(alloc, replies?.as_slice(), &device)
 }
 
+/// A session over the device that the setup lines describe.
+pub(crate) fn open<A: Allocator + Copy>(
+    alloc: A,
+    setup: &Setup<A>,
+) -> Result<Session<SimMemory<A>, Sim<A>, A>, AllocError>
+    requires usable { IsUsable (offered setup.now) }
+{
+    let device = device(alloc, setup)?;
+    match Session::new(alloc, setup.config, setup.properties(), device) {
+        Ok(session) => Ok(session),
+        Err(SessionOpenError { device: _device }) => Err(AllocError),
+    }
+}
+
 /// The device that the setup lines describe, with the refusals that they plan.
-pub(crate) fn device<A: Allocator + Copy>(alloc: A, setup: &Setup<A>) -> Result<Sim<A>, AllocError>
+fn device<A: Allocator + Copy>(alloc: A, setup: &Setup<A>) -> Result<Sim<A>, AllocError>
     ensures { IfOk result (λ device. device.properties ≡ offered setup.now) }
 {
     let mut device = Sim::new(alloc, setup.properties())?;

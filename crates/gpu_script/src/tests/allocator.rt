@@ -98,54 +98,91 @@ fn give_back(
     allocator.dealloc(device, block);
 }
 
-/// Ends an allocator that holds nothing, over a device that holds nothing.
-fn end(rt: &impl Abort, allocator: GpuAllocator<SimMemory>, device: &Sim) {
+/// An allocator over a fresh device, with a block of 100 bytes.
+fn open_with_block(
+    rt: &impl Abort,
+    alloc: Global,
+) -> Result<(GpuAllocator<SimMemory>, Sim, MemoryBlock<SimMemory>), Fail>
+    ensures { IfOk result (λ opened. Agrees opened.0 (opened.1).properties (objects_of opened.1)) }
+{
+    let (mut allocator, mut device) = open(rt, alloc)?;
+    let block = take(rt, &mut allocator, &mut device, 100);
+    Ok((allocator, device, block))
+}
+
+/// Returns the one block that is left to its owner, and ends it over a device that holds nothing then.
+fn finish(
+    rt: &impl Abort,
+    mut allocator: GpuAllocator<SimMemory>,
+    mut device: Sim,
+    block: MemoryBlock<SimMemory>,
+)
+    requires { Agrees allocator device.properties (objects_of device) }
+{
+    give_back(rt, &mut allocator, &mut device, block);
     assert_eq!(rt; allocator.held_objects(), 0);
     assert_eq!(rt; allocator.remaining_allocations(), 4096);
     assert_eq!(rt; device.objects(), 0);
     allocator.close();
 }
 
-#[test]
-fn a_block_tells_what_was_asked(rt: HostRuntime) -> Result<(), Fail> {
-    let (mut allocator, mut device) = open(&rt, rt.alloc())?;
-    assert_eq!(rt; allocator.max_allocation_size(), 1 << 30);
-    let block = take(&rt, &mut allocator, &mut device, 100);
+/// Compares what a first block of 100 bytes tells.
+fn compare_block(rt: &impl Abort, block: &MemoryBlock<SimMemory>) {
     assert_eq!(rt; block.memory().object(), 1);
     assert_eq!(rt; (block.offset(), block.size()), (0, 100));
     assert_eq!(rt; block.memory_type(), 0);
     assert_eq!(rt; block.props(), MemoryPropertyFlags::DEVICE_LOCAL);
+}
+
+/// Compares what a device tells that was asked for that block alone.
+fn compare_question(rt: &impl Abort, device: &Sim) {
+    assert_eq!(rt; device.asked(Question::Allocate), 1);
     assert_eq!(rt;
         device.last_allocation(),
         Some((100, 0, AllocationFlags::DEVICE_ADDRESS))
     );
-    assert_eq!(rt; device.asked(Question::Allocate), 1);
+}
+
+#[test]
+fn a_block_tells_what_was_asked(rt: HostRuntime) -> Result<(), Fail> {
+    let (allocator, device, block) = open_with_block(&rt, rt.alloc())?;
+    assert_eq!(rt; allocator.max_allocation_size(), 1 << 30);
+    compare_block(&rt, &block);
+    compare_question(&rt, &device);
     assert_eq!(rt;
         (allocator.remaining_allocations(), allocator.held_objects()),
         (4095, 1)
     );
-    give_back(&rt, &mut allocator, &mut device, block);
-    end(&rt, allocator, &device);
+    finish(&rt, allocator, device, block);
     Ok(())
+}
+
+/// Takes a longer block, which another allocator does not own, and returns it.
+fn compare_owners(
+    rt: &impl Abort,
+    other: &GpuAllocator<SimMemory>,
+    allocator: &mut GpuAllocator<SimMemory>,
+    device: &mut Sim,
+)
+    requires { Agrees allocator.old device.old.properties (objects_of device.old) }
+    ensures { Agrees allocator.new device.new.properties (objects_of device.new) }
+{
+    let longer = take(rt, allocator, device, 200);
+    assert!(rt; !other.owns(&longer));
+    give_back(rt, allocator, device, longer);
 }
 
 #[test]
 fn a_block_of_another_allocator_may_come_back(rt: HostRuntime) -> Result<(), Fail> {
-    let (mut first, mut first_device) = open(&rt, rt.alloc())?;
-    let ours = take(&rt, &mut first, &mut first_device, 100);
-    let opened = open(&rt, rt.alloc());
-    let Ok((mut second, mut second_device)) = opened else {
+    let (first, first_device, ours) = open_with_block(&rt, rt.alloc())?;
+    let opened = open_with_block(&rt, rt.alloc());
+    let Ok((mut second, mut second_device, theirs)) = opened else {
         panic!(rt; "no second allocator");
     };
-    let theirs = take(&rt, &mut second, &mut second_device, 100);
-    let longer = take(&rt, &mut second, &mut second_device, 200);
-    assert!(rt; !first.owns(&longer));
+    compare_owners(&rt, &first, &mut second, &mut second_device);
 
     // The two blocks have the same object name and span, so each allocator takes the other's.
-    give_back(&rt, &mut first, &mut first_device, theirs);
-    give_back(&rt, &mut second, &mut second_device, ours);
-    give_back(&rt, &mut second, &mut second_device, longer);
-    end(&rt, first, &first_device);
-    end(&rt, second, &second_device);
+    finish(&rt, first, first_device, theirs);
+    finish(&rt, second, second_device, ours);
     Ok(())
 }

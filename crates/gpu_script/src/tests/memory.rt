@@ -6,12 +6,13 @@
 ghost use Rattle.std.specs.Prelude.{All, IfOk};
 ghost use Rattle.gpu_session.specs.Sound.{IsForRequired};
 
+use crate::script;
 use crate::script::parse::{Script, parse};
 use crate::script::print::print_reply;
-use crate::script::{device, run_script};
+use crate::script::run_script;
 use crate::sim::{Sim, SimMemory};
 use gpu_alloc::AllocationError;
-use gpu_session::{Fault, Reply, Session, SessionOpenError};
+use gpu_session::{Fault, Reply, Session};
 use linked_list_allocator::LocalHeap;
 use std::alloc::{AllocError, Global};
 use std::process::Abort;
@@ -99,13 +100,8 @@ fn open<'a>(
     heap: &'a LocalHeap,
     script: &Script<&'a LocalHeap>,
 ) -> Result<LocalSession<'a>, Fail> {
-    let props = script.setup.properties();
-    assert!(rt; props.is_usable());
-    let device = device(heap, &script.setup)?;
-    match Session::new(heap, script.setup.config, props, device) {
-        Ok(session) => Ok(session),
-        Err(SessionOpenError { device: _device }) => Err(Fail::from("no session")),
-    }
+    assert!(rt; script.setup.properties().is_usable());
+    Ok(script::open(heap, &script.setup)?)
 }
 
 /// Runs a script's commands with one hole of memory left.
@@ -151,6 +147,12 @@ fn runs<'a>(session: &mut LocalSession<'a>, script: &Script<&'a LocalHeap>) -> b
     session.run(script.commands.as_slice()).is_ok()
 }
 
+/// Ends a session. The device holds nothing then.
+fn end(rt: &impl Abort, session: LocalSession<'_>, hole: usize) {
+    let device = session.finish();
+    assert_eq!(rt; device.objects(), 0, "with {hole}");
+}
+
 /// Runs the earlier commands with ample memory, and then one command with one hole of it left. At the end the device holds
 /// nothing.
 fn outcome_of_script(
@@ -166,9 +168,8 @@ fn outcome_of_script(
     let mut session = open(rt, &heap, &earlier)?;
     let ran = runs(&mut session, &earlier);
     let outcome = outcome_at(alloc, &heap, &mut session, &command, hole);
-    let device = session.finish();
+    end(rt, session, hole);
     assert!(rt; ran, "the earlier commands");
-    assert_eq!(rt; device.objects(), 0, "with {hole}");
     outcome
 }
 
