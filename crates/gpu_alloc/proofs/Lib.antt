@@ -1,6 +1,8 @@
 pub mod Agreeing
+pub mod AlignedPowers
 pub mod Candidates
 pub mod Consistency
+pub mod ExactPieces
 pub mod Grants
 pub mod HeapLists
 pub mod Ledgers

@@ -3,11 +3,13 @@ pub mod Allocation
 pub mod Codes
 pub mod Config
 pub mod Errors
+pub mod FreeSpace
 pub mod Heap
 pub mod Inside
 pub mod KeyByKey
 pub mod Masks
 pub mod Opening
+pub mod Pieces
 pub mod Ranked
 pub mod Ranking
 pub mod Release

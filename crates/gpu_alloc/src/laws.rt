@@ -1,13 +1,17 @@
 //! Laws of the definitions that contracts cite, and those definitions computed on samples. The functions do nothing.
 
-ghost use Rattle.std.specs.Prelude.{◌≡◌, ◌≤◌, ◌^◌, ℕ, List, [], ◌∷◌, Some, None};
+ghost use Rattle.std.specs.Prelude.{◌≡◌, ◌≤◌, ◌^◌, ◌↔◌, ℕ, List, [], ◌∷◌, Some, None, Contains};
 ghost use Rattle.gpu_alloc_types.specs.declared.types.MemoryType.{MemoryType};
 ghost use Rattle.gpu_alloc.specs.Allocation.{strategy};
 ghost use Rattle.gpu_alloc.specs.Allocation.Strategy.{OwnObject, InBuddyChunk, InFreeList};
 ghost use Rattle.gpu_alloc.specs.Config.{potato, prototyping};
+ghost use Rattle.gpu_alloc.specs.FreeSpace.{IsIn, IsPlace, IsFreePiece, IsFreeByte};
+ghost use Rattle.gpu_alloc.specs.Pieces.{Piece, IsCanonical};
 ghost use Rattle.gpu_alloc.specs.Ranking.{IsRanking, IsRankingWithin, ranking, candidates, implied};
 ghost use Rattle.gpu_alloc.specs.Samples.{one_type, three_types, over, bytes_for, buddy_config};
 ghost use Rattle.gpu_alloc.specs.Sizes.{IsNextPowerOfTwo, next_power_of_two, minimal_size, initial_size, starting_size, final_size, first_types};
+ghost use Rattle.gpu_alloc.specs.State.{State};
+ghost use Rattle.gpu_alloc.specs.declared.block.Kind.{Kind};
 ghost use Rattle.gpu_alloc.specs.declared.request.Dedicated.TheVariants.{Required, Preferred};
 
 /// A ranking has exactly the types that may serve the usage, by key and then by index, and nothing else has.
@@ -34,6 +38,18 @@ pub fn rankings_of_samples()
     ensures transient { ranking 16 three_types ≡ 1 ∷ 2 ∷ 0 ∷ [] }
     ensures unnamed { candidates three_types 64 7 ≡ 0 ∷ 1 ∷ 2 ∷ [] }
     ensures allowed { candidates three_types 16 5 ≡ 2 ∷ 0 ∷ [] }
+{}
+
+/// Pieces that are aligned and apart, of which no two are halves of one range, and which together are the free bytes, are
+/// exactly the longest free ranges of a power of two.
+pub fn kept_pieces_are_the_free_pieces()
+    ensures exact { (s : State) (memory_type : ℕ) (kind : Kind) (pieces : List Piece) → IsCanonical (Contains pieces) (IsFreeByte s memory_type kind) → (p : Piece) → Contains pieces p ↔ IsFreePiece (IsFreeByte s memory_type kind) p.object p.start (2 ^ p.order) }
+    ensures place { (s : State) (memory_type : ℕ) (kind : Kind) (pieces : List Piece) → IsCanonical (Contains pieces) (IsFreeByte s memory_type kind) → (object start order : ℕ) → IsPlace (IsFreeByte s memory_type kind) object start (2 ^ order) → (p : Piece) × Contains pieces p × (order ≤ p.order) }
+{}
+
+/// Two free pieces that share a byte are one.
+pub fn free_pieces_are_apart()
+    ensures { (s : State) (memory_type : ℕ) (kind : Kind) (object a n b m at : ℕ) → IsFreePiece (IsFreeByte s memory_type kind) object a n → IsFreePiece (IsFreeByte s memory_type kind) object b m → IsIn a n at → IsIn b m at → (a ≡ b) × (n ≡ m) }
 {}
 
 /// The next power of two is the least one that is not below.

@@ -1,0 +1,44 @@
+-- Free space: the bytes of held chunks that lie in no live span, and the longest ranges of them.
+use Rattle.std.specs.Prelude.{◌≡◌, ℕ, ◌+◌, ◌*◌, ◌^◌, ◌<◌, ◌≤◌, Some}
+use Rattle.std.specs.FinMap as map
+use Rattle.gpu_alloc.specs.declared.block.Kind.{Kind}
+use Rattle.gpu_alloc.specs.State.{HeldObject, Span, State, IsLive}
+
+-- the byte lies in the range that starts so and has this length
+pub record IsIn (start length at : ℕ) : Type 0 where
+  pub from : start ≤ at
+  pub to : at < start + length
+
+-- x is a multiple of n
+abbrev pub IsMultipleOf : ℕ → ℕ → Type 0
+IsMultipleOf n x = (m : ℕ) × (x ≡ m * n)
+
+abbrev pub IsPowerOfTwo : ℕ → Type 0
+IsPowerOfTwo n = (k : ℕ) × (n ≡ 2 ^ k)
+
+-- F says which bytes of which objects are free.
+module _ (F : ℕ → ℕ → Type 0) where
+  -- each byte of the range is free
+  abbrev pub IsFreeRange : ℕ → ℕ → ℕ → Type 0
+  IsFreeRange object start length = (at : ℕ) → IsIn start length at → F object at
+
+  -- a free range of a power of two that starts at a multiple of its length
+  pub record IsPlace (object start length : ℕ) : Type 0 where
+    pub power : IsPowerOfTwo length
+    pub aligned : IsMultipleOf length start
+    pub free : IsFreeRange object start length
+
+  -- one that lies in no longer such range
+  pub record IsFreePiece (object start length : ℕ) : Type 0 where
+    pub place : IsPlace object start length
+    pub longest : (start' length' : ℕ) → IsPlace object start' length' → start' ≤ start
+        → start + length ≤ start' + length' → length' ≤ length
+
+-- the byte lies in an object of this memory type that is held for this, and in no live span
+pub record IsFreeByte (s : State) (memory_type : ℕ) (kind : Kind) (object at : ℕ) : Type 0 where
+  pub chunk : HeldObject
+  pub held : map.get s.held object ≡ Some chunk
+  pub of_type : chunk.memory_type ≡ memory_type
+  pub of_kind : chunk.kind ≡ kind
+  pub inside : at < chunk.counted
+  pub unused : (span : Span) → IsLive s span → span.object ≡ object → IsIn span.offset span.size at → ⊥
