@@ -110,8 +110,16 @@ fn open_with_block(
     Ok((allocator, device, block))
 }
 
-/// Returns the one block that is left to its owner, and ends it over a device that holds nothing then.
-fn finish(
+/// Ends an allocator that holds nothing, over a device that holds nothing.
+fn end(rt: &impl Abort, allocator: GpuAllocator<SimMemory>, device: &Sim) {
+    assert_eq!(rt; allocator.held_objects(), 0);
+    assert_eq!(rt; allocator.remaining_allocations(), 4096);
+    assert_eq!(rt; device.objects(), 0);
+    allocator.close();
+}
+
+/// Returns the one block that is left to an allocator that owns it, and ends the allocator.
+fn return_and_end(
     rt: &impl Abort,
     mut allocator: GpuAllocator<SimMemory>,
     mut device: Sim,
@@ -120,10 +128,7 @@ fn finish(
     requires { Agrees allocator device.properties (objects_of device) }
 {
     give_back(rt, &mut allocator, &mut device, block);
-    assert_eq!(rt; allocator.held_objects(), 0);
-    assert_eq!(rt; allocator.remaining_allocations(), 4096);
-    assert_eq!(rt; device.objects(), 0);
-    allocator.close();
+    end(rt, allocator, &device);
 }
 
 /// Compares what a first block of 100 bytes tells.
@@ -153,7 +158,7 @@ fn a_block_tells_what_was_asked(rt: HostRuntime) -> Result<(), Fail> {
         (allocator.remaining_allocations(), allocator.held_objects()),
         (4095, 1)
     );
-    finish(&rt, allocator, device, block);
+    return_and_end(&rt, allocator, device, block);
     Ok(())
 }
 
@@ -182,7 +187,7 @@ fn a_block_of_another_allocator_may_come_back(rt: HostRuntime) -> Result<(), Fai
     compare_owners(&rt, &first, &mut second, &mut second_device);
 
     // The two blocks have the same object name and span, so each allocator takes the other's.
-    finish(&rt, first, first_device, theirs);
-    finish(&rt, second, second_device, ours);
+    return_and_end(&rt, first, first_device, theirs);
+    return_and_end(&rt, second, second_device, ours);
     Ok(())
 }
