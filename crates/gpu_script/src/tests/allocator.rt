@@ -118,7 +118,7 @@ fn end(rt: &impl Abort, allocator: GpuAllocator<SimMemory>, device: &Sim) {
     allocator.close();
 }
 
-/// Returns the one block that is left to an allocator that owns it, and ends the allocator.
+/// Returns the last block to an allocator that owns it, and ends the allocator.
 fn return_and_end(
     rt: &impl Abort,
     mut allocator: GpuAllocator<SimMemory>,
@@ -162,21 +162,6 @@ fn a_block_tells_what_was_asked(rt: HostRuntime) -> Result<(), Fail> {
     Ok(())
 }
 
-/// Takes a longer block, which another allocator does not own, and returns it.
-fn compare_owners(
-    rt: &impl Abort,
-    other: &GpuAllocator<SimMemory>,
-    allocator: &mut GpuAllocator<SimMemory>,
-    device: &mut Sim,
-)
-    requires { Agrees allocator.old device.old.properties (objects_of device.old) }
-    ensures { Agrees allocator.new device.new.properties (objects_of device.new) }
-{
-    let longer = take(rt, allocator, device, 200);
-    assert!(rt; !other.owns(&longer));
-    give_back(rt, allocator, device, longer);
-}
-
 #[test]
 fn a_block_of_another_allocator_may_come_back(rt: HostRuntime) -> Result<(), Fail> {
     let (first, first_device, ours) = open_with_block(&rt, rt.alloc())?;
@@ -184,10 +169,12 @@ fn a_block_of_another_allocator_may_come_back(rt: HostRuntime) -> Result<(), Fai
     let Ok((mut second, mut second_device, theirs)) = opened else {
         panic!(rt; "no second allocator");
     };
-    compare_owners(&rt, &first, &mut second, &mut second_device);
+    let longer = take(&rt, &mut second, &mut second_device, 200);
+    assert!(rt; !first.owns(&longer));
 
     // The two blocks have the same object name and span, so each allocator takes the other's.
     return_and_end(&rt, first, first_device, theirs);
-    return_and_end(&rt, second, second_device, ours);
+    give_back(&rt, &mut second, &mut second_device, ours);
+    return_and_end(&rt, second, second_device, longer);
     Ok(())
 }

@@ -6,10 +6,9 @@
 ghost use Rattle.std.specs.Prelude.{All, IfOk};
 ghost use Rattle.gpu_session.specs.Sound.{IsForRequired};
 
-use crate::script;
 use crate::script::parse::{Script, parse};
 use crate::script::print::print_reply;
-use crate::script::{SimSession, run_script};
+use crate::script::{SimSession, open, run_script};
 use gpu_alloc::AllocationError;
 use gpu_session::{Fault, Reply};
 use linked_list_allocator::LocalHeap;
@@ -102,7 +101,7 @@ fn session_after<'a>(
     requires { All IsForRequired script.now.commands.items }
 {
     assert!(rt; script.setup.properties().is_usable());
-    let mut session = script::open(heap, &script.setup)?;
+    let mut session = open(heap, &script.setup)?;
     let ran = session.run(script.commands.as_slice()).is_ok();
     assert!(rt; ran, "the earlier commands");
     Ok(session)
