@@ -13,7 +13,7 @@ pub(crate) mod print;
 mod setup;
 
 use crate::sim::{Sim, SimMemory};
-use gpu_session::{Session, SessionOpenError};
+use gpu_session::{Command, Reply, Session, SessionOpenError};
 use line::LineError;
 use parse::{Script, parse};
 use print::print_replies;
@@ -39,6 +39,9 @@ impl From<AllocError> for Stop {
         Stop::Memory
     }
 }
+
+/// A session over the simulated device.
+pub(crate) type SimSession<A> = Session<SimMemory<A>, Sim<A>, A>;
 
 /// Runs the script that a reader gives, and writes what it answers to a writer.
 ///
@@ -100,17 +103,27 @@ fn run<A: Allocator + Copy>(alloc: A, script: &Script<A>) -> Result<String<A>, A
     requires usable { IsUsable (offered script.now.setup) }
     requires required { All IsForRequired script.now.commands.items }
 {
-    let mut session = open(alloc, &script.setup)?;
-    let replies = session.run(script.commands.as_slice());
-    let device = session.finish();
+    let session = open(alloc, &script.setup)?;
+    let (replies, device) = run_and_finish(session, script.commands.as_slice());
     print_replies(alloc, replies?.as_slice(), &device)
+}
+
+/// Runs commands as one list, and finishes the session: the replies, and the device at the end.
+fn run_and_finish<A: Allocator + Copy>(
+    mut session: SimSession<A>,
+    commands: &[Command<A>],
+) -> (Result<Vec<Reply<A>, A>, AllocError>, Sim<A>)
+    requires required { All IsForRequired commands.now }
+{
+    let replies = session.run(commands);
+    (replies, session.finish())
 }
 
 /// A session over the device that the setup lines describe.
 pub(crate) fn open<A: Allocator + Copy>(
     alloc: A,
     setup: &Setup<A>,
-) -> Result<Session<SimMemory<A>, Sim<A>, A>, AllocError>
+) -> Result<SimSession<A>, AllocError>
     requires usable { IsUsable (offered setup.now) }
 {
     let device = device(alloc, setup)?;

@@ -84,7 +84,7 @@ fn compare_answers(
     }
 }
 
-// Compares how often a device was asked to allocate, with what the latest time, and that no map was asked for.
+// Compares how often a device was asked to allocate and the latest question, and that no map was asked for.
 fn compare_questions(
     rt: &impl Abort,
     sim: &Sim,

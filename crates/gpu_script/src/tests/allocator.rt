@@ -110,8 +110,16 @@ fn open_with_block(
     Ok((allocator, device, block))
 }
 
-/// Returns the one block that is left to its owner, and ends it over a device that holds nothing then.
-fn finish(
+/// Ends an allocator that holds nothing, over a device that holds nothing.
+fn end(rt: &impl Abort, allocator: GpuAllocator<SimMemory>, device: &Sim) {
+    assert_eq!(rt; allocator.held_objects(), 0);
+    assert_eq!(rt; allocator.remaining_allocations(), 4096);
+    assert_eq!(rt; device.objects(), 0);
+    allocator.close();
+}
+
+/// Returns the last block to an allocator that owns it, and ends the allocator.
+fn return_and_end(
     rt: &impl Abort,
     mut allocator: GpuAllocator<SimMemory>,
     mut device: Sim,
@@ -120,10 +128,7 @@ fn finish(
     requires { Agrees allocator device.properties (objects_of device) }
 {
     give_back(rt, &mut allocator, &mut device, block);
-    assert_eq!(rt; allocator.held_objects(), 0);
-    assert_eq!(rt; allocator.remaining_allocations(), 4096);
-    assert_eq!(rt; device.objects(), 0);
-    allocator.close();
+    end(rt, allocator, &device);
 }
 
 /// Compares what a first block of 100 bytes tells.
@@ -153,23 +158,8 @@ fn a_block_tells_what_was_asked(rt: HostRuntime) -> Result<(), Fail> {
         (allocator.remaining_allocations(), allocator.held_objects()),
         (4095, 1)
     );
-    finish(&rt, allocator, device, block);
+    return_and_end(&rt, allocator, device, block);
     Ok(())
-}
-
-/// Takes a longer block, which another allocator does not own, and returns it.
-fn compare_owners(
-    rt: &impl Abort,
-    other: &GpuAllocator<SimMemory>,
-    allocator: &mut GpuAllocator<SimMemory>,
-    device: &mut Sim,
-)
-    requires { Agrees allocator.old device.old.properties (objects_of device.old) }
-    ensures { Agrees allocator.new device.new.properties (objects_of device.new) }
-{
-    let longer = take(rt, allocator, device, 200);
-    assert!(rt; !other.owns(&longer));
-    give_back(rt, allocator, device, longer);
 }
 
 #[test]
@@ -179,10 +169,12 @@ fn a_block_of_another_allocator_may_come_back(rt: HostRuntime) -> Result<(), Fai
     let Ok((mut second, mut second_device, theirs)) = opened else {
         panic!(rt; "no second allocator");
     };
-    compare_owners(&rt, &first, &mut second, &mut second_device);
+    let longer = take(&rt, &mut second, &mut second_device, 200);
+    assert!(rt; !first.owns(&longer));
 
     // The two blocks have the same object name and span, so each allocator takes the other's.
-    finish(&rt, first, first_device, theirs);
-    finish(&rt, second, second_device, ours);
+    return_and_end(&rt, first, first_device, theirs);
+    give_back(&rt, &mut second, &mut second_device, ours);
+    return_and_end(&rt, second, second_device, longer);
     Ok(())
 }

@@ -6,13 +6,11 @@
 ghost use Rattle.std.specs.Prelude.{All, IfOk};
 ghost use Rattle.gpu_session.specs.Sound.{IsForRequired};
 
-use crate::script;
 use crate::script::parse::{Script, parse};
 use crate::script::print::print_reply;
-use crate::script::run_script;
-use crate::sim::{Sim, SimMemory};
+use crate::script::{SimSession, open, run_script};
 use gpu_alloc::AllocationError;
-use gpu_session::{Fault, Reply, Session};
+use gpu_session::{Fault, Reply};
 use linked_list_allocator::LocalHeap;
 use std::alloc::{AllocError, Global};
 use std::process::Abort;
@@ -54,7 +52,7 @@ enum Outcome {
 }
 
 /// A session over memory of a test's own.
-type LocalSession<'a> = Session<SimMemory<&'a LocalHeap>, Sim<&'a LocalHeap>, &'a LocalHeap>;
+type LocalSession<'a> = SimSession<&'a LocalHeap>;
 
 /// What one command was answered by.
 fn outcome_of(replies: Result<Vec<Reply<&LocalHeap>, &LocalHeap>, AllocError>) -> Outcome {
@@ -94,14 +92,19 @@ fn counted<'a>(
     Ok(text)
 }
 
-/// A session over the device that a script describes, whose memory all comes from the heap.
-fn open<'a>(
+/// A session over the device that a script describes, once its commands ran. Its memory all comes from the heap.
+fn session_after<'a>(
     rt: &impl Abort,
     heap: &'a LocalHeap,
     script: &Script<&'a LocalHeap>,
-) -> Result<LocalSession<'a>, Fail> {
+) -> Result<LocalSession<'a>, Fail>
+    requires { All IsForRequired script.now.commands.items }
+{
     assert!(rt; script.setup.properties().is_usable());
-    Ok(script::open(heap, &script.setup)?)
+    let mut session = open(heap, &script.setup)?;
+    let ran = session.run(script.commands.as_slice()).is_ok();
+    assert!(rt; ran, "the earlier commands");
+    Ok(session)
 }
 
 /// Runs a script's commands with one hole of memory left.
@@ -140,13 +143,6 @@ fn outcome_at<'a>(
     Ok(outcome)
 }
 
-/// Runs a script's commands, and tells whether there were places for their replies.
-fn runs<'a>(session: &mut LocalSession<'a>, script: &Script<&'a LocalHeap>) -> bool
-    requires { All IsForRequired script.now.commands.items }
-{
-    session.run(script.commands.as_slice()).is_ok()
-}
-
 /// Ends a session. The device holds nothing then.
 fn end(rt: &impl Abort, session: LocalSession<'_>, hole: usize) {
     let device = session.finish();
@@ -165,11 +161,9 @@ fn outcome_of_script(
     let heap = LocalHeap::new(alloc, 1 << 16)?;
     let earlier = good_script(&heap, earlier)?;
     let command = good_script(&heap, command)?;
-    let mut session = open(rt, &heap, &earlier)?;
-    let ran = runs(&mut session, &earlier);
+    let mut session = session_after(rt, &heap, &earlier)?;
     let outcome = outcome_at(alloc, &heap, &mut session, &command, hole);
     end(rt, session, hole);
-    assert!(rt; ran, "the earlier commands");
     outcome
 }
 
