@@ -1,5 +1,5 @@
 -- What is tried for a request: types that there are, and of those ranked exactly those whose bit is set, in their order.
-use Rattle.std.proofs.Common.{ℕ, ◌<◌, ◌≡◌, ◌∙◌, ap, true, false, if◌then◌else◌, ◌==◌, List, length, bit_and, bit_or, arith}
+use Rattle.std.proofs.Common.{ℕ, ◌<◌, ◌≡◌, ◌∙◌, ap, true, false, if◌then◌else◌, ◌==◌, List, length, bit_or, arith}
 use Rattle.std.proofs.lemmas.Bool.Decides.{nat_tests}
 use Rattle.std.proofs.lemmas.List.Elements.{All-filter, All-contains, filter_passes}
 use Rattle.std.proofs.lemmas.Nat.{and_mask, or_lt}
@@ -8,7 +8,7 @@ use Rattle.std.specs.Int.{bit_at}
 use Rattle.std.specs.List.{All, filter}
 use Rattle.gpu_alloc_types.specs.Flags.{has_bit}
 use Rattle.gpu_alloc_types.specs.declared.types.MemoryType.{MemoryType}
-use Rattle.gpu_alloc.specs.Ranking.{ranking, candidates, with_fast, with_host, implied, is_allowed, key_of, row, IsRankingWithin, IsTable}
+use Rattle.gpu_alloc.specs.Ranking.{ranking, candidates, named, with_fast, with_host, implied, is_allowed, key_of, row, IsRankingWithin, IsTable}
 use Rattle.gpu_alloc.proofs.RankingOrder.{ranking_IsRanking}
 use Rattle.gpu_alloc.proofs.Rising.{All-from_contains, IsRising-filter, filter-kept, filter-has}
 
@@ -42,8 +42,8 @@ candidates_IsRankingWithin ts u m =
 
 -- From the table of all usages.
 
-named-below : (u : ℕ) → bit_and u 63 < 64
-named-below u = let named = and_mask u 6 in omega (arith, named)
+pub named-below : (u : ℕ) → named u < 64
+named-below u = let rest = and_mask u 6 in omega (arith, rest)
 
 with_fast-below : (u : ℕ) → u < 64 → with_fast u < 64
 with_fast-below u small = elim (u == 0) as (λ b. (if b then 1 else u) < 64) [
@@ -61,10 +61,10 @@ implied-below : (u : ℕ) → implied u < 64
 implied-below u = with_host-below _ (with_fast-below _ (named-below u))
 
 -- what a usage means has no bit without a name
-implied-named : (u : ℕ) → bit_and (implied u) 63 ≡ implied u
+implied-named : (u : ℕ) → named (implied u) ≡ implied u
 implied-named u = let below = implied-below u in and_mask (implied u) 6 ∙ mod-eq_of_lt below
 
 -- the candidates are those of the table's row whose bit is set
 pub candidates-from_table : (ts : List MemoryType) (table : List (List ℕ)) → IsTable ts table → (u m : ℕ) → filter (is_allowed m) (row table (implied u)) ≡ candidates ts u m
 candidates-from_table ts table is_table u m =
-    ap (filter (is_allowed m)) (rw (implied-named u) (is_table.ranked (implied u) (implied-below u)))
+    ap (filter (is_allowed m)) (is_table.ranked (implied u) ∙ ap (λ usage. ranking usage ts) (implied-named u))

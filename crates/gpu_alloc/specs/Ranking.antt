@@ -2,11 +2,15 @@
 use Rattle.std.specs.Prelude.{ℕ, ◌+◌, ◌<◌, ◌≡◌, ◌==◌, Bool, true, false, not, ◌&&◌, ◌||◌, if◌then◌else◌, List, [], ◌∷◌, length, filter, nat_lt, slice_get, slice_index, slice_index_or, Contains, ◌⊎◌, ◌↔◌, bit_and, bit_or}
 use Rattle.std.specs.Int.{bit_at}
 use Rattle.std.specs.List.{range_with_len}
-use Rattle.gpu_alloc_types.specs.Flags.{has_bit}
+use Rattle.gpu_alloc_types.specs.Flags.{named_usage_bits, has_bit}
 use Rattle.gpu_alloc_types.specs.Properties.{bits_of}
 use Rattle.gpu_alloc_types.specs.declared.types.MemoryType.{MemoryType}
 
 -- What a usage means.
+
+-- a usage's bits that have a name
+abbrev pub named : ℕ → ℕ
+named usage = bit_and usage named_usage_bits
 
 -- no flag means FAST_DEVICE_ACCESS, which is 1
 abbrev pub with_fast : ℕ → ℕ
@@ -16,9 +20,9 @@ with_fast usage = if usage == 0 then 1 else usage
 abbrev pub with_host : ℕ → ℕ
 with_host usage = if has_bit usage 12 then bit_or usage 2 else usage
 
--- what a usage means. The bits of 63 have names, and all others fall away first
+-- what a usage means. Bits without a name fall away first
 abbrev pub implied : ℕ → ℕ
-implied usage = with_host (with_fast (bit_and usage 63))
+implied usage = with_host (with_fast (named usage))
 
 -- How well a memory type serves a usage.
 
@@ -115,11 +119,11 @@ pub record IsRankingWithin (usage : ℕ) (types : List MemoryType) (mask : ℕ) 
 abbrev pub IsMaskOf : ℕ → List ℕ → Type 0
 IsMaskOf mask types = (t : ℕ) → (bit_at mask t ≡ 1) ↔ Contains types t
 
--- a usage's row of a table, bits of the usage without a name dropped
+-- a usage's row of a table
 abbrev pub row : List (List ℕ) → ℕ → List ℕ
-row table usage = slice_index_or table (bit_and usage 63) []
+row table usage = slice_index_or table (named usage) []
 
--- there is a row for each set of named flags, and it is the ranking for that usage
+-- there is a row for each set of named flags, and a usage's row is the ranking for its named flags
 pub record IsTable (types : List MemoryType) (table : List (List ℕ)) : Type 0 where
   pub rows : length table ≡ 64
-  pub ranked : (usage : ℕ) → usage < 64 → slice_index_or table usage [] ≡ ranking usage types
+  pub ranked : (usage : ℕ) → row table usage ≡ ranking (named usage) types

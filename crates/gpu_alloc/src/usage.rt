@@ -51,7 +51,8 @@ impl MemoryForUsage {
         MemoryForUsage { usages }
     }
 
-    /// The mask that has exactly the bits of the types that serve a usage: bit 0 for the type with index 0.
+    /// The mask that has exactly the bits of the types that serve a usage: bit 0 for the type with index 0. Bits of the
+    /// usage without a name are dropped.
     pub fn mask(&self, usage: UsageFlags) -> u32
         ensures { IsMaskOf result (row self.now (usage_bits usage)) }
     {

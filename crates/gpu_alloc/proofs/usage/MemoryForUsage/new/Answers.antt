@@ -1,8 +1,9 @@
 use Rattle.std.proofs.Common.{ℕ, List, ◌≡◌, ◌+◌, ◌<◌, ◌∙◌, ap, arith, length, map, get_or, set, [], inl, inr}
 use Rattle.std.proofs.lemmas.Bool.{cases_eq}
 use Rattle.std.proofs.lemmas.List.{get_or-set_same, get_or-set_other, map-set, length-map, length-set}
-use Rattle.gpu_alloc.specs.Ranking.{ranking}
+use Rattle.gpu_alloc.specs.Ranking.{named, ranking}
 use Rattle.gpu_alloc.specs.Ranked.{ranked_types}
+use Rattle.gpu_alloc.proofs.Candidates.{named-below}
 use Rattle.gpu_alloc.proofs.usage.MemoryForUsage.new.Goals as goal
 
 -- with row n set as wanted, one row more is as wanted
@@ -28,5 +29,5 @@ loop-bits-preserved c =
 pub returns : goal.returns
 returns c = record {
   rows = length-map c.loop-bits.usages ranked_types ∙ c.loop-bits.invariant.0;
-  ranked = λ u below. c.loop-bits.invariant.1 u (omega arith);
+  ranked = λ u. let below = named-below u in c.loop-bits.invariant.1 (named u) (omega arith);
 }
