@@ -18,8 +18,8 @@ const MEBIBYTE: u64 = 1 << 20;
 /// as in the original crate.
 #[derive(Clone, Copy, Debug, PartialEq, Eq, Serialize, Deserialize)]
 pub struct Config {
-    /// A request of at least this size, or of the 32nd part of its heap where that is less, gets a memory object of its
-    /// own. A low value soon uses up the number of objects that a device allows.
+    /// A request that isn't transient, of at least this size or of the 32nd part of its heap where that is less, gets a
+    /// memory object of its own. A low value soon uses up the number of objects that a device allows.
     pub dedicated_threshold: u64,
 
     /// A request of at least this size that prefers an object of its own gets one. A value above
@@ -37,12 +37,13 @@ pub struct Config {
     /// transient requests counts as the greater of these. It is cut as that first size is.
     pub final_free_list_chunk: u64,
 
-    /// The least size of a block in an object that requests share which aren't transient, at most the 1024th part of its
+    /// The least size of a block in an object shared by requests that aren't transient, at most the 1024th part of its
     /// heap, raised to a power of two.
     pub minimal_buddy_size: u64,
 
     /// The least size of the first object that such requests share, at most the 32nd part of its heap, raised to a power
-    /// of two. A value below [`Config::minimal_buddy_size`] counts as that one.
+    /// of two. A value below [`Config::minimal_buddy_size`] counts as that one; the object has at least twice the size of
+    /// its first block all the same.
     pub initial_buddy_dedicated_size: u64,
 }
 

@@ -26,8 +26,8 @@ pub fn candidates_are_exact_and_sorted()
     ensures { (types : List MemoryType) (usage mask : ℕ) → IsRankingWithin (implied usage) types mask (candidates types usage mask) }
 {}
 
-/// Rankings of three types: DEVICE_LOCAL; HOST_VISIBLE and HOST_COHERENT; and these with HOST_CACHED. A usage with no
-/// other bits than unnamed ones is tried as an empty one.
+/// Rankings of three types: DEVICE_LOCAL; HOST_VISIBLE and HOST_COHERENT; and these with HOST_CACHED. A usage with
+/// unnamed bits alone is tried as an empty one.
 #[tactic(auto, unfolding(crate::specs::Ranking::put_in, crate::specs::Ranking::in_order))]
 pub fn rankings_of_samples()
     ensures none { ranking 0 three_types ≡ 0 ∷ 1 ∷ 2 ∷ [] }

@@ -21,8 +21,8 @@ const NAMED: u8 = 0x3f;
 ///
 /// A type serves a usage unless it is `LAZILY_ALLOCATED` or `PROTECTED`; where the host reads or writes (`HOST_ACCESS`,
 /// `UPLOAD` or `DOWNLOAD`) it has to be `HOST_VISIBLE` too. The types that serve are ranked by how far they are from what
-/// the usage wants, the nearest first, and those that are equally far by rising index (the original crate's order, which
-/// leaves the last open).
+/// the usage wants: 8 for a miss in `DEVICE_LOCAL`, 4 in `HOST_VISIBLE`, 2 in `HOST_CACHED`, 1 in `HOST_COHERENT`. The
+/// nearest comes first, and of those equally far the lowest index (the original crate's order, which leaves ties open).
 #[derive(Drop)]
 pub struct MemoryForUsage {
     usages: [MemoryForOneUsage; 64],

@@ -279,13 +279,3 @@ impl Flags for AllocationFlags {
         AllocationFlags::from_bits_retain(bits)
     }
 }
-
-#[cfg(test)]
-mod tests {
-    use super::*;
-
-    #[test]
-    fn the_address_flag_is_the_first_bit(rt: HostRuntime) {
-        assert_eq!(rt; AllocationFlags::DEVICE_ADDRESS.bits(), 1);
-    }
-}

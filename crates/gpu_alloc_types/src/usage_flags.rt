@@ -315,18 +315,3 @@ impl Flags for UsageFlags {
         UsageFlags::from_bits_retain(bits)
     }
 }
-
-#[cfg(test)]
-mod tests {
-    use super::*;
-
-    #[test]
-    fn flags_have_the_original_numbers(rt: HostRuntime) {
-        assert_eq!(rt; UsageFlags::FAST_DEVICE_ACCESS.bits(), 1);
-        assert_eq!(rt; UsageFlags::HOST_ACCESS.bits(), 2);
-        assert_eq!(rt; UsageFlags::DOWNLOAD.bits(), 4);
-        assert_eq!(rt; UsageFlags::UPLOAD.bits(), 8);
-        assert_eq!(rt; UsageFlags::TRANSIENT.bits(), 16);
-        assert_eq!(rt; UsageFlags::DEVICE_ADDRESS.bits(), 32);
-    }
-}
