@@ -1,5 +1,6 @@
 pub mod Agreement
 pub mod Allocation
+pub mod BuddyState
 pub mod Codes
 pub mod Config
 pub mod Errors

@@ -3,6 +3,7 @@
 
 mod allocator;
 mod block;
+mod buddy;
 mod config;
 mod error;
 mod heap;
