@@ -1,15 +1,16 @@
 //! A device that holds memory objects, and the handles of its objects.
 
-ghost use Rattle.std.specs.Prelude.{◌≡◌, ℕ, Option, IfSome};
+ghost use Rattle.std.specs.Prelude.{◌≡◌, ℕ, Option, IfOk, IfSome};
 ghost use Rattle.std.specs.Result.{result_map_both};
 ghost use Rattle.gpu_alloc_types.specs.Flags.{allocation_bits};
 ghost use Rattle.gpu_alloc_types.specs.Properties.{Properties};
-ghost use Rattle.gpu_alloc_types.specs.Device.{Object, Event, Row, IsWellFormed, IsAskable, IsHeld};
-ghost use Rattle.gpu_alloc_types.specs.Device.Event.{Allocated, Deallocated};
+ghost use Rattle.gpu_alloc_types.specs.Device.{Object, Event, Row, IsWellFormed, IsAskable, IsHeld, HeldWith, IsMappable};
+ghost use Rattle.gpu_alloc_types.specs.Device.Event.{Allocated, Deallocated, Mapped};
 
-use crate::{AllocationFlags, OutOfMemory};
+use crate::{AllocationFlags, DeviceMapError, OutOfMemory};
+use std::alloc::AllocError;
 
-/// A handle of a memory object. To let one go tells the device nothing.
+/// A handle of a memory object. An object may have many; to let one go tells the device nothing.
 pub trait MemoryObject: Drop {
     /// The name of the handle's object.
     ghost object: { Self → ℕ };
@@ -17,6 +18,11 @@ pub trait MemoryObject: Drop {
     /// The name of the handle's object. A device holds its objects by these names.
     fn object(&self) -> u64
         ensures { result ≡ object self.now };
+
+    /// Another handle of the same object. It asks the device nothing, and fails only for want of host memory; nothing has
+    /// changed then.
+    fn duplicate(&self) -> Result<Self, AllocError>
+        ensures { IfOk result (λ other. object other ≡ object self.now) };
 }
 
 /// A device, seen by the objects that it holds.
@@ -53,6 +59,16 @@ pub trait MemoryDevice<M: MemoryObject> {
     fn deallocate_memory(&mut self, memory: &M)
         requires { IsHeld (objects self.old) (M.object memory.now) }
         ensures { step self.old (Deallocated (M.object memory.now)) self.new };
+
+    /// Maps `size` bytes of an object from `offset` on, so that the host sees them, or answers why not; then no object has
+    /// changed (Vulkan's `vkMapMemory`).
+    ///
+    /// The object's mapped range is then that one, and all else of it as before. The device has to hold an object of the
+    /// handle's name, of a host-visible memory type and unmapped, and the range has to be at least 1 byte and inside the
+    /// object. A refusal names the device's memory, the host's, or `MapFailed` for a reason of the device's own.
+    fn map_memory(&mut self, memory: &M, offset: u64, size: u64) -> Result<(), DeviceMapError>
+        requires { HeldWith (objects self.old) (M.object memory.now) (IsMappable (properties self.old) offset size) }
+        ensures { step self.old (Mapped (record { object = M.object memory.now; offset = offset; size = size }) result) self.new };
 
     /// A step does what its row says, and leaves all else as it was.
     ghost row: { (old : Self) (e : Event) (new : Self) → step old e new → Row (properties old) (objects old) e (objects new) };

@@ -3,6 +3,8 @@ use Rattle.std.specs.Prelude.{ℕ, cond}
 use Rattle.std.specs.FinMap as map
 use Rattle.std.specs.FinMap.{FinMap}
 use Rattle.std.specs.Ordering.{nat_cmp}
+use Rattle.gpu_alloc_types.specs.declared.types.DeviceMapError.{DeviceMapError}
+use Rattle.gpu_alloc_types.specs.declared.types.DeviceMapError.TheVariants as DeviceMap
 use Rattle.gpu_alloc_types.specs.declared.types.OutOfMemory.{OutOfMemory}
 use Rattle.gpu_alloc_types.specs.declared.types.OutOfMemory.TheVariants.{OutOfDeviceMemory, OutOfHostMemory}
 use Rattle.gpu_script.specs.declared.sim.question.Question.{Question}
@@ -36,6 +38,12 @@ abbrev pub refusal_of : Cause → OutOfMemory
 refusal_of Device = OutOfDeviceMemory
 refusal_of Host = OutOfHostMemory
 refusal_of Failed = OutOfDeviceMemory
+
+-- the answer to a question to map that is refused
+abbrev pub map_refusal_of : Cause → DeviceMapError
+map_refusal_of Device = DeviceMap.OutOfDeviceMemory
+map_refusal_of Host = DeviceMap.OutOfHostMemory
+map_refusal_of Failed = DeviceMap.MapFailed
 
 -- one more plan, by the number of its question, unless that question has one
 abbrev pub with_plan : ByKind (FinMap nat_cmp Cause) → Question → ℕ → Cause → ByKind (FinMap nat_cmp Cause)

@@ -5,17 +5,19 @@ use Rattle.std.specs.FinMap.{FinMap}
 use Rattle.std.specs.Ordering.{nat_cmp}
 use Rattle.gpu_alloc_types.specs.Flags.{allocation_bits}
 use Rattle.gpu_alloc_types.specs.Properties.{Properties, is_host_visible, is_coherent}
-use Rattle.gpu_alloc_types.specs.Device.{Object, Event}
+use Rattle.gpu_alloc_types.specs.Device.{Object, Event, Range}
 use Rattle.gpu_alloc_types.specs.Device.Event.{Allocated, Deallocated, Mapped, Unmapped, Flushed, Invalidated, BytesPut, BytesGot}
 use Rattle.gpu_alloc_types.specs.declared.allocation_flags.AllocationFlags.{AllocationFlags}
+use Rattle.gpu_alloc_types.specs.declared.types.DeviceMapError.{DeviceMapError}
 use Rattle.gpu_alloc_types.specs.declared.types.OutOfMemory.{OutOfMemory}
 use Rattle.gpu_alloc_types.specs.declared.types.OutOfMemory.TheVariants.{OutOfHostMemory}
+use Rattle.gpu_script.specs.declared.sim.object.MappedRange.{MappedRange}
 use Rattle.gpu_script.specs.declared.sim.object.SimObject.{SimObject}
 use Rattle.gpu_script.specs.declared.sim.question.ByKind.{ByKind}
 use Rattle.gpu_script.specs.declared.sim.question.Cause.{Cause}
 use Rattle.gpu_script.specs.declared.sim.question.Question.{Question}
-use Rattle.gpu_script.specs.declared.sim.question.Question.TheVariants.{Allocate}
-use Rattle.gpu_script.specs.Question.{at, with_at, refusal_of}
+use Rattle.gpu_script.specs.declared.sim.question.Question.TheVariants.{Allocate, Map}
+use Rattle.gpu_script.specs.Question.{at, with_at, refusal_of, map_refusal_of}
 
 -- What it offers, the planned refusals by the number of the question, how often each kind was asked, the size, type and
 -- flags of the latest question to allocate, the latest name that was used, and the objects by name
@@ -58,6 +60,16 @@ abbrev pub asked_to_allocate : SimState → ℕ → ℕ → ℕ → SimState
 asked_to_allocate s size memory_type flags =
     record s { asked = with_at s.asked Allocate (counted s.asked.allocate); last_allocation = Some (size, (memory_type, flags)) }
 
+-- the device, once it was asked to map and before it answers
+abbrev pub asked_to_map : SimState → SimState
+asked_to_map s = record s { asked = with_at s.asked Map (counted s.asked.map) }
+
+-- a new object. Nothing of it is mapped
+pub record IsNew (size memory_type : ℕ) (object : SimObject) : Type 0 where
+  pub of_type : object.memory_type ≡ memory_type
+  pub of_size : object.size ≡ size
+  pub unmapped : object.mapped ≡ None
+
 -- an object is made under the next name, which none has
 pub record IsMade (old : SimState) (name : ℕ) (object : SimObject) (new : SimState) : Type 0 where
   pub next : name ≡ old.last_name + 1
@@ -70,15 +82,32 @@ IsRefusal (Some cause) error = error ≡ refusal_of cause
 IsRefusal None error = error ≡ OutOfHostMemory
 
 -- the answer to a question to allocate that was counted
-abbrev pub Answers : SimState → SimObject → Result ℕ OutOfMemory → SimState → Type 0
-Answers old object (Ok name) new = (cause_now old Allocate ≡ None) × IsMade old name object new
-Answers old object (Err error) new = IsRefusal (cause_now old Allocate) error × (new ≡ old)
+abbrev pub Answers : SimState → (size memory_type : ℕ) → Result ℕ OutOfMemory → SimState → Type 0
+Answers old size t (Ok name) new = (cause_now old Allocate ≡ None) × ((object : SimObject) × IsNew size t object × IsMade old name object new)
+Answers old size t (Err error) new = IsRefusal (cause_now old Allocate) error × (new ≡ old)
+
+-- an object with this range mapped, and else as it was
+pub record IsMappedOver (range : Range) (old new : SimObject) : Type 0 where
+  pub same_type : new.memory_type ≡ old.memory_type
+  pub same_size : new.size ≡ old.size
+  pub mapped : new.mapped ≡ Some (record { offset = range.offset; size = range.size })
+
+-- the range of its object is mapped, and no other object has changed
+abbrev pub Maps : SimState → Range → SimState → Type 0
+Maps old range new =
+    (object : SimObject) × (map.get old.objects range.object ≡ Some object)
+    × ((mapped : SimObject) × IsMappedOver range object mapped × (new ≡ record old { objects = map.insert old.objects range.object mapped }))
+
+-- the answer to a question to map that was counted: a refusal exactly where one was planned
+abbrev pub MapAnswers : SimState → Range → Result (Unit {0}) DeviceMapError → SimState → Type 0
+MapAnswers old range (Ok _) new = (cause_now old Map ≡ None) × Maps old range new
+MapAnswers old range (Err error) new = (option_map map_refusal_of (cause_now old Map) ≡ Some error) × (new ≡ old)
 
 -- What a call does. What it does not name stays.
 abbrev pub SimStep : SimState → Event → SimState → Type 0
-SimStep old (Allocated size t flags answer) new = Answers (asked_to_allocate old size t flags) (record { memory_type = t; size = size }) answer new
+SimStep old (Allocated size t flags answer) new = Answers (asked_to_allocate old size t flags) size t answer new
 SimStep old (Deallocated name) new = new ≡ record old { objects = map.remove old.objects name }
-SimStep old (Mapped range answer) new = ⊥
+SimStep old (Mapped range answer) new = MapAnswers (asked_to_map old) range answer new
 SimStep old (Unmapped name) new = ⊥
 SimStep old (Flushed ranges answer) new = ⊥
 SimStep old (Invalidated ranges answer) new = ⊥
@@ -91,13 +120,16 @@ SimStep old (BytesGot name offset bytes) new = ⊥
 abbrev pub bytes_of : Properties → SimObject → ℕ → List ℕ
 bytes_of p object byte = cond (is_host_visible p object.memory_type) (replicate object.size byte) []
 
+abbrev pub offset_and_size : MappedRange → ℕ × ℕ
+offset_and_size range = (range.offset, range.size)
+
 -- The host's bytes begin with 00 where they are coherent and else with ee, so that a missing flush or invalidate shows.
 -- The device's begin with 00.
 unfoldable pub as_object : Properties → SimObject → Object
 as_object p object = record {
   memory_type = object.memory_type;
   size = object.size;
-  mapped = None;
+  mapped = option_map offset_and_size object.mapped;
   host_bytes = bytes_of p object (cond (is_coherent p object.memory_type) 0 238);
   device_bytes = bytes_of p object 0;
 }

@@ -1,10 +1,10 @@
 //! The simulated device.
 
-ghost use Rattle.std.specs.Prelude.{◌≡◌, IfOk, OnOk, OnErr, option_map};
+ghost use Rattle.std.specs.Prelude.{◌≡◌, ◌+◌, ◌≤◌, IfOk, IsSomeAnd, OnOk, OnErr, option_map};
 ghost use Rattle.std.specs.FinMap as map;
 ghost use Rattle.gpu_alloc_types.specs.Properties.{properties_of};
 ghost use Rattle.gpu_script.specs.Question.{at, with_plan, CanRefuse};
-ghost use Rattle.gpu_script.specs.Sim.{as_numbers, fresh, IsMade};
+ghost use Rattle.gpu_script.specs.Sim.{as_numbers, fresh, IsMade, Maps};
 
 mod memory;
 mod numbered;
@@ -12,10 +12,12 @@ mod object;
 mod properties;
 mod question;
 
-use gpu_alloc_types::{AllocationFlags, DeviceProperties, MemoryDevice, MemoryObject, OutOfMemory};
+use gpu_alloc_types::{
+    AllocationFlags, DeviceMapError, DeviceProperties, MemoryDevice, MemoryObject, OutOfMemory,
+};
 pub use memory::SimMemory;
 use numbered::Numbered;
-use object::SimObject;
+use object::{MappedRange, SimObject};
 use properties::OwnedProperties;
 use question::ByKind;
 pub use question::{Cause, Question};
@@ -132,6 +134,21 @@ impl<A: Allocator + Copy> Sim<A> {
         self.last_name = name;
         Ok(memory)
     }
+
+    // Maps a range of the object of that name, in the place of one that it has.
+    fn map_object(&mut self, name: u64, range: MappedRange)
+        requires { IsSomeAnd (map.get self.old.objects name) (λ object. range.offset + range.size ≤ object.size) }
+        ensures { Maps self.old (record { object = name; offset = range.offset; size = range.size }) self.new }
+    {
+        if let Some(object) = self.objects.get(name) {
+            let mapped = SimObject {
+                memory_type: object.memory_type,
+                size: object.size,
+                mapped: Some(range),
+            };
+            self.objects.replace(name, mapped);
+        }
+    }
 }
 
 impl<A: Allocator + Copy> MemoryDevice<SimMemory<A>> for Sim<A> {
@@ -155,7 +172,11 @@ impl<A: Allocator + Copy> MemoryDevice<SimMemory<A>> for Sim<A> {
         if let Some(cause) = self.plans.allocate.get(self.asked.allocate) {
             return Err(cause.out_of_memory());
         }
-        match self.make_object(SimObject { memory_type, size }) {
+        match self.make_object(SimObject {
+            memory_type,
+            size,
+            mapped: None,
+        }) {
             Ok(memory) => Ok(memory),
             Err(_) => Err(OutOfMemory::OutOfHostMemory),
         }
@@ -163,6 +184,20 @@ impl<A: Allocator + Copy> MemoryDevice<SimMemory<A>> for Sim<A> {
 
     fn deallocate_memory(&mut self, memory: &SimMemory<A>) {
         self.objects.remove(memory.object());
+    }
+
+    fn map_memory(
+        &mut self,
+        memory: &SimMemory<A>,
+        offset: u64,
+        size: u64,
+    ) -> Result<(), DeviceMapError> {
+        self.asked.map = self.asked.map.saturating_add(1);
+        if let Some(cause) = self.plans.map.get(self.asked.map) {
+            return Err(cause.map_error());
+        }
+        self.map_object(memory.object(), MappedRange { offset, size });
+        Ok(())
     }
 
     ghost row = { step_is_row };

@@ -39,4 +39,8 @@ impl<A: Allocator + Copy> MemoryObject for SimMemory<A> {
     fn object(&self) -> u64 {
         *self.name
     }
+
+    fn duplicate(&self) -> Result<SimMemory<A>, AllocError> {
+        SimMemory::new(*Box::allocator(&self.name), *self.name)
+    }
 }

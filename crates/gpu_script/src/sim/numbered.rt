@@ -1,6 +1,6 @@
 //! Values under numbers.
 
-ghost use Rattle.std.specs.Prelude.{◌≡◌, OnOk, OnErr};
+ghost use Rattle.std.specs.Prelude.{◌≡◌, IsSome, OnOk, OnErr};
 ghost use Rattle.std.specs.FinMap as map;
 
 use indexmap::IndexMap;
@@ -57,6 +57,14 @@ impl<V: Copy, A: Allocator + Copy> Numbered<V, A> {
     {
         self.entries.insert(number, value)?;
         Ok(())
+    }
+
+    /// Puts a value in the place of the one under a number, which takes no memory.
+    pub(super) fn replace(&mut self, number: u64, value: V)
+        requires { IsSome (map.get self.old number) }
+        ensures { self.new ≡ map.insert self.old number value }
+    {
+        self.entries.insert(number, value).unwrap();
     }
 
     /// Takes the value under a number away, if there is one.

@@ -1,10 +1,10 @@
 //! What a device is asked, and why it refuses.
 
 ghost use Rattle.std.specs.Prelude.{◌≡◌, OnOk, OnErr};
-ghost use Rattle.gpu_script.specs.Question.{at, with_plan, refusal_of};
+ghost use Rattle.gpu_script.specs.Question.{at, with_plan, refusal_of, map_refusal_of};
 
 use crate::sim::numbered::Numbered;
-use gpu_alloc_types::OutOfMemory;
+use gpu_alloc_types::{DeviceMapError, OutOfMemory};
 use std::alloc::{AllocError, Allocator};
 
 /// A kind of question to a device that may be refused.
@@ -45,6 +45,17 @@ impl Cause {
         match self {
             Cause::Host => OutOfMemory::OutOfHostMemory,
             Cause::Device | Cause::Failed => OutOfMemory::OutOfDeviceMemory,
+        }
+    }
+
+    /// The answer where a mapping is asked for.
+    pub(super) fn map_error(self) -> DeviceMapError
+        ensures { result ≡ map_refusal_of self }
+    {
+        match self {
+            Cause::Device => DeviceMapError::OutOfDeviceMemory,
+            Cause::Host => DeviceMapError::OutOfHostMemory,
+            Cause::Failed => DeviceMapError::MapFailed,
         }
     }
 }

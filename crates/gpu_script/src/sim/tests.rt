@@ -1,10 +1,12 @@
 //! Tests of what no clause says: that calls succeed, and what a few of them answer in turn.
 
-ghost use Rattle.std.specs.Prelude.{◌≡◌, ◌<◌, length};
+ghost use Rattle.std.specs.Prelude.{◌≡◌, ◌<◌, IsTrue, length};
+ghost use Rattle.gpu_alloc_types.specs.Properties.{is_host_visible};
 ghost use Rattle.gpu_script.specs.Question.{CanRefuse};
 
 use super::*;
 use gpu_alloc_types::{MemoryHeap, MemoryPropertyFlags, MemoryType};
+use linked_list_allocator::LocalHeap;
 use std::process::Abort;
 use std::test::Fail;
 
@@ -15,11 +17,12 @@ const TYPES: [MemoryType; 1] = [MemoryType {
 
 const HEAPS: [MemoryHeap; 1] = [MemoryHeap { size: 1 << 20 }];
 
-// A device with one memory type.
+// A device with one memory type, which the host sees.
 #[derive(Drop)]
 struct OneType {
     sim: Sim,
     ghost one_type: { length sim.properties.memory_types ≡ 1 },
+    ghost visible: { IsTrue (is_host_visible sim.properties 0) },
 }
 
 impl OneType {
@@ -68,6 +71,24 @@ impl OneType {
         let memory = self.sim.allocate_memory(size, 0, flags)?;
         self.sim.deallocate_memory(&memory);
         Ok(memory.object())
+    }
+
+    // The answer to a map of a whole new object. Where it is a refusal, the object is mapped by a second question.
+    fn map_new(
+        &mut self,
+        rt: &impl Abort,
+        size: u64,
+    ) -> Result<Result<(), DeviceMapError>, OutOfMemory>
+        requires { 0 < size }
+    {
+        let flags = AllocationFlags::from_bits_retain(0);
+        let memory = self.sim.allocate_memory(size, 0, flags)?;
+        let answer = self.sim.map_memory(&memory, 0, size);
+        if answer.is_err() {
+            let again = self.sim.map_memory(&memory, 0, size);
+            assert_eq!(rt; again, Ok(()));
+        }
+        Ok(answer)
     }
 }
 
@@ -138,5 +159,64 @@ fn a_question_is_counted_and_told(rt: HostRuntime) -> Result<(), Fail> {
 fn a_plan_for_a_map_refuses_no_allocation(rt: HostRuntime) -> Result<(), Fail> {
     let mut device = OneType::that_refuses(rt.alloc(), Question::Map, 1, Cause::Failed)?;
     compare_answers(&rt, &mut device, &[(8, Ok(1), 1)]);
+    Ok(())
+}
+
+#[test]
+fn a_refused_map_is_counted_and_maps_nothing(rt: HostRuntime) -> Result<(), Fail> {
+    let rows = [
+        (Cause::Device, DeviceMapError::OutOfDeviceMemory),
+        (Cause::Host, DeviceMapError::OutOfHostMemory),
+        (Cause::Failed, DeviceMapError::MapFailed),
+    ];
+    for (cause, error) in rows {
+        let mut device = OneType::that_refuses(rt.alloc(), Question::Map, 1, cause)?;
+        assert_eq!(rt; device.map_new(&rt, 8), Ok(Err(error)));
+        assert_eq!(rt; device.sim.asked(Question::Map), 2);
+    }
+    Ok(())
+}
+
+#[test]
+fn a_granted_map_is_counted(rt: HostRuntime) -> Result<(), Fail> {
+    let mut device = OneType::that_refuses(rt.alloc(), Question::Map, 2, Cause::Failed)?;
+    assert_eq!(rt; device.map_new(&rt, 8), Ok(Ok(())));
+    assert_eq!(rt; device.sim.asked(Question::Map), 1);
+    assert_eq!(rt; device.sim.asked(Question::Allocate), 1);
+    Ok(())
+}
+
+#[test]
+fn a_duplicate_is_of_the_same_object(rt: HostRuntime) -> Result<(), Fail> {
+    let memory = SimMemory::new(rt.alloc(), 7)?;
+    let other = memory.duplicate()?;
+    drop(memory);
+    assert_eq!(rt; other.object(), 7);
+    Ok(())
+}
+
+// Duplicates a handle until its heap is full. How many there are then.
+fn count_duplicates(
+    alloc: Global,
+    memory: &SimMemory<&LocalHeap>,
+) -> Result<Option<usize>, AllocError> {
+    let mut others = Vec::new(alloc);
+    for _ in 0..1024 {
+        match memory.duplicate() {
+            Ok(other) => others.push(other)?,
+            Err(_) => return Ok(Some(others.len())),
+        }
+    }
+    Ok(None)
+}
+
+#[test]
+fn a_duplicate_is_refused_with_its_memory(rt: HostRuntime) -> Result<(), Fail> {
+    let heap = LocalHeap::new(rt.alloc(), 1 << 10)?;
+    let memory = SimMemory::new(&heap, 7)?;
+    let fit = count_duplicates(rt.alloc(), &memory)?;
+    assert!(rt; fit > Some(0));
+    assert_eq!(rt; count_duplicates(rt.alloc(), &memory)?, fit);
+    assert_eq!(rt; memory.object(), 7);
     Ok(())
 }
