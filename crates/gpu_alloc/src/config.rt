@@ -80,34 +80,3 @@ impl Config {
         }
     }
 }
-
-#[cfg(test)]
-mod tests {
-    use super::*;
-
-    fn sizes(config: Config) -> [u64; 7] {
-        [
-            config.dedicated_threshold,
-            config.preferred_dedicated_threshold,
-            config.transient_dedicated_threshold,
-            config.starting_free_list_chunk,
-            config.final_free_list_chunk,
-            config.minimal_buddy_size,
-            config.initial_buddy_dedicated_size,
-        ]
-    }
-
-    #[test]
-    fn defaults_are_the_documented_sizes(rt: HostRuntime) {
-        assert_eq!(rt;
-            sizes(Config::i_am_potato()),
-            [32768, 1024, 131072, 8192, 131072, 1, 8192]
-        );
-        assert_eq!(rt;
-            sizes(Config::i_am_prototyping()),
-            [
-                33554432, 1048576, 134217728, 8388608, 134217728, 1024, 8388608
-            ]
-        );
-    }
-}

@@ -97,6 +97,3 @@ fn meaning(usage: UsageFlags) -> UsageFlags
         wanted
     }
 }
-
-#[cfg(test)]
-mod tests;

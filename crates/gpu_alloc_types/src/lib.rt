@@ -13,6 +13,3 @@ pub use device::{MemoryDevice, MemoryObject};
 pub use memory_property_flags::MemoryPropertyFlags;
 pub use types::{DeviceMapError, DeviceProperties, MemoryHeap, MemoryType, OutOfMemory};
 pub use usage_flags::UsageFlags;
-
-#[cfg(test)]
-mod tests;

@@ -1,4 +1,4 @@
-//! A configuration as text: what is written, what is read, and what is refused.
+//! The default configurations, and a configuration as text: what is written, what is read, and what is refused.
 
 use gpu_alloc::Config;
 use serde_json::Error;
@@ -150,4 +150,30 @@ fn a_list_of_the_values_is_read(rt: HostRuntime) -> Result<(), Fail> {
         Config::i_am_potato()
     );
     Ok(())
+}
+
+fn sizes(config: Config) -> [u64; 7] {
+    [
+        config.dedicated_threshold,
+        config.preferred_dedicated_threshold,
+        config.transient_dedicated_threshold,
+        config.starting_free_list_chunk,
+        config.final_free_list_chunk,
+        config.minimal_buddy_size,
+        config.initial_buddy_dedicated_size,
+    ]
+}
+
+#[test]
+fn defaults_are_the_documented_sizes(rt: HostRuntime) {
+    assert_eq!(rt;
+        sizes(Config::i_am_potato()),
+        [32768, 1024, 131072, 8192, 131072, 1, 8192]
+    );
+    assert_eq!(rt;
+        sizes(Config::i_am_prototyping()),
+        [
+            33554432, 1048576, 134217728, 8388608, 134217728, 1024, 8388608
+        ]
+    );
 }

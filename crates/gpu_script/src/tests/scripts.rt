@@ -5,7 +5,7 @@ use std::alloc::Global;
 use std::process::Abort;
 
 /// Runs each script, and compares what it prints and its status.
-fn compare(rt: &impl Abort, alloc: Global, rows: &[(&str, &str, u8)]) {
+pub(super) fn compare(rt: &impl Abort, alloc: Global, rows: &[(&str, &str, u8)]) {
     for (script, printed, status) in rows {
         let mut input = script.as_bytes();
         let mut output = Vec::new(alloc);

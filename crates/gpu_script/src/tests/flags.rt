@@ -1,0 +1,60 @@
+//! Flags as generic code and sets see them.
+
+use bitflags::Flags;
+use gpu_alloc_types::{AllocationFlags, MemoryPropertyFlags, UsageFlags};
+use std::alloc::{AllocError, Global};
+use std::collections::HashSet;
+use std::hash::{DefaultHasher, Hash, Hasher};
+use std::test::Fail;
+
+// What the trait's own calls make of a number: all named bits, those of the number, those that it lacks, and those that
+// it gains by the lowest bit.
+fn numbers<F: Flags<Bits = u8> + Copy>(bits: u8) -> [u8; 4] {
+    let flags = F::from_bits_retain(bits);
+    let lowest = F::from_bits_retain(1);
+    [
+        F::all().bits(),
+        F::from_bits_truncate(bits).bits(),
+        flags.complement().bits(),
+        flags.union(lowest).bits(),
+    ]
+}
+
+#[test]
+fn generic_code_calls_the_same(rt: HostRuntime) {
+    assert_eq!(rt; numbers::<UsageFlags>(0xd2), [0x3f, 0x12, 0x2d, 0xd3]);
+    assert_eq!(rt;
+        numbers::<MemoryPropertyFlags>(0xd2),
+        [0x3f, 0x12, 0x2d, 0xd3]
+    );
+    assert_eq!(rt; numbers::<AllocationFlags>(0xd2), [0x01, 0x00, 0x01, 0xd3]);
+}
+
+fn hash_of<T: Hash>(value: &T) -> u64 {
+    let mut state = DefaultHasher::new();
+    value.hash(&mut state);
+    state.finish()
+}
+
+// How many members a set has that was given the flags of each number twice.
+fn members<F: Flags<Bits = u8> + Hash>(alloc: Global) -> Result<usize, AllocError> {
+    let mut set = HashSet::new(alloc);
+    for bits in 0..=255 {
+        set.insert(F::from_bits_retain(bits))?;
+        set.insert(F::from_bits_retain(bits))?;
+    }
+    Ok(set.len())
+}
+
+#[test]
+fn flags_are_hashed_by_their_numbers(rt: HostRuntime) -> Result<(), Fail> {
+    assert_eq!(rt; members::<UsageFlags>(rt.alloc())?, 256);
+    assert_eq!(rt; members::<MemoryPropertyFlags>(rt.alloc())?, 256);
+    assert_eq!(rt; members::<AllocationFlags>(rt.alloc())?, 256);
+    let usage = hash_of(&UsageFlags::UPLOAD);
+    assert_eq!(rt; usage, hash_of(&UsageFlags::from_bits_retain(8)));
+    assert!(rt; usage != hash_of(&UsageFlags::DOWNLOAD));
+    assert_eq!(rt; usage, hash_of(&MemoryPropertyFlags::HOST_CACHED));
+    assert_eq!(rt; usage, hash_of(&AllocationFlags::from_bits_retain(8)));
+    Ok(())
+}

@@ -1,0 +1,264 @@
+//! Rankings worked out by hand, and the types that an allocator tries for a request.
+
+ghost use Rattle.std.specs.Prelude.{◌≡◌, length};
+
+use super::scripts::compare;
+use gpu_alloc::{MemoryForUsage, MemoryPropertyFlags, MemoryType, UsageFlags};
+use std::alloc::Global;
+use std::process::Abort;
+use std::test::Fail;
+
+fn memory_type(props: u8) -> MemoryType {
+    MemoryType {
+        heap: 0,
+        props: MemoryPropertyFlags::from_bits_retain(props),
+    }
+}
+
+/// A type that is DEVICE_LOCAL, one that is HOST_VISIBLE and HOST_COHERENT, and one that is HOST_CACHED besides.
+fn three_types() -> [MemoryType; 3]
+    ensures { length result ≡ 3 }
+{
+    [memory_type(1), memory_type(6), memory_type(14)]
+}
+
+/// Eight types as a graphics card of its own offers them: of none, DEVICE_LOCAL, one that is LAZILY_ALLOCATED, one that is
+/// PROTECTED, the two that the host sees, one that both see, and DEVICE_LOCAL again.
+fn card() -> [MemoryType; 8]
+    ensures { length result ≡ 8 }
+{
+    [0, 1, 17, 33, 6, 14, 7, 1].map(memory_type)
+}
+
+/// Eight types that the host sees, five of them non-coherent, with two pairs that are alike.
+fn shared_memory() -> [MemoryType; 8]
+    ensures { length result ≡ 8 }
+{
+    [2, 10, 3, 15, 11, 2, 7, 10].map(memory_type)
+}
+
+/// For each usage from 0 on, a digit for each type in rank: of `three_types`, of `card` and of `shared_memory`.
+const RANKED: [[&[u8]; 3]; 64] = [
+    [b"012", b"176045", b"26430517"],
+    [b"012", b"176045", b"26430517"],
+    [b"12", b"456", b"05172643"],
+    [b"12", b"645", b"26430517"],
+    [b"21", b"546", b"17053462"],
+    [b"21", b"654", b"34621705"],
+    [b"21", b"546", b"17053462"],
+    [b"21", b"654", b"34621705"],
+    [b"12", b"456", b"05176234"],
+    [b"12", b"645", b"62340517"],
+    [b"12", b"456", b"05176234"],
+    [b"12", b"645", b"62340517"],
+    [b"21", b"546", b"17053462"],
+    [b"21", b"654", b"34621705"],
+    [b"21", b"546", b"17053462"],
+    [b"21", b"654", b"34621705"],
+    [b"120", b"045176", b"05172643"],
+    [b"012", b"176045", b"26430517"],
+    [b"12", b"456", b"05172643"],
+    [b"12", b"645", b"26430517"],
+    [b"21", b"546", b"17053462"],
+    [b"21", b"654", b"34621705"],
+    [b"21", b"546", b"17053462"],
+    [b"21", b"654", b"34621705"],
+    [b"12", b"456", b"05176234"],
+    [b"12", b"645", b"62340517"],
+    [b"12", b"456", b"05176234"],
+    [b"12", b"645", b"62340517"],
+    [b"21", b"546", b"17053462"],
+    [b"21", b"654", b"34621705"],
+    [b"21", b"546", b"17053462"],
+    [b"21", b"654", b"34621705"],
+    [b"120", b"045176", b"05172643"],
+    [b"012", b"176045", b"26430517"],
+    [b"12", b"456", b"05172643"],
+    [b"12", b"645", b"26430517"],
+    [b"21", b"546", b"17053462"],
+    [b"21", b"654", b"34621705"],
+    [b"21", b"546", b"17053462"],
+    [b"21", b"654", b"34621705"],
+    [b"12", b"456", b"05176234"],
+    [b"12", b"645", b"62340517"],
+    [b"12", b"456", b"05176234"],
+    [b"12", b"645", b"62340517"],
+    [b"21", b"546", b"17053462"],
+    [b"21", b"654", b"34621705"],
+    [b"21", b"546", b"17053462"],
+    [b"21", b"654", b"34621705"],
+    [b"120", b"045176", b"05172643"],
+    [b"012", b"176045", b"26430517"],
+    [b"12", b"456", b"05172643"],
+    [b"12", b"645", b"26430517"],
+    [b"21", b"546", b"17053462"],
+    [b"21", b"654", b"34621705"],
+    [b"21", b"546", b"17053462"],
+    [b"21", b"654", b"34621705"],
+    [b"12", b"456", b"05176234"],
+    [b"12", b"645", b"62340517"],
+    [b"12", b"456", b"05176234"],
+    [b"12", b"645", b"62340517"],
+    [b"21", b"546", b"17053462"],
+    [b"21", b"654", b"34621705"],
+    [b"21", b"546", b"17053462"],
+    [b"21", b"654", b"34621705"],
+];
+
+#[test]
+fn each_usage_ranks_the_types_of_three_devices(rt: HostRuntime) {
+    let few = MemoryForUsage::new(&three_types());
+    let card = MemoryForUsage::new(&card());
+    let shared = MemoryForUsage::new(&shared_memory());
+    for usage in 0..64 {
+        let [of_few, of_card, of_shared] = RANKED[usage];
+        is_ranked(&rt, &few, usage as u8, of_few);
+        is_ranked(&rt, &card, usage as u8, of_card);
+        is_ranked(&rt, &shared, usage as u8, of_shared);
+    }
+}
+
+fn is_ranked(rt: &impl Abort, table: &MemoryForUsage, usage: u8, digits: &[u8]) {
+    let types = table.types(UsageFlags::from_bits_retain(usage));
+    assert_eq!(rt; types.len(), digits.len(), "usage {usage}");
+    for (place, digit) in digits.iter().enumerate() {
+        let want = u32::from(digit.wrapping_sub(b'0'));
+        assert_eq!(rt;
+            types.get(place),
+            Some(&want),
+            "usage {usage}, place {place}"
+        );
+    }
+}
+
+#[test]
+fn a_usage_ranks_the_types_that_it_wants_first(rt: HostRuntime) {
+    let types = three_types();
+    let table = MemoryForUsage::new(&types);
+    let cases: [(u8, &[u32], u32); 12] = [
+        (0x00, &[0, 1, 2], 7),
+        (0x40, &[0, 1, 2], 7),
+        (0xc0, &[0, 1, 2], 7),
+        (0x01, &[0, 1, 2], 7),
+        (0x02, &[1, 2], 6),
+        (0x03, &[1, 2], 6),
+        (0x08, &[1, 2], 6),
+        (0x0c, &[2, 1], 6),
+        (0x20, &[1, 2, 0], 7),
+        (0x10, &[1, 2, 0], 7),
+        (0x06, &[2, 1], 6),
+        (0xd0, &[1, 2, 0], 7),
+    ];
+    for (bits, want, mask) in cases {
+        let usage = UsageFlags::from_bits_retain(bits);
+        assert_eq!(rt; table.types(usage), want, "usage {bits}");
+        assert_eq!(rt; table.mask(usage), mask, "mask of usage {bits}");
+    }
+}
+
+#[test]
+fn lazily_allocated_and_protected_types_are_never_ranked(rt: HostRuntime) {
+    let types = [
+        memory_type(1),
+        memory_type(1),
+        memory_type(17),
+        memory_type(33),
+    ];
+    let table = MemoryForUsage::new(&types);
+    let usage = UsageFlags::FAST_DEVICE_ACCESS;
+    assert_eq!(rt; table.types(usage), [0, 1].as_slice());
+    assert_eq!(rt; table.mask(usage), 3);
+}
+
+#[test]
+fn from_none_to_32_types_are_ranked(rt: HostRuntime) {
+    let none = MemoryForUsage::new(&[]);
+    assert_eq!(rt; none.types(UsageFlags::FAST_DEVICE_ACCESS), [].as_slice());
+    assert_eq!(rt; none.mask(UsageFlags::FAST_DEVICE_ACCESS), 0);
+    let types = [memory_type(1); 32];
+    let table = MemoryForUsage::new(&types);
+    assert_eq!(rt; table.mask(UsageFlags::HOST_ACCESS), 0);
+    assert_eq!(rt; table.mask(UsageFlags::TRANSIENT), u32::MAX);
+}
+
+/// The lines of a script for `three_types`.
+const THREE_TYPES: &str = "type 0 1\ntype 0 6\ntype 0 14\n";
+
+/// Compares the types that an allocator tries for a request with those that are wanted, in their order. Each request but
+/// the first has one more refusal of the device than the one before, until nothing is left to be tried.
+fn are_tried(
+    rt: &impl Abort,
+    alloc: Global,
+    types: &str,
+    usage: u8,
+    mask: u32,
+    want: &[u32],
+) -> Result<(), Fail> {
+    let mut setup = format!(in alloc; "heap 64\n{types}")?;
+    let mut commands = String::new(alloc);
+    let mut printed = String::new(alloc);
+    let mut questions = 0_u64;
+    for refusals in 0..want.len() {
+        for _ in 0..refusals {
+            questions = questions.saturating_add(1);
+            write!(setup, "refuse allocate {questions} device\n")?;
+        }
+        questions = questions.saturating_add(1);
+        write!(commands, "required {refusals} 1 0 {usage} {mask}\n")?;
+        let object = refusals.saturating_add(1);
+        write!(
+            printed,
+            "block type {} object {object} offset 0 size 1\n",
+            want[refusals]
+        )?;
+    }
+    for _ in 0..want.len() {
+        questions = questions.saturating_add(1);
+        write!(setup, "refuse allocate {questions} device\n")?;
+    }
+    let refused = if want.is_empty() {
+        "No compatible memory types from requested types support requested usage"
+    } else {
+        "Device memory exhausted"
+    };
+    let objects = want.len();
+    let script = format!(in alloc; "{setup}{commands}required {objects} 1 0 {usage} {mask}\n")?;
+    write!(
+        printed,
+        "refused: {refused}\nend objects 0 allocations {questions}\n"
+    )?;
+    compare(rt, alloc, &[(script.as_str(), printed.as_str(), 0)]);
+    Ok(())
+}
+
+#[test]
+fn only_types_whose_bit_is_set_are_tried(rt: HostRuntime) -> Result<(), Fail> {
+    let cases: [(u8, u32, &[u32]); 6] = [
+        (0x00, 0b110, &[1, 2]),
+        (0x10, 0b101, &[2, 0]),
+        (0x06, 0b011, &[1]),
+        (0x02, 0b001, &[]),
+        (0x01, 0, &[]),
+        (0x01, 0xffff_fff8, &[]),
+    ];
+    for (usage, mask, want) in cases {
+        are_tried(&rt, rt.alloc(), THREE_TYPES, usage, mask, want)?;
+    }
+    let most = "type 0 1\n".repeat(rt.alloc(), 32)?;
+    are_tried(&rt, rt.alloc(), most.as_str(), 0x10, 0x8000_0001, &[0, 31])
+}
+
+#[test]
+fn what_a_usage_means_is_tried(rt: HostRuntime) -> Result<(), Fail> {
+    let cases: [(u8, &[u32]); 5] = [
+        (0x00, &[0, 1, 2]),
+        (0x40, &[0, 1, 2]),
+        (0x04, &[2, 1]),
+        (0x08, &[1, 2]),
+        (0x10, &[1, 2, 0]),
+    ];
+    for (usage, want) in cases {
+        are_tried(&rt, rt.alloc(), THREE_TYPES, usage, u32::MAX, want)?;
+    }
+    Ok(())
+}
