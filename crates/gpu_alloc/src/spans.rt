@@ -104,12 +104,10 @@ fn key_of<A: Allocator>(
 ) -> Option<usize>
     ensures { MatchOption result (IsNowhere spans.now (span_at object offset size)) (IsUnder spans.now (span_at object offset size)) }
 {
-    if let Some(span) = spans.get(key) {
-        if span.is(object, offset, size) {
-            return Some(key);
-        }
+    match spans.get(key) {
+        Some(span) if span.is(object, offset, size) => Some(key),
+        _ => search(spans, object, offset, size),
     }
-    search(spans, object, offset, size)
 }
 
 /// The key of a span's row, by a search over all rows.

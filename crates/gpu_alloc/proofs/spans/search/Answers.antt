@@ -19,7 +19,11 @@ loop-key-preserved g c =
       tt,
       tt,
       λ key row stands is. elim (Contains-cons_cases _ _ _ (rw at at (c.loop-key.invariant.2 key row stands is))) [
-        | inl same ↦ absurd (let test : c.is.result ≡ true = c.is.ensures.1 (ap (λ e. span_in e.1) same ∙ is) in let no = c.if-is.false in cc)
+        | inl same ↦ absurd (
+            let here = ap (λ e. span_in e.1) same in
+            let test : c.is.result ≡ true = c.is.ensures.1 (here ∙ is) in
+            let no = c.if-is.false in
+            cc)
         | inr rest ↦ rest
       ],
       λ key row has. c.loop-key.invariant.3 key row (rw at (Contains-cons _ _ _ has)),
