@@ -1,9 +1,9 @@
 -- What the return of a block leaves.
-use Rattle.std.proofs.Common.{◌≡◌, ◌↔◌, ℕ, Bool, IsTrue, ◌+◌, List, [], ◌∷◌, length, get_or, Some, refl, sym, ◌∙◌, ap, subst, arith}
+use Rattle.std.proofs.Common.{◌≡◌, ℕ, ◌+◌, List, [], ◌∷◌, length, get_or, Some, refl, sym, ◌∙◌, ap, subst, arith}
 use Rattle.std.proofs.Math.ListN.{set}
 use Rattle.std.specs.FinMap as finite
 use Rattle.std.specs.FinSet as set_of
-use Rattle.gpu_alloc.specs.State.{State, HeldObject, Span, Block, IsLive, IsOwned, span_of, total}
+use Rattle.gpu_alloc.specs.State.{State, HeldObject, Span, Block, IsOwned, span_of, total}
 use Rattle.gpu_alloc.specs.Spans.{Table, held_of, span_at}
 use Rattle.gpu_alloc.specs.Inside.{state_in, properties_in, IsConsistent}
 use Rattle.gpu_alloc.specs.Release.{GoesWith, without_span, without_all}
@@ -23,17 +23,6 @@ returned s b = record (without_span s b) { held = without_all (without_span s b)
 -- an object of its own goes with its block
 pub goes_with : (kind : Kind) (s : State) (object : ℕ) → kind ≡ Dedicated → GoesWith kind s object (object ∷ [])
 goes_with kind s object is = subst (λ k. GoesWith k s object (object ∷ [])) (sym is) refl
-
--- a block of a live span and of its object's memory type is owned where its kind is the object's
-pub owned_by : (s : State) (b : Block) (h : HeldObject) (same : Bool) → IsLive s (span_of b) → finite.get s.held b.object ≡ Some h → h.memory_type ≡ b.memory_type
-    → IsTrue same ↔ (h.kind ≡ b.kind) → IsTrue same ↔ IsOwned s b
-owned_by s b h same live held memory_type kind = (
-  λ yes. record { live = live; held = (h, held, memory_type, kind.0 yes) },
-  λ owned.
-      let both : Some owned.held.0 ≡ Some h = sym owned.held.1 ∙ held in
-      let object : owned.held.0 ≡ h = cc in
-      kind.1 (ap (λ (x : HeldObject). x.kind) (sym object) ∙ owned.held.3),
-)
 
 -- a live block is the whole of an object of its own
 pub record IsWholeBlock (t : Table) (b : Block) (h : HeldObject) : Type 0 where

@@ -321,13 +321,11 @@ impl<M: MemoryObject, A: Allocator> GpuAllocator<M, A> {
         ensures { IsTrue result ↔ IsOwned self.now block.now }
     {
         let object = block.memory().object();
-        let found = self
-            .spans
-            .find(block.key(), object, block.offset(), block.size());
-        match (found, self.spans.held(object)) {
-            (Some(_), Some(held)) => {
-                held.memory_type == block.memory_type() && held.kind == block.kind()
-            }
+        match self.spans.held(object) {
+            Some(held) if held.is_of(block.memory_type(), block.kind()) => self
+                .spans
+                .find(block.key(), object, block.offset(), block.size())
+                .is_some(),
             _ => false,
         }
     }

@@ -55,6 +55,15 @@ pub struct HeldRow {
     pub kind: Kind,
 }
 
+impl HeldRow {
+    /// Whether the object is of this memory type, and held for this.
+    pub(crate) fn is_of(&self, memory_type: u32, kind: Kind) -> bool
+        ensures { IsTrue result ↔ ((self.now.memory_type ≡ memory_type) × (self.now.kind ≡ kind)) }
+    {
+        self.memory_type == memory_type && self.kind == kind
+    }
+}
+
 /// What [`Spans::remove`] took off.
 #[derive(Clone, Copy, Debug, PartialEq, Eq)]
 pub struct Removed {
