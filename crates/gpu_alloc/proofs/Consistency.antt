@@ -11,13 +11,12 @@ use Rattle.std.specs.FinMap as finite
 use Rattle.std.specs.FinSet as set_of
 use Rattle.gpu_alloc_types.specs.Properties.{Properties, IsUsable, heap_at}
 use Rattle.gpu_alloc.specs.State.{HeldObject, Span, span_cmp, share}
-use Rattle.gpu_alloc.specs.Spans.{Table, with_row, without_row, held_of, span_in, IsRowOf}
+use Rattle.gpu_alloc.specs.Spans.{Table}
 use Rattle.gpu_alloc.specs.Inside.{IsConsistent, IsWhole, IsWholeSpan, AreSmall, AreLedgers, offer_of}
 use Rattle.gpu_alloc.specs.Heap.{unused}
 use Rattle.gpu_alloc_types.specs.declared.types.MemoryHeap.{MemoryHeap}
 use Rattle.gpu_alloc.specs.declared.block.Kind.TheVariants.{Dedicated}
 use Rattle.gpu_alloc.specs.declared.heap.Heap.{Heap}
-use Rattle.gpu_alloc.specs.declared.spans.Row.{Row}
 use Rattle.gpu_alloc.proofs.Ledgers.{ledger-bound, Held, Entries, sum_by-insert, sum_by-remove, small-insert, small-remove, len_more, len_less, name_test}
 use Rattle.gpu_alloc.proofs.LiveSpans.{live_new, live_still, live_before, live_kept, live_other}
 use Rattle.gpu_alloc.proofs.HeapLists.{heap_inside, ledger_at, ledgers_set}
@@ -34,169 +33,161 @@ test-same a b n e = grind (arith, nat_tests)
 test-other : (a b n : ℕ) → a ≢ b → cond (a == b) n 0 ≡ 0
 test-other a b n e = grind (arith, nat_tests)
 
--- Sets of spans and maps of objects, as a row comes or goes.
+-- the span of a block that is the whole of an object
+abbrev pub whole_span : ℕ → HeldObject → Span
+whole_span name h = record { object = name; offset = 0; size = h.counted }
 
-pub get_more : (t : Table) (row : Row) (name : ℕ) → finite.get (with_row t row).held name ≡ cond (name == row.object) (Some (held_of row)) (finite.get t.held name)
-get_more t row name = finite.get-insert nat_cmp_total t.held row.object (held_of row) name ∙ ap (λ b. cond b (Some (held_of row)) (finite.get t.held name)) (name_test name row.object)
-
-pub get_less : (t : Table) (row : Row) (name : ℕ) → finite.get (without_row t row).held name ≡ cond (name == row.object) None (finite.get t.held name)
-get_less t row name = finite.get-remove nat_cmp_total t.held row.object name ∙ ap (λ b. cond b None (finite.get t.held name)) (name_test name row.object)
-
--- The row of a whole object of its own.
-
-pub record IsOwnRow (p : Properties) (row : Row) : Type 0 where
-  pub kind : row.kind ≡ Dedicated
-  pub start : row.offset ≡ 0
-  pub all : row.size ≡ row.counted
-  pub small : row.counted < 2 ^ 64
-  pub known : row.memory_type < length p.memory_types
-
--- how much room there is, is not said
-pub consistent-room : (p : Properties) (heaps : List Heap) (t now : Table) (remaining : ℕ) → now ≡ record t { room = now.room } → IsConsistent p heaps t remaining → IsConsistent p heaps now remaining
-consistent-room p heaps t now remaining same is = subst (λ (x : Table). IsConsistent p heaps x remaining) (sym same) (record {
-  usable = is.usable;
-  count = is.count;
-  whole = λ object. cases object (finite.get t.held object) (is.whole object);
-  spans = λ span live. let w = is.spans span live in record { object = w.object; held = w.held; start = w.start; size = w.size };
-  small = is.small;
-  ledgers = is.ledgers;
-})
-  where
-    cases : (object : ℕ) (o : Option HeldObject) → IfSome o (IsWhole t p object) → IfSome o (IsWhole (record t { room = now.room }) p object)
-    cases object None w = w
-    cases object (Some h) w = record { kind = w.kind; known = w.known; live = w.live }
+-- an object of its own for one block
+pub record IsOwn (p : Properties) (h : HeldObject) : Type 0 where
+  pub kind : h.kind ≡ Dedicated
+  pub small : h.counted < 2 ^ 64
+  pub known : h.memory_type < length p.memory_types
 
 module _ (p : Properties) (heaps : List Heap) (t : Table) (remaining : ℕ) (is : IsConsistent p heaps t remaining) (offers : p.memory_heaps ≡ map offer_of heaps) where
   pub heap_there : (memory_type : ℕ) → memory_type < length p.memory_types → heap_at p memory_type < length heaps
   heap_there memory_type known = omega (arith, heap_inside p memory_type is.usable known, ap length offers, length-map heaps offer_of)
 
-  -- a held object's row
-  pub whole_row : (object : ℕ) (row : Row) → IsRowOf t object row → IsWhole t p object (held_of row)
-  whole_row object row of = subst (λ (o : Option HeldObject). IfSome o (IsWhole t p object)) of.held (is.whole object)
+  -- a held object
+  pub whole_object : (name : ℕ) (h : HeldObject) → finite.get t.held name ≡ Some h → IsWhole t p name h
+  whole_object name h found = subst (λ (o : Option HeldObject). IfSome o (IsWhole t p name)) found (is.whole name)
 
-  -- One object more is held.
+  -- One object more is held, with its block.
 
-  held_whole : (row : Row) (name : ℕ) → IsOwnRow p row → IfSome (finite.get (with_row t row).held name) (IsWhole (with_row t row) p name)
-  held_whole row name own = subst (λ (o : Option HeldObject). IfSome o (IsWhole (with_row t row) p name)) (sym (get_more t row name)) (cases _ refl)
-    where
-      old : (o : Option HeldObject) → IfSome o (IsWhole t p name) → IfSome o (IsWhole (with_row t row) p name)
-      old None w = w
-      old (Some h) w = record { kind = w.kind; known = w.known; live = live_still t.live (span_in row) _ w.live }
+  pub record HoldsMore (now : Table) (name : ℕ) (h : HeldObject) : Type 0 where
+    pub own : IsOwn p h
+    pub free : finite.get t.held name ≡ None
+    pub held : now.held ≡ finite.insert t.held name h
+    pub live : now.live ≡ set_of.insert t.live (whole_span name h)
 
-      cases : (b : Bool) → (name == row.object) ≡ b → IfSome (cond b (Some (held_of row)) (finite.get t.held name)) (IsWhole (with_row t row) p name)
-      cases true e =
-          let here : name ≡ row.object = grind (arith, nat_tests) in
-          let span : ◌≡◌ {A = Span} (span_in row) (record { object = name; offset = 0; size = row.counted }) = λ k. record { object = sym here k; offset = own.start k; size = own.all k } in
-          record { kind = own.kind; known = own.known; live = subst (λ (s : Span). IsTrue (set_of.contains (with_row t row).live s)) span (live_new t.live (span_in row)) }
-      cases false e = old (finite.get t.held name) (is.whole name)
+  module _ (now : Table) (name : ℕ) (h : HeldObject) (m : HoldsMore now name h) where
+    get_more : (q : ℕ) → finite.get now.held q ≡ cond (q == name) (Some h) (finite.get t.held q)
+    get_more q = ap (λ (x : Held). finite.get x q) m.held ∙ finite.get-insert nat_cmp_total t.held name h q ∙ ap (λ b. cond b (Some h) (finite.get t.held q)) (name_test q name)
 
-  held_span : (row : Row) (span : Span) → IsOwnRow p row → finite.get t.held row.object ≡ None → IsTrue (set_of.contains (with_row t row).live span) → IsWholeSpan (with_row t row) span
-  held_span row span own free now = elim (live_before t.live (span_in row) span now) [
-    | inl new ↦ record {
-      object = held_of row;
-      held = get_more t row span.object ∙ ap (λ b. cond b (Some (held_of row)) (finite.get t.held span.object)) (test-true span.object row.object (ap (λ (s : Span). s.object) new));
-      start = ap (λ (s : Span). s.offset) new ∙ own.start;
-      size = ap (λ (s : Span). s.size) new ∙ own.all;
+    is_live : (span : Span) → IsTrue (set_of.contains (set_of.insert t.live (whole_span name h)) span) → IsTrue (set_of.contains now.live span)
+    is_live span = subst (λ s. IsTrue (set_of.contains s span)) (sym m.live)
+
+    more_whole : (q : ℕ) → IfSome (finite.get now.held q) (IsWhole now p q)
+    more_whole q = subst (λ (o : Option HeldObject). IfSome o (IsWhole now p q)) (sym (get_more q)) (cases _ refl)
+      where
+        old : (o : Option HeldObject) → IfSome o (IsWhole t p q) → IfSome o (IsWhole now p q)
+        old None w = w
+        old (Some x) w = record { kind = w.kind; known = w.known; live = is_live _ (live_still t.live (whole_span name h) _ w.live) }
+
+        cases : (b : Bool) → (q == name) ≡ b → IfSome (cond b (Some h) (finite.get t.held q)) (IsWhole now p q)
+        cases true e =
+            let here : name ≡ q = grind (arith, nat_tests) in
+            record { kind = m.own.kind; known = m.own.known; live = subst (λ n. IsTrue (set_of.contains now.live (whole_span n h))) here (is_live _ (live_new t.live (whole_span name h))) }
+        cases false e = old (finite.get t.held q) (is.whole q)
+
+    more_span : (span : Span) → IsTrue (set_of.contains now.live span) → IsWholeSpan now span
+    more_span span is_now = elim (live_before t.live (whole_span name h) span (subst (λ s. IsTrue (set_of.contains s span)) m.live is_now)) [
+      | inl new ↦ record {
+        object = h;
+        held = get_more span.object ∙ ap (λ b. cond b (Some h) (finite.get t.held span.object)) (test-true span.object name (ap (λ (s : Span). s.object) new));
+        start = ap (λ (s : Span). s.offset) new;
+        size = ap (λ (s : Span). s.size) new;
+      }
+      | inr was ↦
+          let w = is.spans span was in
+          let other : span.object ≢ name = λ same. let there = ap (finite.get t.held) (sym same) ∙ w.held in let free = m.free in absurd (cc) in
+          record {
+            object = w.object;
+            held = get_more span.object ∙ ap (λ b. cond b (Some h) (finite.get t.held span.object)) (test-false span.object name other) ∙ w.held;
+            start = w.start;
+            size = w.size;
+          }
+    ]
+
+    more_ledgers : (heap changed : Heap) (i : ℕ) → i ≡ heap_at p h.memory_type → heap ≡ get_or heaps i heap → changed.used ≡ heap.used + h.counted → AreLedgers p (set heaps i changed) (finite.entries now.held)
+    more_ledgers heap changed i here at more =
+        let inside : i < length heaps = omega (arith, heap_there h.memory_type m.own.known) in
+        let all : (q : ℕ) → sum_by (share p q) (finite.entries now.held) ≡ share p q (name, h) + sum_by (share p q) (finite.entries t.held) =
+        λ q. ap (λ (x : Held). sum_by (share p q) (finite.entries x)) m.held ∙ sum_by-insert (share p q) t.held name h m.free in
+        ledgers_set p heaps i changed (finite.entries t.held) (finite.entries now.held) is.ledgers inside
+        (omega (arith, ledger_at p heaps i heap (finite.entries t.held) is.ledgers inside at, all i, test-same (heap_at p h.memory_type) i h.counted (sym here)))
+        (λ q other. omega (arith, all q, test-other (heap_at p h.memory_type) q h.counted (λ e. other (sym (here ∙ e)))))
+
+    pub consistent-held : (heap changed : Heap) (i : ℕ) → 0 < remaining → i ≡ heap_at p h.memory_type → heap ≡ get_or heaps i heap → changed.used ≡ heap.used + h.counted
+        → IsConsistent p (set heaps i changed) now (remaining - 1)
+    consistent-held heap changed i some here at more = record {
+      usable = is.usable;
+      count = omega (arith, is.count, ap (λ (x : Held). finite.len x) m.held, len_more t.held name h m.free);
+      whole = more_whole;
+      spans = more_span;
+      small = subst (λ (x : Held). AreSmall (finite.entries x)) (sym m.held) (small-insert t.held name h m.free m.own.small is.small);
+      ledgers = more_ledgers heap changed i here at more;
     }
-    | inr was ↦
-        let w = is.spans span was in
-        let other : span.object ≢ row.object = λ same. let there = ap (finite.get t.held) (sym same) ∙ w.held in absurd (cc) in
+
+  -- One object fewer is held, and its block is live no more.
+
+  pub record HoldsFewer (now : Table) (name : ℕ) (h : HeldObject) : Type 0 where
+    pub found : finite.get t.held name ≡ Some h
+    pub held : now.held ≡ finite.remove t.held name
+    pub live : now.live ≡ set_of.remove t.live (whole_span name h)
+
+  module _ (name : ℕ) (h : HeldObject) (found : finite.get t.held name ≡ Some h) where
+    -- its heap's ledger counts it
+    pub covers : (heap : Heap) (i : ℕ) → i ≡ heap_at p h.memory_type → heap ≡ get_or heaps i heap → heap.used ≡ h.counted + sum_by (share p i) (finite.entries (finite.remove t.held name))
+    covers heap i here at =
+        let inside : i < length heaps = omega (arith, heap_there h.memory_type (whole_object name h found).known) in
+        omega (arith, ledger_at p heaps i heap (finite.entries t.held) is.ledgers inside at, sum_by-remove (share p i) t.held name h found, test-same (heap_at p h.memory_type) i h.counted (sym here))
+
+    -- one more may be held when it has gone
+    pub fits_again : remaining + 1 < 2 ^ 32
+    fits_again = omega (arith, is.count, len_less t.held name h found)
+
+  module _ (now : Table) (name : ℕ) (h : HeldObject) (l : HoldsFewer now name h) where
+    get_less : (q : ℕ) → finite.get now.held q ≡ cond (q == name) None (finite.get t.held q)
+    get_less q = ap (λ (x : Held). finite.get x q) l.held ∙ finite.get-remove nat_cmp_total t.held name q ∙ ap (λ b. cond b None (finite.get t.held q)) (name_test q name)
+
+    fewer_whole : (q : ℕ) → IfSome (finite.get now.held q) (IsWhole now p q)
+    fewer_whole q = subst (λ (o : Option HeldObject). IfSome o (IsWhole now p q)) (sym (get_less q)) (cases _ refl)
+      where
+        old : q ≢ name → (o : Option HeldObject) → IfSome o (IsWhole t p q) → IfSome o (IsWhole now p q)
+        old other None w = w
+        old other (Some x) w = record {
+          kind = w.kind;
+          known = w.known;
+          live = subst (λ s. IsTrue (set_of.contains s (whole_span q x))) (sym l.live) (live_kept t.live (whole_span name h) _ (λ same. other (ap (λ (s : Span). s.object) same)) w.live);
+        }
+
+        cases : (b : Bool) → (q == name) ≡ b → IfSome (cond b None (finite.get t.held q)) (IsWhole now p q)
+        cases true e = tt
+        cases false e = old (grind (arith, nat_tests)) (finite.get t.held q) (is.whole q)
+
+    fewer_span : (span : Span) → IsTrue (set_of.contains now.live span) → IsWholeSpan now span
+    fewer_span span is_now =
+        let was = live_other t.live (whole_span name h) span (subst (λ s. IsTrue (set_of.contains s span)) l.live is_now) in
+        let w = is.spans span was.1 in
+        let other : span.object ≢ name = λ same.
+        let both : Some w.object ≡ Some h = sym w.held ∙ ap (finite.get t.held) same ∙ l.found in
+        let object : w.object ≡ h = cc in
+        was.0 (λ k. record { object = same k; offset = w.start k; size = (w.size ∙ ap (λ (x : HeldObject). x.counted) object) k }) in
         record {
           object = w.object;
-          held = get_more t row span.object ∙ ap (λ b. cond b (Some (held_of row)) (finite.get t.held span.object)) (test-false span.object row.object other) ∙ w.held;
+          held = get_less span.object ∙ ap (λ b. cond b None (finite.get t.held span.object)) (test-false span.object name other) ∙ w.held;
           start = w.start;
           size = w.size;
         }
-  ]
 
-  held_ledgers : (row : Row) (h changed : Heap) (i : ℕ) → IsOwnRow p row → finite.get t.held row.object ≡ None → i ≡ heap_at p row.memory_type → h ≡ get_or heaps i h → changed.used ≡ h.used + row.counted
-      → AreLedgers p (set heaps i changed) (finite.entries (with_row t row).held)
-  held_ledgers row h changed i own free here at more =
-      let inside : i < length heaps = omega (arith, heap_there row.memory_type own.known) in
-      let all : (q : ℕ) → sum_by (share p q) (finite.entries (with_row t row).held) ≡ share p q (row.object, held_of row) + sum_by (share p q) (finite.entries t.held) =
-      λ q. sum_by-insert (share p q) t.held row.object (held_of row) free in
-      ledgers_set p heaps i changed (finite.entries t.held) (finite.entries (with_row t row).held) is.ledgers inside
-      (omega (arith, ledger_at p heaps i h (finite.entries t.held) is.ledgers inside at, all i, test-same (heap_at p row.memory_type) i row.counted (sym here)))
-      (λ q other. omega (arith, all q, test-other (heap_at p row.memory_type) q row.counted (λ e. other (sym (here ∙ e)))))
+    fewer_ledgers : (heap changed : Heap) (i : ℕ) → i ≡ heap_at p h.memory_type → heap ≡ get_or heaps i heap → changed.used ≡ heap.used - h.counted → AreLedgers p (set heaps i changed) (finite.entries now.held)
+    fewer_ledgers heap changed i here at less =
+        let inside : i < length heaps = omega (arith, heap_there h.memory_type (whole_object name h l.found).known) in
+        let all : (q : ℕ) → share p q (name, h) + sum_by (share p q) (finite.entries now.held) ≡ sum_by (share p q) (finite.entries t.held) =
+        λ q. ap (λ (x : Held). share p q (name, h) + sum_by (share p q) (finite.entries x)) l.held ∙ sum_by-remove (share p q) t.held name h l.found in
+        ledgers_set p heaps i changed (finite.entries t.held) (finite.entries now.held) is.ledgers inside
+        (omega (arith, ledger_at p heaps i heap (finite.entries t.held) is.ledgers inside at, all i, test-same (heap_at p h.memory_type) i h.counted (sym here)))
+        (λ q other. omega (arith, all q, test-other (heap_at p h.memory_type) q h.counted (λ e. other (sym (here ∙ e)))))
 
-  held : (row : Row) (h changed : Heap) (i : ℕ) → 0 < remaining → IsOwnRow p row → finite.get t.held row.object ≡ None → i ≡ heap_at p row.memory_type → h ≡ get_or heaps i h → changed.used ≡ h.used + row.counted
-      → IsConsistent p (set heaps i changed) (with_row t row) (remaining - 1)
-  held row h changed i some own free here at more = record {
-    usable = is.usable;
-    count = omega (arith, is.count, len_more t.held row.object (held_of row) free);
-    whole = λ name. held_whole row name own;
-    spans = λ span live. held_span row span own free live;
-    small = small-insert t.held row.object (held_of row) free own.small is.small;
-    ledgers = held_ledgers row h changed i own free here at more;
-  }
-
-  -- A held object's row goes.
-
-  pub covers : (object : ℕ) (row : Row) (h : Heap) (i : ℕ) → IsRowOf t object row → i ≡ heap_at p row.memory_type → h ≡ get_or heaps i h
-      → h.used ≡ row.counted + sum_by (share p i) (finite.entries (without_row t row).held)
-  covers object row h i of here at =
-      let found : finite.get t.held row.object ≡ Some (held_of row) = ap (finite.get t.held) of.named ∙ of.held in
-      let inside : i < length heaps = omega (arith, heap_there row.memory_type (whole_row object row of).known) in
-      omega (arith, ledger_at p heaps i h (finite.entries t.held) is.ledgers inside at, sum_by-remove (share p i) t.held row.object (held_of row) found, test-same (heap_at p row.memory_type) i row.counted (sym here))
-
-  gone_whole : (object : ℕ) (row : Row) (name : ℕ) → IsRowOf t object row → IfSome (finite.get (without_row t row).held name) (IsWhole (without_row t row) p name)
-  gone_whole object row name of = subst (λ (o : Option HeldObject). IfSome o (IsWhole (without_row t row) p name)) (sym (get_less t row name)) (cases _ refl)
-    where
-      old : name ≢ row.object → (o : Option HeldObject) → IfSome o (IsWhole t p name) → IfSome o (IsWhole (without_row t row) p name)
-      old other None w = w
-      old other (Some h) w = record { kind = w.kind; known = w.known; live = live_kept t.live (span_in row) _ (λ same. other (ap (λ (s : Span). s.object) same)) w.live }
-
-      cases : (b : Bool) → (name == row.object) ≡ b → IfSome (cond b None (finite.get t.held name)) (IsWhole (without_row t row) p name)
-      cases true e = tt
-      cases false e = old (grind (arith, nat_tests)) (finite.get t.held name) (is.whole name)
-
-  gone_span : (object : ℕ) (row : Row) (span : Span) → IsRowOf t object row → IsTrue (set_of.contains (without_row t row).live span) → IsWholeSpan (without_row t row) span
-  gone_span object row span of now =
-      let was = live_other t.live (span_in row) span now in
-      let w = is.spans span was.1 in
-      let other : span.object ≢ row.object = λ same. was.0 ((of.live span (same ∙ of.named)).0 was.1) in
-      record {
-        object = w.object;
-        held = get_less t row span.object ∙ ap (λ b. cond b None (finite.get t.held span.object)) (test-false span.object row.object other) ∙ w.held;
-        start = w.start;
-        size = w.size;
-      }
-
-  gone_ledgers : (object : ℕ) (row : Row) (h changed : Heap) (i : ℕ) → IsRowOf t object row → i ≡ heap_at p row.memory_type → h ≡ get_or heaps i h → changed.used ≡ h.used - row.counted
-      → AreLedgers p (set heaps i changed) (finite.entries (without_row t row).held)
-  gone_ledgers object row h changed i of here at less =
-      let found : finite.get t.held row.object ≡ Some (held_of row) = ap (finite.get t.held) of.named ∙ of.held in
-      let inside : i < length heaps = omega (arith, heap_there row.memory_type (whole_row object row of).known) in
-      ledgers_set p heaps i changed (finite.entries t.held) (finite.entries (without_row t row).held) is.ledgers inside
-      (omega (arith, covers object row h i of here at))
-      (λ q other. omega (arith, sum_by-remove (share p q) t.held row.object (held_of row) found, test-other (heap_at p row.memory_type) q row.counted (λ e. other (sym (here ∙ e)))))
-
-  pub consistent-gone : (object : ℕ) (row : Row) (h changed : Heap) (i : ℕ) → IsRowOf t object row → i ≡ heap_at p row.memory_type → h ≡ get_or heaps i h → changed.used ≡ h.used - row.counted
-      → IsConsistent p (set heaps i changed) (without_row t row) (remaining + 1)
-  consistent-gone object row h changed i of here at less =
-      let found : finite.get t.held row.object ≡ Some (held_of row) = ap (finite.get t.held) of.named ∙ of.held in
-      record {
-        usable = is.usable;
-        count = omega (arith, is.count, len_less t.held row.object (held_of row) found);
-        whole = λ name. gone_whole object row name of;
-        spans = λ span live. gone_span object row span of live;
-        small = small-remove t.held row.object (held_of row) found is.small;
-        ledgers = gone_ledgers object row h changed i of here at less;
-      }
-
--- The same of a table with other room.
-pub consistent-held : (p : Properties) (heaps : List Heap) (t now : Table) (remaining : ℕ) (row : Row) (h changed : Heap) (i : ℕ) → IsConsistent p heaps t remaining → p.memory_heaps ≡ map offer_of heaps
-    → 0 < remaining → IsOwnRow p row → finite.get t.held row.object ≡ None → now.held ≡ (with_row t row).held → now.live ≡ (with_row t row).live
-    → i ≡ heap_at p row.memory_type → h ≡ get_or heaps i h → changed.used ≡ h.used + row.counted → IsConsistent p (set heaps i changed) now (remaining - 1)
-consistent-held p heaps t now remaining row h changed i is offers some own free same_held same_live here at more =
-    let roomy : Table = record t { room = now.room } in
-    let same : with_row roomy row ≡ now = λ k. record { held = sym same_held k; live = sym same_live k; room = now.room } in
-    subst (λ (x : Table). IsConsistent p (set heaps i changed) x (remaining - 1)) same
-    (held p heaps roomy remaining (consistent-room p heaps t roomy remaining refl is) offers row h changed i some own free here at more)
-
--- one more may be held when one has gone
-pub fits_again : (p : Properties) (heaps : List Heap) (t : Table) (remaining object : ℕ) (row : Row) → IsConsistent p heaps t remaining → IsRowOf t object row → remaining + 1 < 2 ^ 32
-fits_again p heaps t remaining object row is of = omega (arith, is.count, len_less t.held row.object (held_of row) (ap (finite.get t.held) of.named ∙ of.held))
+    pub consistent-gone : (heap changed : Heap) (i : ℕ) → i ≡ heap_at p h.memory_type → heap ≡ get_or heaps i heap → changed.used ≡ heap.used - h.counted → IsConsistent p (set heaps i changed) now (remaining + 1)
+    consistent-gone heap changed i here at less = record {
+      usable = is.usable;
+      count = omega (arith, is.count, ap (λ (x : Held). finite.len x) l.held, len_less t.held name h l.found);
+      whole = fewer_whole;
+      spans = fewer_span;
+      small = subst (λ (x : Held). AreSmall (finite.entries x)) (sym l.held) (small-remove t.held name h l.found is.small);
+      ledgers = fewer_ledgers heap changed i here at less;
+    }
 
 -- What one heap says.
 module _ (p : Properties) (heaps : List Heap) (t : Table) (remaining : ℕ) (is : IsConsistent p heaps t remaining) (offers : p.memory_heaps ≡ map offer_of heaps) where

@@ -17,16 +17,11 @@ use Rattle.gpu_alloc.specs.declared.block.Kind.TheVariants.{Dedicated as Dedicat
 use Rattle.gpu_alloc.specs.declared.heap.Heap.{Heap}
 use Rattle.gpu_alloc.specs.declared.request.Request.{Request}
 use Rattle.gpu_alloc.specs.declared.request.Dedicated.TheVariants.{Required}
-use Rattle.gpu_alloc.specs.declared.spans.Row.{Row}
 use Rattle.gpu_alloc.proofs.HeapLists.{state_kept}
 use Rattle.gpu_alloc.proofs.Ledgers.{len_more}
 use Rattle.gpu_alloc.proofs.LiveSpans.{live_new}
 
--- the row of a block that is an object of its own
-abbrev pub own_row : ℕ → ℕ → ℕ → Row
-own_row object size memory_type = record { object = object; offset = 0; size = size; memory_type = memory_type; counted = size; kind = DedicatedObject }
-
--- its object
+-- the object of a block that is an object of its own
 abbrev pub own_object : ℕ → ℕ → HeldObject
 own_object size memory_type = record { memory_type = memory_type; counted = size; kind = DedicatedObject }
 

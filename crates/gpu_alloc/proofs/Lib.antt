@@ -5,7 +5,9 @@ pub mod Consistency
 pub mod ExactPieces
 pub mod Grants
 pub mod HeapLists
+pub mod HeldObjects
 pub mod Ledgers
+pub mod ListViews
 pub mod Lists
 pub mod LiveSpans
 pub mod Masks
@@ -14,5 +16,6 @@ pub mod RankingOrder
 pub mod RankingSteps
 pub mod Returns
 pub mod Rising
-pub mod Rows
+pub mod SlabViews
+pub mod Tables
 pub mod Trials

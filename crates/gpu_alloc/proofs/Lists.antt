@@ -1,10 +1,7 @@
--- Members of a list as one is added or taken off.
-use Rattle.std.proofs.Common.{◌≡◌, ℕ, zero, suc, Bool, true, false, ◌<◌, ◌⊎◌, inl, inr, List, [], ◌∷◌, ◌++◌, length, get_or, refl, sym, subst, arith, Option, None, Some, IsSome}
-use Rattle.std.specs.List.{Contains, IsDistinct, AllByRecursion, swap_remove}
-use Rattle.std.specs.List.Sorted.{IsPermutation}
-use Rattle.std.proofs.lemmas.List.Sorted.{IsPermutation-swap_remove, IsPermutation-sym, IsPermutation-to_front, Contains-permutation}
-use Rattle.std.proofs.lemmas.List.Elements.{Contains-get_or, recursion_from_All}
-use Rattle.std.proofs.lemmas.Map.Keys.{IsDistinct-head, IsDistinct-tail, IsDistinct-cons, IsDistinct-IsPermutation}
+-- Members of a list.
+use Rattle.std.proofs.Common.{◌≡◌, zero, suc, Bool, true, false, ◌⊎◌, inl, inr, List, [], ◌∷◌, refl, sym, subst, arith}
+use Rattle.std.specs.List.{Contains, IsDistinct, AllByRecursion}
+use Rattle.std.proofs.lemmas.Map.Keys.{IsDistinct-head}
 
 module _ {X : Type 0} where
   pub contains_head : (x : X) (xs : List X) → Contains (x ∷ xs) x
@@ -28,36 +25,6 @@ module _ {X : Type 0} where
   pub head_is_other : (e : X → X → Bool) (x y : X) (xs : List X) → IsDistinct e (x ∷ xs) → Contains xs y → e x y ≡ false
   head_is_other e x y xs d has = all_at (λ z. e x z ≡ false) xs y (IsDistinct-head e x xs d) has
 
-  -- ys is xs without x, which no element of ys is equal to
-  pub record IsLess (e : X → X → Bool) (xs ys : List X) (x : X) : Type 0 where
-    pub distinct : IsDistinct e ys
-    pub other : (y : X) → Contains ys y → e x y ≡ false
-    pub kept : (y : X) → Contains ys y → Contains xs y
-    pub had : Contains xs x
-    pub cases : (y : X) → Contains xs y → (y ≡ x) ⊎ Contains ys y
-
-  -- what `swap_remove` leaves
-  pub less : (e : X → X → Bool) → ((x y : X) → e x y ≡ e y x) → (xs ys : List X) (i : ℕ) (x : X) → IsDistinct e xs → i < length xs
-      → x ≡ get_or xs i x → ys ≡ swap_remove xs i x → IsLess e xs ys x
-  less e flips xs ys i x d lt is left =
-      let perm : IsPermutation xs (x ∷ ys) = subst (λ zs. IsPermutation xs (x ∷ zs)) (sym left) (IsPermutation-swap_remove xs i x lt is) in
-      let back : IsPermutation (x ∷ ys) xs = IsPermutation-sym xs (x ∷ ys) perm in
-      let d' : IsDistinct e (x ∷ ys) = IsDistinct-IsPermutation e flips xs (x ∷ ys) perm d in
-      record {
-        distinct = IsDistinct-tail e x ys d';
-        other = λ y h. head_is_other e x y ys d' h;
-        kept = λ y h. Contains-permutation (x ∷ ys) xs y back (contains_later x y ys h);
-        had = Contains-permutation (x ∷ ys) xs x back (contains_head x ys);
-        cases = λ y h. contains_cases x y ys (Contains-permutation xs (x ∷ ys) y perm h);
-      }
-
-  -- one more, which no element is equal to
-  pub distinct_push : (e : X → X → Bool) → ((x y : X) → e x y ≡ e y x) → (xs : List X) (x : X) → IsDistinct e xs → ((y : X) → Contains xs y → e x y ≡ false)
-      → IsDistinct e (xs ++ x ∷ [])
-  distinct_push e flips xs x d other =
-      IsDistinct-IsPermutation e flips (x ∷ xs) (xs ++ x ∷ []) (IsPermutation-sym (xs ++ x ∷ []) (x ∷ xs) (IsPermutation-to_front xs x))
-      (IsDistinct-cons e x xs (recursion_from_All (λ y. e x y ≡ false) xs (λ k d lt. other (get_or xs k d) (Contains-get_or xs k d lt))) d)
-
   -- an element that passes a test, or every element fails it
   pub seek : (p : X → Bool) (xs : List X) → ((x : X) × Contains xs x × (p x ≡ true)) ⊎ ((x : X) → Contains xs x → p x ≡ false)
   seek p [] = inr (λ x has. absurd (contains_none x has))
@@ -68,8 +35,3 @@ module _ {X : Type 0} where
       | inr none ↦ inr (λ y has. elim (contains_cases x y xs has) [ inl is ↦ subst (λ z. p z ≡ false) (sym is) e | inr h ↦ none y h ])
     ]
   ] refl
-
--- what is none is not some
-pub none_is_some : {X : Type 0} (o : Option X) → o ≡ None → IsSome o → ⊥
-none_is_some None e s = cc
-none_is_some (Some x) e s = cc

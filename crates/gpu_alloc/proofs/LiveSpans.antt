@@ -1,9 +1,31 @@
 -- Live spans, as one comes or goes.
-use Rattle.std.proofs.Common.{◌≡◌, ◌≢◌, ◌⊎◌, inl, inr, Bool, true, false, not, ◌&&◌, ◌||◌, IsTrue, refl, sym, subst}
+use Rattle.std.proofs.Common.{◌≡◌, ◌≢◌, ◌⊎◌, inl, inr, Bool, true, false, not, ◌&&◌, ◌||◌, IsTrue, refl, sym, subst, Equal}
+use Rattle.std.specs.Bool.{Decides}
+use Rattle.std.specs.Cmp.{IsTotalOrder}
+use Rattle.std.specs.Cmp.Lexicographic.{on_texts}
+use Rattle.std.specs.FinMap.{nat_cmp-IsAntisymmetric, slice_cmp-IsAntisymmetric}
 use Rattle.std.specs.Ordering.{eq_by_cmp}
 use Rattle.std.specs.FinSet.{FinSet, contains, insert, remove, contains-insert, contains-remove}
-use Rattle.gpu_alloc.specs.State.{Span, span_cmp}
-use Rattle.gpu_alloc.proofs.Rows.{span_total, span_test}
+use Rattle.gpu_alloc.specs.State.{Span, span_cmp, span_numbers}
+use Rattle.gpu_alloc.proofs.ListViews.{key_test}
+
+-- Spans in their order.
+
+pub span_total : IsTotalOrder span_cmp
+span_total = on_texts span_numbers
+
+pub span_exact : (a b : Span) → span_cmp a b ≡ Equal → a ≡ b
+span_exact a b e =
+    let same : span_numbers a ≡ span_numbers b = slice_cmp-IsAntisymmetric nat_cmp-IsAntisymmetric (span_numbers a) (span_numbers b) e in
+    let object : a.object ≡ b.object = cc in
+    let offset : a.offset ≡ b.offset = cc in
+    let size : a.size ≡ b.size = cc in
+    λ i. record { object = object i; offset = offset i; size = size i }
+
+pub span_test : (a b : Span) → Decides (eq_by_cmp span_cmp a b) (a ≡ b)
+span_test a b = key_test span_total span_exact a b
+
+-- Sets of them.
 
 live_more : (live : FinSet span_cmp) (own : Span) (span : Span) → contains (insert live own) span ≡ (eq_by_cmp span_cmp span own || contains live span)
 live_more live own span = contains-insert span_total live own span

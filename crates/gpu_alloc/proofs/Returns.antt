@@ -1,18 +1,18 @@
 -- What the return of a block leaves.
-use Rattle.std.proofs.Common.{◌≡◌, ℕ, ◌+◌, List, [], ◌∷◌, length, get_or, IsTrue, Some, refl, sym, ◌∙◌, ap, subst, arith}
+use Rattle.std.proofs.Common.{◌≡◌, ℕ, ◌+◌, List, [], ◌∷◌, length, get_or, Some, refl, sym, ◌∙◌, ap, subst, arith}
 use Rattle.std.proofs.Math.ListN.{set}
 use Rattle.std.specs.FinMap as finite
 use Rattle.std.specs.FinSet as set_of
-use Rattle.gpu_alloc.specs.State.{State, HeldObject, Block, IsOwned, span_of, total}
-use Rattle.gpu_alloc.specs.Spans.{Table, IsRowOf, without_row, held_of}
+use Rattle.gpu_alloc.specs.State.{State, HeldObject, Span, Block, IsOwned, span_of, total}
+use Rattle.gpu_alloc.specs.Spans.{Table, held_of, span_at}
 use Rattle.gpu_alloc.specs.Inside.{state_in, properties_in, IsConsistent}
 use Rattle.gpu_alloc.specs.Release.{GoesWith, without_span, without_all}
 use Rattle.gpu_alloc.specs.declared.allocator.Limits.{Limits}
 use Rattle.gpu_alloc.specs.declared.block.Kind.{Kind}
 use Rattle.gpu_alloc.specs.declared.block.Kind.TheVariants.{Dedicated}
 use Rattle.gpu_alloc.specs.declared.heap.Heap.{Heap}
-use Rattle.gpu_alloc.specs.declared.spans.Row.{Row}
-use Rattle.gpu_alloc.proofs.Consistency.{whole_row}
+use Rattle.gpu_alloc.specs.declared.spans.HeldRow.{HeldRow}
+use Rattle.gpu_alloc.proofs.Consistency.{HoldsFewer, whole_object, whole_span}
 use Rattle.gpu_alloc.proofs.HeapLists.{state_kept}
 use Rattle.gpu_alloc.proofs.Ledgers.{len_less}
 
@@ -24,23 +24,45 @@ returned s b = record (without_span s b) { held = without_all (without_span s b)
 pub goes_with : (kind : Kind) (s : State) (object : ℕ) → kind ≡ Dedicated → GoesWith kind s object (object ∷ [])
 goes_with kind s object is = subst (λ k. GoesWith k s object (object ∷ [])) (sym is) refl
 
--- a live block is an object of its own
-pub owned_kind : {A : Type 0} (l : Limits A) (heaps : List Heap) (t : Table) (remaining : ℕ) (b : Block) (row : Row) → IsConsistent (properties_in l heaps) heaps t remaining → IsRowOf t b.object row
-    → IsOwned (state_in l heaps t remaining) b → b.kind ≡ Dedicated
-owned_kind l heaps t remaining b row is of owned =
-    let whole = whole_row (properties_in l heaps) heaps t remaining is refl b.object row of in
+-- a live block is the whole of an object of its own
+pub record IsWholeBlock (t : Table) (b : Block) (h : HeldObject) : Type 0 where
+  pub found : finite.get t.held b.object ≡ Some h
+  pub kind : b.kind ≡ Dedicated
+  pub span : ◌≡◌ {A = Span} (span_of b) (whole_span b.object h)
+
+pub owned_whole : {A : Type 0} (l : Limits A) (heaps : List Heap) (t : Table) (remaining : ℕ) (b : Block) → IsConsistent (properties_in l heaps) heaps t remaining
+    → IsOwned (state_in l heaps t remaining) b → (h : HeldObject) × IsWholeBlock t b h
+owned_whole l heaps t remaining b is owned =
     let h = owned.held in
-    let found : Some h.0 ≡ Some (held_of row) = sym h.1 ∙ of.held in
-    let same : h.0 ≡ held_of row = cc in
-    sym h.3 ∙ ap (λ (x : HeldObject). x.kind) same ∙ whole.kind
+    let w = is.spans (span_of b) owned.live in
+    let whole = whole_object (properties_in l heaps) heaps t remaining is refl b.object h.0 h.1 in
+    let both : Some w.object ≡ Some h.0 = sym w.held ∙ h.1 in
+    let same : w.object ≡ h.0 = cc in
+    (h.0, record { found = h.1; kind = sym h.3 ∙ whole.kind; span = λ k. record { object = b.object; offset = w.start k; size = (w.size ∙ ap (λ (x : HeldObject). x.counted) same) k } })
+
+-- The table gave back what it had of the block's object, and holds it no more.
+pub let_go : {A : Type 0} (l : Limits A) (heaps : List Heap) (t now : Table) (remaining : ℕ) (b : Block) (name offset size : ℕ) (row : HeldRow) (is : IsConsistent (properties_in l heaps) heaps t remaining)
+    → IsOwned (state_in l heaps t remaining) b → name ≡ b.object → offset ≡ b.offset → size ≡ b.size → finite.get t.held name ≡ Some (held_of row)
+    → now.held ≡ finite.remove t.held name → now.live ≡ set_of.remove t.live (span_at name offset size)
+    → HoldsFewer (properties_in l heaps) heaps t remaining is refl now b.object (held_of row)
+let_go l heaps t now remaining b name offset size row is owned same_name same_offset same_size found held live =
+    let whole = owned_whole l heaps t remaining b is owned in
+    let there : finite.get t.held b.object ≡ Some (held_of row) = ap (finite.get t.held) (sym same_name) ∙ found in
+    let both : Some whole.0 ≡ Some (held_of row) = sym whole.1.found ∙ there in
+    let same : whole.0 ≡ held_of row = cc in
+    let is_block : ◌≡◌ {A = Span} (span_at name offset size) (span_of b) = λ k. record { object = same_name k; offset = same_offset k; size = same_size k } in
+    record {
+      found = there;
+      held = held ∙ ap (finite.remove t.held) same_name;
+      live = live ∙ ap (set_of.remove t.live) (is_block ∙ whole.1.span ∙ ap (whole_span b.object) same);
+    }
 
 -- what the fields stand for then
-pub state_returned : {A : Type 0} (l : Limits A) (heaps : List Heap) (i : ℕ) (h old : Heap) (t now : Table) (remaining : ℕ) (row : Row) (b : Block) → old ≡ get_or heaps i old → h.size ≡ old.size
-    → IsRowOf t b.object row → IsTrue (set_of.contains t.live (span_of b)) → now ≡ without_row t row → state_in l (set heaps i h) now (remaining + 1) ≡ returned (state_in l heaps t remaining) b
-state_returned l heaps i h old t now remaining row b at same of live is =
+pub state_returned : {A : Type 0} (l : Limits A) (heaps : List Heap) (i : ℕ) (h old : Heap) (t now : Table) (remaining : ℕ) (b : Block) → old ≡ get_or heaps i old → h.size ≡ old.size
+    → now.held ≡ finite.remove t.held b.object → now.live ≡ set_of.remove t.live (span_of b) → state_in l (set heaps i h) now (remaining + 1) ≡ returned (state_in l heaps t remaining) b
+state_returned l heaps i h old t now remaining b at same held live =
     state_kept l heaps i h old now (remaining + 1) at same
-    ∙ ap (λ (x : Table). state_in l heaps x (remaining + 1)) is
-    ∙ (λ k. record (state_in l heaps t remaining) { held = finite.remove t.held (of.named k); live = set_of.remove t.live (sym ((of.live (span_of b) refl).0 live) k); remaining = remaining + 1 })
+    ∙ (λ k. record (state_in l heaps t remaining) { held = held k; live = live k; remaining = remaining + 1 })
 
 -- as many are held or may be as before
 pub total_returned : (s : State) (b : Block) (h : HeldObject) → finite.get s.held b.object ≡ Some h → total (returned s b) ≡ total s

@@ -7,7 +7,7 @@ use Rattle.std.specs.Ordering.{nat_cmp}
 use Rattle.gpu_alloc_types.specs.Codes.{properties_code}
 use Rattle.gpu_alloc_types.specs.Properties.{Properties}
 use Rattle.gpu_alloc.specs.State.{HeldObject, Span, span_cmp, Block, span_of, TypeState, State}
-use Rattle.gpu_alloc.specs.Spans.{Table}
+use Rattle.gpu_alloc.specs.Spans.{Place, Table}
 use Rattle.gpu_alloc.specs.declared.block.Kind.{Kind}
 use Rattle.gpu_alloc.specs.declared.block.Kind.TheVariants.{Dedicated, Imported, BuddyChunk, FreeListChunk}
 use Rattle.gpu_alloc.specs.declared.block.Mapping.{Mapping}
@@ -87,8 +87,12 @@ state_code =
     (λ c. record { held = c.0; live = c.1.0; remaining = c.1.1.0.0; types = c.1.1.0.1; config = c.1.1.1.0; properties = c.1.1.1.1 })
     (λ _. refl)
 
+abbrev pub place_code : Coded Place
+place_code = code_by (ℕ × ℕ) (coded× coded_ℕ coded_ℕ) (λ p. (p.chunk, p.index)) (λ c. record { chunk = c.0; index = c.1 }) (λ _. refl)
+
 abbrev pub table_code : Coded Table
 table_code =
-    code_by (map.FinMap nat_cmp HeldObject × (set.FinSet span_cmp × ℕ)) (coded× (map.code coded_ℕ held_code) (coded× (set.code span_code) coded_ℕ))
-    (λ t. (t.held, (t.live, t.room)))
-    (λ c. record { held = c.0; live = c.1.0; room = c.1.1 }) (λ _. refl)
+    code_by (map.FinMap nat_cmp HeldObject × (set.FinSet span_cmp × (map.FinMap span_cmp Place × ℕ)))
+    (coded× (map.code coded_ℕ held_code) (coded× (set.code span_code) (coded× (map.code span_code place_code) coded_ℕ)))
+    (λ t. (t.held, (t.live, (t.places, t.room))))
+    (λ c. record { held = c.0; live = c.1.0; places = c.1.1.0; room = c.1.1.1 }) (λ _. refl)

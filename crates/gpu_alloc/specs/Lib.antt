@@ -17,5 +17,6 @@ pub mod Release
 pub mod Request
 pub mod Samples
 pub mod Sizes
+pub mod SlabViews
 pub mod Spans
 pub mod State

@@ -16,7 +16,7 @@ ghost use Rattle.gpu_alloc.specs.State.{IsOwned, ledger, total};
 
 use crate::block::Kind;
 use crate::heap::{Heap, unused_heaps};
-use crate::spans::{Row, Spans};
+use crate::spans::{HeldRow, LiveSpan, Spans};
 use crate::usage::MemoryForOneUsage;
 use crate::{AllocationError, Config, Dedicated, MemoryBlock, MemoryForUsage, Request};
 use gpu_alloc_types::{
@@ -253,26 +253,31 @@ impl<M: MemoryObject, A: Allocator> GpuAllocator<M, A> {
         let answer = device.allocate_memory(request.size, memory_type, flags);
         match answer {
             Ok(memory) => {
-                let row = Row {
-                    object: memory.object(),
-                    offset: 0,
-                    size: request.size,
+                let object = HeldRow {
                     memory_type,
                     counted: request.size,
                     kind: Kind::Dedicated,
                 };
-                self.spans.insert(row);
+                let span = LiveSpan {
+                    object: memory.object(),
+                    offset: 0,
+                    size: request.size,
+                    chunk: 0,
+                    index: 0,
+                };
+                let key = self.spans.insert(span, Some(object));
                 let heap = self.limits.heap_index(memory_type);
-                self.heaps[heap].alloc(row.counted);
+                self.heaps[heap].alloc(object.counted);
                 self.allocations_remains -= 1;
                 let props = self.limits.props(memory_type);
                 Ok(Some(MemoryBlock::new(
                     memory,
-                    row.offset,
-                    row.size,
-                    row.memory_type,
+                    span.offset,
+                    span.size,
+                    object.memory_type,
                     props,
-                    row.kind,
+                    object.kind,
+                    key,
                 )))
             }
             Err(OutOfMemory::OutOfDeviceMemory) => Ok(None),
@@ -301,11 +306,13 @@ impl<M: MemoryObject, A: Allocator> GpuAllocator<M, A> {
         ensures agrees { Agrees self.new (D.properties device.new) (D.objects device.new) }
         ensures total { total self.new ≡ total self.old }
     {
+        let (key, offset, size) = (block.key(), block.offset(), block.size());
         let memory = block.into_memory();
         device.deallocate_memory(&memory);
-        let row = self.spans.remove(memory.object());
-        let heap = self.limits.heap_index(row.memory_type);
-        self.heaps[heap].dealloc(row.counted);
+        let removed = self.spans.remove(key, memory.object(), offset, size, true);
+        let object = removed.object.unwrap();
+        let heap = self.limits.heap_index(object.memory_type);
+        self.heaps[heap].dealloc(object.counted);
         self.allocations_remains += 1;
     }
 
@@ -313,14 +320,13 @@ impl<M: MemoryObject, A: Allocator> GpuAllocator<M, A> {
     pub fn owns(&self, block: &MemoryBlock<M>) -> bool
         ensures { IsTrue result ↔ IsOwned self.now block.now }
     {
-        match self.spans.find(block.memory().object()) {
-            Some(row) => {
-                row.offset == block.offset()
-                    && row.size == block.size()
-                    && row.memory_type == block.memory_type()
-                    && row.kind == block.kind()
-            }
-            None => false,
+        let object = block.memory().object();
+        match self.spans.held(object) {
+            Some(held) if held.is_of(block.memory_type(), block.kind()) => self
+                .spans
+                .find(block.key(), object, block.offset(), block.size())
+                .is_some(),
+            _ => false,
         }
     }
 

@@ -8,7 +8,7 @@ use std::marker::Model;
 
 /// What an object is held for.
 #[derive(Clone, Copy, Debug, PartialEq, Eq)]
-pub(crate) enum Kind {
+pub enum Kind {
     /// One block, which is the whole object.
     Dedicated,
 
@@ -41,6 +41,8 @@ pub struct MemoryBlock<M: MemoryObject> {
     props: MemoryPropertyFlags,
     kind: Kind,
     mapping: Option<Mapping>,
+    // Under which the table of live spans has it. Contracts don't see it, since the table confirms it.
+    key: usize,
 }
 
 impl<M: MemoryObject> Model for MemoryBlock<M> {
@@ -65,7 +67,7 @@ impl<M: MemoryObject> Model for MemoryBlock<M> {
 }
 
 impl<M: MemoryObject> MemoryBlock<M> {
-    /// An unmapped block.
+    /// An unmapped block, whose span stands under a key.
     pub(crate) fn new(
         memory: M,
         offset: u64,
@@ -73,6 +75,7 @@ impl<M: MemoryObject> MemoryBlock<M> {
         memory_type: u32,
         props: MemoryPropertyFlags,
         kind: Kind,
+        key: usize,
     ) -> Self
         ensures { result ≡ record {
           object = M.object memory;
@@ -92,6 +95,7 @@ impl<M: MemoryObject> MemoryBlock<M> {
             props,
             kind,
             mapping: None,
+            key,
         }
     }
 
@@ -107,6 +111,7 @@ impl<M: MemoryObject> MemoryBlock<M> {
             props: _,
             kind: _,
             mapping: _,
+            key: _,
         } = self;
         memory
     }
@@ -151,5 +156,10 @@ impl<M: MemoryObject> MemoryBlock<M> {
         ensures { result ≡ self.now.kind }
     {
         self.kind
+    }
+
+    /// The key of its span, which the table confirms before it is used.
+    pub(crate) fn key(&self) -> usize {
+        self.key
     }
 }

@@ -6,10 +6,10 @@ mod block;
 mod buddy;
 mod config;
 mod error;
-mod heap;
+pub mod heap;
 pub mod laws;
 mod request;
-mod spans;
+pub mod spans;
 mod usage;
 
 pub use allocator::GpuAllocator;

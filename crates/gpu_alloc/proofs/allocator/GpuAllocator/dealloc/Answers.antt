@@ -1,32 +1,42 @@
-use Rattle.std.proofs.Common.{◌≡◌, ◌+◌, ◌∷◌, [], refl, sym, ap, ◌∙◌, arith, subst}
+use Rattle.std.proofs.Common.{◌≡◌, ◌+◌, ◌∷◌, [], option_map, refl, sym, ap, ◌∙◌, arith, subst}
 use Rattle.std.proofs.Math.ListN.{set}
+use Rattle.std.specs.FinMap as finite
+use Rattle.std.specs.FinSet as set_of
 use Rattle.gpu_alloc_types.specs.Device.Event.{Deallocated}
 use Rattle.gpu_alloc.specs.Agreement.{Agrees}
 use Rattle.gpu_alloc.specs.Inside.{state_in}
-use Rattle.gpu_alloc.specs.Spans.{IsRowOf}
-use Rattle.gpu_alloc.specs.State.{State, IsOwned, total}
+use Rattle.gpu_alloc.specs.Spans.{held_of, span_at}
+use Rattle.gpu_alloc.specs.State.{State, HeldObject, Span, IsOwned, span_of, total}
 use Rattle.gpu_alloc.specs.declared.heap.Heap.{Heap}
 use Rattle.gpu_alloc.proofs.Agreeing.{agrees_returned}
 use Rattle.gpu_alloc.proofs.Consistency.{covers, consistent-gone, fits_again}
 use Rattle.gpu_alloc.proofs.HeapLists.{properties_kept}
 use Rattle.gpu_alloc.proofs.LiveSpans.{live_other}
-use Rattle.gpu_alloc.proofs.Returns.{returned, goes_with, owned_kind, state_returned, total_returned}
+use Rattle.gpu_alloc.proofs.Returns.{IsWholeBlock, returned, goes_with, owned_whole, let_go, state_returned, total_returned}
 use Rattle.gpu_alloc.proofs.allocator.GpuAllocator.dealloc.Given.{Over}
 use Rattle.gpu_alloc.proofs.allocator.GpuAllocator.dealloc.Goals as goal
 
 pub dealloc-requires : goal.dealloc-requires
-dealloc-requires g c = omega (arith, covers _ _ _ _ c.self.invariant refl _ _ c.index_mut.result.now _ c.remove-row.ensures.row c.heap_index-heap.ensures c.index_mut.ensures.value)
+dealloc-requires g c =
+    let found = sym c.remove-removed.ensures.object ∙ ap (option_map held_of) c.unwrap-object.ensures in
+    omega (arith, covers _ _ _ _ c.self.invariant refl c.object.result (held_of c.unwrap-object.result) found c.index_mut.result.now _ c.heap_index-heap.ensures c.index_mut.ensures.value)
 
 pub overflow_add-self : goal.overflow_add-self
-overflow_add-self g c = omega (arith, fits_again _ _ _ _ _ _ c.self.invariant c.remove-row.ensures.row)
+overflow_add-self g c =
+    let found = sym c.remove-removed.ensures.object ∙ ap (option_map held_of) c.unwrap-object.ensures in
+    omega (arith, fits_again _ _ _ _ c.self.invariant refl c.object.result (held_of c.unwrap-object.result) found)
 
 pub invariant_of-self : goal.invariant_of-self
 invariant_of-self g c =
     let at = c.index_mut.ensures.value in
-    rw (properties_kept c.self.inside.limits c.self.inside.heaps.items c.heap_index-heap.result c.dealloc.new.self c.index_mut.result.now at (ap (λ (h : Heap). h.size) c.dealloc.ensures), c.remove-row.ensures.removed)
-    (consistent-gone _ _ _ _ c.self.invariant refl _ _ c.index_mut.result.now _ _ c.remove-row.ensures.row c.heap_index-heap.ensures at (ap (λ (h : Heap). h.used) c.dealloc.ensures))
+    let owned = rw (← c.self.view_is) at c.requires.owned in
+    let found = sym c.remove-removed.ensures.object ∙ ap (option_map held_of) c.unwrap-object.ensures in
+    let fewer = let_go c.self.inside.limits _ _ c.remove-removed.new.self _ c.args.block _ _ _ c.unwrap-object.result c.self.invariant owned (c.object.ensures ∙ c.into_memory-memory.ensures)
+    c.offset-offset.ensures c.size-size.ensures found c.remove-removed.ensures.held c.remove-removed.ensures.live in
+    rw (properties_kept c.self.inside.limits c.self.inside.heaps.items c.heap_index-heap.result c.dealloc.new.self c.index_mut.result.now at (ap (λ (h : Heap). h.size) c.dealloc.ensures))
+    (consistent-gone _ _ _ _ c.self.invariant refl c.remove-removed.new.self c.args.block.object _ fewer c.index_mut.result.now _ _ c.heap_index-heap.ensures at (ap (λ (h : Heap). h.used) c.dealloc.ensures))
 
--- What is known at the end: the state before, the row that went, and the state that is left.
+-- What is known at the end: the state before, what the block was, and the state that is left.
 
 abbrev before : (g : Over) → goal.After-drop-memory g → State
 before g c = state_in c.self.inside.limits c.self.inside.heaps.items c.self.inside.spans c.self.inside.allocations_remains
@@ -34,20 +44,25 @@ before g c = state_in c.self.inside.limits c.self.inside.heaps.items c.self.insi
 owned : (g : Over) (c : goal.After-drop-memory g) → IsOwned (before g c) c.args.block
 owned g c = rw (← c.self.view_is) at c.requires.owned
 
-row : (g : Over) (c : goal.After-drop-memory g) → IsRowOf c.self.inside.spans c.args.block.object c.remove-row.result
-row g c = subst (λ n. IsRowOf c.self.inside.spans n c.remove-row.result) (c.object.ensures ∙ c.into_memory-memory.ensures) c.remove-row.ensures.row
+whole : (g : Over) (c : goal.After-drop-memory g) → (h : HeldObject) × IsWholeBlock c.self.inside.spans c.args.block h
+whole g c = owned_whole c.self.inside.limits _ _ _ c.args.block c.self.invariant (owned g c)
 
 left : (g : Over) (c : goal.After-drop-memory g)
-    → state_in c.self.inside.limits (set c.self.inside.heaps.items c.heap_index-heap.result c.dealloc.new.self) c.remove-row.new.self (c.self.inside.allocations_remains + 1)
+    → state_in c.self.inside.limits (set c.self.inside.heaps.items c.heap_index-heap.result c.dealloc.new.self) c.remove-removed.new.self (c.self.inside.allocations_remains + 1)
     ≡ returned (before g c) c.args.block
-left g c = state_returned c.self.inside.limits _ _ _ c.index_mut.result.now _ _ _ _ c.args.block c.index_mut.ensures.value (ap (λ (h : Heap). h.size) c.dealloc.ensures) (row g c) (owned g c).live c.remove-row.ensures.removed
+left g c =
+    let name = c.object.ensures ∙ c.into_memory-memory.ensures in
+    let span : ◌≡◌ {A = Span} (span_at c.object.result c.offset-offset.result c.size-size.result) (span_of c.args.block) =
+    λ k. record { object = name k; offset = c.offset-offset.ensures k; size = c.size-size.ensures k } in
+    state_returned c.self.inside.limits _ _ _ c.index_mut.result.now c.self.inside.spans c.remove-removed.new.self _ c.args.block c.index_mut.ensures.value (ap (λ (h : Heap). h.size) c.dealloc.ensures)
+    (c.remove-removed.ensures.held ∙ ap (finite.remove c.self.inside.spans.held) name) (c.remove-removed.ensures.live ∙ ap (set_of.remove c.self.inside.spans.live) span)
 
 pub returns-clause-freed : goal.returns-clause-freed
 returns-clause-freed g c =
     rw (← c.self.view_is) (
       Deallocated c.args.block.object ∷ [],
       (c.deallocate_memory.new.self, rw (← c.into_memory-memory.ensures) c.deallocate_memory.ensures, refl),
-      (c.args.block.object ∷ [], goes_with _ _ _ (owned_kind c.self.inside.limits _ _ _ _ _ c.self.invariant (row g c) (owned g c)), (refl, left g c)),
+      (c.args.block.object ∷ [], goes_with _ _ _ (whole g c).1.kind, (refl, left g c)),
     )
 
 pub returns-clause-agrees : goal.returns-clause-agrees
@@ -59,4 +74,4 @@ returns-clause-agrees g c =
     (agrees_returned _ _ _ _ _ _ c.args.block agreed same gone refl refl (λ span live. (live_other _ _ span live).1))
 
 pub returns-clause-total : goal.returns-clause-total
-returns-clause-total g c = rw (← c.self.view_is) (ap total (left g c) ∙ total_returned (before g c) c.args.block _ (row g c).held)
+returns-clause-total g c = rw (← c.self.view_is) (ap total (left g c) ∙ total_returned (before g c) c.args.block _ (whole g c).1.found)

@@ -1,18 +1,18 @@
 use Rattle.std.proofs.Common.{◌≡◌, ◌-◌, ◌<◌, ◌∷◌, [], ◌^◌, None, Ok, Err, refl, sym, ap, ◌∙◌, arith, subst, inr, length, vec_len}
 use Rattle.std.proofs.lemmas.Grind.{common_steps}
 use Rattle.std.specs.FinMap as finite
+use Rattle.std.specs.FinSet as set_of
 use Rattle.gpu_alloc_types.specs.Device.Event.{Allocated}
 use Rattle.gpu_alloc.specs.Agreement.{Agrees}
 use Rattle.gpu_alloc.specs.Allocation.{HasOneMore, whole_block, holding, flags_of, asked}
 use Rattle.gpu_alloc.specs.Inside.{state_in, properties_in}
-use Rattle.gpu_alloc.specs.Spans.{Table, with_row}
-use Rattle.gpu_alloc.specs.State.{State, Block, total}
+use Rattle.gpu_alloc.specs.Spans.{Table}
+use Rattle.gpu_alloc.specs.State.{State, HeldObject, Block, total}
 use Rattle.gpu_alloc.specs.declared.heap.Heap.{Heap}
-use Rattle.gpu_alloc.specs.declared.spans.Row.{Row}
 use Rattle.gpu_alloc.proofs.Agreeing.{agrees_granted, not_held}
-use Rattle.gpu_alloc.proofs.Consistency.{IsOwnRow, heap_there, ledger-room, consistent-held}
+use Rattle.gpu_alloc.proofs.Consistency.{HoldsMore, whole_span, heap_there, ledger-room, consistent-held}
 use Rattle.gpu_alloc.proofs.HeapLists.{properties_kept}
-use Rattle.gpu_alloc.proofs.Grants.{own_row, own_object, state_held, decides_granted, granted, total_held}
+use Rattle.gpu_alloc.proofs.Grants.{own_object, state_held, decides_granted, granted, total_held}
 use Rattle.std.proofs.Math.ListN.{set}
 use Rattle.gpu_alloc.proofs.allocator.GpuAllocator.try_object.Given.{Over}
 use Rattle.gpu_alloc.proofs.allocator.GpuAllocator.try_object.Goals as goal
@@ -34,8 +34,8 @@ alloc-requires g c =
 abbrev before : (g : Over) → goal.After-new g → State
 before g c = state_in c.self.inside.limits c.self.inside.heaps.items c.self.inside.spans c.self.inside.allocations_remains
 
-abbrev row : (g : Over) → goal.After-new g → Row
-row g c = own_row c.object.result c.args.request.size c.args.memory_type
+abbrev object : (g : Over) → goal.After-new g → HeldObject
+object g c = own_object c.args.request.size c.args.memory_type
 
 abbrev block : (g : Over) → goal.After-new g → Block
 block g c = whole_block (before g c) c.object.result c.args.request.size c.args.memory_type
@@ -46,29 +46,30 @@ free g c =
     let none : g.D.MemoryDevice.objects c.args.device.now c.object.result ≡ None = rw c.object.ensures made.0 in
     ap (λ (s : State). finite.get s.held c.object.result) c.self.view_is ∙ not_held c.args.self.now _ _ _ c.requires.agrees none
 
-held_is : (g : Over) (c : goal.After-new g) → c.insert.new.self.held ≡ (with_row c.self.inside.spans (row g c)).held
-held_is g c = c.insert.ensures.held ∙ ap (λ (t : Table). (with_row t (row g c)).held) c.reserve.ensures.kept
-
-live_is : (g : Over) (c : goal.After-new g) → c.insert.new.self.live ≡ (with_row c.self.inside.spans (row g c)).live
-live_is g c = c.insert.ensures.live ∙ ap (λ (t : Table). (with_row t (row g c)).live) c.reserve.ensures.kept
+more : (g : Over) (c : goal.After-new g) → HoldsMore _ _ _ _ c.self.invariant refl c.insert-key.new.self c.object.result (object g c)
+more g c =
+    let known = rw (← c.self.view_is) at c.requires.known in
+    let small : c.args.request.size < 2 ^ 64 = omega (arith, c.heap_size.type_inv, c.if-heap_size-request.false) in
+    record {
+      own = record { kind = refl; small = small; known = known };
+      free = free g c;
+      held = c.insert-key.ensures.held ∙ ap (λ (t : Table). finite.insert t.held c.object.result (object g c)) c.reserve.ensures.kept;
+      live = c.insert-key.ensures.live ∙ ap (λ (t : Table). set_of.insert t.live (whole_span c.object.result (object g c))) c.reserve.ensures.kept;
+    }
 
 state_is : (g : Over) (c : goal.After-new g)
-    → state_in c.self.inside.limits (set c.self.inside.heaps.items c.heap_index-heap.result c.alloc.new.self) c.insert.new.self (c.self.inside.allocations_remains - 1)
+    → state_in c.self.inside.limits (set c.self.inside.heaps.items c.heap_index-heap.result c.alloc.new.self) c.insert-key.new.self (c.self.inside.allocations_remains - 1)
     ≡ holding (before g c) (own_object c.args.request.size c.args.memory_type) (block g c)
-state_is g c = state_held c.self.inside.limits _ _ _ c.index_mut.result.now c.self.inside.spans c.insert.new.self _ _ _ _ c.index_mut.ensures.value (ap (λ (h : Heap). h.size) c.alloc.ensures) (held_is g c) (live_is g c)
+state_is g c = state_held c.self.inside.limits _ _ _ c.index_mut.result.now c.self.inside.spans c.insert-key.new.self _ _ _ _ c.index_mut.ensures.value (ap (λ (h : Heap). h.size) c.alloc.ensures) (more g c).held (more g c).live
 
 block_is : (g : Over) (c : goal.After-new g) → c.new.result ≡ block g c
 block_is g c = c.new.ensures ∙ (λ k. record (block g c) { object = sym c.object.ensures k; props = c.props-props.ensures k })
 
 pub invariant_of-self-in-Ok : goal.invariant_of-self-in-Ok
 invariant_of-self-in-Ok g c =
-    let known = rw (← c.self.view_is) at c.requires.known in
-    let small : c.args.request.size < 2 ^ 64 = omega (arith, c.heap_size.type_inv, c.if-heap_size-request.false) in
-    let own : IsOwnRow (properties_in c.self.inside.limits c.self.inside.heaps.items) (row g c) =
-    record { kind = refl; start = refl; all = refl; small = small; known = known } in
     rw (properties_kept c.self.inside.limits c.self.inside.heaps.items c.heap_index-heap.result c.alloc.new.self c.index_mut.result.now c.index_mut.ensures.value (ap (λ (h : Heap). h.size) c.alloc.ensures))
-    (consistent-held _ _ c.self.inside.spans c.insert.new.self _ (row g c) c.index_mut.result.now _ _ c.self.invariant refl
-    (omega arith) own (free g c) (held_is g c) (live_is g c) c.heap_index-heap.ensures c.index_mut.ensures.value (ap (λ (h : Heap). h.used) c.alloc.ensures))
+    (consistent-held _ _ _ _ c.self.invariant refl c.insert-key.new.self c.object.result (object g c) (more g c) c.index_mut.result.now _ _ (omega arith)
+    c.heap_index-heap.ensures c.index_mut.ensures.value (ap (λ (h : Heap). h.used) c.alloc.ensures))
 
 pub returns-in-Ok-clause-tries : goal.returns-in-Ok-clause-tries
 returns-in-Ok-clause-tries g c =

@@ -1,26 +1,24 @@
-use Rattle.std.proofs.Common.{◌≡◌, None, ap, sym, ◌∙◌, map}
-use Rattle.std.specs.Ordering.{nat_cmp}
-use Rattle.std.specs.Cmp.{nat_cmp_total}
-use Rattle.std.specs.FinMap as finite
-use Rattle.gpu_alloc.specs.Spans.{entry_of}
-use Rattle.gpu_alloc.proofs.Rows.{distinct_row, held_push, live_push}
+use Rattle.std.proofs.Common.{◌≡◌, false, ap, ◌∙◌}
+use Rattle.std.specs.FinSet as set
+use Rattle.gpu_alloc.specs.Spans.{Table, span_in, place_in}
+use Rattle.gpu_alloc.proofs.LiveSpans.{span_total, span_exact}
+use Rattle.gpu_alloc.proofs.SlabViews.{IsInserted, set_inserted, map_inserted}
+use Rattle.gpu_alloc.proofs.Tables.{live_in, once_more}
+use Rattle.gpu_alloc.proofs.spans.Spans.insert.Given.{Over}
 use Rattle.gpu_alloc.proofs.spans.Spans.insert.Goals as goal
 
-pub invariant_of-self : goal.invariant_of-self
-invariant_of-self g c =
-    let none : finite.find nat_cmp c.args.row.object (map entry_of c.self.inside.rows.items) ≡ None =
-    sym (finite.get-from_entries nat_cmp_total _ _) ∙ ap (λ t. finite.get t.held c.args.row.object) c.self.view_is ∙ c.requires.free in
-    let pushed = rw c.unwrap.ensures at c.push.ensures.items in
-    rw pushed (distinct_row _ _ c.self.invariant none)
+inserted : (g : Over) (c : goal.After-insert_reserved g) → IsInserted c.self.inside.spans c.insert_reserved.new.self c.insert_reserved.result c.args.span
+inserted g c = record { was_vacant = c.insert_reserved.ensures.was_vacant; updates = c.insert_reserved.ensures.updates }
 
-pub returns-clause-held : goal.returns-clause-held
-returns-clause-held g c =
-    let none : finite.find nat_cmp c.args.row.object (map entry_of c.self.inside.rows.items) ≡ None =
-    sym (finite.get-from_entries nat_cmp_total _ _) ∙ ap (λ t. finite.get t.held c.args.row.object) c.self.view_is ∙ c.requires.free in
-    let pushed = rw c.unwrap.ensures at c.push.ensures.items in
-    rw (← c.self.view_is, pushed) (held_push _ _ none)
+dead : (g : Over) (c : goal.After-insert_reserved g) → set.contains (live_in c.self.inside.spans) (span_in c.args.span) ≡ false
+dead g c = ap (λ (t : Table). set.contains t.live (span_in c.args.span)) c.self.view_is ∙ c.requires.free
+
+pub invariant_of-self : goal.invariant_of-self
+invariant_of-self g c = once_more _ _ _ _ c.self.invariant (dead g c) (inserted g c)
 
 pub returns-clause-live : goal.returns-clause-live
-returns-clause-live g c =
-    let pushed = rw c.unwrap.ensures at c.push.ensures.items in
-    rw (← c.self.view_is, pushed) (live_push _ _)
+returns-clause-live g c = rw (← c.self.view_is) (set_inserted span_total span_exact span_in _ _ _ _ (inserted g c))
+
+pub returns-clause-places : goal.returns-clause-places
+returns-clause-places g c =
+    rw (← c.self.view_is) (map_inserted span_total span_exact span_in place_in _ _ _ _ (once_more _ _ _ _ c.self.invariant (dead g c) (inserted g c)) (inserted g c))

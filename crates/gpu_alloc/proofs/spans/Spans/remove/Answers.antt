@@ -1,33 +1,40 @@
-use Rattle.std.proofs.Common.{◌≡◌, ◌+◌, ◌-◌, sym, ◌∙◌, ap, refl, arith, vec_len, vec_capacity}
-use Rattle.std.proofs.lemmas.List.Quantifiers.{position-Some}
+use Rattle.std.proofs.Common.{◌≡◌, ap, ◌∙◌}
 use Rattle.std.specs.FinMap as finite
-use Rattle.gpu_alloc.proofs.Lists.{less, none_is_some}
-use Rattle.gpu_alloc.proofs.Rows.{row_at, no_row, same_object-flips, held_less, live_less}
-use Rattle.gpu_alloc.specs.Spans.{same_object}
+use Rattle.std.specs.FinSet as set
+use Rattle.gpu_alloc.specs.Spans.{Table, span_at, span_in, place_in}
+use Rattle.gpu_alloc.specs.State.{Span}
+use Rattle.gpu_alloc.proofs.LiveSpans.{span_total, span_exact}
+use Rattle.gpu_alloc.proofs.SlabViews.{IsRemoved, once_removed, set_removed, map_removed}
+use Rattle.gpu_alloc.proofs.Tables.{live_in, places_in, nowhere_dead, under_row, under_place}
+use Rattle.gpu_alloc.proofs.spans.Spans.remove.Given.{Over}
 use Rattle.gpu_alloc.proofs.spans.Spans.remove.Goals as goal
-
-pub invariant_of-self : goal.invariant_of-self
-invariant_of-self g c =
-    let at = rw c.as_slice.ensures.value at c.position_of.ensures in
-    let p = position-Some _ _ _ c.swap_remove.result (sym at ∙ c.in-Some.is) in
-    (less same_object same_object-flips _ _ _ _ c.self.invariant p.0 c.swap_remove.ensures.value c.swap_remove.ensures.items).distinct
 
 pub unreachable-requires : goal.unreachable-requires
 unreachable-requires g c =
-    let at = rw c.as_slice.ensures.value at c.position_of.ensures in
-    let none = no_row _ 0 _ (sym at ∙ c.in-None.is) in
-    none_is_some _ (ap (λ t. finite.get t.held c.args.object) (sym c.self.view_is) ∙ none.free) c.requires
+    let dead = nowhere_dead c.self.inside.spans (span_at c.args.object c.args.offset c.args.size) c.in-None.ensures in
+    let live = ap (λ (t : Table). set.contains t.live (span_at c.args.object c.args.offset c.args.size)) c.self.view_is ∙ c.requires.live in
+    cc
 
-pub returns-clause-row : goal.returns-clause-row
-returns-clause-row g c =
-    let at = rw c.as_slice.ensures.value at c.position_of.ensures in
-    rw (← c.self.view_is) (row_at _ _ _ _ _ c.self.invariant (sym at ∙ c.in-Some.is) c.swap_remove.ensures.value)
+removed : (g : Over) (c : goal.After-let_go-object g) → IsRemoved c.self.inside.spans c.remove-span.new.self c.in-Some.found c.remove-span.result
+removed g c = record { was = c.remove-span.ensures.value; updates = c.remove-span.ensures.updates }
 
-pub returns-clause-removed : goal.returns-clause-removed
-returns-clause-removed g c =
-    let at = rw c.as_slice.ensures.value at c.position_of.ensures in
-    let p = position-Some _ _ _ c.swap_remove.result (sym at ∙ c.in-Some.is) in
-    let l = less same_object same_object-flips _ _ _ _ c.self.invariant p.0 c.swap_remove.ensures.value c.swap_remove.ensures.items in
-    let room : vec_capacity c.swap_remove.new.self - vec_len c.swap_remove.new.self ≡ vec_capacity c.self.inside.rows - vec_len c.self.inside.rows + 1 =
-    omega (arith, c.swap_remove.ensures.len, c.swap_remove.ensures.capacity, c.swap_remove.new.self.ok) in
-    rw (← c.self.view_is, held_less _ _ _ c.self.invariant l, live_less _ _ _ l, room) refl
+row_is : (g : Over) (c : goal.After-let_go-object g) → ◌≡◌ {A = Span} (span_in c.remove-span.result) (span_at c.args.object c.args.offset c.args.size)
+row_is g c = under_row c.self.inside.spans _ c.in-Some.found c.remove-span.result c.in-Some.ensures c.remove-span.ensures.value
+
+pub invariant_of-self : goal.invariant_of-self
+invariant_of-self g c = once_removed span_in _ _ _ _ c.self.invariant (removed g c)
+
+pub returns-clause-span : goal.returns-clause-span
+returns-clause-span g c = row_is g c
+
+pub returns-clause-place : goal.returns-clause-place
+returns-clause-place g c =
+    rw (← c.self.view_is) (under_place c.self.inside.spans _ c.in-Some.found c.remove-span.result c.self.invariant c.remove-span.ensures.value (row_is g c))
+
+pub returns-clause-live : goal.returns-clause-live
+returns-clause-live g c =
+    rw (← c.self.view_is) (set_removed span_total span_exact span_in _ _ _ _ c.self.invariant (removed g c) ∙ ap (set.remove (live_in c.self.inside.spans)) (row_is g c))
+
+pub returns-clause-places : goal.returns-clause-places
+returns-clause-places g c =
+    rw (← c.self.view_is) (map_removed span_total span_exact span_in place_in _ _ _ _ c.self.invariant (removed g c) ∙ ap (finite.remove (places_in c.self.inside.spans)) (row_is g c))
