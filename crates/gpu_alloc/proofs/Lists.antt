@@ -1,7 +1,11 @@
--- Members of a list.
-use Rattle.std.proofs.Common.{◌≡◌, zero, suc, Bool, true, false, ◌⊎◌, inl, inr, List, [], ◌∷◌, refl, sym, subst, arith}
-use Rattle.std.specs.List.{Contains, IsDistinct, AllByRecursion}
-use Rattle.std.proofs.lemmas.Map.Keys.{IsDistinct-head}
+-- Members of a list as one is added or taken off.
+use Rattle.std.proofs.Common.{◌≡◌, ℕ, zero, suc, ◌+◌, Bool, true, false, cond, not, ◌<◌, ◌≤◌, ◌∙◌, ap, ◌⊎◌, inl, inr, List, [], ◌∷◌, ◌++◌, length, get_or, refl, sym, subst, arith, Option, None, Some, IsSome}
+use Rattle.std.specs.List.{All, Contains, IsDistinct, AllByRecursion, swap_remove, position, prefix_len}
+use Rattle.std.proofs.lemmas.Bool.Decides.{nat_tests}
+use Rattle.std.specs.List.Sorted.{IsPermutation}
+use Rattle.std.proofs.lemmas.List.Sorted.{IsPermutation-swap_remove, IsPermutation-sym, IsPermutation-to_front, Contains-permutation}
+use Rattle.std.proofs.lemmas.List.Elements.{Contains-get_or, Contains-push_cases, recursion_from_All}
+use Rattle.std.proofs.lemmas.Map.Keys.{IsDistinct-head, IsDistinct-tail, IsDistinct-cons, IsDistinct-IsPermutation}
 
 module _ {X : Type 0} where
   pub contains_head : (x : X) (xs : List X) → Contains (x ∷ xs) x
@@ -21,9 +25,53 @@ module _ {X : Type 0} where
   all_at P [] y a has = absurd (contains_none y has)
   all_at P (x ∷ xs) y a has = elim (contains_cases x y xs has) [ inl e ↦ subst P (sym e) a.0 | inr h ↦ all_at P xs y a.1 h ]
 
+  -- what holds of each element, by place, holds of each member
+  pub all_contained : (P : X → Type 0) (xs : List X) (y : X) → All P xs → Contains xs y → P y
+  all_contained P xs y all (k, lt, e) = subst P e (all k y lt)
+
   -- no later element is equal to the head
   pub head_is_other : (e : X → X → Bool) (x y : X) (xs : List X) → IsDistinct e (x ∷ xs) → Contains xs y → e x y ≡ false
   head_is_other e x y xs d has = all_at (λ z. e x z ≡ false) xs y (IsDistinct-head e x xs d) has
+
+  -- ys is xs without x, which no element of ys is equal to
+  pub record IsLess (e : X → X → Bool) (xs ys : List X) (x : X) : Type 0 where
+    pub distinct : IsDistinct e ys
+    pub other : (y : X) → Contains ys y → e x y ≡ false
+    pub kept : (y : X) → Contains ys y → Contains xs y
+    pub had : Contains xs x
+    pub cases : (y : X) → Contains xs y → (y ≡ x) ⊎ Contains ys y
+
+  -- what `swap_remove` leaves
+  pub less : (e : X → X → Bool) → ((x y : X) → e x y ≡ e y x) → (xs ys : List X) (i : ℕ) (x : X) → IsDistinct e xs → i < length xs
+      → x ≡ get_or xs i x → ys ≡ swap_remove xs i x → IsLess e xs ys x
+  less e flips xs ys i x d lt is left =
+      let perm : IsPermutation xs (x ∷ ys) = subst (λ zs. IsPermutation xs (x ∷ zs)) (sym left) (IsPermutation-swap_remove xs i x lt is) in
+      let back : IsPermutation (x ∷ ys) xs = IsPermutation-sym xs (x ∷ ys) perm in
+      let d' : IsDistinct e (x ∷ ys) = IsDistinct-IsPermutation e flips xs (x ∷ ys) perm d in
+      record {
+        distinct = IsDistinct-tail e x ys d';
+        other = λ y h. head_is_other e x y ys d' h;
+        kept = λ y h. Contains-permutation (x ∷ ys) xs y back (contains_later x y ys h);
+        had = Contains-permutation (x ∷ ys) xs x back (contains_head x ys);
+        cases = λ y h. contains_cases x y ys (Contains-permutation xs (x ∷ ys) y perm h);
+      }
+
+  -- what `swap_remove` leaves was there
+  pub swap_removed : (xs ys : List X) (i : ℕ) (x : X) → i < length xs → x ≡ get_or xs i x → ys ≡ swap_remove xs i x → (y : X) → Contains ys y → Contains xs y
+  swap_removed xs ys i x lt is left y has =
+      let perm : IsPermutation xs (x ∷ ys) = subst (λ zs. IsPermutation xs (x ∷ zs)) (sym left) (IsPermutation-swap_remove xs i x lt is) in
+      Contains-permutation (x ∷ ys) xs y (IsPermutation-sym xs (x ∷ ys) perm) (contains_later x y ys has)
+
+  -- what a push leaves was there, or is new
+  pub pushed_cases : (xs ys : List X) (x : X) → ys ≡ xs ++ x ∷ [] → (y : X) → Contains ys y → Contains xs y ⊎ (y ≡ x)
+  pushed_cases xs ys x pushed y has = elim (Contains-push_cases xs x y (subst (λ zs. Contains zs y) pushed has)) [ inl old ↦ inl old | inr new ↦ inr (sym new) ]
+
+  -- one more, which no element is equal to
+  pub distinct_push : (e : X → X → Bool) → ((x y : X) → e x y ≡ e y x) → (xs : List X) (x : X) → IsDistinct e xs → ((y : X) → Contains xs y → e x y ≡ false)
+      → IsDistinct e (xs ++ x ∷ [])
+  distinct_push e flips xs x d other =
+      IsDistinct-IsPermutation e flips (x ∷ xs) (xs ++ x ∷ []) (IsPermutation-sym (xs ++ x ∷ []) (x ∷ xs) (IsPermutation-to_front xs x))
+      (IsDistinct-cons e x xs (recursion_from_All (λ y. e x y ≡ false) xs (λ k d lt. other (get_or xs k d) (Contains-get_or xs k d lt))) d)
 
   -- an element that passes a test, or every element fails it
   pub seek : (p : X → Bool) (xs : List X) → ((x : X) × Contains xs x × (p x ≡ true)) ⊎ ((x : X) → Contains xs x → p x ≡ false)
@@ -35,3 +83,27 @@ module _ {X : Type 0} where
       | inr none ↦ inr (λ y has. elim (contains_cases x y xs has) [ inl is ↦ subst (λ z. p z ≡ false) (sym is) e | inr h ↦ none y h ])
     ]
   ] refl
+
+  -- each element passes a test where no first one fails it
+  passes : (q : X → Bool) (xs : List X) → length xs ≤ prefix_len q xs → (x : X) → Contains xs x → q x ≡ true
+  passes q [] le x has = absurd (contains_none x has)
+  passes q (y ∷ ys) le x has = elim (q y) as (λ b. q y ≡ b → suc (length ys) ≤ cond b (1 + prefix_len q ys) 0 → q x ≡ true) [
+    | true ↦ λ e more. elim (contains_cases y x ys has) [ inl is ↦ ap q is ∙ e | inr h ↦ passes q ys (omega arith) x h ]
+    | false ↦ λ e none. absurd (omega (arith, none))
+  ] refl le
+
+  -- where none is found, none passes
+  pub not_found : (p : X → Bool) (xs : List X) → position p xs ≡ None → (x : X) → Contains xs x → p x ≡ false
+  not_found p xs none x has = negated (p x) (passes (λ y. not (p y)) xs past x has)
+    where
+      past : length xs ≤ prefix_len (λ y. not (p y)) xs
+      past = grind (arith, nat_tests)
+
+      negated : (b : Bool) → not b ≡ true → b ≡ false
+      negated true e = cc
+      negated false e = refl
+
+-- what is none is not some
+pub none_is_some : {X : Type 0} (o : Option X) → o ≡ None → IsSome o → ⊥
+none_is_some None e s = cc
+none_is_some (Some x) e s = cc
