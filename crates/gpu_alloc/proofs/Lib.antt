@@ -9,6 +9,7 @@ pub mod Ledgers
 pub mod Lists
 pub mod LiveSpans
 pub mod Masks
+pub mod NewChunks
 pub mod PowersOfTwo
 pub mod RankingOrder
 pub mod RankingSteps

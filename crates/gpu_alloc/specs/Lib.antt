@@ -1,5 +1,6 @@
 pub mod Agreement
 pub mod Allocation
+pub mod Buddy
 pub mod BuddyState
 pub mod Codes
 pub mod Config
@@ -9,6 +10,7 @@ pub mod Heap
 pub mod Inside
 pub mod KeyByKey
 pub mod Masks
+pub mod NewChunk
 pub mod Opening
 pub mod Pieces
 pub mod Ranked

@@ -8,6 +8,7 @@ mod config;
 mod error;
 mod heap;
 pub mod laws;
+mod new_chunk;
 mod request;
 mod spans;
 mod usage;

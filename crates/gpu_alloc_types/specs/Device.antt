@@ -57,6 +57,13 @@ pub record IsAskable (p : Properties) (size memory_type flags : ℕ) : Type 0 wh
   pub known : memory_type < length p.memory_types
   pub address : IsTrue (has_bit flags 1) → IsTrue p.buffer_device_address
 
+-- a range to map: some bytes inside an unmapped object that the host sees
+pub record IsMappable (p : Properties) (offset size : ℕ) (o : Object) : Type 0 where
+  pub visible : IsTrue (is_host_visible p o.memory_type)
+  pub unmapped : o.mapped ≡ None
+  pub nonempty : 0 < size
+  pub inside : offset + size ≤ o.size
+
 -- What the calls do.
 
 -- the byte lies outside the range

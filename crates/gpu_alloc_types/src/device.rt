@@ -1,13 +1,14 @@
 //! A device that holds memory objects, and the handles of its objects.
 
-ghost use Rattle.std.specs.Prelude.{◌≡◌, ℕ, Option, IfSome};
+ghost use Rattle.std.specs.Prelude.{◌≡◌, ℕ, Option, IfSome, IfOk};
 ghost use Rattle.std.specs.Result.{result_map_both};
 ghost use Rattle.gpu_alloc_types.specs.Flags.{allocation_bits};
 ghost use Rattle.gpu_alloc_types.specs.Properties.{Properties};
-ghost use Rattle.gpu_alloc_types.specs.Device.{Object, Event, Row, IsWellFormed, IsAskable, IsHeld};
-ghost use Rattle.gpu_alloc_types.specs.Device.Event.{Allocated, Deallocated};
+ghost use Rattle.gpu_alloc_types.specs.Device.{Object, Event, Row, IsWellFormed, IsAskable, IsMappable, IsHeld, HeldWith};
+ghost use Rattle.gpu_alloc_types.specs.Device.Event.{Allocated, Deallocated, Mapped};
 
-use crate::{AllocationFlags, OutOfMemory};
+use crate::{AllocationFlags, DeviceMapError, OutOfMemory};
+use std::alloc::AllocError;
 
 /// A handle of a memory object. To let one go tells the device nothing.
 pub trait MemoryObject: Drop {
@@ -17,6 +18,10 @@ pub trait MemoryObject: Drop {
     /// The name of the handle's object. A device holds its objects by these names.
     fn object(&self) -> u64
         ensures { result ≡ object self.now };
+
+    /// Another handle of the same object, or `AllocError` where there is no host memory for one.
+    fn duplicate(&self) -> Result<Self, AllocError>
+        ensures { IfOk result (λ other. object other ≡ object self.now) };
 }
 
 /// A device, seen by the objects that it holds.
@@ -53,6 +58,11 @@ pub trait MemoryDevice<M: MemoryObject> {
     fn deallocate_memory(&mut self, memory: &M)
         requires { IsHeld (objects self.old) (M.object memory.now) }
         ensures { step self.old (Deallocated (M.object memory.now)) self.new };
+
+    /// Maps a range of an object for the host (Vulkan's `vkMapMemory`), or answers why not; then nothing has changed.
+    fn map_memory(&mut self, memory: &M, offset: u64, size: u64) -> Result<(), DeviceMapError>
+        requires { HeldWith (objects self.old) (M.object memory.now) (IsMappable (properties self.old) offset size) }
+        ensures { step self.old (Mapped (record { object = M.object memory.now; offset = offset; size = size }) result) self.new };
 
     /// A step does what its row says, and leaves all else as it was.
     ghost row: { (old : Self) (e : Event) (new : Self) → step old e new → Row (properties old) (objects old) e (objects new) };
