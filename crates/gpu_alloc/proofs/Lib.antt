@@ -5,11 +5,16 @@ pub mod Consistency
 pub mod ExactPieces
 pub mod Grants
 pub mod HeapLists
+pub mod KeptPieces
 pub mod Ledgers
 pub mod Lists
 pub mod LiveSpans
 pub mod Masks
 pub mod NewChunks
+pub mod OtherHalves
+pub mod PieceHalves
+pub mod PieceReturns
+pub mod PieceSteps
 pub mod PowersOfTwo
 pub mod RankingOrder
 pub mod RankingSteps

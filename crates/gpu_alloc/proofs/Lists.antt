@@ -3,7 +3,7 @@ use Rattle.std.proofs.Common.{◌≡◌, ℕ, zero, suc, Bool, true, false, ◌<
 use Rattle.std.specs.List.{Contains, IsDistinct, AllByRecursion, swap_remove}
 use Rattle.std.specs.List.Sorted.{IsPermutation}
 use Rattle.std.proofs.lemmas.List.Sorted.{IsPermutation-swap_remove, IsPermutation-sym, IsPermutation-to_front, Contains-permutation}
-use Rattle.std.proofs.lemmas.List.Elements.{Contains-get_or, recursion_from_All}
+use Rattle.std.proofs.lemmas.List.Elements.{Contains-get_or, Contains-push_cases, recursion_from_All}
 use Rattle.std.proofs.lemmas.Map.Keys.{IsDistinct-head, IsDistinct-tail, IsDistinct-cons, IsDistinct-IsPermutation}
 
 module _ {X : Type 0} where
@@ -50,6 +50,16 @@ module _ {X : Type 0} where
         had = Contains-permutation (x ∷ ys) xs x back (contains_head x ys);
         cases = λ y h. contains_cases x y ys (Contains-permutation xs (x ∷ ys) y perm h);
       }
+
+  -- what `swap_remove` leaves was there
+  pub swap_removed : (xs ys : List X) (i : ℕ) (x : X) → i < length xs → x ≡ get_or xs i x → ys ≡ swap_remove xs i x → (y : X) → Contains ys y → Contains xs y
+  swap_removed xs ys i x lt is left y has =
+      let perm : IsPermutation xs (x ∷ ys) = subst (λ zs. IsPermutation xs (x ∷ zs)) (sym left) (IsPermutation-swap_remove xs i x lt is) in
+      Contains-permutation (x ∷ ys) xs y (IsPermutation-sym xs (x ∷ ys) perm) (contains_later x y ys has)
+
+  -- what a push leaves was there, or is new
+  pub pushed_cases : (xs ys : List X) (x : X) → ys ≡ xs ++ x ∷ [] → (y : X) → Contains ys y → Contains xs y ⊎ (y ≡ x)
+  pushed_cases xs ys x pushed y has = elim (Contains-push_cases xs x y (subst (λ zs. Contains zs y) pushed has)) [ inl old ↦ inl old | inr new ↦ inr (sym new) ]
 
   -- one more, which no element is equal to
   pub distinct_push : (e : X → X → Bool) → ((x y : X) → e x y ≡ e y x) → (xs : List X) (x : X) → IsDistinct e xs → ((y : X) → Contains xs y → e x y ≡ false)

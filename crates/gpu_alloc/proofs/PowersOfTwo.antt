@@ -1,6 +1,10 @@
--- The next power of two.
-use Rattle.std.proofs.Common.{◌≡◌, ◌≤◌, ◌<◌, ◌⊎◌, inl, inr, ◌*◌, ◌+◌, ◌^◌, ℕ, zero, suc, true, false, cond, nat_le, refl, subst, arith}
+-- The next power of two, and the exponent of one.
+use Rattle.std.proofs.Common.{◌≡◌, ◌≤◌, ◌<◌, ◌⊎◌, inl, inr, ◌*◌, ◌+◌, ◌^◌, ℕ, zero, suc, true, false, cond, nat_le, refl, sym, ◌∙◌, ap, subst, arith, w64}
+use Rattle.std.specs.Int.{trailing_zeros, bit_at}
+use Rattle.std.proofs.lemmas.Bool.{cases_eq}
 use Rattle.std.proofs.lemmas.Bool.Decides.{nat_tests}
+use Rattle.std.proofs.lemmas.Nat.{pow_pos}
+use Rattle.std.proofs.lemmas.Nat.Bits.{bit_at-trailing_zeros, bit_at-pow_other}
 use Rattle.std.proofs.Math.Pow.{pow_mono}
 use Rattle.gpu_alloc.specs.Sizes.{doubled_up, next_power_of_two, IsNextPowerOfTwo}
 
@@ -30,3 +34,15 @@ doubled (suc n) j x enough least =
 
 pub is_next_power_of_two : (x : ℕ) → x ≤ 2 ^ 64 → IsNextPowerOfTwo x (next_power_of_two x)
 is_next_power_of_two x le = doubled 64 0 x le (λ k is. pow_mono {i = 0} {j = k} (omega arith))
+
+-- a power of two has as many zeros below its only one
+pub trailing_zeros-power : (n k : ℕ) → n ≡ 2 ^ k → n < 2 ^ 64 → (n ≡ 2 ^ trailing_zeros w64 n) × (trailing_zeros w64 n < 64)
+trailing_zeros-power n k e fits =
+    let some : 0 < n = omega (arith, e, pow_pos k) in
+    let lowest = bit_at-trailing_zeros w64 n some fits in
+    elim (cases_eq (trailing_zeros w64 n) k) [
+      | inl same ↦ (e ∙ ap (λ i. 2 ^ i) (sym same), lowest.0)
+      | inr other ↦ absurd (let one = lowest.1 in
+          let none = ap (λ m. bit_at m (trailing_zeros w64 n)) e ∙ bit_at-pow_other k (trailing_zeros w64 n) other in
+          omega (arith, one, none))
+    ]

@@ -1,5 +1,7 @@
 //! The buddy allocator: shared chunks of one memory type, given out in powers of two.
 
+mod pieces;
+
 /// A live block, in contracts and in the list of live blocks.
 #[derive(Clone, Copy, Debug, PartialEq, Eq)]
 pub(crate) struct Leaf {

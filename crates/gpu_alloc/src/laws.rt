@@ -6,12 +6,13 @@ ghost use Rattle.gpu_alloc.specs.Allocation.{strategy};
 ghost use Rattle.gpu_alloc.specs.Allocation.Strategy.{OwnObject, InBuddyChunk, InFreeList};
 ghost use Rattle.gpu_alloc.specs.Config.{potato, prototyping};
 ghost use Rattle.gpu_alloc.specs.FreeSpace.{IsIn, IsPlace, IsFreePiece, IsFreeByte};
-ghost use Rattle.gpu_alloc.specs.Pieces.{Piece, IsCanonical};
+ghost use Rattle.gpu_alloc.specs.Pieces.{IsCanonical};
 ghost use Rattle.gpu_alloc.specs.Ranking.{IsRanking, IsRankingWithin, ranking, candidates, implied};
 ghost use Rattle.gpu_alloc.specs.Samples.{one_type, three_types, over, bytes_for, buddy_config};
 ghost use Rattle.gpu_alloc.specs.Sizes.{IsNextPowerOfTwo, next_power_of_two, minimal_size, initial_size, starting_size, final_size, first_types};
 ghost use Rattle.gpu_alloc.specs.State.{State};
 ghost use Rattle.gpu_alloc.specs.declared.block.Kind.{Kind};
+ghost use Rattle.gpu_alloc.specs.declared.buddy.pieces.Piece.{Piece};
 ghost use Rattle.gpu_alloc.specs.declared.request.Dedicated.TheVariants.{Required, Preferred};
 
 /// A ranking has exactly the types that may serve the usage, by key and then by index, and nothing else has.
@@ -43,7 +44,7 @@ pub fn rankings_of_samples()
 /// Pieces that are aligned and apart, of which no two are halves of one range, and which together are the free bytes, are
 /// exactly the longest free ranges of a power of two.
 pub fn kept_pieces_are_the_free_pieces()
-    ensures exact { (s : State) (memory_type : ℕ) (kind : Kind) (pieces : List Piece) → IsCanonical (Contains pieces) (IsFreeByte s memory_type kind) → (p : Piece) → Contains pieces p ↔ IsFreePiece (IsFreeByte s memory_type kind) p.object p.start (2 ^ p.order) }
+    ensures exact { (s : State) (memory_type : ℕ) (kind : Kind) (pieces : List Piece) → IsCanonical (Contains pieces) (IsFreeByte s memory_type kind) → (p : Piece) → Contains pieces p ↔ IsFreePiece (IsFreeByte s memory_type kind) p.chunk p.start (2 ^ p.order) }
     ensures place { (s : State) (memory_type : ℕ) (kind : Kind) (pieces : List Piece) → IsCanonical (Contains pieces) (IsFreeByte s memory_type kind) → (object start order : ℕ) → IsPlace (IsFreeByte s memory_type kind) object start (2 ^ order) → (p : Piece) × Contains pieces p × (order ≤ p.order) }
 {}
 
