@@ -10,7 +10,7 @@ use Rattle.gpu_alloc.specs.FreeSpace.{IsIn, IsMultipleOf, IsPlace, IsFreePiece}
 use Rattle.gpu_alloc.specs.NewChunk.{ChunkQuestion, made, LacksDeviceMemory, LacksHostMemory, IsGivenBack, HasOneChunkMore}
 use Rattle.gpu_alloc.specs.Sizes.{next_power_of_two}
 use Rattle.gpu_alloc.specs.BuddyState.{Chunk, Buddy, IsLiveLeaf, IsFreeAt, leaf_cmp}
-use Rattle.gpu_alloc.specs.declared.buddy.Leaf.{Leaf}
+use Rattle.gpu_alloc.specs.declared.buddy.block.Leaf.{Leaf}
 use Rattle.gpu_alloc.specs.declared.error.AllocationError.{AllocationError}
 use Rattle.gpu_alloc.specs.declared.error.AllocationError.TheVariants.{OutOfDeviceMemory, OutOfHostMemory, NoCompatibleMemoryTypes, TooManyObjects}
 use Rattle.gpu_alloc.specs.declared.heap.Heap.{Heap}
@@ -110,6 +110,12 @@ Answers a size flags es (Err NoCompatibleMemoryTypes) new = ⊥
 abbrev pub Allocates : Account → Wanted → List Event → Result Leaf AllocationError → Account → Type 0
 Allocates a w es answer new = Answers a (rounded a.buddy w) w.flags es answer new
 
+-- a place is looked for: a block in one, or none there, or no host memory for a block in one
+abbrev pub TakesPlace : Buddy → ℕ → Result (Option Leaf) AllocationError → Buddy → Type 0
+TakesPlace b size (Ok None) new = (HasPlace b size → ⊥) × (new ≡ b)
+TakesPlace b size (Ok (Some leaf)) new = IsFront b size leaf × (new ≡ with_leaf b leaf)
+TakesPlace b size (Err e) new = HasPlace b size × ((e ≡ OutOfHostMemory) × (new ≡ b))
+
 -- the refusal that is certain before any memory is taken and anything is asked
 abbrev pub RefusesFirst : Account → Wanted → Option AllocationError → Type 0
 RefusesFirst a w (Some OutOfDeviceMemory) = Fits (rounded a.buddy w) → ⊥
@@ -138,6 +144,18 @@ Frees a leaf es new =
       heap = record a.heap { used = a.heap.used - chunk.size };
       remaining = a.remaining + 1;
     }))))
+
+-- nothing is held
+abbrev pub opened : ℕ → ℕ → ℕ → ℕ → ℕ → Buddy
+opened minimal initial memory_type props atom = record {
+  chunks = map.empty;
+  live = set.empty;
+  next_chunk = max initial minimal;
+  minimal = minimal;
+  memory_type = memory_type;
+  props = props;
+  atom = atom;
+}
 
 -- What a caller may know of a granted block without following its steps.
 pub record IsGranted (old : Buddy) (w : Wanted) (new : Buddy) (leaf : Leaf) : Type 0 where
@@ -173,6 +191,12 @@ ObjectsAfter b size flags (Ok leaf) old new =
     (BeginsChunk b size leaf × HasOneChunkMore (question b size flags) leaf.object old new)
     ⊎ (IsFront b size leaf × (new ≡ old))
 ObjectsAfter b size flags (Err e) old new = new ≡ old
+
+-- what a return makes of them: the block's chunk goes with its last block
+abbrev pub ObjectsFreed : Buddy → Leaf → (ℕ → Option Object) → (ℕ → Option Object) → Type 0
+ObjectsFreed b leaf old new =
+    ((IsUnusedChunk (without_leaf b leaf) leaf.chunk → ⊥) × (new ≡ old))
+    ⊎ (IsUnusedChunk (without_leaf b leaf) leaf.chunk × (new ≡ put old leaf.object None))
 
 abbrev pub chunks_and_remaining : Account → ℕ
 chunks_and_remaining a = a.remaining + map.len a.buddy.chunks

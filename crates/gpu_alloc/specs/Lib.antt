@@ -1,6 +1,7 @@
 pub mod Agreement
 pub mod Allocation
 pub mod Buddy
+pub mod BuddyInside
 pub mod BuddyState
 pub mod Codes
 pub mod Config
@@ -19,5 +20,6 @@ pub mod Release
 pub mod Request
 pub mod Samples
 pub mod Sizes
+pub mod Slabs
 pub mod Spans
 pub mod State

@@ -61,6 +61,14 @@ AsksChunk q es (Err OutOfHostMemory) = LacksHostMemory q es
 AsksChunk q es (Err NoCompatibleMemoryTypes) = ⊥
 AsksChunk q es (Err TooManyObjects) = ⊥
 
+-- the same with a second handle of the object, which may be refused once the object is made
+abbrev pub AsksChunkTwice : ChunkQuestion → List Event → Result (ℕ × ℕ) AllocationError → Type 0
+AsksChunkTwice q es (Ok handles) = (es ≡ made q handles.0) × (handles.1 ≡ handles.0)
+AsksChunkTwice q es (Err OutOfDeviceMemory) = LacksDeviceMemory q es
+AsksChunkTwice q es (Err OutOfHostMemory) = LacksHostMemory q es ⊎ IsGivenBack q es
+AsksChunkTwice q es (Err NoCompatibleMemoryTypes) = ⊥
+AsksChunkTwice q es (Err TooManyObjects) = ⊥
+
 -- a new object, and what is mapped of it: all where the host sees it
 pub record IsChunkObject (q : ChunkQuestion) (o : Object) : Type 0 where
   pub of_type : o.memory_type ≡ q.memory_type
@@ -75,3 +83,7 @@ HasOneChunkMore q object old new = (old object ≡ None) × ((o : Object) × IsC
 abbrev pub ChunkAfter : ChunkQuestion → Result ℕ AllocationError → (ℕ → Option Object) → (ℕ → Option Object) → Type 0
 ChunkAfter q (Ok object) old new = HasOneChunkMore q object old new
 ChunkAfter q (Err e) old new = new ≡ old
+
+abbrev pub ChunkAfterTwice : ChunkQuestion → Result (ℕ × ℕ) AllocationError → (ℕ → Option Object) → (ℕ → Option Object) → Type 0
+ChunkAfterTwice q (Ok handles) old new = HasOneChunkMore q handles.0 old new
+ChunkAfterTwice q (Err e) old new = new ≡ old

@@ -8,7 +8,7 @@ use std::alloc::{AllocError, Allocator};
 
 /// A heap.
 #[derive(Clone, Copy, Debug, PartialEq, Eq)]
-pub(crate) struct Heap {
+pub struct Heap {
     size: u64,
     used: u128,
 }
@@ -25,28 +25,28 @@ pub(crate) fn unused_heaps<A: Allocator + Copy>(
 
 impl Heap {
     /// A heap of `size` bytes of which nothing is held.
-    pub(crate) fn new(size: u64) -> Heap
+    pub fn new(size: u64) -> Heap
         ensures { result ≡ unused size }
     {
         Heap { size, used: 0 }
     }
 
     /// The heap's size, in bytes.
-    pub(crate) fn size(&self) -> u64
+    pub fn size(&self) -> u64
         ensures { result ≡ self.now.size }
     {
         self.size
     }
 
     /// How many bytes are held of it. They may be more than its size: the device decides what it gives.
-    pub(crate) fn used(&self) -> u128
+    pub fn used(&self) -> u128
         ensures { result ≡ self.now.used }
     {
         self.used
     }
 
     /// `size` bytes more are held.
-    pub(crate) fn alloc(&mut self, size: u64)
+    pub fn alloc(&mut self, size: u64)
         requires { self.old.used + size < 2 ^ 128 }
         ensures { self.new ≡ record self.old { used = self.old.used + size } }
     {
@@ -54,7 +54,7 @@ impl Heap {
     }
 
     /// `size` bytes of those that are held go back.
-    pub(crate) fn dealloc(&mut self, size: u64)
+    pub fn dealloc(&mut self, size: u64)
         requires { size ≤ self.old.used }
         ensures { self.new ≡ record self.old { used = self.old.used - size } }
     {

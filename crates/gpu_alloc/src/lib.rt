@@ -3,13 +3,14 @@
 
 mod allocator;
 mod block;
-mod buddy;
+pub mod buddy;
 mod config;
 mod error;
-mod heap;
+pub mod heap;
 pub mod laws;
 mod new_chunk;
 mod request;
+mod sizes;
 mod spans;
 mod usage;
 
