@@ -46,3 +46,14 @@ trailing_zeros-power n k e fits =
           let none = ap (λ m. bit_at m (trailing_zeros w64 n)) e ∙ bit_at-pow_other k (trailing_zeros w64 n) other in
           omega (arith, one, none))
     ]
+
+-- the least power of two that is enough, by its exponent
+pub least_exponent : (x r : ℕ) → x ≤ 2 ^ 64 → x ≤ 2 ^ r → ((k : ℕ) → x ≤ 2 ^ k → r ≤ k) → next_power_of_two x ≡ 2 ^ r
+least_exponent x r bound enough least =
+    let n = is_next_power_of_two x bound in
+    let up : next_power_of_two x ≤ 2 ^ r = n.least r enough in
+    let j : ℕ = n.power.0 in
+    let e : next_power_of_two x ≡ 2 ^ j = n.power.1 in
+    let le : r ≤ j = least j (omega (arith, n.enough, e)) in
+    let down : 2 ^ r ≤ 2 ^ j = pow_mono le in
+    omega (arith, up, e, down)
