@@ -1,5 +1,7 @@
 pub mod Agreeing
 pub mod AlignedPowers
+pub mod BuddyCalls
+pub mod BuddyLeaves
 pub mod Candidates
 pub mod Consistency
 pub mod ExactPieces
@@ -7,6 +9,7 @@ pub mod Grants
 pub mod HeapLists
 pub mod KeptPieces
 pub mod Ledgers
+pub mod ListSets
 pub mod Lists
 pub mod LiveSpans
 pub mod Masks

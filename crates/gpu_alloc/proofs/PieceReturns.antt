@@ -41,6 +41,10 @@ joined_facts x y z h right left short bounded =
     elim h [
       | inl r ↦ subst (IsJoined x) (sym (right r)) (record { chunk = refl; order = refl; aligned = aligned_joined x y r; bounded = joined_bounded x y 63 r short (omega (arith, bounded, pow_pos x.order)) })
       | inr l ↦ let eo = l.order in
-          subst (IsJoined x) (sym (left l)) (record { chunk = sym l.chunk; order = ap (λ n. n + 1) (sym eo); aligned = aligned_joined y x l;
-            bounded = joined_bounded y x 63 l (omega (arith, eo)) (omega (arith, bounded, l.beside, pow_pos y.order, pow_pos x.order)) })
+          subst (IsJoined x) (sym (left l)) (record {
+            chunk = sym l.chunk;
+            order = ap (λ n. n + 1) (sym eo);
+            aligned = aligned_joined y x l;
+            bounded = joined_bounded y x 63 l (omega (arith, eo)) (omega (arith, bounded, l.beside, pow_pos y.order, pow_pos x.order));
+          })
     ]

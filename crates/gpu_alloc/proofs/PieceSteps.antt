@@ -25,11 +25,11 @@ module _ (old new : Piece → Type 0) (F : ℕ → ℕ → Type 0) (x : Piece) w
     no_halves = λ p q hp hq. c.no_halves p q (w.kept p hp) (w.kept q hq);
     free = λ p has at i. (c.free p (w.kept p has) at i, λ same ix. gone (subst new (c.apart p x (w.kept p has) w.added same at i ix) has));
     covers = λ chunk at f.
-      let v = c.covers chunk at f.0 in
-      elim (w.cases v.0 v.1) [
-        | inl e ↦ absurd (f.1 (sym v.2 ∙ ap (λ p. p.chunk) e) (subst (λ p. InPiece p at) e v.3))
-        | inr has ↦ (v.0, has, v.2, v.3)
-      ];
+        let v = c.covers chunk at f.0 in
+        elim (w.cases v.0 v.1) [
+          | inl e ↦ absurd (f.1 (sym v.2 ∙ ap (λ p. p.chunk) e) (subst (λ p. InPiece p at) e v.3))
+          | inr has ↦ (v.0, has, v.2, v.3)
+        ];
   }
 
   -- a piece that is put back where no half beside it is kept

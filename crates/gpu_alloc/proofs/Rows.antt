@@ -1,23 +1,22 @@
 -- The rows of the table: what is found of them, as one is added or taken off.
-use Rattle.std.proofs.Common.{◌≡◌, ◌≢◌, ℕ, suc, ◌+◌, ◌≤◌, Bool, true, false, cond, not, ◌&&◌, ◌==◌, ◌⊎◌, inl, inr, List, [], ◌∷◌, ◌++◌, length, get_or, map, Option, Some, None, refl, sym, ◌∙◌, ap, subst, arith, Equal}
-use Rattle.std.proofs.lemmas.Bool.Decides.{nat_tests, same_from_decides, Decides-and, Decides-not}
+use Rattle.std.proofs.Common.{◌≡◌, ◌≢◌, ℕ, suc, ◌+◌, ◌≤◌, Bool, true, false, cond, not, ◌==◌, ◌⊎◌, inl, inr, List, [], ◌∷◌, ◌++◌, length, get_or, map, Option, Some, None, refl, sym, ◌∙◌, ap, subst, arith, Equal}
+use Rattle.std.proofs.lemmas.Bool.Decides.{nat_tests, same_from_decides}
 use Rattle.std.proofs.lemmas.List.{map-append}
 use Rattle.std.specs.Bool.{Decides}
 use Rattle.std.specs.List.{Contains, IsDistinct, position, prefix_len}
 use Rattle.std.proofs.lemmas.List.Quantifiers.{position-Some}
 use Rattle.std.proofs.lemmas.List.Elements.{Contains-get_or}
 use Rattle.std.specs.Ordering.{nat_cmp, eq_by_cmp}
-use Rattle.std.specs.Cmp.{IsTotalOrder, nat_cmp_total, Equal-is}
+use Rattle.std.specs.Cmp.{IsTotalOrder, nat_cmp_total}
 use Rattle.std.specs.Cmp.Lexicographic.{on_texts}
-use Rattle.std.proofs.lemmas.Cmp.{eq_by_cmp_equiv}
 use Rattle.std.proofs.lemmas.Map.Keys.{IsDistinct-tail}
-use Rattle.std.proofs.lemmas.Map.Views.{Contains-from_any, list_any-from_Contains}
 use Rattle.std.specs.FinMap as finite
 use Rattle.std.specs.FinMap.{nat_cmp-IsAntisymmetric, slice_cmp-IsAntisymmetric}
 use Rattle.std.specs.FinSet as set
 use Rattle.gpu_alloc.specs.State.{HeldObject, Span, span_cmp, span_numbers}
 use Rattle.gpu_alloc.specs.Spans.{IsRowOf, HasNoRow, held_of, span_in, entry_of, same_object}
 use Rattle.gpu_alloc.specs.declared.spans.Row.{Row}
+use Rattle.gpu_alloc.proofs.ListSets.{key_test, in_set, in_removed, set_push}
 use Rattle.gpu_alloc.proofs.Lists.{contains_head, contains_later, contains_cases, contains_none, head_is_other, IsLess, seek, distinct_push}
 
 -- Spans in their order.
@@ -34,17 +33,17 @@ span_exact a b e =
     λ i. record { object = object i; offset = offset i; size = size i }
 
 pub span_test : (a b : Span) → Decides (eq_by_cmp span_cmp a b) (a ≡ b)
-span_test a b = (λ h. span_exact a b ((Equal-is (span_cmp a b)).0 h), λ h. subst (λ y. eq_by_cmp span_cmp a y ≡ true) h ((eq_by_cmp_equiv span_total).refl a))
+span_test a b = key_test span_cmp span_total span_exact a b
 
 -- Objects by name.
 
 pub name_test : (q name : ℕ) → eq_by_cmp nat_cmp q name ≡ (q == name)
 name_test q name = grind (arith, nat_tests)
 
-eq-true : (a b : ℕ) → a ≡ b → (a == b) ≡ true
+pub eq-true : (a b : ℕ) → a ≡ b → (a == b) ≡ true
 eq-true a b e = grind (arith, nat_tests)
 
-eq-false : (a b : ℕ) → a ≢ b → (a == b) ≡ false
+pub eq-false : (a b : ℕ) → a ≢ b → (a == b) ≡ false
 eq-false a b ne = grind (arith, nat_tests)
 
 pub same_object-flips : (a b : Row) → same_object a b ≡ same_object b a
@@ -130,13 +129,11 @@ held_less xs ys x d l = finite.same_map nat_cmp_total nat_cmp-IsAntisymmetric _ 
     rw (finite.get-from_entries nat_cmp_total (map entry_of ys) q, find-less xs ys x q d l, finite.get-remove nat_cmp_total m x.object q, name_test q x.object, finite.get-from_entries nat_cmp_total (map entry_of xs) q) refl)
 
 pub live_push : (rows : List Row) (row : Row) → set.from_list {R = span_cmp} (map span_in (rows ++ row ∷ [])) ≡ set.insert (set.from_list (map span_in rows)) (span_in row)
-live_push rows row = ap (set.from_list {R = span_cmp}) (map-append span_in rows (row ∷ [])) ∙ set.from_list_push span_total span_exact (map span_in rows) (span_in row)
+live_push rows row = ap (set.from_list {R = span_cmp}) (map-append span_in rows (row ∷ [])) ∙ set_push span_cmp span_total span_exact (map span_in rows) (span_in row)
 
 -- a span is live where a row has it
 pub in_live : (spans : List Span) (q : Span) → Decides (set.contains (set.from_list {R = span_cmp} spans) q) (Contains spans q)
-in_live spans q =
-    let e = set.contains-from_list span_total spans q in
-    (λ t. Contains-from_any (λ x y h. (span_test x y).0 h) q spans (sym e ∙ t), λ h. e ∙ list_any-from_Contains (eq_by_cmp_equiv span_total) q spans h)
+in_live spans q = in_set span_cmp span_total span_exact spans q
 
 contains_span : (rows : List Row) (row : Row) → Contains rows row → Contains (map span_in rows) (span_in row)
 contains_span [] row has = absurd (contains_none row has)
@@ -174,18 +171,15 @@ in_less xs ys x l q = (
   ]),
 )
 
-in_removed : (xs : List Row) (x : Row) (q : Span)
+in_less_of : (xs : List Row) (x : Row) (q : Span)
     → Decides (set.contains (set.remove (set.from_list {R = span_cmp} (map span_in xs)) (span_in x)) q) (((q ≡ span_in x) → ⊥) × ((row : Row) × Contains xs row × (span_in row ≡ q)))
-in_removed xs x q =
-    let e = set.contains-remove span_total (set.from_list {R = span_cmp} (map span_in xs)) (span_in x) q in
-    let d : Decides (not (eq_by_cmp span_cmp q (span_in x)) && set.contains (set.from_list {R = span_cmp} (map span_in xs)) q) ((q ≡ span_in x → ⊥) × ((row : Row) × Contains xs row × (span_in row ≡ q))) =
-    Decides-and _ _ (Decides-not _ (span_test q (span_in x)))
-    ((λ t. live_row xs q t), (λ h. subst (λ s. set.contains (set.from_list {R = span_cmp} (map span_in xs)) s ≡ true) h.2 (row_live xs h.0 h.1))) in
-    ((λ t. d.0 (sym e ∙ t)), (λ h. e ∙ d.1 h))
+in_less_of xs x q =
+    let d = in_removed span_cmp span_total span_exact (set.from_list (map span_in xs)) (span_in x) q in
+    ((λ t. let h = d.0 t in (h.0, live_row xs q h.1)), (λ h. d.1 (h.0, subst (λ s. set.contains (set.from_list {R = span_cmp} (map span_in xs)) s ≡ true) h.1.2 (row_live xs h.1.0 h.1.1))))
 
 pub live_less : (xs ys : List Row) (x : Row) → IsLess same_object xs ys x
     → set.from_list {R = span_cmp} (map span_in ys) ≡ set.remove (set.from_list (map span_in xs)) (span_in x)
-live_less xs ys x l = set.same_set span_total span_exact _ _ (λ q. same_from_decides _ _ (in_less xs ys x l q) (in_removed xs x q))
+live_less xs ys x l = set.same_set span_total span_exact _ _ (λ q. same_from_decides _ _ (in_less xs ys x l q) (in_less_of xs x q))
 
 -- the number of names is the number of rows
 pub len_held : (rows : List Row) → IsDistinct same_object rows → finite.len (finite.from_entries {R = nat_cmp} (map entry_of rows)) ≡ length rows

@@ -65,7 +65,11 @@ pub(super) fn shortest(pieces: &[Piece], order: u32) -> Option<usize>
 
 /// Takes the front of a piece off the list, as long as asked for, and leaves the rest as right halves. The list has as
 /// many pieces more as the piece's order was greater, less the piece itself.
-pub(super) fn take_front<A: Allocator>(pieces: &mut Vec<Piece, A>, index: usize, order: u32) -> Piece
+pub(super) fn take_front<A: Allocator>(
+    pieces: &mut Vec<Piece, A>,
+    index: usize,
+    order: u32,
+) -> Piece
     requires in_range { index < vec_len pieces.old }
     requires long_enough { (d : PieceRecord) → order ≤ (slice_index_or pieces.old.items index d).order }
     requires bounded { All (λ p. (p.order ≤ 63) × (p.start + 2 ^ p.order ≤ 2 ^ 63)) pieces.old.items }
@@ -120,14 +124,22 @@ pub(super) fn join(piece: Piece, other: Piece) -> Piece
 {
     Piece {
         chunk: piece.chunk,
-        start: if piece.start < other.start { piece.start } else { other.start },
+        start: if piece.start < other.start {
+            piece.start
+        } else {
+            other.start
+        },
         order: piece.order + 1,
     }
 }
 
 /// Puts a block back into the list: it is joined with its other half as long as that one is free. A block that has
 /// become as long as its chunk, whose order is the limit, is not put into the list but handed out.
-pub(super) fn put_back<A: Allocator>(pieces: &mut Vec<Piece, A>, block: Piece, limit: u32) -> Option<Piece>
+pub(super) fn put_back<A: Allocator>(
+    pieces: &mut Vec<Piece, A>,
+    block: Piece,
+    limit: u32,
+) -> Option<Piece>
     requires short { block.order ≤ limit }
     requires limit { limit ≤ 63 }
     requires bounded { block.start + 2 ^ block.order ≤ 2 ^ 63 }

@@ -16,8 +16,8 @@ loop-piece-preserved g c =
     let z = joined_facts c.loop-piece.piece c.other_half-other.result c.join-piece.result c.other_half-other.ensures c.join-piece.ensures.right c.join-piece.ensures.left (omega arith) i.bounded in
     record {
       kept = λ b k.
-        joins (IsFreeAt b) c.loop-piece.pieces.items c.swap_remove.new.self.items c.in-Some.i c.loop-piece.piece c.other_half-other.result c.swap_remove.result c.join-piece.result
-        c.other_half-other.ensures c.join-piece.ensures.right c.join-piece.ensures.left (i.kept b k) lt at took.value took.items;
+          joins (IsFreeAt b) c.loop-piece.pieces.items c.swap_remove.new.self.items c.in-Some.i c.loop-piece.piece c.other_half-other.result c.swap_remove.result c.join-piece.result
+          c.other_half-other.ensures c.join-piece.ensures.right c.join-piece.ensures.left (i.kept b k) lt at took.value took.items;
       members = λ q has. i.members q (swap_removed _ _ _ c.swap_remove.result lt took.value took.items q has);
       chunk = z.chunk ∙ i.chunk;
       aligned = z.aligned;

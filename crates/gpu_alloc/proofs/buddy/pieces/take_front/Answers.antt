@@ -1,4 +1,5 @@
 use Rattle.std.proofs.Common.{◌≤◌, ◌<◌, ◌+◌, ◌-◌, ◌^◌, inl, inr, length, refl, sym, ap, subst, ◌∙◌, arith}
+use Rattle.std.proofs.lemmas.List.{get_or_default}
 use Rattle.std.proofs.Math.Pow.{pow_mono}
 use Rattle.gpu_alloc.specs.BuddyState.{IsFreeAt}
 use Rattle.gpu_alloc.proofs.Lists.{swap_removed, pushed_cases}
@@ -49,3 +50,10 @@ loop-taken-preserved g c =
       room = omega (arith, put.len, put.capacity);
       capacity = put.capacity ∙ i.capacity;
     }
+
+pub returns-clause-shorter : goal.returns-clause-shorter
+returns-clause-shorter g c = λ d q has.
+    let took = c.swap_remove-taken.ensures in
+    let lt : c.args.index < length c.args.pieces.now.items = omega (arith, c.requires.in_range, c.args.pieces.now.ok.0) in
+    let same = ap (λ p. p.order) (took.value ∙ get_or_default c.args.pieces.now.items c.args.index c.swap_remove-taken.result d lt) in
+    elim (c.loop-taken.invariant.shorter q has) [ inl old ↦ inl old | inr new ↦ inr (new.0, omega (arith, new.1, same)) ]
