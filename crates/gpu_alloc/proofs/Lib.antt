@@ -24,4 +24,5 @@ pub mod RankingSteps
 pub mod Returns
 pub mod Rising
 pub mod Rows
+pub mod SlabMaps
 pub mod Trials
