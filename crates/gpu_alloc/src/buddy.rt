@@ -11,7 +11,6 @@ ghost use Rattle.gpu_alloc.specs.BuddyInside.{IsPowerUpTo};
 ghost use Rattle.gpu_alloc.specs.BuddyState.{Buddy, IsLiveLeaf, IsFreeAt};
 ghost use Rattle.gpu_alloc.specs.Pieces.{AreKept};
 ghost use Rattle.slab.specs.Slab.{get, Updates, HasRoomFor, slab_len};
-ghost use Rattle.std.specs.List.{All};
 ghost use Rattle.gpu_alloc.specs.Request.{IsAlignMask};
 
 mod block;
@@ -25,9 +24,9 @@ use crate::AllocationError;
 pub use block::BuddyBlock;
 pub(crate) use block::Leaf;
 use gpu_alloc_types::{AllocationFlags, MemoryDevice, MemoryObject, MemoryPropertyFlags};
-use pieces::{Piece, bytes, order_of, put_back, shortest};
+use pieces::{Piece, bytes, order_of, put_back, shortest, split, take_front};
 use slab::Slab;
-use space::{forget, grant, make_room};
+use space::{forget, leaf_of, make_room};
 use std::alloc::{Allocator, Global};
 use std::marker::Model;
 
@@ -212,13 +211,9 @@ impl<M: MemoryObject, A: Allocator> BuddyAllocator<M, A> {
             Ok(memory) => memory,
             Err(_) => return Err(AllocationError::OutOfHostMemory),
         };
-        let leaf = grant(
-            &mut self.pieces,
-            &mut self.live,
-            index,
-            order,
-            memory.object(),
-        );
+        let front = take_front(&mut self.pieces, index, order);
+        let leaf = leaf_of(front, memory.object());
+        self.live.push_reserved(leaf);
         Ok(Some(BuddyBlock::new(memory, leaf)))
     }
 
@@ -329,7 +324,6 @@ fn begin_chunk<M: MemoryObject, A: Allocator>(
     requires order { order < chunk.order }
     requires bound { chunk.order ≤ 63 }
     requires chunk_room { HasRoomFor chunks.old 1 }
-    requires bounded { All (λ p. (p.order ≤ 63) × (p.start + 2 ^ p.order ≤ 2 ^ 63)) pieces.old.items }
     requires room { vec_len pieces.old + 64 ≤ vec_capacity pieces.old }
     requires live_room { vec_len live.old < vec_capacity live.old }
     ensures leaf { result ≡ record { object = M.object chunk.memory; chunk = result.chunk; offset = 0; size = 2 ^ order; index = 0 } }
@@ -349,7 +343,7 @@ fn begin_chunk<M: MemoryObject, A: Allocator>(
         start: 0,
         order: chunk_order,
     };
-    let index = pieces.len();
-    pieces.push_reserved(whole);
-    grant(pieces, live, index, order, object)
+    let leaf = leaf_of(split(pieces, whole, order), object);
+    live.push_reserved(leaf);
+    leaf
 }
