@@ -1,6 +1,7 @@
 pub mod Agreeing
 pub mod AlignedPowers
 pub mod BuddyCalls
+pub mod BuddyGrants
 pub mod BuddyLeaves
 pub mod Candidates
 pub mod Consistency

@@ -1,0 +1,197 @@
+-- A block that is granted: what it is, and what the allocator keeps with it.
+use Rattle.std.proofs.Common.{◌≡◌, ◌≢◌, ◌⊎◌, inl, inr, ℕ, ◌+◌, ◌*◌, ◌-◌, ◌^◌, ◌<◌, ◌≤◌, ◌==◌, Bool, true, false, cond, IsTrue, List, [], ◌∷◌, ◌++◌, length, get_or, Option, Some, None, refl, sym, ◌∙◌, ap, subst, arith, Contains}
+use Rattle.std.proofs.lemmas.Bool.Decides.{nat_tests}
+use Rattle.std.proofs.lemmas.List.Elements.{Contains-get_or}
+use Rattle.std.proofs.lemmas.Nat.{pow_pos}
+use Rattle.std.specs.Cmp.{nat_cmp_total}
+use Rattle.std.specs.List.{All, IsDistinct}
+use Rattle.std.specs.Ordering.{nat_cmp, eq_by_cmp}
+use Rattle.std.specs.FinMap as map
+use Rattle.std.specs.FinSet as set
+use Rattle.gpu_alloc.specs.FreeSpace.{IsIn, IsMultipleOf, IsPlace, IsFreePiece}
+use Rattle.gpu_alloc.specs.Pieces.{InPiece, AreKept, AreKeptBeside}
+use Rattle.gpu_alloc.specs.Buddy.{HasPlace, IsFront, BeginsChunk, with_leaf, with_chunk}
+use Rattle.gpu_alloc.specs.BuddyState.{Chunk, Buddy, IsLiveLeaf, IsFreeAt, leaf_cmp}
+use Rattle.gpu_alloc.specs.BuddyInside.{LiesInChunk, IsUsedChunk, IsPowerUpTo, IsSound, IsStored, same_leaf, leaf_set}
+use Rattle.gpu_alloc.specs.declared.buddy.block.Leaf.{Leaf}
+use Rattle.gpu_alloc.specs.declared.buddy.pieces.Piece.{Piece}
+use Rattle.gpu_alloc.proofs.AlignedPowers.{pow-from_shorter, pow-le, order-le}
+use Rattle.gpu_alloc.proofs.BuddyCalls.{IsLeafOf, granted, chunk_comes}
+use Rattle.gpu_alloc.proofs.BuddyLeaves.{leaf_inserted, in_leaves}
+use Rattle.gpu_alloc.proofs.ExactPieces.{kept_is_free_piece, free_piece_is_kept, piece_for_place}
+use Rattle.gpu_alloc.proofs.Lists.{distinct_push}
+
+-- Free pieces and places.
+
+-- where every piece is shorter there is no place
+pub no_place : (b : Buddy) (pieces : List Piece) (order : ℕ) → AreKept pieces (IsFreeAt b) → All (λ p. p.order < order) pieces → HasPlace b (2 ^ order) → ⊥
+no_place b pieces order kept short (chunk, start, place) =
+    let w = piece_for_place (Contains pieces) (IsFreeAt b) kept.canonical chunk order start place.aligned place.free in
+    let has = w.1 in
+    let less : (get_or pieces has.0 w.0).order < order = short has.0 w.0 has.1 in
+    omega (arith, less, ap (λ (p : Piece). p.order) has.2, w.2)
+
+-- a longer piece has a place
+pub place_in : (b : Buddy) (pieces : List Piece) (p : Piece) (order : ℕ) → AreKept pieces (IsFreeAt b) → Contains pieces p → order ≤ p.order → HasPlace b (2 ^ order)
+place_in b pieces p order kept has le =
+    let aligned = kept.canonical.aligned p has in
+    let e = pow-from_shorter order p.order le in
+    let longer : 2 ^ order ≤ 2 ^ p.order = pow-le order p.order le in
+    (
+      p.chunk,
+      p.start,
+      record {
+        power = (order, refl);
+        aligned = (aligned.0 * 2 ^ (p.order - order), aligned.1 ∙ ap (λ n. aligned.0 * n) e ∙ omega arith);
+        free = λ at i. kept.canonical.free p has at (record { from = i.from; to = omega (arith, i.to, longer) });
+      },
+    )
+
+-- the front of a shortest piece that is long enough
+pub front_is : (b : Buddy) (pieces : List Piece) (p : Piece) (order : ℕ) (leaf : Leaf) (chunk : Chunk) → AreKept pieces (IsFreeAt b) → Contains pieces p → order ≤ p.order
+    → All (λ q. order ≤ q.order → p.order ≤ q.order) pieces → leaf.chunk ≡ p.chunk → leaf.offset ≡ p.start → leaf.size ≡ 2 ^ order
+    → map.get b.chunks leaf.chunk ≡ Some chunk → leaf.object ≡ chunk.object → IsFront b (2 ^ order) leaf
+front_is b pieces p order leaf chunk kept has le least same start size held object = record {
+  of_size = size;
+  chunk = chunk;
+  held = held;
+  object = object;
+  length = 2 ^ p.order;
+  piece = subst (λ a. IsFreePiece (IsFreeAt b) leaf.chunk a (2 ^ p.order)) (sym start) (subst (λ k. IsFreePiece (IsFreeAt b) k p.start (2 ^ p.order)) (sym same) (kept_is_free_piece (Contains pieces) (IsFreeAt b) kept.canonical p has));
+  enough = pow-le order p.order le;
+  shortest = λ key a other free enough.
+      let j : ℕ = free.place.power.0 in
+      let e : other ≡ 2 ^ j = free.place.power.1 in
+      let q : Piece = record { chunk = key; start = a; order = j } in
+      let there : Contains pieces q = free_piece_is_kept (Contains pieces) (IsFreeAt b) kept.canonical q (subst (λ n. IsFreePiece (IsFreeAt b) key a n) e free) in
+      let at_least : order ≤ j = order-le order j (omega (arith, enough, e)) in
+      let same_order : (get_or pieces there.0 q).order ≡ j = ap (λ (x : Piece). x.order) there.2 in
+      let short : p.order ≤ (get_or pieces there.0 q).order = least there.0 q there.1 (omega (arith, at_least, same_order)) in
+      omega (arith, e, pow-le p.order j (omega (arith, short, same_order)));
+}
+
+-- A block more.
+
+-- its bytes were free, so it is not live yet
+pub new_leaf : (b : Buddy) (leaf : Leaf) → 0 < leaf.size → ((at : ℕ) → IsIn leaf.offset leaf.size at → IsFreeAt b leaf.chunk at) → IsLiveLeaf b leaf → ⊥
+new_leaf b leaf some free live = let here : IsIn leaf.offset leaf.size leaf.offset = record { from = omega arith; to = omega arith } in (free leaf.offset here).unused leaf live refl here
+
+pub was_live : (b : Buddy) (leaf q : Leaf) → IsLiveLeaf (with_leaf b leaf) q → (q ≡ leaf) ⊎ IsLiveLeaf b q
+was_live b leaf q live = (leaf_inserted b.live leaf q).0 live
+
+pub still_live : (b : Buddy) (leaf q : Leaf) → IsLiveLeaf b q → IsLiveLeaf (with_leaf b leaf) q
+still_live b leaf q live = (leaf_inserted b.live leaf q).1 (inr live)
+
+pub now_live : (b : Buddy) (leaf : Leaf) → IsLiveLeaf (with_leaf b leaf) leaf
+now_live b leaf = (leaf_inserted b.live leaf leaf).1 (inl refl)
+
+-- two live blocks that share a byte are one
+apart_with : (b : Buddy) (leaf : Leaf) → ((x y : Leaf) → IsLiveLeaf b x → IsLiveLeaf b y → x.chunk ≡ y.chunk → (at : ℕ) → IsIn x.offset x.size at → IsIn y.offset y.size at → x ≡ y)
+    → ((q : Leaf) → IsLiveLeaf b q → q.chunk ≡ leaf.chunk → (at : ℕ) → IsIn q.offset q.size at → IsIn leaf.offset leaf.size at → ⊥)
+    → (x y : Leaf) → IsLiveLeaf (with_leaf b leaf) x → IsLiveLeaf (with_leaf b leaf) y → x.chunk ≡ y.chunk → (at : ℕ) → IsIn x.offset x.size at → IsIn y.offset y.size at → x ≡ y
+apart_with b leaf apart free x y x_live y_live same at in_x in_y = elim (was_live b leaf x x_live) [
+  | inl x_is ↦ elim (was_live b leaf y y_live) [
+    | inl y_is ↦ x_is ∙ sym y_is
+    | inr y_was ↦ absurd (free y y_was (sym same ∙ ap (λ (l : Leaf). l.chunk) x_is) at in_y (subst (λ (l : Leaf). IsIn l.offset l.size at) x_is in_x))
+  ]
+  | inr x_was ↦ elim (was_live b leaf y y_live) [
+    | inl y_is ↦ absurd (free x x_was (same ∙ ap (λ (l : Leaf). l.chunk) y_is) at in_x (subst (λ (l : Leaf). IsIn l.offset l.size at) y_is in_y))
+    | inr y_was ↦ apart x y x_was y_was same at in_x in_y
+  ]
+]
+
+lies_with : (b : Buddy) (leaf q : Leaf) → LiesInChunk b q → LiesInChunk (with_leaf b leaf) q
+lies_with b leaf q l = record { chunk = l.chunk; held = l.held; object = l.object; power = l.power; aligned = l.aligned; inside = l.inside }
+
+-- in a chunk that is held
+pub sound_with_leaf : (b : Buddy) (leaf : Leaf) → IsSound b → LiesInChunk b leaf → ((at : ℕ) → IsIn leaf.offset leaf.size at → IsFreeAt b leaf.chunk at) → IsSound (with_leaf b leaf)
+sound_with_leaf b leaf s lies free = record {
+  one_object = s.one_object;
+  powers = s.powers;
+  used = λ k c held. let u = s.used k c held in (u.0, (still_live b leaf u.0 u.1.0, u.1.1));
+  inside = λ q live. elim (was_live b leaf q live) [ inl is ↦ subst (LiesInChunk (with_leaf b leaf)) (sym is) (lies_with b leaf leaf lies) | inr was ↦ lies_with b leaf q (s.inside q was) ];
+  apart = apart_with b leaf s.apart (λ q live same at in_q in_leaf. (free at in_leaf).unused q live same in_q);
+  next_chunk = s.next_chunk;
+  minimal = s.minimal;
+  atom = s.atom;
+}
+
+-- A chunk more.
+
+pub chunk_cases : (m : map.FinMap nat_cmp Chunk) (key : ℕ) (v : Chunk) (k : ℕ) (c : Chunk) → map.get (map.insert m key v) k ≡ Some c → ((k ≡ key) × (v ≡ c)) ⊎ (map.get m k ≡ Some c)
+chunk_cases m key v k c e = split (k == key) refl (sym (map.get-insert nat_cmp_total m key v k ∙ rw (key_test k key) refl) ∙ e)
+  where
+    key_test : (q n : ℕ) → eq_by_cmp nat_cmp q n ≡ (q == n)
+    key_test q n = grind (arith, nat_tests)
+
+    split : (t : Bool) → (k == key) ≡ t → cond (k == key) (Some v) (map.get m k) ≡ Some c → ((k ≡ key) × (v ≡ c)) ⊎ (map.get m k ≡ Some c)
+    split true t h = let same : k ≡ key = grind (arith, nat_tests) in inl (same, (let h' : Some v ≡ Some c = rw t at h in cc))
+    split false t h = inr (rw t at h)
+
+pub chunk_kept : (m : map.FinMap nat_cmp Chunk) (key : ℕ) (v : Chunk) (k : ℕ) (c : Chunk) → map.get m key ≡ None → map.get m k ≡ Some c → map.get (map.insert m key v) k ≡ Some c
+chunk_kept m key v k c none is = map.get-insert nat_cmp_total m key v k ∙ rw (test) is
+  where
+    differs : k ≢ key
+    differs e = let both : map.get m key ≡ Some c = subst (λ n. map.get m n ≡ Some c) e is in cc
+
+    test : eq_by_cmp nat_cmp k key ≡ false
+    test = let ne : k ≢ key = differs in grind (arith, nat_tests)
+
+pub chunk_new : (m : map.FinMap nat_cmp Chunk) (key : ℕ) (v : Chunk) → map.get (map.insert m key v) key ≡ Some v
+chunk_new m key v = map.get-insert nat_cmp_total m key v key ∙ rw (test key) refl
+  where
+    test : (n : ℕ) → eq_by_cmp nat_cmp n n ≡ true
+    test n = grind (arith, nat_tests)
+
+-- no live block names a key that has no chunk
+pub no_leaf_at : (b : Buddy) (key : ℕ) → IsSound b → map.get b.chunks key ≡ None → (q : Leaf) → IsLiveLeaf b q → q.chunk ≡ key → ⊥
+no_leaf_at b key s none q live same =
+    let l = s.inside q live in
+    let there : map.get b.chunks key ≡ Some l.chunk = subst (λ k. map.get b.chunks k ≡ Some l.chunk) same l.held in
+    cc
+
+-- with the first block of a new chunk
+pub sound_with_chunk : (b : Buddy) (leaf : Leaf) (size : ℕ) → IsSound b → IsPowerUpTo 63 size → map.get b.chunks leaf.chunk ≡ None
+    → ((k : ℕ) (c : Chunk) → map.get b.chunks k ≡ Some c → c.object ≡ leaf.object → ⊥)
+    → (power : (k : ℕ) × (leaf.size ≡ 2 ^ k)) → IsMultipleOf leaf.size leaf.offset → leaf.offset + leaf.size ≤ size → IsSound (with_leaf (with_chunk b leaf size) leaf)
+sound_with_chunk b leaf size s power none other of_power aligned inside =
+    let m = b.chunks in
+    let v : Chunk = record { object = leaf.object; size = size } in
+    let mid : Buddy = with_chunk b leaf size in
+    record {
+      one_object = λ k l c d is_c is_d same. elim (chunk_cases m leaf.chunk v k c is_c) [
+        | inl new_c ↦ elim (chunk_cases m leaf.chunk v l d is_d) [
+          | inl new_d ↦ new_c.0 ∙ sym new_d.0
+          | inr old_d ↦ absurd (other l d old_d (sym same ∙ ap (λ (x : Chunk). x.object) (sym new_c.1)))
+        ]
+        | inr old_c ↦ elim (chunk_cases m leaf.chunk v l d is_d) [
+          | inl new_d ↦ absurd (other k c old_c (same ∙ ap (λ (x : Chunk). x.object) (sym new_d.1)))
+          | inr old_d ↦ s.one_object k l c d old_c old_d same
+        ]
+      ];
+      powers = λ k c is. elim (chunk_cases m leaf.chunk v k c is) [ inl new ↦ subst (λ (x : Chunk). IsPowerUpTo 63 x.size) new.1 power | inr old ↦ s.powers k c old ];
+      used = λ k c is. elim (chunk_cases m leaf.chunk v k c is) [
+        | inl new ↦ (leaf, (now_live mid leaf, sym new.0))
+        | inr old ↦ let u = s.used k c old in (u.0, (still_live mid leaf u.0 u.1.0, u.1.1))
+      ];
+      inside = λ q live. elim (was_live mid leaf q live) [
+        | inl is ↦ subst (LiesInChunk (with_leaf mid leaf)) (sym is) (record { chunk = v; held = chunk_new m leaf.chunk v; object = refl; power = of_power; aligned = aligned; inside = inside })
+        | inr was ↦ let l = s.inside q was in
+            record { chunk = l.chunk; held = chunk_kept m leaf.chunk v q.chunk l.chunk none l.held; object = l.object; power = l.power; aligned = l.aligned; inside = l.inside }
+      ];
+      apart = apart_with mid leaf s.apart (λ q live same at in_q in_leaf. no_leaf_at b leaf.chunk s none q live same);
+      next_chunk = power;
+      minimal = s.minimal;
+      atom = s.atom;
+    }
+
+-- the pieces with the front of a new chunk taken
+pub begun : (b : Buddy) (old new : List Piece) (leaf : Leaf) (whole front : Piece) (size : ℕ) → size ≡ 2 ^ whole.order → whole.start ≡ 0 → leaf.chunk ≡ whole.chunk → IsLeafOf leaf front
+    → ((b' : Buddy) → AreKeptBeside old (IsFreeAt b') whole → AreKeptBeside new (IsFreeAt b') front)
+    → map.get b.chunks leaf.chunk ≡ None → ((q : Leaf) → IsLiveLeaf b q → q.chunk ≡ leaf.chunk → ⊥) → AreKept old (IsFreeAt b)
+    → AreKept new (IsFreeAt (with_leaf (with_chunk b leaf size) leaf))
+begun b old new leaf whole front size size_is start same of split none unused kept =
+    let mid : Buddy = with_chunk b leaf size in
+    let chunk : Chunk = record { object = leaf.object; size = size } in
+    let beside = chunk_comes b mid old whole chunk size_is refl start (subst (λ k. map.get b.chunks k ≡ None) same none) (λ q live e. unused q live (e ∙ sym same)) (ap (λ k. map.insert b.chunks k chunk) same) kept in
+    granted leaf front of mid (with_leaf mid leaf) new refl refl (split mid beside)
