@@ -1,6 +1,6 @@
 -- A block that is granted: what it is, and what the allocator keeps with it.
 use Rattle.std.proofs.Common.{◌≡◌, ◌≢◌, ◌⊎◌, inl, inr, ℕ, ◌+◌, ◌*◌, ◌-◌, ◌^◌, ◌<◌, ◌≤◌, ◌==◌, Bool, true, false, cond, IsTrue, List, [], ◌∷◌, ◌++◌, length, get_or, Option, Some, None, refl, sym, ◌∙◌, ap, subst, arith, Contains}
-use Rattle.std.proofs.lemmas.Bool.Decides.{nat_tests}
+use Rattle.std.proofs.lemmas.Bool.Decides.{nat_tests, same_from_decides}
 use Rattle.std.proofs.lemmas.List.Elements.{Contains-get_or}
 use Rattle.std.proofs.lemmas.Nat.{pow_pos}
 use Rattle.std.specs.Cmp.{nat_cmp_total}
@@ -12,12 +12,12 @@ use Rattle.gpu_alloc.specs.FreeSpace.{IsIn, IsMultipleOf, IsPlace, IsFreePiece}
 use Rattle.gpu_alloc.specs.Pieces.{InPiece, AreKept, AreKeptBeside}
 use Rattle.gpu_alloc.specs.Buddy.{HasPlace, IsFront, BeginsChunk, with_leaf, with_chunk}
 use Rattle.gpu_alloc.specs.BuddyState.{Chunk, Buddy, IsLiveLeaf, IsFreeAt, leaf_cmp}
-use Rattle.gpu_alloc.specs.BuddyInside.{LiesInChunk, IsUsedChunk, IsPowerUpTo, IsSound, IsStored, same_leaf, leaf_set}
+use Rattle.gpu_alloc.specs.BuddyInside.{LiesInChunk, IsUsedChunk, IsPowerUpTo, IsSound, IsStored, buddy_in, same_leaf}
 use Rattle.gpu_alloc.specs.declared.buddy.block.Leaf.{Leaf}
 use Rattle.gpu_alloc.specs.declared.buddy.pieces.Piece.{Piece}
 use Rattle.gpu_alloc.proofs.AlignedPowers.{pow-from_shorter, pow-le, order-le}
-use Rattle.gpu_alloc.proofs.BuddyCalls.{IsLeafOf, granted, chunk_comes}
-use Rattle.gpu_alloc.proofs.BuddyLeaves.{leaf_inserted, in_leaves}
+use Rattle.gpu_alloc.proofs.BuddyCalls.{IsLeafOf, AreBounded, granted, chunk_comes, in_hand_lies}
+use Rattle.gpu_alloc.proofs.BuddyLeaves.{leaf_test, leaf_inserted, in_leaves, leaves_push}
 use Rattle.gpu_alloc.proofs.ExactPieces.{kept_is_free_piece, free_piece_is_kept, piece_for_place}
 use Rattle.gpu_alloc.proofs.Lists.{distinct_push}
 
@@ -195,3 +195,102 @@ begun b old new leaf whole front size size_is start same of split none unused ke
     let chunk : Chunk = record { object = leaf.object; size = size } in
     let beside = chunk_comes b mid old whole chunk size_is refl start (subst (λ k. map.get b.chunks k ≡ None) same none) (λ q live e. unused q live (e ∙ sym same)) (ap (λ k. map.insert b.chunks k chunk) same) kept in
     granted leaf front of mid (with_leaf mid leaf) new refl refl (split mid beside)
+
+-- The lists with a block more.
+
+-- the front of a piece has become a live block
+pub record IsTaken (b : Buddy) (new : List Piece) (leaf : Leaf) : Type 0 where
+  pub kept : AreKept new (IsFreeAt (with_leaf b leaf))
+  pub sound : IsSound (with_leaf b leaf)
+  pub fresh : IsLiveLeaf b leaf → ⊥
+
+pub taken : (b : Buddy) (new : List Piece) (front : Piece) (leaf : Leaf) (chunk : Chunk) → IsSound b → IsLeafOf leaf front → AreKeptBeside new (IsFreeAt b) front
+    → map.get b.chunks leaf.chunk ≡ Some chunk → leaf.object ≡ chunk.object → IsTaken b new leaf
+taken b new front leaf chunk s of beside held object =
+    let free : (at : ℕ) → IsIn leaf.offset leaf.size at → IsFreeAt b leaf.chunk at = λ at i. subst (λ k. IsFreeAt b k at) (sym of.chunk)
+        (beside.beside.inside at (record { from = omega (arith, i.from, of.offset); to = omega (arith, i.to, of.offset, of.size) })) in
+    let lies = in_hand_lies b new front beside in
+    let there : Some chunk ≡ Some lies.held = sym held ∙ ap (λ k. map.get b.chunks k) of.chunk ∙ lies.is in
+    let same : chunk ≡ lies.held = cc in
+    let aligned = beside.beside.aligned in
+    record {
+      kept = granted leaf front of b (with_leaf b leaf) new refl refl beside;
+      sound = sound_with_leaf b leaf s (record {
+        chunk = chunk;
+        held = held;
+        object = object;
+        power = (front.order, of.size);
+        aligned = (aligned.0, of.offset ∙ aligned.1 ∙ ap (λ n. aligned.0 * n) (sym of.size));
+        inside = omega (arith, of.offset, of.size, lies.inside, ap (λ (c : Chunk). c.size) same);
+      }) free;
+      fresh = new_leaf b leaf (omega (arith, of.size, pow_pos front.order)) free;
+    }
+
+same_leaf-flips : (x y : Leaf) → same_leaf x y ≡ same_leaf y x
+same_leaf-flips x y = same_from_decides _ _ (leaf_test x y) ((λ h. sym ((leaf_test y x).0 h)), (λ e. (leaf_test y x).1 (sym e)))
+
+-- the list of live blocks has one more
+pub once_more : (live : List Leaf) (leaf : Leaf) → IsDistinct same_leaf live → (IsTrue (set.contains (set.from_list {R = leaf_cmp} live) leaf) → ⊥) → IsDistinct same_leaf (live ++ leaf ∷ [])
+once_more live leaf once fresh = distinct_push same_leaf same_leaf-flips live leaf once (λ q has. other q has (same_leaf leaf q) refl)
+  where
+    other : (q : Leaf) → Contains live q → (t : Bool) → same_leaf leaf q ≡ t → same_leaf leaf q ≡ false
+    other q has true e = absurd (fresh ((in_leaves live leaf).1 (subst (Contains live) (sym ((leaf_test leaf q).0 e)) has)))
+    other q has false e = e
+
+module _ (chunks : map.FinMap nat_cmp Chunk) (n m t p a : ℕ) where
+  pub with_leaf_in : (live new : List Leaf) (leaf : Leaf) → new ≡ live ++ leaf ∷ [] → buddy_in chunks new n m t p a ≡ with_leaf (buddy_in chunks live n m t p a) leaf
+  with_leaf_in live new leaf is = ap (λ xs. buddy_in chunks xs n m t p a) is ∙ ap (λ s. record (buddy_in chunks live n m t p a) { live = s }) (leaves_push live leaf)
+
+  -- what the allocator keeps holds with the block
+  pub stored_with_leaf : (live new : List Leaf) (pieces : List Piece) (leaf : Leaf) (capacity : ℕ) → new ≡ live ++ leaf ∷ [] → IsTaken (buddy_in chunks live n m t p a) pieces leaf
+      → IsDistinct same_leaf live → length pieces + length new ≤ capacity → IsSound (buddy_in chunks new n m t p a) × IsStored (buddy_in chunks new n m t p a) pieces new capacity
+  stored_with_leaf live new pieces leaf capacity is k once room =
+      let e = with_leaf_in live new leaf is in (
+        subst IsSound (sym e) k.sound,
+        record {
+          kept = subst (λ b. AreKept pieces (IsFreeAt b)) (sym e) k.kept;
+          once = subst (IsDistinct same_leaf) (sym is) (once_more live leaf once k.fresh);
+          room = room;
+        },
+      )
+
+-- chunks have at most 2^63 bytes
+pub bounded_chunks : (b : Buddy) → IsSound b → AreBounded b
+bounded_chunks b s key held is = let power = s.powers key held is in omega (arith, power.1.1, pow-le power.0 63 power.1.0)
+
+-- A piece that was looked for.
+
+-- at this place stands a shortest piece of this order or more
+abbrev pub IsShortestAt : List Piece → ℕ → ℕ → Type 0
+IsShortestAt pieces i order =
+    (i < length pieces) × ((d : Piece) → (order ≤ (get_or pieces i d).order) × All (λ q. order ≤ q.order → (get_or pieces i d).order ≤ q.order) pieces)
+
+pub place_at : (b : Buddy) (pieces : List Piece) (i order : ℕ) → AreKept pieces (IsFreeAt b) → IsShortestAt pieces i order → HasPlace b (2 ^ order)
+place_at b pieces i order kept found =
+    let none : Piece = record { chunk = 0; start = 0; order = 0 } in
+    place_in b pieces (get_or pieces i none) order kept (Contains-get_or pieces i none found.0) (found.1 none).0
+
+-- a piece, its front, and the block that the front becomes
+pub record IsFrontOf (pieces : List Piece) (i order : ℕ) (p front : Piece) (leaf : Leaf) : Type 0 where
+  pub shortest : IsShortestAt pieces i order
+  pub piece : p ≡ get_or pieces i p
+  pub chunk : front.chunk ≡ (get_or pieces i p).chunk
+  pub start : front.start ≡ (get_or pieces i p).start
+  pub order_is : front.order ≡ order
+  pub of : IsLeafOf leaf front
+
+pub shortest_front : (b : Buddy) (pieces : List Piece) (i order : ℕ) (p front : Piece) (leaf : Leaf) (chunk : Chunk) → AreKept pieces (IsFreeAt b) → IsFrontOf pieces i order p front leaf
+    → map.get b.chunks p.chunk ≡ Some chunk → leaf.object ≡ chunk.object → IsFront b (2 ^ order) leaf
+shortest_front b pieces i order p front leaf chunk kept f held object =
+    let at = f.piece in
+    let orders : (get_or pieces i p).order ≡ p.order = ap (λ (q : Piece). q.order) (sym at) in
+    let least = (f.shortest.1 p).1 in
+    let same : leaf.chunk ≡ p.chunk = f.of.chunk ∙ f.chunk ∙ ap (λ (q : Piece). q.chunk) (sym at) in
+    front_is b pieces p order leaf chunk kept (i, f.shortest.0, sym at) (omega (arith, (f.shortest.1 p).0, orders))
+    (λ k d lt le. omega (arith, least k d lt le, orders))
+    same (f.of.offset ∙ f.start ∙ ap (λ (q : Piece). q.start) (sym at)) (f.of.size ∙ ap (λ k. 2 ^ k) f.order_is)
+    (subst (λ k. map.get b.chunks k ≡ Some chunk) (sym same) held) object
+
+-- the key of its block's chunk
+pub chunk_of_front : (pieces : List Piece) (i order : ℕ) (p front : Piece) (leaf : Leaf) → IsFrontOf pieces i order p front leaf → leaf.chunk ≡ p.chunk
+chunk_of_front pieces i order p front leaf f = f.of.chunk ∙ f.chunk ∙ ap (λ (q : Piece). q.chunk) (sym f.piece)
