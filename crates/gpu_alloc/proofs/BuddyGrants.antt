@@ -1,8 +1,10 @@
 -- A block that is granted: what it is, and what the allocator keeps with it.
-use Rattle.std.proofs.Common.{◌≡◌, ◌≢◌, ◌⊎◌, inl, inr, ℕ, ◌+◌, ◌*◌, ◌-◌, ◌^◌, ◌<◌, ◌≤◌, ◌==◌, Bool, true, false, cond, IsTrue, List, [], ◌∷◌, ◌++◌, length, get_or, Option, Some, None, refl, sym, ◌∙◌, ap, subst, arith, Contains}
+use Rattle.std.proofs.Common.{◌≡◌, ◌≢◌, ◌⊎◌, inl, inr, ℕ, ◌+◌, ◌*◌, ◌-◌, ◌^◌, ◌<◌, ◌≤◌, ◌==◌, Bool, true, false, cond, IsTrue, List, [], ◌∷◌, ◌++◌, length, get_or, Option, Some, None, Result, Ok, Err, refl, sym, ◌∙◌, ap, subst, arith, Contains}
 use Rattle.std.proofs.lemmas.Bool.Decides.{nat_tests, same_from_decides}
 use Rattle.std.proofs.lemmas.List.Elements.{Contains-get_or}
 use Rattle.std.proofs.lemmas.Nat.{pow_pos}
+use Rattle.std.specs.Prelude.{OnOk}
+use Rattle.std.specs.Result.{is_err}
 use Rattle.std.specs.Cmp.{nat_cmp_total}
 use Rattle.std.specs.List.{All, IsDistinct}
 use Rattle.std.specs.Ordering.{nat_cmp, eq_by_cmp}
@@ -294,3 +296,8 @@ shortest_front b pieces i order p front leaf chunk kept f held object =
 -- the key of its block's chunk
 pub chunk_of_front : (pieces : List Piece) (i order : ℕ) (p front : Piece) (leaf : Leaf) → IsFrontOf pieces i order p front leaf → leaf.chunk ≡ p.chunk
 chunk_of_front pieces i order p front leaf f = f.of.chunk ∙ f.chunk ∙ ap (λ (q : Piece). q.chunk) (sym f.piece)
+
+-- what holds where a call succeeded
+pub when_ok : {X E : Type 0} {P : Type 0} (r : Result X E) → is_err r ≡ false → OnOk r P → P
+when_ok (Ok x) e p = p
+when_ok (Err x) e p = absurd (cc)

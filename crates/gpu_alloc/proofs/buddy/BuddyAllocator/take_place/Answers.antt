@@ -11,7 +11,7 @@ use Rattle.gpu_alloc.specs.declared.buddy.block.Leaf.{Leaf}
 use Rattle.gpu_alloc.specs.declared.buddy.pieces.Piece.{Piece}
 use Rattle.gpu_alloc.specs.declared.buddy.Chunk.{Chunk as HeldChunk}
 use Rattle.gpu_alloc.proofs.BuddyCalls.{IsLeafOf, kept_lies, bounded_pieces}
-use Rattle.gpu_alloc.proofs.BuddyGrants.{no_place, place_at, IsShortestAt, IsFrontOf, shortest_front, chunk_of_front, taken, with_leaf_in, stored_with_leaf, bounded_chunks}
+use Rattle.gpu_alloc.proofs.BuddyGrants.{no_place, place_at, IsShortestAt, IsFrontOf, shortest_front, chunk_of_front, taken, with_leaf_in, stored_with_leaf, bounded_chunks, when_ok}
 use Rattle.gpu_alloc.proofs.SlabMaps.{found_by_key, get-by_key}
 use Rattle.gpu_alloc.proofs.buddy.BuddyAllocator.take_place.Given.{Over}
 use Rattle.gpu_alloc.proofs.buddy.BuddyAllocator.take_place.Goals as goal
@@ -83,8 +83,15 @@ invariant_of-self-2 g c =
     let kept : AreKept c.make_room.new.pieces.items (IsFreeAt b) = rw (c.make_room.ensures.pieces) c.self.invariant.1.kept in
     let took = taken b c.take_front-front.new.pieces.items c.take_front-front.result leaf (seen g c.index-2.result.now) c.self.invariant.0 f.of (c.take_front-front.ensures.kept b kept)
     (subst (λ k. map.get b.chunks k ≡ Some (seen g c.index-2.result.now)) (sym same) (held g c)) (object g c) in
+    let made = when_ok c.make_room.result (sym c.is_err.ensures.value ∙ c.if-is_err.false) c.make_room.ensures.room in
+    let p = c.index.result.now in
+    let bounded = bounded_pieces b c.self.inside.pieces.items (bounded_chunks b c.self.invariant.0) c.self.invariant.1.kept c.in-Some.index p f.shortest.0 in
+    let count : vec_len c.take_front-front.new.pieces + 1 + c.args.order ≡ vec_len c.make_room.new.pieces + (get_or c.self.inside.pieces.items c.in-Some.index p).order = c.take_front-front.ensures.count p
+        ∙ ap (λ ps. vec_len c.make_room.new.pieces + (get_or ps c.in-Some.index p).order) c.make_room.ensures.pieces in
+    let room : length c.take_front-front.new.pieces.items + length c.push_reserved.new.self.items ≤ vec_capacity c.take_front-front.new.pieces =
+    omega (arith, made, count, bounded.0, c.take_front-front.ensures.capacity, c.push_reserved.ensures.len, c.take_front-front.new.pieces.ok.0, c.push_reserved.new.self.ok.0) in
     stored_with_leaf (by_key (seen g) c.self.inside.chunks) c.self.inside.next_order c.self.inside.minimal_size c.self.inside.memory_type (property_bits c.self.inside.props) c.self.inside.atom
-    c.self.inside.live.items c.push_reserved.new.self.items c.take_front-front.new.pieces.items leaf (vec_capacity c.take_front-front.new.pieces) (live g c) took c.self.invariant.1.once ?
+    c.self.inside.live.items c.push_reserved.new.self.items c.take_front-front.new.pieces.items leaf (vec_capacity c.take_front-front.new.pieces) (live g c) took c.self.invariant.1.once room
 
 pub returns : goal.returns
 returns g c =
