@@ -3,7 +3,7 @@ use Rattle.std.proofs.Common.{◌≡◌, ◌≢◌, ◌⊎◌, inl, inr, ℕ, �
 use Rattle.std.proofs.lemmas.Bool.Decides.{nat_tests, same_from_decides}
 use Rattle.std.proofs.lemmas.List.Elements.{Contains-get_or}
 use Rattle.std.proofs.lemmas.Nat.{pow_pos}
-use Rattle.std.specs.Prelude.{OnOk}
+use Rattle.std.specs.Prelude.{OnOk, IfSome, IfNone, is_some, ◌↔◌}
 use Rattle.std.specs.Result.{is_err}
 use Rattle.std.specs.Cmp.{nat_cmp_total}
 use Rattle.std.specs.List.{All, IsDistinct}
@@ -301,3 +301,9 @@ chunk_of_front pieces i order p front leaf f = f.of.chunk ∙ f.chunk ∙ ap (λ
 pub when_ok : {X E : Type 0} {P : Type 0} (r : Result X E) → is_err r ≡ false → OnOk r P → P
 when_ok (Ok x) e p = p
 when_ok (Err x) e p = absurd (cc)
+
+-- a look-up for a piece tells whether there is a place
+pub found_or_none : (b : Buddy) (pieces : List Piece) (order : ℕ) (found : Option ℕ) → AreKept pieces (IsFreeAt b) → IfSome found (λ i. IsShortestAt pieces i order) → IfNone found (All (λ p. p.order < order) pieces)
+    → IsTrue (is_some found) ↔ HasPlace b (2 ^ order)
+found_or_none b pieces order (Some i) kept some none = ((λ _. place_at b pieces i order kept some), (λ _. refl))
+found_or_none b pieces order None kept some none = ((λ t. absurd (cc)), (λ place. absurd (no_place b pieces order kept none place)))
