@@ -1,9 +1,11 @@
 -- A block that is granted: what it is, and what the allocator keeps with it.
 use Rattle.std.proofs.Common.{◌≡◌, ◌≢◌, ◌⊎◌, inl, inr, ℕ, ◌+◌, ◌*◌, ◌-◌, ◌^◌, ◌<◌, ◌≤◌, ◌==◌, Bool, true, false, cond, IsTrue, List, [], ◌∷◌, ◌++◌, length, get_or, Option, Some, None, Result, Ok, Err, refl, sym, ◌∙◌, ap, subst, arith, Contains}
+use Rattle.std.proofs.lemmas.Bool.{cases_lt}
 use Rattle.std.proofs.lemmas.Bool.Decides.{nat_tests, same_from_decides}
 use Rattle.std.proofs.lemmas.List.Elements.{Contains-get_or}
+use Rattle.std.proofs.Math.Nat.{zero-mul}
 use Rattle.std.proofs.lemmas.Nat.{pow_pos}
-use Rattle.std.specs.Prelude.{OnOk, IfSome, IfNone, is_some, ◌↔◌}
+use Rattle.std.specs.Prelude.{OnOk, IfSome, IfNone, is_some, max, ◌↔◌}
 use Rattle.std.specs.Result.{is_err}
 use Rattle.std.specs.Cmp.{nat_cmp_total}
 use Rattle.std.specs.List.{All, IsDistinct}
@@ -12,12 +14,18 @@ use Rattle.std.specs.FinMap as map
 use Rattle.std.specs.FinSet as set
 use Rattle.gpu_alloc.specs.FreeSpace.{IsIn, IsMultipleOf, IsPlace, IsFreePiece}
 use Rattle.gpu_alloc.specs.Pieces.{InPiece, AreKept, AreKeptBeside}
-use Rattle.gpu_alloc.specs.Buddy.{HasPlace, IsFront, BeginsChunk, with_leaf, with_chunk}
+use Rattle.gpu_alloc_types.specs.Device.{Object, Event, HeldWith}
+use Rattle.gpu_alloc_types.specs.Properties.{Properties}
+use Rattle.gpu_alloc.specs.Buddy.{Account, account, in_new_chunk, Agrees, Answers, AsksForChunk, HasPlace, IsFront, BeginsChunk, chunk_size, question, sees_chunks, IsThere, with_leaf, with_chunk}
+use Rattle.gpu_alloc.specs.NewChunk.{AsksChunkTwice, chunk_question}
+use Rattle.gpu_alloc.specs.declared.error.AllocationError.{AllocationError}
+use Rattle.gpu_alloc.specs.declared.error.AllocationError.TheVariants.{OutOfDeviceMemory, OutOfHostMemory, NoCompatibleMemoryTypes, TooManyObjects}
 use Rattle.gpu_alloc.specs.BuddyState.{Chunk, Buddy, IsLiveLeaf, IsFreeAt, leaf_cmp}
 use Rattle.gpu_alloc.specs.BuddyInside.{LiesInChunk, IsUsedChunk, IsPowerUpTo, IsSound, IsStored, buddy_in, same_leaf}
 use Rattle.gpu_alloc.specs.declared.buddy.block.Leaf.{Leaf}
 use Rattle.gpu_alloc.specs.declared.buddy.pieces.Piece.{Piece}
-use Rattle.gpu_alloc.proofs.AlignedPowers.{pow-from_shorter, pow-le, order-le}
+use Rattle.gpu_alloc.specs.declared.heap.Heap.{Heap}
+use Rattle.gpu_alloc.proofs.AlignedPowers.{doubled, pow-from_shorter, pow-le, order-le}
 use Rattle.gpu_alloc.proofs.BuddyCalls.{IsLeafOf, AreBounded, granted, chunk_comes, in_hand_lies}
 use Rattle.gpu_alloc.proofs.BuddyLeaves.{leaf_test, leaf_inserted, in_leaves, leaves_push}
 use Rattle.gpu_alloc.proofs.ExactPieces.{kept_is_free_piece, free_piece_is_kept, piece_for_place}
@@ -307,3 +315,79 @@ pub found_or_none : (b : Buddy) (pieces : List Piece) (order : ℕ) (found : Opt
     → IsTrue (is_some found) ↔ HasPlace b (2 ^ order)
 found_or_none b pieces order (Some i) kept some none = ((λ _. place_at b pieces i order kept some), (λ _. refl))
 found_or_none b pieces order None kept some none = ((λ t. absurd (cc)), (λ place. absurd (no_place b pieces order kept none place)))
+
+-- A new chunk.
+
+-- what the device is asked of a chunk, as the answer to a request for a block in it
+pub refused_chunk : (a : Account) (size flags : ℕ) (es : List Event) (e : AllocationError) → AsksForChunk a size → AsksChunkTwice (question a.buddy size flags) es (Err e) → Answers a size flags es (Err e) a
+refused_chunk a size flags es OutOfDeviceMemory asks lacks = (refl, inr (asks, lacks))
+refused_chunk a size flags es OutOfHostMemory asks lacks = (refl, inr (asks, lacks))
+refused_chunk a size flags es NoCompatibleMemoryTypes asks lacks = absurd lacks
+refused_chunk a size flags es TooManyObjects asks lacks = absurd lacks
+
+-- the next chunk's order
+pub chunk_size_is : (b : Buddy) (next order : ℕ) → b.next_chunk ≡ 2 ^ next → chunk_size b (2 ^ order) ≡ 2 ^ max next (order + 1)
+chunk_size_is b next order is = elim (cases_lt next (order + 1)) [
+  | inl lt ↦
+      let e : max next (order + 1) ≡ order + 1 = omega arith in
+      let le : 2 ^ next ≤ 2 ^ (order + 1) = pow-le next (order + 1) (omega arith) in
+      rw e (omega (arith, is, doubled order, le))
+  | inr ge ↦
+      let e : max next (order + 1) ≡ next = omega arith in
+      let le : 2 ^ (order + 1) ≤ 2 ^ next = pow-le (order + 1) next ge in
+      rw e (omega (arith, is, doubled order, le))
+]
+
+-- what holds of a value that is there
+pub if_some : {X : Type 0} (P : X → Type 0) (o : Option X) (x : X) → o ≡ Some x → IfSome o P → P x
+if_some P (Some y) x e p = let same : y ≡ x = cc in subst P same p
+if_some P None x e p = absurd (cc)
+
+-- the object of a new chunk is no held chunk's
+pub other_objects : (b : Buddy) (p : Properties) (objects : ℕ → Option Object) (name : ℕ) → Agrees b p objects → objects name ≡ None → (k : ℕ) (c : Chunk) → map.get b.chunks k ≡ Some c → c.object ≡ name → ⊥
+other_objects b p objects name agrees none k c is same =
+    let there = if_some (λ chunk. HeldWith objects chunk.object (IsThere b.memory_type (sees_chunks b) chunk)) (map.get b.chunks k) c is (agrees.holds k) in
+    let here : objects name ≡ Some there.0 = subst (λ n. objects n ≡ Some there.0) same there.1 in
+    cc
+
+-- what is asked for a chunk
+pub question_is : (b : Buddy) (next order size flags : ℕ) (visible : Bool) → b.next_chunk ≡ 2 ^ next → size ≡ 2 ^ max next (order + 1) → visible ≡ sees_chunks b
+    → chunk_question size b.memory_type flags visible ≡ question b (2 ^ order) flags
+question_is b next order size flags visible is size_is sees =
+    let e : size ≡ chunk_size b (2 ^ order) = size_is ∙ sym (chunk_size_is b next order is) in
+    λ i. record { size = e i; memory_type = b.memory_type; flags = flags; visible = sees i }
+
+pub power_order : (n : ℕ) → IsPowerUpTo 63 (2 ^ n) → n ≤ 63
+power_order n power = omega (arith, power.1.0, order-le n power.0 (omega (arith, power.1.1)))
+
+-- The lists with a new chunk, and the first block in it.
+
+module _ (chunks more : map.FinMap nat_cmp Chunk) (n next m t p a : ℕ) (live new : List Leaf) (leaf : Leaf)
+    (chunks_are : more ≡ map.insert chunks leaf.chunk (record { object = leaf.object; size = 2 ^ next })) (live_are : new ≡ live ++ leaf ∷ []) where
+  pub with_chunk_in : buddy_in more new next m t p a ≡ with_leaf (with_chunk (buddy_in chunks live n m t p a) leaf (2 ^ next)) leaf
+  with_chunk_in =
+      ap (λ xs. buddy_in xs new next m t p a) chunks_are
+      ∙ with_leaf_in (map.insert chunks leaf.chunk (record { object = leaf.object; size = 2 ^ next })) next m t p a live new leaf live_are
+
+  pub stored_with_chunk : (pieces : List Piece) (capacity order : ℕ) → IsSound (buddy_in chunks live n m t p a) → IsDistinct same_leaf live → map.get chunks leaf.chunk ≡ None
+      → ((k : ℕ) (c : Chunk) → map.get chunks k ≡ Some c → c.object ≡ leaf.object → ⊥) → next ≤ 63 → leaf.size ≡ 2 ^ order → order ≤ next → leaf.offset ≡ 0
+      → AreKept pieces (IsFreeAt (with_leaf (with_chunk (buddy_in chunks live n m t p a) leaf (2 ^ next)) leaf)) → length pieces + length new ≤ capacity
+      → IsSound (buddy_in more new next m t p a) × IsStored (buddy_in more new next m t p a) pieces new capacity
+  stored_with_chunk pieces capacity order s once none other short size le start kept room =
+      let b : Buddy = buddy_in chunks live n m t p a in
+      let e = with_chunk_in in
+      let sound = sound_with_chunk b leaf (2 ^ next) s (next, (short, refl)) none other (order, size) (0, start ∙ sym (zero-mul leaf.size)) (omega (arith, start, size, pow-le order next le)) in (
+        subst IsSound (sym e) sound,
+        record {
+          kept = subst (λ x. AreKept pieces (IsFreeAt x)) (sym e) kept;
+          once = subst (IsDistinct same_leaf) (sym live_are) (once_more live leaf once (λ is. no_leaf_at b leaf.chunk s none leaf is refl));
+          room = room;
+        },
+      )
+
+-- what a call with a new chunk leaves
+pub in_new_chunk_is : (a : Account) (leaf : Leaf) (size n m : ℕ) (b : Buddy) (heap : Heap) → b ≡ with_leaf (with_chunk a.buddy leaf n) leaf → heap ≡ record a.heap { used = a.heap.used + m } → n ≡ size → m ≡ size
+    → account b heap (a.remaining - 1) ≡ in_new_chunk a leaf size
+in_new_chunk_is a leaf size n m b heap b_is heap_is n_is m_is =
+    ap (λ x. account x heap (a.remaining - 1)) (b_is ∙ ap (λ k. with_leaf (with_chunk a.buddy leaf k) leaf) n_is)
+    ∙ ap (λ h. account (with_leaf (with_chunk a.buddy leaf size) leaf) h (a.remaining - 1)) (heap_is ∙ ap (λ k. record a.heap { used = a.heap.used + k }) m_is)
