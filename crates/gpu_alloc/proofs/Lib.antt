@@ -1,5 +1,6 @@
 pub mod Agreeing
 pub mod AlignedPowers
+pub mod BuddyAnswers
 pub mod BuddyCalls
 pub mod BuddyGrants
 pub mod BuddyLeaves
