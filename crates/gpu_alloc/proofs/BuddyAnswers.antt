@@ -6,6 +6,7 @@ use Rattle.std.specs.Int.{is_power_of_two}
 use Rattle.std.specs.Cmp.{nat_cmp_total}
 use Rattle.std.specs.Ordering.{nat_cmp}
 use Rattle.gpu_alloc_types.specs.Device.{Object, Event, HeldWith, put}
+use Rattle.gpu_alloc_types.specs.Objects.{put-same, put-other}
 use Rattle.gpu_alloc_types.specs.Properties.{Properties}
 use Rattle.gpu_alloc.specs.FreeSpace.{IsIn, IsMultipleOf}
 use Rattle.gpu_alloc.specs.Buddy.{Account, account, Wanted, Agrees, Answers, AsksForChunk, ObjectsAfter, BeginsChunk, Fits, HasPlace, IsFront, IsThere, IsGranted, chunk_size, question, sees_chunks, with_leaf, with_chunk, in_new_chunk, rounded, chunks_and_remaining}
@@ -30,3 +31,86 @@ fits_not order lt fits = let long : 2 ^ 63 ≤ 2 ^ order = pow-le 63 order (omeg
 pub place_refused : (a : Account) (size flags : ℕ) (e : AllocationError) (b : Buddy) → Fits size → HasPlace a.buddy size → e ≡ OutOfHostMemory → b ≡ a.buddy → Answers a size flags [] (Err e) (account b a.heap a.remaining)
 place_refused a size flags e b fits place is same =
     subst (λ x. Answers a size flags [] (Err x) (account b a.heap a.remaining)) (sym is) (ap (λ x. account x a.heap a.remaining) same, inl (fits, (refl, inl place)))
+
+-- Agreement with the device.
+
+-- it stays where chunks and memory type do
+pub agrees_with_leaf : (b : Buddy) (leaf : Leaf) (p : Properties) (f : ℕ → Option Object) → Agrees b p f → Agrees (with_leaf b leaf) p f
+agrees_with_leaf b leaf p f a = record { known = a.known; props = a.props; holds = a.holds }
+
+-- each held chunk is there still, once the device holds one object more
+still_held : (q : ChunkQuestion) (object : ℕ) (f g : ℕ → Option Object) (P : Object → Type 0) (name : ℕ) → HasOneChunkMore q object f g → HeldWith f name P → HeldWith g name P
+still_held q object f g P name more held =
+    let other : name ≢ object = λ same. let none : f name ≡ None = ap f same ∙ more.0 in let both = held.1 in cc in
+    (held.0, ap (λ h. h name) more.1.2 ∙ put-other f object (Some more.1.0) name other ∙ held.1, held.2)
+
+new_is_there : (q : ChunkQuestion) (chunk : Chunk) (f g : ℕ → Option Object) → HasOneChunkMore q chunk.object f g → chunk.size ≡ q.size → HeldWith g chunk.object (IsThere q.memory_type q.visible chunk)
+new_is_there q chunk f g more size =
+    let o : Object = more.1.0 in
+    (
+      o,
+      ap (λ h. h chunk.object) more.1.2 ∙ put-same f chunk.object (Some o),
+      record {
+        of_type = more.1.1.of_type;
+        of_size = more.1.1.of_size ∙ sym size;
+        mapped = λ visible. more.1.1.mapped ∙ rw visible (ap (λ n. Some (0, n)) (sym more.1.1.of_size));
+      },
+    )
+
+abbrev IsHeldChunk : Buddy → (ℕ → Option Object) → Chunk → Type 0
+IsHeldChunk b g chunk = HeldWith g chunk.object (IsThere b.memory_type (sees_chunks b) chunk)
+
+-- it holds with a chunk more
+pub agrees_with_chunk : (b : Buddy) (leaf : Leaf) (size flags : ℕ) (p : Properties) (f g : ℕ → Option Object) → Agrees b p f → HasOneChunkMore (question b size flags) leaf.object f g
+    → Agrees (with_chunk b leaf (chunk_size b size)) p g
+agrees_with_chunk b leaf size flags p f g a more = record {
+  known = a.known;
+  props = a.props;
+  holds = λ key. all_held key (map.get (map.insert b.chunks leaf.chunk (record { object = leaf.object; size = chunk_size b size })) key) refl;
+}
+  where
+    all_held : (key : ℕ) (found : Option Chunk) → map.get (map.insert b.chunks leaf.chunk (record { object = leaf.object; size = chunk_size b size })) key ≡ found → IfSome found (IsHeldChunk b g)
+    all_held key None e = tt
+    all_held key (Some chunk) e = elim (chunk_cases b.chunks leaf.chunk (record { object = leaf.object; size = chunk_size b size }) key chunk e) [
+      | inl new ↦ subst (IsHeldChunk b g) new.1 (new_is_there (question b size flags) (record { object = leaf.object; size = chunk_size b size }) f g more refl)
+      | inr old ↦ still_held (question b size flags) leaf.object f g (IsThere b.memory_type (sees_chunks b) chunk) chunk.object more
+          (if_some (λ c. HeldWith f c.object (IsThere b.memory_type (sees_chunks b) c)) (map.get b.chunks key) chunk old (a.holds key))
+    ]
+
+-- a block that begins a chunk is not the front of a piece of a held one
+never_both : (b : Buddy) (size : ℕ) (leaf : Leaf) → BeginsChunk b size leaf → IsFront b size leaf → ⊥
+never_both b size leaf begins front = let none = begins.free_key in let some = front.held in cc
+
+-- after every answer
+pub answers_agree : (a new : Account) (size flags : ℕ) (es : List Event) (answer : Result Leaf AllocationError) (p now : Properties) (f g : ℕ → Option Object) → Agrees a.buddy p f → now ≡ p
+    → Answers a size flags es answer new → ObjectsAfter a.buddy size flags answer f g → Agrees new.buddy now g
+answers_agree a new size flags es (Ok leaf) p now f g agrees same (inl front) (inl begins) = absurd (never_both a.buddy size leaf begins.0 front.1.0)
+answers_agree a new size flags es (Ok leaf) p now f g agrees same (inl front) (inr kept) =
+    rw (front.1.1.1, same, kept.1) (agrees_with_leaf a.buddy leaf p f agrees)
+answers_agree a new size flags es (Ok leaf) p now f g agrees same (inr begins) (inl made) =
+    rw (begins.1.1.1, same) (agrees_with_leaf (with_chunk a.buddy leaf (chunk_size a.buddy size)) leaf p g (agrees_with_chunk a.buddy leaf size flags p f g agrees made.1))
+answers_agree a new size flags es (Ok leaf) p now f g agrees same (inr begins) (inr kept) = absurd (never_both a.buddy size leaf begins.1.0 kept.0)
+answers_agree a new size flags es (Err OutOfDeviceMemory) p now f g agrees same refused kept = rw (refused.0, same, kept) agrees
+answers_agree a new size flags es (Err OutOfHostMemory) p now f g agrees same refused kept = rw (refused.0, same, kept) agrees
+answers_agree a new size flags es (Err NoCompatibleMemoryTypes) p now f g agrees same refused kept = absurd refused
+answers_agree a new size flags es (Err TooManyObjects) p now f g agrees same refused kept = rw (refused.0, same, kept) agrees
+
+-- Nothing changes where it is refused.
+
+pub refused_keeps : (a new : Account) (size flags : ℕ) (es : List Event) (e : AllocationError) → Answers a size flags es (Err e) new → new ≡ a
+refused_keeps a new size flags es OutOfDeviceMemory refused = refused.0
+refused_keeps a new size flags es OutOfHostMemory refused = refused.0
+refused_keeps a new size flags es NoCompatibleMemoryTypes refused = absurd refused
+refused_keeps a new size flags es TooManyObjects refused = refused.0
+
+-- Chunks and what remains.
+
+chunks_more : (m : map.FinMap nat_cmp Chunk) (key : ℕ) (chunk : Chunk) → map.get m key ≡ None → map.len (map.insert m key chunk) ≡ map.len m + 1
+chunks_more m key chunk none = rw none at (map.len-insert {K = ℕ} {X = Chunk} {R = nat_cmp} nat_cmp_total m key chunk)
+
+pub answers_total : (a new : Account) (size flags : ℕ) (es : List Event) (answer : Result Leaf AllocationError) → Answers a size flags es answer new → chunks_and_remaining new ≡ chunks_and_remaining a
+answers_total a new size flags es (Ok leaf) (inl front) = ap chunks_and_remaining front.1.1.1
+answers_total a new size flags es (Ok leaf) (inr begins) =
+    let more = chunks_more a.buddy.chunks leaf.chunk (record { object = leaf.object; size = chunk_size a.buddy size }) begins.1.0.free_key in
+    ap chunks_and_remaining begins.1.1.1 ∙ omega (arith, more, begins.0.1.1)
+answers_total a new size flags es (Err e) refused = ap chunks_and_remaining (refused_keeps a new size flags es e refused)

@@ -1,9 +1,10 @@
 -- The next power of two, and the exponent of one.
-use Rattle.std.proofs.Common.{◌≡◌, ◌≤◌, ◌<◌, ◌⊎◌, inl, inr, ◌*◌, ◌+◌, ◌^◌, ℕ, zero, suc, true, false, cond, nat_le, refl, sym, ◌∙◌, ap, subst, arith, w64}
-use Rattle.std.specs.Int.{trailing_zeros, bit_at}
+use Rattle.std.proofs.Common.{◌≡◌, ◌≤◌, ◌<◌, ◌⊎◌, inl, inr, ◌*◌, ◌+◌, ◌^◌, ℕ, zero, suc, true, false, cond, nat_le, refl, sym, ◌∙◌, ap, subst, arith, w64, ◌/◌, ◌%◌, IsTrue, ◌==◌, Bool, count_ones}
+use Rattle.std.specs.Int.{trailing_zeros, bit_at, is_power_of_two}
+use Rattle.std.specs.Int.Count.{ones_step}
 use Rattle.std.proofs.lemmas.Bool.{cases_eq}
 use Rattle.std.proofs.lemmas.Bool.Decides.{nat_tests}
-use Rattle.std.proofs.lemmas.Nat.{pow_pos}
+use Rattle.std.proofs.lemmas.Nat.{pow_pos, zero_from_ones, ones_le_self}
 use Rattle.std.proofs.lemmas.Nat.Bits.{bit_at-trailing_zeros, bit_at-pow_other}
 use Rattle.std.proofs.Math.Pow.{pow_mono}
 use Rattle.gpu_alloc.specs.Sizes.{doubled_up, next_power_of_two, IsNextPowerOfTwo}
@@ -57,3 +58,21 @@ least_exponent x r bound enough least =
     let le : r ≤ j = least j (omega (arith, n.enough, e)) in
     let down : 2 ^ r ≤ 2 ^ j = pow_mono le in
     omega (arith, up, e, down)
+
+-- a number with one bit set is a power of two
+power_within : (d n : ℕ) → n ≤ d → count_ones n ≡ 1 → (k : ℕ) × (n ≡ 2 ^ k)
+power_within zero n le one = absurd (omega (arith, le, one, ones_le_self n))
+power_within (suc d) n le one = by_lowest (n % 2) refl (λ small. power_within d (n / 2) (omega (arith, le, small)))
+  where
+    step : count_ones n ≡ n % 2 + count_ones (n / 2)
+    step = let s = ones_step n in omega (arith, s)
+
+    by_lowest : (b : ℕ) → n % 2 ≡ b → (1 ≤ n → count_ones (n / 2) ≡ 1 → (k : ℕ) × (n / 2 ≡ 2 ^ k)) → (k : ℕ) × (n ≡ 2 ^ k)
+    by_lowest zero e half =
+        let some : 1 ≤ n = let ones = ones_le_self n in omega (arith, one, ones) in
+        let k = half some (omega (arith, e, one, step)) in
+        (suc k.0, (let twice : 2 ^ suc k.0 ≡ 2 * 2 ^ k.0 = omega arith in omega (arith, k.1, e, twice)))
+    by_lowest (suc b) e half = let none = zero_from_ones (n / 2) (omega (arith, e, one, step)) in (0, omega (arith, none, e))
+
+pub power_of_bit : (n : ℕ) → IsTrue (is_power_of_two n) → (k : ℕ) × (n ≡ 2 ^ k)
+power_of_bit n one = power_within n n (omega arith) (let test : (count_ones n == 1) ≡ true = one in grind (arith, nat_tests))
