@@ -16,8 +16,11 @@ use Rattle.gpu_alloc.specs.NewChunk.{ChunkQuestion, HasOneChunkMore, IsChunkObje
 use Rattle.gpu_alloc.specs.declared.buddy.block.Leaf.{Leaf}
 use Rattle.gpu_alloc.specs.declared.error.AllocationError.{AllocationError}
 use Rattle.gpu_alloc.specs.declared.error.AllocationError.TheVariants.{OutOfDeviceMemory, OutOfHostMemory, NoCompatibleMemoryTypes, TooManyObjects}
-use Rattle.gpu_alloc.proofs.AlignedPowers.{pow-le}
-use Rattle.gpu_alloc.proofs.BuddyGrants.{if_some, chunk_cases, now_live, no_leaf_at}
+use Rattle.std.proofs.Math.Nat.{mul_assoc, mul-mod_left, zero-mul, one-mul}
+use Rattle.gpu_alloc.specs.Request.{IsAlignMask}
+use Rattle.gpu_alloc.proofs.AlignedPowers.{pow-le, order-le, pow-from_shorter}
+use Rattle.gpu_alloc.proofs.PowersOfTwo.{is_next_power_of_two, power_of_bit}
+use Rattle.gpu_alloc.proofs.BuddyGrants.{if_some, chunk_cases, now_live, other_objects}
 
 -- Sizes whose chunk fits.
 
@@ -114,3 +117,72 @@ answers_total a new size flags es (Ok leaf) (inr begins) =
     let more = chunks_more a.buddy.chunks leaf.chunk (record { object = leaf.object; size = chunk_size a.buddy size }) begins.1.0.free_key in
     ap chunks_and_remaining begins.1.1.1 ∙ omega (arith, more, begins.0.1.1)
 answers_total a new size flags es (Err e) refused = ap chunks_and_remaining (refused_keeps a new size flags es e refused)
+
+-- What is known of the block.
+
+-- a block's size is a power of two, and not below what was asked, the alignment and the atom, which are powers of two too
+pub record IsRoundedTo (b : Buddy) (w : Wanted) (size : ℕ) : Type 0 where
+  pub power : (k : ℕ) × (size ≡ 2 ^ k)
+  pub enough : w.size ≤ size
+  pub alignment : (k : ℕ) × (w.align_mask + 1 ≡ 2 ^ k)
+  pub aligned : w.align_mask + 1 ≤ size
+  pub atom : (k : ℕ) × (b.atom ≡ 2 ^ k)
+  pub whole_atoms : b.atom ≤ size
+
+-- a multiple of a power of two is one of each lower power
+lower_multiple : (x n m j k : ℕ) → n ≡ 2 ^ j → m ≡ 2 ^ k → n ≤ m → IsMultipleOf m x → x % n ≡ 0
+lower_multiple x n m j k n_is m_is le (q, is) =
+    let le' : j ≤ k = order-le j k (omega (arith, n_is, m_is, le)) in
+    let e = pow-from_shorter j k le' in
+    let whole : x ≡ q * 2 ^ (k - j) * 2 ^ j = is ∙ ap (λ z. q * z) (m_is ∙ e) ∙ sym (mul_assoc q (2 ^ (k - j)) (2 ^ j)) in
+    ap (λ z. x % z) n_is ∙ ap (λ z. z % 2 ^ j) whole ∙ mul-mod_left (q * 2 ^ (k - j)) (2 ^ j)
+
+pub answers_granted : (a new : Account) (w : Wanted) (size flags : ℕ) (es : List Event) (leaf : Leaf) (p : Properties) (f g : ℕ → Option Object) → IsSound a.buddy → Agrees a.buddy p f → IsRoundedTo a.buddy w size
+    → Answers a size flags es (Ok leaf) new → ObjectsAfter a.buddy size flags (Ok leaf) f g → IsGranted a.buddy w new.buddy leaf
+answers_granted a new w size flags es leaf p f g s agrees r (inl front) (inl begins) = absurd (never_both a.buddy size leaf begins.0 front.1.0)
+answers_granted a new w size flags es leaf p f g s agrees r (inl front) (inr kept) =
+    let at = front.1.0 in
+    let place = at.piece.place in
+    let size_is = at.of_size in
+    rw (front.1.1.1) (record {
+      enough = omega (arith, size_is, r.enough);
+      aligned = lower_multiple leaf.offset (w.align_mask + 1) at.length r.alignment.0 place.power.0 r.alignment.1 place.power.1 (omega (arith, r.aligned, at.enough)) place.aligned;
+      whole_atoms = (
+        lower_multiple leaf.offset a.buddy.atom at.length r.atom.0 place.power.0 r.atom.1 place.power.1 (omega (arith, r.whole_atoms, at.enough)) place.aligned,
+        lower_multiple leaf.size a.buddy.atom size r.atom.0 r.power.0 r.atom.1 r.power.1 r.whole_atoms (1, size_is ∙ sym (one-mul size)),
+      );
+      live = now_live a.buddy leaf;
+      was_free = λ other live same b in_other in_leaf.
+          let there = s.inside other live in
+          let chunk = s.one_object other.chunk leaf.chunk there.chunk at.chunk there.held at.held (sym there.object ∙ same ∙ at.object) in
+          (place.free b (record { from = in_leaf.from; to = omega (arith, in_leaf.to, size_is, at.enough) })).unused other live chunk in_other;
+    })
+answers_granted a new w size flags es leaf p f g s agrees r (inr begins) (inl made) =
+    let at = begins.1.0 in
+    let size_is = at.of_size in
+    rw (begins.1.1.1) (record {
+      enough = omega (arith, size_is, r.enough);
+      aligned = lower_multiple leaf.offset (w.align_mask + 1) (w.align_mask + 1) r.alignment.0 r.alignment.0 r.alignment.1 r.alignment.1 (omega arith) (0, at.start ∙ sym (zero-mul (w.align_mask + 1)));
+      whole_atoms = (
+        lower_multiple leaf.offset a.buddy.atom a.buddy.atom r.atom.0 r.atom.0 r.atom.1 r.atom.1 (omega arith) (0, at.start ∙ sym (zero-mul a.buddy.atom)),
+        lower_multiple leaf.size a.buddy.atom size r.atom.0 r.power.0 r.atom.1 r.power.1 r.whole_atoms (1, size_is ∙ sym (one-mul size)),
+      );
+      live = now_live (with_chunk a.buddy leaf (chunk_size a.buddy size)) leaf;
+      was_free = λ other live same b in_other in_leaf.
+          let there = s.inside other live in
+          absurd (other_objects a.buddy p f leaf.object agrees made.1.0 other.chunk there.chunk there.held (sym there.object ∙ same));
+    })
+answers_granted a new w size flags es leaf p f g s agrees r (inr begins) (inr kept) = absurd (never_both a.buddy size leaf begins.1.0 kept.0)
+
+-- what a request is rounded to
+pub rounds : (b : Buddy) (w : Wanted) → IsSound b → w.size < 2 ^ 64 → IsAlignMask w.align_mask → IsRoundedTo b w (rounded b w)
+rounds b w s small mask =
+    let n = is_next_power_of_two (max (max w.size (w.align_mask + 1)) (max b.atom b.minimal)) (omega (arith, small, mask.bound, s.atom.1.1, s.minimal.1.1, pow-le s.atom.0 62 s.atom.1.0, pow-le s.minimal.0 63 s.minimal.1.0)) in
+    record {
+      power = n.power;
+      enough = omega (arith, n.enough);
+      alignment = power_of_bit (w.align_mask + 1) mask.power;
+      aligned = omega (arith, n.enough);
+      atom = (s.atom.0, s.atom.1.1);
+      whole_atoms = omega (arith, n.enough);
+    }
