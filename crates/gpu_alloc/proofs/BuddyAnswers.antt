@@ -1,6 +1,6 @@
 -- What follows from the answer to a request: agreement with the device, the totals, and what is known of the block.
 use Rattle.std.proofs.Common.{◌≡◌, ◌≢◌, ◌⊎◌, inl, inr, ℕ, zero, suc, ◌+◌, ◌*◌, ◌-◌, ◌/◌, ◌%◌, ◌^◌, ◌<◌, ◌≤◌, ◌==◌, Bool, true, false, cond, IsTrue, List, [], ◌∷◌, Option, Some, None, Result, Ok, Err, refl, sym, ◌∙◌, ap, subst, arith}
-use Rattle.std.specs.Prelude.{IfSome, max}
+use Rattle.std.specs.Prelude.{IfSome, IfOk, OnErr, max}
 use Rattle.std.specs.FinMap as map
 use Rattle.std.specs.Int.{is_power_of_two}
 use Rattle.std.specs.Cmp.{nat_cmp_total}
@@ -9,7 +9,7 @@ use Rattle.gpu_alloc_types.specs.Device.{Object, Event, HeldWith, put}
 use Rattle.gpu_alloc_types.specs.Objects.{put-same, put-other}
 use Rattle.gpu_alloc_types.specs.Properties.{Properties}
 use Rattle.gpu_alloc.specs.FreeSpace.{IsIn, IsMultipleOf}
-use Rattle.gpu_alloc.specs.Buddy.{Account, account, Wanted, Agrees, Answers, AsksForChunk, ObjectsAfter, BeginsChunk, Fits, HasPlace, IsFront, IsThere, IsGranted, chunk_size, question, sees_chunks, with_leaf, with_chunk, in_new_chunk, rounded, chunks_and_remaining}
+use Rattle.gpu_alloc.specs.Buddy.{Account, account, Wanted, Agrees, Answers, AsksForChunk, ObjectsAfter, BeginsChunk, Fits, HasPlace, IsFront, IsThere, IsGranted, chunk_size, question, sees_chunks, with_leaf, with_chunk, in_new_chunk, rounded, chunks_and_remaining, RefusesFirst}
 use Rattle.gpu_alloc.specs.BuddyState.{Chunk, Buddy, IsLiveLeaf, IsFreeAt}
 use Rattle.gpu_alloc.specs.BuddyInside.{IsSound, IsPowerUpTo}
 use Rattle.gpu_alloc.specs.NewChunk.{ChunkQuestion, HasOneChunkMore, IsChunkObject}
@@ -186,3 +186,27 @@ rounds b w s small mask =
       atom = (s.atom.0, s.atom.1.1);
       whole_atoms = omega (arith, n.enough);
     }
+
+pub answers_refused : (a new : Account) (size flags : ℕ) (es : List Event) (answer : Result Leaf AllocationError) → Answers a size flags es answer new
+    → OnErr answer ((new.buddy ≡ a.buddy) × ((new.heap ≡ a.heap) × (new.remaining ≡ a.remaining)))
+answers_refused a new size flags es (Ok leaf) answers = tt
+answers_refused a new size flags es (Err e) answers =
+    let same = refused_keeps a new size flags es e answers in
+    (ap (λ (x : Account). x.buddy) same, (ap (λ (x : Account). x.heap) same, ap (λ (x : Account). x.remaining) same))
+
+pub answers_all_granted : (a new : Account) (w : Wanted) (size flags : ℕ) (es : List Event) (answer : Result Leaf AllocationError) (p : Properties) (f g : ℕ → Option Object) → IsSound a.buddy → Agrees a.buddy p f
+    → IsRoundedTo a.buddy w size → Answers a size flags es answer new → ObjectsAfter a.buddy size flags answer f g → IfOk answer (IsGranted a.buddy w new.buddy)
+answers_all_granted a new w size flags es (Ok leaf) p f g s agrees r answers objects = answers_granted a new w size flags es leaf p f g s agrees r answers objects
+answers_all_granted a new w size flags es (Err e) p f g s agrees r answers objects = tt
+
+-- Refusals before anything is done.
+
+pub refuses_size : (a : Account) (w : Wanted) (order : ℕ) → rounded a.buddy w ≡ 2 ^ order → 62 < order → RefusesFirst a w (Some OutOfDeviceMemory)
+refuses_size a w order is long fits_it = fits_not order long (subst Fits is fits_it)
+
+pub refuses_count : (a : Account) (w : Wanted) (order : ℕ) → rounded a.buddy w ≡ 2 ^ order → order ≤ 62 → (HasPlace a.buddy (2 ^ order) → ⊥) → a.remaining ≡ 0 → RefusesFirst a w (Some TooManyObjects)
+refuses_count a w order is short none nothing = (subst Fits (sym is) (fits order short), ((λ place. none (subst (HasPlace a.buddy) is place)), nothing))
+
+pub refuses_nothing : (a : Account) (w : Wanted) (order : ℕ) → rounded a.buddy w ≡ 2 ^ order → order ≤ 62 → HasPlace a.buddy (2 ^ order) ⊎ (0 < a.remaining) → RefusesFirst a w None
+refuses_nothing a w order is short (inl place) = (subst Fits (sym is) (fits order short), inl (subst (HasPlace a.buddy) (sym is) place))
+refuses_nothing a w order is short (inr some) = (subst Fits (sym is) (fits order short), inr some)

@@ -7,7 +7,7 @@ ghost use Rattle.gpu_alloc_types.specs.Flags.{allocation_bits, property_bits, ha
 ghost use Rattle.gpu_alloc_types.specs.Device.{Event, Chain};
 ghost use Rattle.std.specs.Int.{is_power_of_two};
 ghost use Rattle.gpu_alloc.specs.Buddy.{opened, account, wanted, rounded, Allocates, Answers, AsksForChunk, BeginsChunk, HasPlace, TakesPlace, RefusesFirst, Frees, ObjectsFreed, IsGranted, with_leaf, with_chunk, in_new_chunk, chunk_size, Agrees, IsCounted, ObjectsAfter, chunks_and_remaining};
-ghost use Rattle.gpu_alloc.specs.BuddyInside.{IsPowerUpTo};
+ghost use Rattle.gpu_alloc.specs.BuddyInside.{IsSound};
 ghost use Rattle.gpu_alloc.specs.BuddyState.{Buddy, IsLiveLeaf, IsFreeAt};
 ghost use Rattle.gpu_alloc.specs.Pieces.{AreKept};
 ghost use Rattle.slab.specs.Slab.{get, Updates, HasRoomFor, slab_len};
@@ -173,6 +173,7 @@ impl<M: MemoryObject, A: Allocator> BuddyAllocator<M, A> {
         requires { IsAlignMask align_mask }
         ensures least { (flags : ℕ) → rounded self.now (wanted size align_mask flags) ≡ 2 ^ result }
         ensures bound { result ≤ 64 }
+        ensures sound { IsSound self.now }
     {
         let aligned = size.max(align_mask + 1);
         let least = self.atom.max(self.minimal_size);
