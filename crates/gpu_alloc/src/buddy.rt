@@ -162,10 +162,13 @@ impl<M: MemoryObject, A: Allocator> BuddyAllocator<M, A> {
         if order > 62 {
             return Some(AllocationError::OutOfDeviceMemory);
         }
-        if !self.has_place(order) && allocations_remains == 0 {
-            return Some(AllocationError::TooManyObjects);
+        if allocations_remains > 0 {
+            return None;
         }
-        None
+        if self.has_place(order) {
+            return None;
+        }
+        Some(AllocationError::TooManyObjects)
     }
 
     /// The size of a block for a request, as the exponent of a power of two.
