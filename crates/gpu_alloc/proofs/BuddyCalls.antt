@@ -11,17 +11,18 @@ use Rattle.std.proofs.lemmas.Bool.Decides.{Decides-eqb}
 use Rattle.std.proofs.lemmas.List.Elements.{Contains-get_or}
 use Rattle.std.proofs.lemmas.Nat.{pow_pos}
 use Rattle.std.proofs.Math.Nat.{zero-mul}
+use Rattle.std.proofs.Math.Pow.{pow_mono}
 use mathlib.Core.Bool.{true≢false}
 use Rattle.gpu_alloc.specs.BuddyState.{Chunk, Buddy, IsLiveLeaf, IsFreeAt}
-use Rattle.gpu_alloc.specs.FreeSpace.{IsIn, IsMultipleOf}
+use Rattle.gpu_alloc.specs.FreeSpace.{IsIn, IsMultipleOf, IsPlace, IsFreePiece}
 use Rattle.gpu_alloc.specs.Pieces.{InPiece, Without, AreKept, AreKeptBeside}
 use Rattle.gpu_alloc.specs.declared.buddy.Leaf.{Leaf}
 use Rattle.gpu_alloc.specs.declared.buddy.pieces.Piece.{Piece}
 use Rattle.gpu_alloc.proofs.AlignedPowers.{order-le}
 use Rattle.gpu_alloc.proofs.Rows.{name_test, eq-true, eq-false}
 use Rattle.gpu_alloc.proofs.BuddyLeaves.{in_leaves, leaf_inserted, leaf_removed, leaf_same_or_left}
-use Rattle.gpu_alloc.proofs.ExactPieces.{whole_chunk}
-use Rattle.gpu_alloc.proofs.Lists.{seek}
+use Rattle.gpu_alloc.proofs.ExactPieces.{whole_chunk, piece_for_place, kept_is_free_piece, free_piece_is_kept}
+use Rattle.gpu_alloc.proofs.Lists.{seek, all_contained}
 use Rattle.gpu_alloc.proofs.PieceSteps.{same_bytes}
 
 -- Free bytes depend on the chunks and the live blocks alone.
@@ -176,6 +177,18 @@ in_hand_lies b pieces x k = free_lies b x (λ at i. k.beside.inside at i)
 pub beside_lies : (b : Buddy) (pieces : List Piece) (x p : Piece) → AreKeptBeside pieces (IsFreeAt b) x → Contains pieces p → LiesInChunk b p
 beside_lies b pieces x p k has = free_lies b p (λ at i. (k.beside.canonical.free p has at i).0)
 
+-- the bytes of the piece in hand are apart from each live block
+pub hand_is_apart : (b : Buddy) (pieces : List Piece) (x : Piece) → AreKeptBeside pieces (IsFreeAt b) x → (leaf : Leaf) → IsLiveLeaf b leaf → leaf.chunk ≡ x.chunk
+    → (at : ℕ) → IsIn leaf.offset leaf.size at → InPiece x at → ⊥
+hand_is_apart b pieces x k leaf t named at in_leaf in_x = (k.beside.inside at in_x).unused leaf t named in_leaf
+
+-- so its leaf is not yet live
+pub hand_is_new : (b : Buddy) (pieces : List Piece) (x : Piece) (leaf : Leaf) → IsLeafOf leaf x → AreKeptBeside pieces (IsFreeAt b) x → IsLiveLeaf b leaf → ⊥
+hand_is_new b pieces x leaf of k t =
+    let some = pow_pos x.order in
+    let here : InPiece x x.start = record { from = omega arith; to = omega (arith, some) } in
+    hand_is_apart b pieces x k leaf t of.chunk x.start (in_leaf leaf x of x.start here) here
+
 -- in chunks of at most 2^63 bytes
 abbrev pub AreBounded : Buddy → Type 0
 AreBounded b = (key : ℕ) (held : Chunk) → map.get b.chunks key ≡ Some held → held.size ≤ 2 ^ 63
@@ -328,3 +341,33 @@ used_is_shorter b pieces p order held k has is length_is leaf t named some insid
           let same : order ≡ p.order = omega arith in
           absurd (whole_is_unused b p held is (length_is ∙ ap (λ n. 2 ^ n) same) (λ at i. k.canonical.free p has at i) leaf t named some inside)
     ]
+
+-- Which piece is given.
+
+-- where each piece is shorter, there is no place
+pub no_place : (b : Buddy) (pieces : List Piece) (order : ℕ) → AreKept pieces (IsFreeAt b) → All (λ p. p.order < order) pieces → (chunk start : ℕ) → IsPlace (IsFreeAt b) chunk start (2 ^ order) → ⊥
+no_place b pieces order k shorter chunk start place =
+    let p = piece_for_place (Contains pieces) (IsFreeAt b) k.canonical chunk order start place.aligned place.free in
+    let less = all_contained (λ q. q.order < order) pieces p.0 shorter p.1 in
+    omega (arith, less, p.2)
+
+-- a shortest of the pieces that are long enough is a shortest of the free pieces that are
+pub record IsShortestPiece (b : Buddy) (order : ℕ) (p : Piece) : Type 0 where
+  pub piece : IsFreePiece (IsFreeAt b) p.chunk p.start (2 ^ p.order)
+  pub enough : order ≤ p.order
+  pub shortest : (chunk start length : ℕ) → IsFreePiece (IsFreeAt b) chunk start length → 2 ^ order ≤ length → 2 ^ p.order ≤ length
+
+pub shortest_piece : (b : Buddy) (pieces : List Piece) (order : ℕ) (p : Piece) → AreKept pieces (IsFreeAt b) → Contains pieces p → order ≤ p.order
+    → All (λ q. order ≤ q.order → p.order ≤ q.order) pieces → IsShortestPiece b order p
+shortest_piece b pieces order p k has enough least = record {
+  piece = kept_is_free_piece (Contains pieces) (IsFreeAt b) k.canonical p has;
+  enough = enough;
+  shortest = λ chunk start length free le.
+      let j : ℕ = free.place.power.0 in
+      let e : length ≡ 2 ^ j = free.place.power.1 in
+      let q : Piece = record { chunk = chunk; start = start; order = j } in
+      let kept : Contains pieces q = free_piece_is_kept (Contains pieces) (IsFreeAt b) k.canonical q (subst (IsFreePiece (IsFreeAt b) chunk start) e free) in
+      let longer : order ≤ j = order-le order j (omega (arith, le, e)) in
+      let more : p.order ≤ j = all_contained (λ r. order ≤ r.order → p.order ≤ r.order) pieces q least kept longer in
+      omega (arith, e, pow_mono {i = p.order} {j = j} more);
+}

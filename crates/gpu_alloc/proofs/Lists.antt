@@ -1,6 +1,6 @@
 -- Members of a list as one is added or taken off.
 use Rattle.std.proofs.Common.{◌≡◌, ℕ, zero, suc, Bool, true, false, ◌<◌, ◌⊎◌, inl, inr, List, [], ◌∷◌, ◌++◌, length, get_or, refl, sym, subst, arith, Option, None, Some, IsSome}
-use Rattle.std.specs.List.{Contains, IsDistinct, AllByRecursion, swap_remove}
+use Rattle.std.specs.List.{All, Contains, IsDistinct, AllByRecursion, swap_remove}
 use Rattle.std.specs.List.Sorted.{IsPermutation}
 use Rattle.std.proofs.lemmas.List.Sorted.{IsPermutation-swap_remove, IsPermutation-sym, IsPermutation-to_front, Contains-permutation}
 use Rattle.std.proofs.lemmas.List.Elements.{Contains-get_or, Contains-push_cases, recursion_from_All}
@@ -23,6 +23,10 @@ module _ {X : Type 0} where
   all_at : (P : X → Type 0) (xs : List X) (y : X) → AllByRecursion P xs → Contains xs y → P y
   all_at P [] y a has = absurd (contains_none y has)
   all_at P (x ∷ xs) y a has = elim (contains_cases x y xs has) [ inl e ↦ subst P (sym e) a.0 | inr h ↦ all_at P xs y a.1 h ]
+
+  -- what holds of each element, by place, holds of each member
+  pub all_contained : (P : X → Type 0) (xs : List X) (y : X) → All P xs → Contains xs y → P y
+  all_contained P xs y all (k, lt, e) = subst P e (all k y lt)
 
   -- no later element is equal to the head
   pub head_is_other : (e : X → X → Bool) (x y : X) (xs : List X) → IsDistinct e (x ∷ xs) → Contains xs y → e x y ≡ false

@@ -1,6 +1,6 @@
 //! Free pieces of chunks as a plain list: one is taken and split, and one that comes back is joined.
 
-ghost use Rattle.std.specs.Prelude.{◌≡◌, ◌≤◌, ◌<◌, ◌+◌, ◌*◌, ◌^◌, ◌⊎◌, ℕ, length, slice_get, slice_index_or, Some, IfSome, IfNone, MatchOption, vec_len, vec_capacity};
+ghost use Rattle.std.specs.Prelude.{◌≡◌, ◌≤◌, ◌<◌, ◌+◌, ◌-◌, ◌*◌, ◌^◌, ◌⊎◌, ℕ, length, slice_get, slice_index_or, Some, IfSome, IfNone, MatchOption, vec_len, vec_capacity};
 ghost use Rattle.std.specs.List.{All, Contains};
 ghost use Rattle.gpu_alloc.specs.FreeSpace.{IsMultipleOf, IsPowerOfTwo};
 ghost use Rattle.gpu_alloc.specs.Pieces.{AreHalves, AreKept, AreKeptBeside, joined};
@@ -63,8 +63,8 @@ pub(super) fn shortest(pieces: &[Piece], order: u32) -> Option<usize>
     best
 }
 
-/// Takes the front of a piece off the list, as long as asked for, and leaves the rest as right halves. The list has as
-/// many pieces more as the piece's order was greater, less the piece itself.
+/// Takes a piece off the list and splits it: see `split`. The list has as many pieces more as the piece's order was
+/// greater, less the piece itself.
 pub(super) fn take_front<A: Allocator>(
     pieces: &mut Vec<Piece, A>,
     index: usize,
@@ -81,17 +81,34 @@ pub(super) fn take_front<A: Allocator>(
     ensures count { (d : PieceRecord) → vec_len pieces.new + 1 + order ≡ vec_len pieces.old + (slice_index_or pieces.old.items index d).order }
     ensures capacity { vec_capacity pieces.new ≡ vec_capacity pieces.old }
 {
-    let mut taken = pieces.swap_remove(index);
-    while taken.order > order {
-        taken.order -= 1;
+    let piece = pieces.swap_remove(index);
+    split(pieces, piece, order)
+}
+
+/// The front of a piece in hand, as long as asked for. Of each half of the piece that is longer than that the right half
+/// goes into the list, so the list has as many pieces more as the piece's order was greater.
+pub(super) fn split<A: Allocator>(pieces: &mut Vec<Piece, A>, piece: Piece, order: u32) -> Piece
+    requires long_enough { order ≤ piece.order }
+    requires bounded { (piece.order ≤ 63) × (piece.start + 2 ^ piece.order ≤ 2 ^ 63) }
+    requires room { vec_len pieces.old + (piece.order - order) ≤ vec_capacity pieces.old }
+    ensures order { result.order ≡ order }
+    ensures front { (result.chunk ≡ piece.chunk) × (result.start ≡ piece.start) }
+    ensures kept { (b : Buddy) → AreKeptBeside pieces.old.items (IsFreeAt b) piece → AreKeptBeside pieces.new.items (IsFreeAt b) result }
+    ensures shorter { (q : PieceRecord) → Contains pieces.new.items q → Contains pieces.old.items q ⊎ (q.chunk ≡ piece.chunk) × (q.order < piece.order) }
+    ensures count { vec_len pieces.new + order ≡ vec_len pieces.old + piece.order }
+    ensures capacity { vec_capacity pieces.new ≡ vec_capacity pieces.old }
+{
+    let mut front = piece;
+    while front.order > order {
+        front.order -= 1;
         let right = Piece {
-            chunk: taken.chunk,
-            start: taken.start + bytes(taken.order),
-            order: taken.order,
+            chunk: front.chunk,
+            start: front.start + bytes(front.order),
+            order: front.order,
         };
         pieces.push_reserved(right);
     }
-    taken
+    front
 }
 
 /// The piece with which this one is the two halves of an aligned range of twice its length.
