@@ -2,6 +2,7 @@ pub mod Agreeing
 pub mod AlignedPowers
 pub mod BuddyCalls
 pub mod BuddyLeaves
+pub mod BuddyReturns
 pub mod Candidates
 pub mod Consistency
 pub mod ExactPieces

@@ -1,10 +1,10 @@
 //! Free pieces and live blocks side by side, as a block comes and goes.
 
-ghost use Rattle.std.specs.Prelude.{◌≡◌, ◌≤◌, ◌<◌, ◌+◌, ◌^◌, ◌++◌, ◌∷◌, [], OnOk, IsTrue, vec_len, vec_capacity, slice_index_or};
+ghost use Rattle.std.specs.Prelude.{◌≡◌, ◌≤◌, ◌<◌, ◌+◌, ◌^◌, ◌++◌, ◌∷◌, [], OnOk, IsTrue, position, vec_len, vec_capacity, slice_index_or};
 ghost use Rattle.std.specs.List.{All, IsDistinct};
 ghost use Rattle.std.specs.FinSet as set;
 ghost use Rattle.gpu_alloc.specs.Buddy.{with_leaf};
-ghost use Rattle.gpu_alloc.specs.BuddyInside.{same_leaf, leaf_set};
+ghost use Rattle.gpu_alloc.specs.BuddyInside.{same_leaf, same_fields, leaf_set};
 ghost use Rattle.gpu_alloc.specs.BuddyState.{Buddy, IsFreeAt};
 ghost use Rattle.gpu_alloc.specs.Pieces.{AreKept};
 ghost use Rattle.gpu_alloc.specs.declared.buddy.pieces.Piece.{Piece as PieceRecord};
@@ -65,6 +65,13 @@ pub(super) fn grant<A: Allocator>(
     leaf
 }
 
+/// Where a block stands in the list.
+fn place_of(live: &[Leaf], leaf: Leaf) -> Option<usize>
+    ensures { result ≡ position (λ other. same_fields other leaf) live.now }
+{
+    live.iter().position(|other| *other == leaf)
+}
+
 /// Takes a live block off the list.
 pub(super) fn forget<A: Allocator>(live: &mut Vec<Leaf, A>, leaf: Leaf)
     requires once { IsDistinct same_leaf live.old.items }
@@ -73,7 +80,7 @@ pub(super) fn forget<A: Allocator>(live: &mut Vec<Leaf, A>, leaf: Leaf)
     ensures live { leaf_set live.new.items ≡ set.remove (leaf_set live.old.items) leaf }
     ensures len { vec_len live.new + 1 ≡ vec_len live.old }
 {
-    match live.iter().position(|other| *other == leaf) {
+    match place_of(live, leaf) {
         Some(at) => {
             let _ = live.swap_remove(at);
         }
