@@ -1,5 +1,5 @@
 -- A slab read as a finite map: what is found, and what a value more or less makes of it.
-use Rattle.std.proofs.Common.{◌≡◌, ◌≢◌, ℕ, zero, suc, ◌+◌, ◌<◌, ◌==◌, Bool, true, false, cond, List, [], ◌∷◌, map, get_or, Option, Some, None, refl, sym, ◌∙◌, ap, arith}
+use Rattle.std.proofs.Common.{◌≡◌, ◌≢◌, ℕ, zero, suc, ◌+◌, ◌<◌, ◌==◌, Bool, true, false, cond, List, [], ◌∷◌, map, get_or, Option, Some, None, refl, sym, ◌∙◌, ap, subst, arith, zero-add}
 use Rattle.std.specs.Prelude.{option_map}
 use Rattle.std.proofs.lemmas.Bool.Decides.{nat_tests}
 use Rattle.std.specs.Cmp.{nat_cmp_total}
@@ -28,15 +28,26 @@ module _ {T X : Type 0} (read : T → X) where
   found_at : (first : ℕ) (slots : List (Option T)) (at : ℕ) → finite.find nat_cmp (first + at) (map (read_entry read) (entries_from first slots)) ≡ option_map read (get_or slots at None)
   found_at first [] at = refl
   found_at first (None ∷ slots) zero = none_before (first + 1) (first + 0) slots (omega arith)
-  found_at first (None ∷ slots) (suc at) = let e : first + suc at ≡ (first + 1) + at = omega arith in rw e (found_at (first + 1) slots at)
+  found_at first (None ∷ slots) (suc at) = let e : first + suc at ≡ (first + 1) + at = omega arith in
+      subst (λ n. finite.find nat_cmp n (map (read_entry read) (entries_from (first + 1) slots)) ≡ option_map read (get_or slots at None)) (sym e) (found_at (first + 1) slots at)
   found_at first (Some value ∷ slots) zero = rw (key_test (first + 0) first, same_key (first + 0) first (omega arith)) refl
   found_at first (Some value ∷ slots) (suc at) =
       let e : first + suc at ≡ (first + 1) + at = omega arith in
-      rw (key_test (first + suc at) first, other_key (first + suc at) first (λ h. omega (arith, h)), e) (found_at (first + 1) slots at)
+      rw (key_test (first + suc at) first, other_key (first + suc at) first (λ h. omega (arith, h)))
+      (subst (λ n. finite.find nat_cmp n (map (read_entry read) (entries_from (first + 1) slots)) ≡ option_map read (get_or slots at None)) (sym e) (found_at (first + 1) slots at))
 
   -- the map finds what the slab has
   pub get-by_key : (s : Slab T) (key : ℕ) → finite.get (by_key read s) key ≡ option_map read (get s key)
-  get-by_key s key = finite.get-from_entries nat_cmp_total (map (read_entry read) (entries s)) key ∙ found_at 0 s.slots key
+  get-by_key s key = finite.get-from_entries nat_cmp_total (map (read_entry read) (entries s)) key
+      ∙ subst (λ n. finite.find nat_cmp n (map (read_entry read) (entries s)) ≡ option_map read (get s key)) (zero-add key) (found_at 0 s.slots key)
+
+  -- what the map finds stands in the slab
+  pub found_by_key : (s : Slab T) (key : ℕ) (x : X) → finite.get (by_key read s) key ≡ Some x → (value : T) × (get s key ≡ Some value) × (read value ≡ x)
+  found_by_key s key x is = by_slot (get s key) refl (sym (get-by_key s key) ∙ is)
+    where
+      by_slot : (slot : Option T) → get s key ≡ slot → option_map read (get s key) ≡ Some x → (value : T) × (get s key ≡ Some value) × (read value ≡ x)
+      by_slot None e h = absurd (let none : None ≡ Some x = rw e at h in cc)
+      by_slot (Some value) e h = (value, e, (let some : Some (read value) ≡ Some x = rw e at h in cc))
 
   -- a value more, or another
   pub by_key-insert : (old new : Slab T) (key : ℕ) (value : T) → Updates old new key (Some value) → by_key read new ≡ finite.insert (by_key read old) key (read value)
