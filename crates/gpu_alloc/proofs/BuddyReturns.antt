@@ -108,22 +108,22 @@ still : (b now : Buddy) (leaf block : Leaf) → b ≡ now → leaf ≡ block →
 still b now leaf block view same live = subst (IsLiveLeaf b) (sym same) (subst (λ (a : Buddy). IsLiveLeaf a block) (sym view) live)
 
 -- the chunk of a live block is in the slab
-pub has_chunk : {T : Type 0} (read : T → Chunk) (chunks : Slab T) (b now : Buddy) (leaf block : Leaf) → IsSound b → b ≡ now → leaf ≡ block → b.chunks ≡ by_key read chunks → IsLiveLeaf now block
+pub has_chunk : {T : Type 0} (read : T → Chunk) (chunks : Slab T) {b now : Buddy} {leaf block : Leaf} → IsSound b → b ≡ now → leaf ≡ block → b.chunks ≡ by_key read chunks → IsLiveLeaf now block
     → ContainsKey chunks leaf.chunk
-has_chunk read chunks b now leaf block sound view same slab live =
+has_chunk read chunks {b} {now} {leaf} {block} sound view same slab live =
     let l = sound.inside leaf (still b now leaf block view same live) in
     let f = found_by_key read chunks leaf.chunk l.chunk (ap (λ m. map.get m leaf.chunk) (sym slab) ∙ l.held) in
     subst IsSome (sym f.1) refl
 
-pub of_chunk : {T : Type 0} (read : T → Chunk) (chunks : Slab T) (b now : Buddy) (leaf block : Leaf) (value : T) → IsSound b → b ≡ now → leaf ≡ block → b.chunks ≡ by_key read chunks → IsLiveLeaf now block
+pub of_chunk : {T : Type 0} (read : T → Chunk) (chunks : Slab T) {b now : Buddy} {leaf block : Leaf} {value : T} → IsSound b → b ≡ now → leaf ≡ block → b.chunks ≡ by_key read chunks → IsLiveLeaf now block
     → get chunks leaf.chunk ≡ Some value → IsOfChunk b leaf (read value)
-of_chunk read chunks b now leaf block value sound view same slab live at = record {
+of_chunk read chunks {b} {now} {leaf} {block} {value} sound view same slab live at = record {
   sound = sound;
   live = still b now leaf block view same live;
   is = ap (λ m. map.get m leaf.chunk) slab ∙ get-by_key read chunks leaf.chunk ∙ ap (option_map read) at;
 }
 
-module _ (b : Buddy) (leaf : Leaf) (held : Chunk) (r : IsOfChunk b leaf held) where
+module _ {b : Buddy} {leaf : Leaf} {held : Chunk} (r : IsOfChunk b leaf held) where
   -- a live block of the chunk has at least one byte, and lies inside
   lies : (q : Leaf) → IsLiveLeaf b q → q.chunk ≡ leaf.chunk → (0 < q.size) × (q.offset + q.size ≤ held.size)
   lies q live named =
@@ -139,7 +139,7 @@ module _ (b : Buddy) (leaf : Leaf) (held : Chunk) (r : IsOfChunk b leaf held) wh
   was_live : (q : Leaf) → IsLiveLeaf (without_leaf b leaf) q → (q ≡ leaf → ⊥) × IsLiveLeaf b q
   was_live q t = (leaf_removed b.live leaf q).0 t
 
-  module _ (x : Piece) (of : IsLeafOf leaf x) (limit : ℕ) (length_is : held.size ≡ 2 ^ limit) where
+  module _ {x : Piece} (of : IsLeafOf leaf x) (limit : ℕ) (length_is : held.size ≡ 2 ^ limit) where
     aligned : IsMultipleOf (2 ^ x.order) x.start
     aligned = let a = (r.sound.inside leaf r.live).aligned in (a.0, sym of.offset ∙ a.1 ∙ ap (λ n. a.0 * n) of.size)
 
@@ -229,7 +229,7 @@ module _ (b : Buddy) (leaf : Leaf) (held : Chunk) (r : IsOfChunk b leaf held) wh
 
   -- The device still holds what the allocator holds.
 
-  module _ (p : Properties) (objects : ℕ → Option Object) (agrees : Agrees b p objects) where
+  module _ {p : Properties} {objects : ℕ → Option Object} (agrees : Agrees b p objects) where
     -- it holds the chunk's object
     pub is_there : IsHeld objects leaf.object
     is_there =
@@ -262,7 +262,7 @@ module _ (b : Buddy) (leaf : Leaf) (held : Chunk) (r : IsOfChunk b leaf held) wh
 
   -- The ledger counts the chunk, and one more object may be held.
 
-  module _ (heap : Heap) (remaining : ℕ) (counted : IsCounted (account b heap remaining)) where
+  module _ {heap : Heap} {remaining : ℕ} (counted : IsCounted (account b heap remaining)) where
     pub is_counted : held.size ≤ heap.used
     is_counted = subst (λ o. IfSome o (λ (c : Chunk). c.size ≤ heap.used)) r.is (counted.chunks leaf.chunk)
 
@@ -274,15 +274,15 @@ module _ (b : Buddy) (leaf : Leaf) (held : Chunk) (r : IsOfChunk b leaf held) wh
 
   -- What the fields keep, and what a caller is told.
 
-  module _ (x : Piece) (of : IsLeafOf leaf x) (limit : ℕ) (length_is : held.size ≡ 2 ^ limit) (pieces now : List Piece) (live left : List Leaf) (capacity after : ℕ)
-      (stored : IsStored b pieces live capacity) (left_is : leaf_set left ≡ set.remove b.live leaf) where
+  module _ {x : Piece} (of : IsLeafOf leaf x) (limit : ℕ) (length_is : held.size ≡ 2 ^ limit) {pieces : List Piece} {live : List Leaf} {capacity : ℕ}
+      (stored : IsStored b pieces live capacity) (now : List Piece) (left : List Leaf) (after : ℕ) (left_is : leaf_set left ≡ set.remove b.live leaf) where
     -- the block stays among the free pieces
     module _ (joined : (a : Buddy) → AreKeptBeside pieces (IsFreeAt a) x → AreKept now (IsFreeAt a)) (shorter : (q : Piece) → Contains now q → Contains pieces q ⊎ (q.chunk ≡ x.chunk) × (q.order < limit)) where
       kept : AreKept now (IsFreeAt (without_leaf b leaf))
-      kept = joined (without_leaf b leaf) (in_hand x of limit length_is pieces stored.kept)
+      kept = joined (without_leaf b leaf) (in_hand of limit length_is pieces stored.kept)
 
       used : IsUsedChunk (without_leaf b leaf) leaf.chunk
-      used = is_used x of limit length_is pieces now stored.kept left left_is kept shorter
+      used = is_used of limit length_is pieces now stored.kept left left_is kept shorter
 
       pub still_in_use : IsUnusedChunk (without_leaf b leaf) leaf.chunk → ⊥
       still_in_use unused = unused used.0 used.1.0 used.1.1
@@ -298,25 +298,28 @@ module _ (b : Buddy) (leaf : Leaf) (held : Chunk) (r : IsOfChunk b leaf held) wh
     -- it was joined to its whole chunk, which goes
     module _ (p : Piece) (whole : (p.chunk ≡ x.chunk) × (p.order ≡ limit) × ((a : Buddy) → AreKeptBeside pieces (IsFreeAt a) x → AreKeptBeside now (IsFreeAt a) p)) where
       beside : AreKeptBeside now (IsFreeAt (without_leaf b leaf)) p
-      beside = whole.2 (without_leaf b leaf) (in_hand x of limit length_is pieces stored.kept)
+      beside = whole.2 (without_leaf b leaf) (in_hand of limit length_is pieces stored.kept)
 
       pub no_more_in_use : IsUnusedChunk (without_leaf b leaf) leaf.chunk
-      no_more_in_use = is_unused x of limit length_is now p whole.0 whole.1 beside
+      no_more_in_use = is_unused of limit length_is now p whole.0 whole.1 beside
 
       module _ (chunks : map.FinMap nat_cmp Chunk) (chunks_are : chunks ≡ map.remove b.chunks leaf.chunk) where
-        pub is_without : without_chunk b leaf ≡ record b { live = leaf_set left; chunks = chunks }
+        is_without : without_chunk b leaf ≡ record b { live = leaf_set left; chunks = chunks }
         is_without i = record b { live = sym left_is i; chunks = sym chunks_are i }
 
         pub invariant_without : IsDistinct same_leaf left → length now + length left ≤ after
             → IsSound (record b { live = leaf_set left; chunks = chunks }) × IsStored (record b { live = leaf_set left; chunks = chunks }) now left after
         invariant_without once room =
             subst (λ (a : Buddy). IsSound a × IsStored a now left after) is_without
-            (sound_without no_more_in_use, record { kept = kept_without x of limit length_is now p whole.0 whole.1 beside; once = once; room = room })
+            (sound_without no_more_in_use, record { kept = kept_without of limit length_is now p whole.0 whole.1 beside; once = once; room = room })
 
         pub frees_without : (heap less : Heap) (remaining : ℕ) → less ≡ record heap { used = heap.used - held.size }
             → Frees (account b heap remaining) leaf (Deallocated leaf.object ∷ []) (account (record b { live = leaf_set left; chunks = chunks }) less (remaining + 1))
         frees_without heap less remaining is =
             inr (no_more_in_use, (held, r.is, (refl, λ i. account (record b { live = left_is i; chunks = chunks_are i }) (is i) (remaining + 1))))
+
+        pub agrees_freed : {p q : Properties} {old new : ℕ → Option Object} → Agrees b p old → q ≡ p → new ≡ put old leaf.object None → Agrees (record b { live = leaf_set left; chunks = chunks }) q new
+        agrees_freed {p} {q} {old} {new} agreed same freed = rw (same, freed) (subst (λ (a : Buddy). Agrees a p (put old leaf.object None)) is_without (agrees_without agreed))
 
 -- What was put back, by whether the whole chunk was handed out.
 

@@ -1,77 +1,139 @@
-use Rattle.std.proofs.Common.{rules, ◌≡◌, ℕ, ◌+◌, ◌≤◌, ◌<◌, ◌≢◌, ◌↔◌, ◌^◌, ◌++◌, ◌∷◌, [], max, List, length, IfOk, IfErr, OnOk, OnErr, IfSome, IsTrue, Some, None, slice_index_or, vec_len, vec_capacity, ◌-◌, ◌*◌, ◌/◌, ◌%◌, Bool, true, false, nat_eq, nat_lt, bit_and, bit_or, Fits, w8, w32, w64, Bor, MutBor}
-use Rattle.std.specs.FinMap as map
-use Rattle.std.specs.FinSet as set
-use Rattle.gpu_alloc_types.specs.Flags.{allocation_bits, property_bits, has_bit}
-use Rattle.gpu_alloc_types.specs.Device.{Event, Chain}
-use Rattle.std.specs.Int.{is_power_of_two}
-use Rattle.gpu_alloc.specs.Buddy.{opened, account, wanted, rounded, Allocates, Answers, AsksForChunk, BeginsChunk, HasPlace, TakesPlace, RefusesFirst, Frees, ObjectsFreed, IsGranted, with_leaf, with_chunk, in_new_chunk, chunk_size, Agrees, IsCounted, ObjectsAfter, chunks_and_remaining}
-use Rattle.gpu_alloc.specs.BuddyInside.{IsPowerUpTo}
-use Rattle.gpu_alloc.specs.BuddyState.{Buddy, IsLiveLeaf, IsFreeAt}
-use Rattle.gpu_alloc.specs.Pieces.{AreKept}
-use Rattle.slab.specs.Slab.{get, Updates, HasRoomFor, slab_len}
-use Rattle.std.specs.List.{All}
-use Rattle.gpu_alloc.specs.Request.{IsAlignMask}
+use Rattle.std.proofs.Common.{◌≡◌, ◌+◌, ◌-◌, ◌^◌, ◌≤◌, [], ◌∷◌, vec_capacity, inl, inr, refl, sym, ◌∙◌, ap, arith}
+use Rattle.gpu_alloc_types.specs.Device.Event.{Deallocated}
+use Rattle.gpu_alloc.specs.BuddyState.{Chunk}
+use Rattle.gpu_alloc.specs.Slabs.{by_key}
+use Rattle.gpu_alloc.specs.declared.buddy.block.Leaf.{Leaf}
+use Rattle.gpu_alloc.specs.declared.buddy.Chunk.{Chunk as ChunkRecord}
+use Rattle.gpu_alloc.proofs.BuddyReturns.{has_chunk, of_chunk, is_piece_of, is_put_back, is_counted, one_more_fits, is_there, agrees_left, total_kept, if_none, if_some, still_in_use, no_more_in_use, invariant_left, invariant_without, frees_left, frees_without, agrees_freed}
+use Rattle.gpu_alloc.proofs.SlabMaps.{by_key-remove}
+use Rattle.gpu_alloc.proofs.buddy.BuddyAllocator.dealloc.Given.{Over}
 use Rattle.gpu_alloc.proofs.buddy.BuddyAllocator.dealloc.Goals as goal
 
--- src/buddy.rt:295:21
+-- a chunk as a contract sees it
+abbrev read : (g : Over) → ChunkRecord g.row.M.Denot → Chunk
+read g c = record { object = g.M.MemoryObject.object c.memory; size = 2 ^ c.order }
+
 pub index-requires : goal.index-requires
-index-requires g c = ?
+index-requires g c = has_chunk (read g) c.self.inside.chunks c.self.invariant.0 c.self.view_is c.into_parts-memory.ensures.leaf refl c.requires.live
 
--- src/buddy.rt:296:12
 pub put_back-requires-clause-short : goal.put_back-requires-clause-short
-put_back-requires-clause-short g c = ?
+put_back-requires-clause-short g c =
+    let r = of_chunk (read g) c.self.inside.chunks c.self.invariant.0 c.self.view_is c.into_parts-memory.ensures.leaf refl c.requires.live c.index.ensures in
+    let of = is_piece_of c.into_parts-memory.result.1 c.order_of.result c.order_of.ensures.is in
+    (is_put_back r of c.index.result.now.order refl).short
 
--- src/buddy.rt:296:12
 pub put_back-requires-clause-limit : goal.put_back-requires-clause-limit
-put_back-requires-clause-limit g c = ?
+put_back-requires-clause-limit g c =
+    let r = of_chunk (read g) c.self.inside.chunks c.self.invariant.0 c.self.view_is c.into_parts-memory.ensures.leaf refl c.requires.live c.index.ensures in
+    let of = is_piece_of c.into_parts-memory.result.1 c.order_of.result c.order_of.ensures.is in
+    (is_put_back r of c.index.result.now.order refl).bound
 
--- src/buddy.rt:296:12
 pub put_back-requires-clause-bounded : goal.put_back-requires-clause-bounded
-put_back-requires-clause-bounded g c = ?
+put_back-requires-clause-bounded g c =
+    let r = of_chunk (read g) c.self.inside.chunks c.self.invariant.0 c.self.view_is c.into_parts-memory.ensures.leaf refl c.requires.live c.index.ensures in
+    let of = is_piece_of c.into_parts-memory.result.1 c.order_of.result c.order_of.ensures.is in
+    (is_put_back r of c.index.result.now.order refl).bounded
 
--- src/buddy.rt:299:26
 pub bytes-requires : goal.bytes-requires
-bytes-requires g c = ?
+bytes-requires g c =
+    let r = of_chunk (read g) c.self.inside.chunks c.self.invariant.0 c.self.view_is c.into_parts-memory.ensures.leaf refl c.requires.live c.index.ensures in
+    let of = is_piece_of c.into_parts-memory.result.1 c.order_of.result c.order_of.ensures.is in
+    omega (arith, (is_put_back r of c.index.result.now.order refl).bound)
 
--- src/buddy.rt:299:13
 pub dealloc-requires : goal.dealloc-requires
-dealloc-requires g c = ?
+dealloc-requires g c =
+    let r = of_chunk (read g) c.self.inside.chunks c.self.invariant.0 c.self.view_is c.into_parts-memory.ensures.leaf refl c.requires.live c.index.ensures in
+    let counted = rw (← c.self.view_is) at c.requires.counted in
+    let le : 2 ^ c.index.result.now.order ≤ c.args.heap.now.used = is_counted r counted in
+    omega (arith, le, c.bytes.ensures)
 
--- src/buddy.rt:300:13
 pub overflow_add-allocations_remains : goal.overflow_add-allocations_remains
-overflow_add-allocations_remains g c = ?
+overflow_add-allocations_remains g c =
+    let r = of_chunk (read g) c.self.inside.chunks c.self.invariant.0 c.self.view_is c.into_parts-memory.ensures.leaf refl c.requires.live c.index.ensures in
+    let counted = rw (← c.self.view_is) at c.requires.counted in
+    omega (arith, one_more_fits r counted)
 
--- src/buddy.rt:287:5
+-- The chunk goes.
+
 pub invariant_of-self : goal.invariant_of-self
-invariant_of-self g c = ?
+invariant_of-self g c =
+    let r = of_chunk (read g) c.self.inside.chunks c.self.invariant.0 c.self.view_is c.into_parts-memory.ensures.leaf refl c.requires.live c.index.ensures in
+    let of = is_piece_of c.into_parts-memory.result.1 c.order_of.result c.order_of.ensures.is in
+    let whole = if_some _ (sym c.is_some.ensures ∙ c.if-is_some.true) c.put_back.ensures.whole in
+    let gone = by_key-remove (read g) _ _ _ c.remove.ensures.updates in
+    invariant_without r of c.index.result.now.order refl c.self.invariant.1 c.put_back.new.pieces.items c.forget.new.live.items (vec_capacity c.put_back.new.pieces) c.forget.ensures.live whole.0 whole.1 (by_key (read g) c.remove.new.self) gone c.forget.ensures.once
+    (omega (arith, c.self.invariant.1.room, c.put_back.ensures.one_more, c.put_back.ensures.capacity, c.forget.ensures.len, c.self.inside.pieces.ok, c.put_back.new.pieces.ok, c.self.inside.live.ok, c.forget.new.live.ok))
 
--- src/buddy.rt:287:5
 pub returns-then-is_some-clause-frees : goal.returns-then-is_some-clause-frees
-returns-then-is_some-clause-frees g c = ?
+returns-then-is_some-clause-frees g c =
+    let r = of_chunk (read g) c.self.inside.chunks c.self.invariant.0 c.self.view_is c.into_parts-memory.ensures.leaf refl c.requires.live c.index.ensures in
+    let of = is_piece_of c.into_parts-memory.result.1 c.order_of.result c.order_of.ensures.is in
+    let whole = if_some _ (sym c.is_some.ensures ∙ c.if-is_some.true) c.put_back.ensures.whole in
+    let gone = by_key-remove (read g) _ _ _ c.remove.ensures.updates in
+    let named = c.into_parts-memory.ensures.handle ∙ ap (λ (l : Leaf). l.object) (sym c.into_parts-memory.ensures.leaf) in
+    rw (← c.self.view_is, ← c.into_parts-memory.ensures.leaf) (
+      Deallocated c.into_parts-memory.result.1.object ∷ [],
+      (c.deallocate_memory.new.self, rw (← named) c.deallocate_memory.ensures, refl),
+      frees_without r of c.index.result.now.order refl c.self.invariant.1 c.put_back.new.pieces.items c.forget.new.live.items (vec_capacity c.put_back.new.pieces) c.forget.ensures.live whole.0 whole.1 (by_key (read g) c.remove.new.self) gone c.args.heap.now c.dealloc.new.self c.args.allocations_remains.now
+      (c.dealloc.ensures ∙ ap (λ n. record c.args.heap.now { used = c.args.heap.now.used - n }) c.bytes.ensures),
+    )
 
--- src/buddy.rt:287:5
 pub returns-then-is_some-clause-objects : goal.returns-then-is_some-clause-objects
-returns-then-is_some-clause-objects g c = ?
+returns-then-is_some-clause-objects g c =
+    let r = of_chunk (read g) c.self.inside.chunks c.self.invariant.0 c.self.view_is c.into_parts-memory.ensures.leaf refl c.requires.live c.index.ensures in
+    let of = is_piece_of c.into_parts-memory.result.1 c.order_of.result c.order_of.ensures.is in
+    let whole = if_some _ (sym c.is_some.ensures ∙ c.if-is_some.true) c.put_back.ensures.whole in
+    let named = c.into_parts-memory.ensures.handle ∙ ap (λ (l : Leaf). l.object) (sym c.into_parts-memory.ensures.leaf) in
+    rw (← c.self.view_is, ← c.into_parts-memory.ensures.leaf) (inr (
+      no_more_in_use r of c.index.result.now.order refl c.self.invariant.1 c.put_back.new.pieces.items c.forget.new.live.items (vec_capacity c.put_back.new.pieces) c.forget.ensures.live whole.0 whole.1,
+      rw (← named) (g.met.D.MemoryDevice.row _ _ _ c.deallocate_memory.ensures),
+    ))
 
--- src/buddy.rt:287:5
 pub returns-then-is_some-clause-agrees : goal.returns-then-is_some-clause-agrees
-returns-then-is_some-clause-agrees g c = ?
+returns-then-is_some-clause-agrees g c =
+    let r = of_chunk (read g) c.self.inside.chunks c.self.invariant.0 c.self.view_is c.into_parts-memory.ensures.leaf refl c.requires.live c.index.ensures in
+    let of = is_piece_of c.into_parts-memory.result.1 c.order_of.result c.order_of.ensures.is in
+    let whole = if_some _ (sym c.is_some.ensures ∙ c.if-is_some.true) c.put_back.ensures.whole in
+    let gone = by_key-remove (read g) _ _ _ c.remove.ensures.updates in
+    let named = c.into_parts-memory.ensures.handle ∙ ap (λ (l : Leaf). l.object) (sym c.into_parts-memory.ensures.leaf) in
+    let agreed = rw (← c.self.view_is) at c.requires.agrees in
+    let freed = rw named at (g.met.D.MemoryDevice.row _ _ _ c.deallocate_memory.ensures) in
+    let same = g.met.D.MemoryDevice.keeps_properties _ _ _ c.deallocate_memory.ensures in
+    agrees_freed r of c.index.result.now.order refl c.self.invariant.1 c.put_back.new.pieces.items c.forget.new.live.items (vec_capacity c.put_back.new.pieces) c.forget.ensures.live whole.0 whole.1 (by_key (read g) c.remove.new.self) gone agreed same freed
 
--- src/buddy.rt:287:5
 pub returns-then-is_some-clause-total : goal.returns-then-is_some-clause-total
-returns-then-is_some-clause-total g c = ?
+returns-then-is_some-clause-total g c =
+    let r = of_chunk (read g) c.self.inside.chunks c.self.invariant.0 c.self.view_is c.into_parts-memory.ensures.leaf refl c.requires.live c.index.ensures in
+    let gone = by_key-remove (read g) _ _ _ c.remove.ensures.updates in
+    rw (← c.self.view_is, gone) (total_kept r c.args.allocations_remains.now)
+
+-- The chunk stays.
 
 pub invariant_of-self-else-is_some : goal.invariant_of-self-else-is_some
-invariant_of-self-else-is_some g c = ?
+invariant_of-self-else-is_some g c =
+    let r = of_chunk (read g) c.self.inside.chunks c.self.invariant.0 c.self.view_is c.into_parts-memory.ensures.leaf refl c.requires.live c.index.ensures in
+    let of = is_piece_of c.into_parts-memory.result.1 c.order_of.result c.order_of.ensures.is in
+    let joined = if_none _ (sym c.is_some.ensures ∙ c.if-is_some.false) c.put_back.ensures.joined in
+    invariant_left r of c.index.result.now.order refl c.self.invariant.1 c.put_back.new.pieces.items c.forget.new.live.items (vec_capacity c.put_back.new.pieces) c.forget.ensures.live joined c.put_back.ensures.shorter c.forget.ensures.once
+    (omega (arith, c.self.invariant.1.room, c.put_back.ensures.one_more, c.put_back.ensures.capacity, c.forget.ensures.len, c.self.inside.pieces.ok, c.put_back.new.pieces.ok, c.self.inside.live.ok, c.forget.new.live.ok))
 
--- src/buddy.rt:272:5
 pub returns-clause-frees : goal.returns-clause-frees
-returns-clause-frees g c = ?
+returns-clause-frees g c =
+    let r = of_chunk (read g) c.self.inside.chunks c.self.invariant.0 c.self.view_is c.into_parts-memory.ensures.leaf refl c.requires.live c.index.ensures in
+    let of = is_piece_of c.into_parts-memory.result.1 c.order_of.result c.order_of.ensures.is in
+    let joined = if_none _ (sym c.is_some.ensures ∙ c.if-is_some.false) c.put_back.ensures.joined in
+    rw (← c.self.view_is, ← c.into_parts-memory.ensures.leaf)
+    ([], refl, frees_left r of c.index.result.now.order refl c.self.invariant.1 c.put_back.new.pieces.items c.forget.new.live.items (vec_capacity c.put_back.new.pieces) c.forget.ensures.live joined c.put_back.ensures.shorter c.args.heap.now c.args.allocations_remains.now)
 
--- src/buddy.rt:272:5
 pub returns-clause-objects : goal.returns-clause-objects
-returns-clause-objects g c = ?
+returns-clause-objects g c =
+    let r = of_chunk (read g) c.self.inside.chunks c.self.invariant.0 c.self.view_is c.into_parts-memory.ensures.leaf refl c.requires.live c.index.ensures in
+    let of = is_piece_of c.into_parts-memory.result.1 c.order_of.result c.order_of.ensures.is in
+    let joined = if_none _ (sym c.is_some.ensures ∙ c.if-is_some.false) c.put_back.ensures.joined in
+    rw (← c.self.view_is, ← c.into_parts-memory.ensures.leaf) (inl (still_in_use r of c.index.result.now.order refl c.self.invariant.1 c.put_back.new.pieces.items c.forget.new.live.items (vec_capacity c.put_back.new.pieces) c.forget.ensures.live joined c.put_back.ensures.shorter, refl))
 
--- src/buddy.rt:272:5
 pub returns-clause-agrees : goal.returns-clause-agrees
-returns-clause-agrees g c = ?
+returns-clause-agrees g c =
+    let r = of_chunk (read g) c.self.inside.chunks c.self.invariant.0 c.self.view_is c.into_parts-memory.ensures.leaf refl c.requires.live c.index.ensures in
+    let agreed = rw (← c.self.view_is) at c.requires.agrees in
+    rw c.forget.ensures.live (agrees_left r agreed)
