@@ -148,10 +148,10 @@ removed_key m key = map.get-remove nat_cmp_total m key key ∙ rw (name_test key
 pub left_key : (m : map.FinMap nat_cmp Chunk) (key q : ℕ) → q ≢ key → map.get (map.remove m key) q ≡ map.get m q
 left_key m key q other = map.get-remove nat_cmp_total m key q ∙ rw (name_test q key, eq-false q key other) refl
 
-none_is_held : (o : Option Chunk) (held : Chunk) → o ≡ None → o ≡ Some held → ⊥
+pub none_is_held : (o : Option Chunk) (held : Chunk) → o ≡ None → o ≡ Some held → ⊥
 none_is_held o held none some = cc
 
-one_chunk : (o : Option Chunk) (c d : Chunk) → o ≡ Some c → o ≡ Some d → c ≡ d
+pub one_chunk : (o : Option Chunk) (c d : Chunk) → o ≡ Some c → o ≡ Some d → c ≡ d
 one_chunk o c d is also = cc
 
 -- Where free pieces lie.

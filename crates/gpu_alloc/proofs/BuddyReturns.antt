@@ -1,5 +1,5 @@
 -- What the return of a block leaves of a buddy allocator.
-use Rattle.std.proofs.Common.{◌≡◌, ℕ, ◌+◌, ◌*◌, ◌-◌, ◌^◌, ◌<◌, ◌≤◌, ◌≢◌, ◌⊎◌, inl, inr, Bool, true, false, List, [], ◌∷◌, length, get_or, Option, Some, None, IsSome, IfSome, IsTrue, refl, sym, ◌∙◌, ap, subst, arith}
+use Rattle.std.proofs.Common.{◌≡◌, ℕ, ◌+◌, ◌*◌, ◌-◌, ◌^◌, ◌<◌, ◌≤◌, ◌≢◌, ◌⊎◌, inl, inr, true, false, List, [], ◌∷◌, length, get_or, Option, Some, None, IsSome, IfSome, IsTrue, refl, sym, ◌∙◌, ap, subst, arith}
 use Rattle.std.specs.Prelude.{option_map, is_some, IfNone}
 use Rattle.std.specs.Bool.{Decides}
 use Rattle.std.specs.Cmp.{nat_cmp_total}
@@ -15,7 +15,7 @@ use Rattle.std.proofs.lemmas.Nat.{pow_pos}
 use Rattle.std.proofs.Math.Pow.{pow_mono}
 use mathlib.Core.Bool.{true≢false}
 use Rattle.slab.specs.Slab.{Slab, get, ContainsKey}
-use Rattle.gpu_alloc_types.specs.Device.{Object, HeldWith, IsHeld, put}
+use Rattle.gpu_alloc_types.specs.Device.{Object, HeldWith, put}
 use Rattle.gpu_alloc_types.specs.Device.Event.{Deallocated}
 use Rattle.gpu_alloc_types.specs.Objects.{put-other}
 use Rattle.gpu_alloc_types.specs.Properties.{Properties}
@@ -29,7 +29,7 @@ use Rattle.gpu_alloc.specs.declared.buddy.block.Leaf.{Leaf}
 use Rattle.gpu_alloc.specs.declared.buddy.pieces.Piece.{Piece}
 use Rattle.gpu_alloc.specs.declared.heap.Heap.{Heap}
 use Rattle.gpu_alloc.proofs.AlignedPowers.{order-le}
-use Rattle.gpu_alloc.proofs.BuddyCalls.{IsLeafOf, returned, chunk_goes, whole_is_unused, held_is_used, used_is_shorter, key_at, other_key, removed_key, left_key}
+use Rattle.gpu_alloc.proofs.BuddyCalls.{IsLeafOf, returned, chunk_goes, whole_is_unused, held_is_used, used_is_shorter, one_chunk, none_is_held, key_at, other_key, removed_key, left_key}
 use Rattle.gpu_alloc.proofs.BuddyLeaves.{leaf_test, in_leaves, leaf_removed, leaves_less}
 use Rattle.gpu_alloc.proofs.Lists.{not_found, less}
 use Rattle.gpu_alloc.proofs.SlabMaps.{get-by_key, found_by_key}
@@ -63,12 +63,6 @@ taken_off leaves left leaf x i once at is rest =
 
 -- Chunks by key.
 
-same_chunk : (o : Option Chunk) (c d : Chunk) → o ≡ Some c → o ≡ Some d → c ≡ d
-same_chunk o c d is also = cc
-
-none_is_held : (o : Option Chunk) (c : Chunk) → o ≡ None → o ≡ Some c → ⊥
-none_is_held o c none is = cc
-
 -- what is held once a key is removed has another key
 kept_key : (m : map.FinMap nat_cmp Chunk) (key k : ℕ) (c : Chunk) → map.get (map.remove m key) k ≡ Some c → (k ≢ key) × (map.get m k ≡ Some c)
 kept_key m key k c is =
@@ -86,8 +80,9 @@ one_less m key c is =
       | inr other ↦ other_key (map.remove m key) key q c other ∙ left_key m key q other
     ])
 
--- A live block and its chunk, as pieces are put back.
+-- A live block and its chunk.
 
+-- the piece may be put back, up to this order
 pub record IsPutBack (x : Piece) (limit : ℕ) : Type 0 where
   pub short : x.order ≤ limit
   pub bound : limit ≤ 63
@@ -115,6 +110,7 @@ has_chunk read chunks {b} {now} {leaf} {block} sound view same slab live =
     let f = found_by_key read chunks leaf.chunk l.chunk (ap (λ m. map.get m leaf.chunk) (sym slab) ∙ l.held) in
     subst IsSome (sym f.1) refl
 
+-- and that chunk is the one that the allocator holds
 pub of_chunk : {T : Type 0} (read : T → Chunk) (chunks : Slab T) {b now : Buddy} {leaf block : Leaf} {value : T} → IsSound b → b ≡ now → leaf ≡ block → b.chunks ≡ by_key read chunks → IsLiveLeaf now block
     → get chunks leaf.chunk ≡ Some value → IsOfChunk b leaf (read value)
 of_chunk read chunks {b} {now} {leaf} {block} {value} sound view same slab live at = record {
@@ -128,14 +124,15 @@ module _ {b : Buddy} {leaf : Leaf} {held : Chunk} (r : IsOfChunk b leaf held) wh
   lies : (q : Leaf) → IsLiveLeaf b q → q.chunk ≡ leaf.chunk → (0 < q.size) × (q.offset + q.size ≤ held.size)
   lies q live named =
       let l = r.sound.inside q live in
-      let same : l.chunk ≡ held = same_chunk _ l.chunk held (ap (λ k. map.get b.chunks k) (sym named) ∙ l.held) r.is in
+      let same : l.chunk ≡ held = one_chunk _ l.chunk held (ap (λ k. map.get b.chunks k) (sym named) ∙ l.held) r.is in
       let sizes : l.chunk.size ≡ held.size = ap (λ (c : Chunk). c.size) same in
       (omega (arith, l.power.1, pow_pos l.power.0), omega (arith, l.inside, sizes))
 
   -- its object is the chunk's
-  pub object_is : leaf.object ≡ held.object
-  object_is = let l = r.sound.inside leaf r.live in l.object ∙ ap (λ (c : Chunk). c.object) (same_chunk _ l.chunk held l.held r.is)
+  object_is : leaf.object ≡ held.object
+  object_is = let l = r.sound.inside leaf r.live in l.object ∙ ap (λ (c : Chunk). c.object) (one_chunk _ l.chunk held l.held r.is)
 
+  -- what is live still was live, and is another block
   was_live : (q : Leaf) → IsLiveLeaf (without_leaf b leaf) q → (q ≡ leaf → ⊥) × IsLiveLeaf b q
   was_live q t = (leaf_removed b.live leaf q).0 t
 
@@ -159,14 +156,14 @@ module _ {b : Buddy} {leaf : Leaf} {held : Chunk} (r : IsOfChunk b leaf held) wh
         }
 
     -- the block comes into hand
-    pub in_hand : (pieces : List Piece) → AreKept pieces (IsFreeAt b) → AreKeptBeside pieces (IsFreeAt (without_leaf b leaf)) x
+    in_hand : (pieces : List Piece) → AreKept pieces (IsFreeAt b) → AreKeptBeside pieces (IsFreeAt (without_leaf b leaf)) x
     in_hand pieces k =
         returned leaf x of b (without_leaf b leaf) pieces refl r.live (λ q live named at in_q in_leaf. r.sound.apart q leaf live r.live named at in_q in_leaf)
         held (ap (λ k. map.get b.chunks k) (sym of.chunk) ∙ r.is) inside aligned refl k
 
     module _ (pieces now : List Piece) (kept : AreKept pieces (IsFreeAt b)) where
       -- where it was not joined to the whole chunk, another block of the chunk is live
-      pub is_used : (leaves : List Leaf) → leaf_set leaves ≡ set.remove b.live leaf → AreKept now (IsFreeAt (without_leaf b leaf))
+      is_used : (leaves : List Leaf) → leaf_set leaves ≡ set.remove b.live leaf → AreKept now (IsFreeAt (without_leaf b leaf))
           → ((q : Piece) → Contains now q → Contains pieces q ⊎ (q.chunk ≡ x.chunk) × (q.order < limit)) → IsUsedChunk (without_leaf b leaf) leaf.chunk
       is_used leaves left k shorter =
           let u = held_is_used (without_leaf b leaf) now leaves leaf.chunk limit held k short r.is length_is (sym left) in
@@ -180,26 +177,27 @@ module _ {b : Buddy} {leaf : Leaf} {held : Chunk} (r : IsOfChunk b leaf held) wh
           ]
 
     -- where it was, none is
-    pub is_unused : (now : List Piece) (p : Piece) → p.chunk ≡ x.chunk → p.order ≡ limit → AreKeptBeside now (IsFreeAt (without_leaf b leaf)) p → IsUnusedChunk (without_leaf b leaf) leaf.chunk
+    is_unused : (now : List Piece) (p : Piece) → p.chunk ≡ x.chunk → p.order ≡ limit → AreKeptBeside now (IsFreeAt (without_leaf b leaf)) p → IsUnusedChunk (without_leaf b leaf) leaf.chunk
     is_unused now p chunk order k q t named =
         let l = lies q (was_live q t).1 named in
         whole_is_unused (without_leaf b leaf) p held (ap (λ k. map.get b.chunks k) (chunk ∙ sym of.chunk) ∙ r.is) (length_is ∙ ap (λ n. 2 ^ n) (sym order)) (λ at i. k.beside.inside at i)
         q t (named ∙ of.chunk ∙ sym chunk) l.0 l.1
 
     -- and the chunk goes
-    pub kept_without : (now : List Piece) (p : Piece) → p.chunk ≡ x.chunk → p.order ≡ limit → AreKeptBeside now (IsFreeAt (without_leaf b leaf)) p → AreKept now (IsFreeAt (without_chunk b leaf))
+    kept_without : (now : List Piece) (p : Piece) → p.chunk ≡ x.chunk → p.order ≡ limit → AreKeptBeside now (IsFreeAt (without_leaf b leaf)) p → AreKept now (IsFreeAt (without_chunk b leaf))
     kept_without now p chunk order k =
         chunk_goes (without_leaf b leaf) (without_chunk b leaf) now p held (length_is ∙ ap (λ n. 2 ^ n) (sym order)) refl (ap (λ k. map.get b.chunks k) (chunk ∙ sym of.chunk) ∙ r.is)
         (ap (λ k. map.remove b.chunks k) (of.chunk ∙ sym chunk)) k
 
   -- What stays is sound.
 
+  -- another chunk is used as before
   still_used : (k : ℕ) (c : Chunk) → map.get b.chunks k ≡ Some c → k ≢ leaf.chunk → IsUsedChunk (without_leaf b leaf) k
   still_used k c at other =
       let u = r.sound.used k c at in
       (u.0, ((leaf_removed b.live leaf u.0).1 ((λ same. other (sym u.1.1 ∙ ap (λ (l : Leaf). l.chunk) same)), u.1.0), u.1.1))
 
-  pub sound_left : IsUsedChunk (without_leaf b leaf) leaf.chunk → IsSound (without_leaf b leaf)
+  sound_left : IsUsedChunk (without_leaf b leaf) leaf.chunk → IsSound (without_leaf b leaf)
   sound_left used = record {
     one_object = r.sound.one_object;
     powers = r.sound.powers;
@@ -214,7 +212,7 @@ module _ {b : Buddy} {leaf : Leaf} {held : Chunk} (r : IsOfChunk b leaf held) wh
     atom = r.sound.atom;
   }
 
-  pub sound_without : IsUnusedChunk (without_leaf b leaf) leaf.chunk → IsSound (without_chunk b leaf)
+  sound_without : IsUnusedChunk (without_leaf b leaf) leaf.chunk → IsSound (without_chunk b leaf)
   sound_without unused = record {
     one_object = λ k l c d k_is l_is. r.sound.one_object k l c d (kept_key b.chunks leaf.chunk k c k_is).1 (kept_key b.chunks leaf.chunk l d l_is).1;
     powers = λ k c at. r.sound.powers k c (kept_key b.chunks leaf.chunk k c at).1;
@@ -230,12 +228,6 @@ module _ {b : Buddy} {leaf : Leaf} {held : Chunk} (r : IsOfChunk b leaf held) wh
   -- The device still holds what the allocator holds.
 
   module _ {p : Properties} {objects : ℕ → Option Object} (agrees : Agrees b p objects) where
-    -- it holds the chunk's object
-    pub is_there : IsHeld objects leaf.object
-    is_there =
-        let h = subst (λ o. IfSome o (λ (c : Chunk). HeldWith objects c.object (IsThere b c))) r.is (agrees.holds leaf.chunk) in
-        subst IsSome (sym (ap objects object_is ∙ h.1)) refl
-
     pub agrees_left : Agrees (without_leaf b leaf) p objects
     agrees_left = record { known = agrees.known; props = agrees.props; holds = λ key. each (map.get b.chunks key) (agrees.holds key) }
       where
@@ -243,7 +235,7 @@ module _ {b : Buddy} {leaf : Leaf} {held : Chunk} (r : IsOfChunk b leaf held) wh
         each None h = tt
         each (Some c) h = (h.0, h.1, record { of_type = h.2.of_type; of_size = h.2.of_size; mapped = h.2.mapped })
 
-    pub agrees_without : Agrees (without_chunk b leaf) p (put objects leaf.object None)
+    agrees_without : Agrees (without_chunk b leaf) p (put objects leaf.object None)
     agrees_without = record {
       known = agrees.known;
       props = agrees.props;

@@ -1,10 +1,10 @@
-use Rattle.std.proofs.Common.{◌≡◌, ◌+◌, ◌-◌, ◌^◌, ◌≤◌, [], ◌∷◌, vec_capacity, inl, inr, refl, sym, ◌∙◌, ap, arith}
+use Rattle.std.proofs.Common.{◌-◌, ◌^◌, ◌≤◌, [], ◌∷◌, vec_capacity, inl, inr, refl, sym, ◌∙◌, ap, arith}
 use Rattle.gpu_alloc_types.specs.Device.Event.{Deallocated}
 use Rattle.gpu_alloc.specs.BuddyState.{Chunk}
 use Rattle.gpu_alloc.specs.Slabs.{by_key}
 use Rattle.gpu_alloc.specs.declared.buddy.block.Leaf.{Leaf}
 use Rattle.gpu_alloc.specs.declared.buddy.Chunk.{Chunk as ChunkRecord}
-use Rattle.gpu_alloc.proofs.BuddyReturns.{has_chunk, of_chunk, is_piece_of, is_put_back, is_counted, one_more_fits, is_there, agrees_left, total_kept, if_none, if_some, still_in_use, no_more_in_use, invariant_left, invariant_without, frees_left, frees_without, agrees_freed}
+use Rattle.gpu_alloc.proofs.BuddyReturns.{has_chunk, of_chunk, is_piece_of, is_put_back, is_counted, one_more_fits, agrees_left, total_kept, if_none, if_some, still_in_use, no_more_in_use, invariant_left, invariant_without, frees_left, frees_without, agrees_freed}
 use Rattle.gpu_alloc.proofs.SlabMaps.{by_key-remove}
 use Rattle.gpu_alloc.proofs.buddy.BuddyAllocator.dealloc.Given.{Over}
 use Rattle.gpu_alloc.proofs.buddy.BuddyAllocator.dealloc.Goals as goal
@@ -75,7 +75,7 @@ returns-then-is_some-clause-frees g c =
       Deallocated c.into_parts-memory.result.1.object ∷ [],
       (c.deallocate_memory.new.self, rw (← named) c.deallocate_memory.ensures, refl),
       frees_without r of c.index.result.now.order refl c.self.invariant.1 c.put_back.new.pieces.items c.forget.new.live.items (vec_capacity c.put_back.new.pieces) c.forget.ensures.live whole.0 whole.1 (by_key (read g) c.remove.new.self) gone c.args.heap.now c.dealloc.new.self c.args.allocations_remains.now
-      (c.dealloc.ensures ∙ ap (λ n. record c.args.heap.now { used = c.args.heap.now.used - n }) c.bytes.ensures),
+          (c.dealloc.ensures ∙ ap (λ n. record c.args.heap.now { used = c.args.heap.now.used - n }) c.bytes.ensures),
     )
 
 pub returns-then-is_some-clause-objects : goal.returns-then-is_some-clause-objects
