@@ -19,7 +19,7 @@ use Rattle.gpu_alloc_types.specs.Device.{Object, HeldWith, put}
 use Rattle.gpu_alloc_types.specs.Device.Event.{Deallocated}
 use Rattle.gpu_alloc_types.specs.Objects.{put-other}
 use Rattle.gpu_alloc_types.specs.Properties.{Properties}
-use Rattle.gpu_alloc.specs.Buddy.{account, Frees, IsUnusedChunk, without_leaf, Agrees, IsThere, IsCounted}
+use Rattle.gpu_alloc.specs.Buddy.{account, Frees, IsUnusedChunk, without_leaf, sees_chunks, Agrees, IsThere, IsCounted}
 use Rattle.gpu_alloc.specs.BuddyInside.{IsSound, IsStored, IsUsedChunk, same_leaf, same_fields, leaf_set}
 use Rattle.gpu_alloc.specs.BuddyState.{Chunk, Buddy, IsLiveLeaf, IsFreeAt}
 use Rattle.gpu_alloc.specs.FreeSpace.{IsMultipleOf}
@@ -227,30 +227,29 @@ module _ {b : Buddy} {leaf : Leaf} {held : Chunk} (r : IsOfChunk b leaf held) wh
 
   -- The device still holds what the allocator holds.
 
+  -- it holds the chunk
+  abbrev HasChunk : (ℕ → Option Object) → Chunk → Type 0
+  HasChunk objects c = HeldWith objects c.object (IsThere b.memory_type (sees_chunks b) c)
+
   module _ {p : Properties} {objects : ℕ → Option Object} (agrees : Agrees b p objects) where
     pub agrees_left : Agrees (without_leaf b leaf) p objects
-    agrees_left = record { known = agrees.known; props = agrees.props; holds = λ key. each (map.get b.chunks key) (agrees.holds key) }
-      where
-        each : (o : Option Chunk) → IfSome o (λ c. HeldWith objects c.object (IsThere b c)) → IfSome o (λ c. HeldWith objects c.object (IsThere (without_leaf b leaf) c))
-        each None h = tt
-        each (Some c) h = (h.0, h.1, record { of_type = h.2.of_type; of_size = h.2.of_size; mapped = h.2.mapped })
+    agrees_left = record { known = agrees.known; props = agrees.props; holds = agrees.holds }
 
     agrees_without : Agrees (without_chunk b leaf) p (put objects leaf.object None)
     agrees_without = record {
       known = agrees.known;
       props = agrees.props;
       holds = λ key. elim (cases_eq key leaf.chunk) [
-        | inl same ↦ subst (λ o. IfSome o (λ (c : Chunk). HeldWith (put objects leaf.object None) c.object (IsThere (without_chunk b leaf) c))) (sym (ap (λ k. map.get (map.remove b.chunks leaf.chunk) k) same ∙ removed_key b.chunks leaf.chunk)) tt
-        | inr other ↦ subst (λ o. IfSome o (λ (c : Chunk). HeldWith (put objects leaf.object None) c.object (IsThere (without_chunk b leaf) c))) (sym (left_key b.chunks leaf.chunk key other)) (each key other (map.get b.chunks key) refl (agrees.holds key))
+        | inl same ↦ subst (λ o. IfSome o (HasChunk (put objects leaf.object None))) (sym (ap (λ k. map.get (map.remove b.chunks leaf.chunk) k) same ∙ removed_key b.chunks leaf.chunk)) tt
+        | inr other ↦ subst (λ o. IfSome o (HasChunk (put objects leaf.object None))) (sym (left_key b.chunks leaf.chunk key other)) (each key other (map.get b.chunks key) refl (agrees.holds key))
       ];
     }
       where
-        each : (key : ℕ) → key ≢ leaf.chunk → (o : Option Chunk) → map.get b.chunks key ≡ o → IfSome o (λ c. HeldWith objects c.object (IsThere b c))
-            → IfSome o (λ c. HeldWith (put objects leaf.object None) c.object (IsThere (without_chunk b leaf) c))
+        each : (key : ℕ) → key ≢ leaf.chunk → (o : Option Chunk) → map.get b.chunks key ≡ o → IfSome o (HasChunk objects) → IfSome o (HasChunk (put objects leaf.object None))
         each key other None at h = tt
         each key other (Some c) at h =
             let another : c.object ≢ leaf.object = λ same. other (r.sound.one_object key leaf.chunk c held at r.is (same ∙ object_is)) in
-            (h.0, put-other objects leaf.object None c.object another ∙ h.1, record { of_type = h.2.of_type; of_size = h.2.of_size; mapped = h.2.mapped })
+            (h.0, put-other objects leaf.object None c.object another ∙ h.1, h.2)
 
   -- The ledger counts the chunk, and one more object may be held.
 

@@ -1,4 +1,4 @@
--- The list of free pieces, as it is taken from, split, joined and put back into.
+-- The list of free pieces, as one is taken off, split, joined and put back.
 use Rattle.std.proofs.Common.{◌≡◌, ℕ, true, false, ◌+◌, ◌*◌, ◌-◌, ◌^◌, ◌<◌, inl, inr, List, [], ◌∷◌, ◌++◌, length, get_or, ◌==◌, ◌&&◌, refl, sym, ◌∙◌, ap, subst, arith}
 use Rattle.std.specs.List.{Contains, IsDistinct, swap_remove}
 use Rattle.std.proofs.lemmas.List.Elements.{Contains-push_cases, Contains-push, Contains-append_left}
@@ -16,33 +16,32 @@ use Rattle.gpu_alloc.proofs.PieceHalves.{join_left, join_right, split, splits, a
 eqb_flips : (a b : ℕ) → (a == b) ≡ (b == a)
 eqb_flips a b = same_from_decides (a == b) (b == a) (Decides-eqb a b) ((λ e. sym ((Decides-eqb b a).0 e)), λ e. (Decides-eqb b a).1 (sym e))
 
-pub flips : (p q : Piece) → same_place p q ≡ same_place q p
-flips p q = ap (λ b. b && (p.start == q.start)) (eqb_flips p.chunk q.chunk) ∙ ap (λ b. (q.chunk == p.chunk) && b) (eqb_flips p.start q.start)
+pub same_place-flips : (p q : Piece) → same_place p q ≡ same_place q p
+same_place-flips p q = ap (λ b. b && (p.start == q.start)) (eqb_flips p.chunk q.chunk) ∙ ap (λ b. (q.chunk == p.chunk) && b) (eqb_flips p.start q.start)
 
--- what the test says
-pub place_test : (p q : Piece) → same_place p q ≡ true → (p.chunk ≡ q.chunk) × (p.start ≡ q.start)
-place_test p q t =
+-- two pieces that start at one byte
+pub same_place-true : (p q : Piece) → same_place p q ≡ true → (p.chunk ≡ q.chunk) × (p.start ≡ q.start)
+same_place-true p q t =
     elim (p.chunk == q.chunk) as (λ b. (p.chunk == q.chunk) ≡ b → (b && (p.start == q.start)) ≡ true → (p.chunk ≡ q.chunk) × (p.start ≡ q.start)) [
       | true ↦ λ e t. ((Decides-eqb p.chunk q.chunk).0 e, (Decides-eqb p.start q.start).0 t)
       | false ↦ λ _ t. absurd (true≢false (sym t))
     ] refl t
 
-pub place_true : (p q : Piece) → p.chunk ≡ q.chunk → p.start ≡ q.start → same_place p q ≡ true
-place_true p q a b = ap (λ t. t && (p.start == q.start)) ((Decides-eqb p.chunk q.chunk).1 a) ∙ (Decides-eqb p.start q.start).1 b
+pub same_place-from_eq : (p q : Piece) → p.chunk ≡ q.chunk → p.start ≡ q.start → same_place p q ≡ true
+same_place-from_eq p q a b = ap (λ t. t && (p.start == q.start)) ((Decides-eqb p.chunk q.chunk).1 a) ∙ (Decides-eqb p.start q.start).1 b
 
-itself : (p : Piece) → same_place p p ≡ false → ⊥
-itself p e = true≢false (sym (place_true p p refl refl) ∙ e)
+same_place-itself : (p : Piece) → same_place p p ≡ false → ⊥
+same_place-itself p e = true≢false (sym (same_place-from_eq p p refl refl) ∙ e)
 
--- two pieces that begin at one byte share it
-pub at_one_place : (p q : Piece) → (same_place p q ≡ true → ⊥) → same_place p q ≡ false
-at_one_place p q h = elim (same_place p q) as (λ b. same_place p q ≡ b → b ≡ false) [ true ↦ λ e. absurd (h e) | false ↦ λ _. refl ] refl
+pub same_place-false : (p q : Piece) → (same_place p q ≡ true → ⊥) → same_place p q ≡ false
+same_place-false p q h = elim (same_place p q) as (λ b. same_place p q ≡ b → b ≡ false) [ true ↦ λ e. absurd (h e) | false ↦ λ _. refl ] refl
 
 module _ (F : ℕ → ℕ → Type 0) (ps : List Piece) where
   less_with : (qs : List Piece) (x : Piece) → IsLess same_place ps qs x → IsWith (Contains qs) (Contains ps) x
   less_with qs x l = record { kept = l.kept; added = l.had; cases = l.cases }
 
   less_gone : (qs : List Piece) (x : Piece) → IsLess same_place ps qs x → Contains qs x → ⊥
-  less_gone qs x l h = itself x (l.other x h)
+  less_gone qs x l h = same_place-itself x (l.other x h)
 
   push_with : (x : Piece) → IsWith (Contains ps) (Contains (ps ++ x ∷ [])) x
   push_with x = record {
@@ -53,7 +52,7 @@ module _ (F : ℕ → ℕ → Type 0) (ps : List Piece) where
 
   pub kept_take : (i : ℕ) (x : Piece) (qs : List Piece) → AreKept ps F → i < length ps → x ≡ get_or ps i x → qs ≡ swap_remove ps i x → AreKeptBeside qs F x
   kept_take i x qs k lt is left =
-      let l = less same_place flips ps qs i x k.distinct lt is left in
+      let l = less same_place same_place-flips ps qs i x k.distinct lt is left in
       record {
         beside = record {
           canonical = take (Contains ps) (Contains qs) F x (less_with qs x l) (less_gone qs x l) k.canonical;
@@ -66,7 +65,7 @@ module _ (F : ℕ → ℕ → Type 0) (ps : List Piece) where
   pub kept_join_right : (i : ℕ) (x r : Piece) (qs : List Piece) → AreHalves x r → AreKeptBeside ps F x → i < length ps → r ≡ get_or ps i r → qs ≡ swap_remove ps i r
       → AreKeptBeside qs F (joined x)
   kept_join_right i x r qs h k lt is left =
-      let l = less same_place flips ps qs i r k.distinct lt is left in
+      let l = less same_place same_place-flips ps qs i r k.distinct lt is left in
       record {
         beside = record {
           canonical = join_right x r h (Contains ps) (Contains qs) F (less_with qs r l) (less_gone qs r l) k.beside.canonical;
@@ -82,7 +81,7 @@ module _ (F : ℕ → ℕ → Type 0) (ps : List Piece) where
   pub kept_join_left : (i : ℕ) (x y : Piece) (qs : List Piece) → AreHalves y x → AreKeptBeside ps F x → i < length ps → y ≡ get_or ps i y → qs ≡ swap_remove ps i y
       → AreKeptBeside qs F (joined y)
   kept_join_left i x y qs h k lt is left =
-      let l = less same_place flips ps qs i y k.distinct lt is left in
+      let l = less same_place same_place-flips ps qs i y k.distinct lt is left in
       record {
         beside = record {
           canonical = join_left y x h (Contains ps) (Contains qs) F (less_with qs y l) (less_gone qs y l) k.beside.canonical;
@@ -95,10 +94,10 @@ module _ (F : ℕ → ℕ → Type 0) (ps : List Piece) where
         distinct = l.distinct;
       }
 
-  -- what is not of F can be pushed
+  -- a piece whose bytes the list does not have starts where no piece of the list does
   push_distinct : (x : Piece) (G : ℕ → ℕ → Type 0) → IsDistinct same_place ps → IsCanonical (Contains ps) G → (G x.chunk x.start → ⊥) → IsDistinct same_place (ps ++ x ∷ [])
-  push_distinct x G d c out = distinct_push same_place flips ps x d (λ y h. at_one_place x y (λ e.
-      let same = place_test x y e in
+  push_distinct x G d c out = distinct_push same_place same_place-flips ps x d (λ y h. same_place-false x y (λ e.
+      let same = same_place-true x y e in
       let here : InPiece y x.start = record { from = omega (arith, same.1); to = omega (arith, same.1, pow_pos y.order) } in
       out (subst (λ o. G o x.start) (sym same.0) (c.free y h x.start here))))
 
@@ -121,7 +120,7 @@ module _ (F : ℕ → ℕ → Type 0) (ps : List Piece) where
     distinct = push_distinct x (Without F x) k.distinct k.beside.canonical (λ f. f.1 refl (record { from = omega arith; to = omega (arith, pow_pos x.order) }));
   }
 
-  -- the halves of a longer block
+  -- the piece in hand is split: the left half stays in hand, and the right one is pushed
   pub halve : (z l r : Piece) → 0 < z.order → AreKeptBeside ps F z → l.chunk ≡ z.chunk → l.start ≡ z.start → l.order ≡ z.order - 1
       → r.chunk ≡ z.chunk → r.start ≡ z.start + 2 ^ (z.order - 1) → r.order ≡ z.order - 1 → (qs : List Piece) → qs ≡ ps ++ r ∷ [] → AreKeptBeside qs F l
   halve z l r some k lo ls lk ro rs rk qs eq =

@@ -1,6 +1,8 @@
 pub mod Agreeing
 pub mod AlignedPowers
+pub mod BuddyAnswers
 pub mod BuddyCalls
+pub mod BuddyGrants
 pub mod BuddyLeaves
 pub mod BuddyReturns
 pub mod Candidates

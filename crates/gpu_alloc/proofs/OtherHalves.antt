@@ -1,4 +1,4 @@
--- The other half of a block.
+-- The other half of a piece: that there is one alone.
 use Rattle.std.proofs.Common.{◌≡◌, ℕ, ◌+◌, ◌*◌, ◌-◌, ◌/◌, ◌%◌, ◌^◌, ◌<◌, ◌≤◌, ◌⊎◌, inl, inr, sym, ◌∙◌, ap, subst, arith}
 use Rattle.std.proofs.lemmas.Bool.{cases_lt}
 use Rattle.std.proofs.Math.Nat.{mul-mod_left}
@@ -26,7 +26,7 @@ odd_start s p m pos e odd =
           absurd (odd (ap (λ x. x % (2 * p)) es ∙ mul-mod_left q (2 * p)))
     ]
 
--- the right half of x is one block, and x is no right half too
+-- the other half is one piece
 pub right_half_is : (x y q : Piece) → AreHalves x y → AreHalves x q → q ≡ y
 right_half_is x y q h g = same_piece q y (g.chunk ∙ sym h.chunk) (g.beside ∙ sym h.beside) (g.order ∙ sym h.order)
 
@@ -36,7 +36,7 @@ left_half_is x y q h g =
     let e : 2 ^ q.order ≡ 2 ^ y.order = ap (λ n. 2 ^ n) eo in
     same_piece q y (sym g.chunk ∙ h.chunk) (omega (arith, g.beside, h.beside, e)) eo
 
--- what has no other half in a list
+-- where the other half is not kept, no kept piece is one
 pub no_right : (x y : Piece) (P : Piece → Type 0) → AreHalves x y ⊎ AreHalves y x → (P y → ⊥) → (q : Piece) → P q → AreHalves x q → ⊥
 no_right x y P h out q has g = elim h [
   | inl r ↦ out (subst P (right_half_is x y q r g) has)
@@ -49,7 +49,7 @@ no_left x y P h out q has g = elim h [
   | inr l ↦ out (subst P (left_half_is x y q l g) has)
 ]
 
--- what is joined stays within a longer power
+-- what is joined ends in a longer power
 pub joined_bounded : (l r : Piece) (j : ℕ) → AreHalves l r → l.order < j → l.start < 2 ^ j → l.start + 2 ^ (l.order + 1) ≤ 2 ^ j
 joined_bounded l r j h lt within =
     let e = ends_in l.start (l.order + 1) 0 j (aligned_joined l r h) (0, omega arith) (omega arith) (omega arith) in

@@ -1,4 +1,4 @@
--- A block and its two halves: splitting, joining, and a chunk that is one piece.
+-- A piece in hand is split, and is joined with its other half.
 use Rattle.std.proofs.Common.{◌≡◌, ℕ, ◌+◌, ◌*◌, ◌^◌, ◌<◌, ◌⊎◌, inl, inr, sym, ◌∙◌, ap, subst, arith}
 use Rattle.std.proofs.lemmas.Nat.{pow_pos}
 use Rattle.std.proofs.lemmas.Bool.{cases_lt, cases_eq}
@@ -16,7 +16,7 @@ cases_in s n at = elim (cases_lt at s) [
   | inr le ↦ elim (cases_lt at (s + n)) [ inl lt ↦ inl (record { from = le; to = lt }) | inr out ↦ inr (λ i. omega (arith, i.to)) ]
 ]
 
--- a free byte lies in the piece, or is free without it
+-- a free byte is the piece's, or one of the others
 pub splits : (F : ℕ → ℕ → Type 0) (x : Piece) (chunk at : ℕ) → F chunk at → (chunk ≡ x.chunk) × InPiece x at ⊎ Without F x chunk at
 splits F x chunk at f = elim (cases_eq chunk x.chunk) [
   | inl e ↦ elim (cases_in x.start (2 ^ x.order) at) [ inl i ↦ inl (e, i) | inr out ↦ inr (f, λ _ i. out i) ]
@@ -45,7 +45,7 @@ module _ (l r : Piece) (h : AreHalves l r) where
   pub aligned_joined : IsMultipleOf (2 ^ (joined l).order) (joined l).start
   aligned_joined = (h.aligned.0, h.aligned.1 ∙ ap (λ n. h.aligned.0 * n) (sym (doubled l.order)))
 
-  -- the right half does not begin a block of twice its length
+  -- a right half is no left half
   pub not_left : (q : Piece) → AreHalves r q → ⊥
   not_left q g =
       let p : ℕ = 2 ^ l.order in
@@ -68,14 +68,14 @@ module _ (l r : Piece) (h : AreHalves l r) where
   starts : (q : Piece) → InPiece q q.start
   starts q = record { from = omega arith; to = omega (arith, pow_pos q.order) }
 
-  -- what r is the right half of begins where l does
+  -- a piece of which r is the right half starts where l does
   at_left : (q : Piece) → AreHalves q r → InPiece l q.start
   at_left q g =
       let e : 2 ^ r.order ≡ 2 ^ q.order = ap (λ k. 2 ^ k) g.order in
       record { from = omega (arith, g.beside, h.beside, e, length_right); to = omega (arith, g.beside, h.beside, e, length_right, pow_pos l.order) }
 
   module _ (old new : Piece → Type 0) (F : ℕ → ℕ → Type 0) where
-    -- the right half joins the left half, which was held
+    -- the right half joins the left one, which was in hand
     pub join_right : IsWith new old r → (new r → ⊥) → IsCanonical old (Without F l) → IsCanonical new (Without F (joined l))
     join_right w gone c =
         same_bytes new (Without (Without F l) r) (Without F (joined l))
@@ -83,7 +83,7 @@ module _ (l r : Piece) (h : AreHalves l r) where
         (λ o at f. ((f.0, λ e i. f.1 e (in_left at i)), λ e i. f.1 (e ∙ h.chunk) (in_right at i)))
         (take old new (Without F l) r w gone c)
 
-    -- the left half joins the right half, which was held
+    -- the left half joins the right one, which was in hand
     pub join_left : IsWith new old l → (new l → ⊥) → IsCanonical old (Without F r) → IsCanonical new (Without F (joined l))
     join_left w gone c =
         same_bytes new (Without (Without F r) l) (Without F (joined l))
@@ -91,7 +91,7 @@ module _ (l r : Piece) (h : AreHalves l r) where
         (λ o at f. ((f.0, λ e i. f.1 (e ∙ h.chunk) (in_right at i)), λ e i. f.1 e (in_left at i)))
         (take old new (Without F r) l w gone c)
 
-    -- of a block that is held, the right half is let go
+    -- the right half of the piece in hand is put back
     pub split : IsWith old new r → ((at : ℕ) → InPiece (joined l) at → F l.chunk at) → IsCanonical old (Without F (joined l)) → IsCanonical new (Without F l)
     split w inside c =
         put old new (Without F l) r w

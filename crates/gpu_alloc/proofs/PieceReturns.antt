@@ -1,4 +1,4 @@
--- The steps of a return, over any list of pieces.
+-- The steps by which a piece comes back into the list.
 use Rattle.std.proofs.Common.{◌≡◌, ℕ, ◌+◌, ◌^◌, ◌<◌, ◌≤◌, ◌⊎◌, inl, inr, List, [], ◌∷◌, ◌++◌, length, get_or, slice_get, Some, refl, sym, ◌∙◌, ap, subst, arith}
 use Rattle.std.specs.List.{Contains, swap_remove}
 use Rattle.std.proofs.lemmas.Option.{get_or_from_slice_get}
@@ -11,7 +11,7 @@ use Rattle.gpu_alloc.proofs.KeptPieces.{kept_join_left, kept_join_right, kept_pu
 use Rattle.gpu_alloc.proofs.OtherHalves.{no_right, no_left, joined_bounded}
 
 module _ (F : ℕ → ℕ → Type 0) (ps qs : List Piece) where
-  -- the block joins its other half, which the list had at i
+  -- the piece in hand joins its other half, which the list had at i
   pub joins : (i : ℕ) (x y w z : Piece) → AreHalves x y ⊎ AreHalves y x → (AreHalves x y → z ≡ joined x) → (AreHalves y x → z ≡ joined y)
       → AreKeptBeside ps F x → i < length ps → slice_get ps i ≡ Some y → w ≡ get_or ps i w → qs ≡ swap_remove ps i w → AreKeptBeside qs F z
   joins i x y w z h right left k lt at read rest =
@@ -23,12 +23,12 @@ module _ (F : ℕ → ℕ → Type 0) (ps qs : List Piece) where
         | inr l ↦ subst (AreKeptBeside qs F) (sym (left l)) (kept_join_left F ps i x y qs l k lt here rest')
       ]
 
-  -- the block stays, since its other half is not in the list
+  -- it is pushed, since its other half is not in the list
   pub stays : (x y : Piece) → AreHalves x y ⊎ AreHalves y x → (Contains ps y → ⊥) → AreKeptBeside ps F x → qs ≡ ps ++ x ∷ [] → AreKept qs F
   stays x y h out k e =
       subst (λ rs. AreKept rs F) (sym e) (kept_put F ps x k (λ q has g. no_right x y (Contains ps) h out q has g) (λ q has g. no_left x y (Contains ps) h out q has g))
 
--- what is known of a joined block
+-- what the piece in hand becomes
 pub record IsJoined (x z : Piece) : Type 0 where
   pub chunk : z.chunk ≡ x.chunk
   pub order : z.order ≡ x.order + 1

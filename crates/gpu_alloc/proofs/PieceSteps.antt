@@ -1,11 +1,11 @@
--- What keeps pieces in canonical form: taking one whole, splitting, joining and putting back.
+-- What keeps pieces in canonical form: one is taken whole, and one is put back.
 use Rattle.std.proofs.Common.{◌≡◌, ℕ, ◌+◌, ◌^◌, ◌⊎◌, inl, inr, sym, ◌∙◌, ap, subst, arith}
 use Rattle.std.proofs.lemmas.Nat.{pow_pos}
 use Rattle.gpu_alloc.specs.FreeSpace.{IsMultipleOf}
 use Rattle.gpu_alloc.specs.declared.buddy.pieces.Piece.{Piece}
 use Rattle.gpu_alloc.specs.Pieces.{InPiece, IsCanonical, AreHalves, Without, IsWith}
 
--- the form is of the free bytes, however they are said
+-- canonical form depends on which bytes are free alone
 pub same_bytes : (Has : Piece → Type 0) (F G : ℕ → ℕ → Type 0) → ((chunk at : ℕ) → F chunk at → G chunk at) → ((chunk at : ℕ) → G chunk at → F chunk at)
     → IsCanonical Has F → IsCanonical Has G
 same_bytes Has F G to from c = record {
@@ -17,7 +17,7 @@ same_bytes Has F G to from c = record {
 }
 
 module _ (old new : Piece → Type 0) (F : ℕ → ℕ → Type 0) (x : Piece) where
-  -- a piece that is taken whole
+  -- a piece is taken whole
   pub take : IsWith new old x → (new x → ⊥) → IsCanonical old F → IsCanonical new (Without F x)
   take w gone c = record {
     aligned = λ p has. c.aligned p (w.kept p has);
@@ -32,7 +32,7 @@ module _ (old new : Piece → Type 0) (F : ℕ → ℕ → Type 0) (x : Piece) w
         ];
   }
 
-  -- a piece that is put back where no half beside it is kept
+  -- a piece is put back whose other half is not kept
   pub put : IsWith old new x → IsMultipleOf (2 ^ x.order) x.start → ((at : ℕ) → InPiece x at → F x.chunk at)
       → ((q : Piece) → old q → AreHalves x q → ⊥) → ((q : Piece) → old q → AreHalves q x → ⊥)
       → ((chunk at : ℕ) → F chunk at → (chunk ≡ x.chunk) × InPiece x at ⊎ Without F x chunk at)

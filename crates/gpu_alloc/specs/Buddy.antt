@@ -168,16 +168,16 @@ pub record IsGranted (old : Buddy) (w : Wanted) (new : Buddy) (leaf : Leaf) : Ty
 -- Device and allocator.
 
 -- the device holds a chunk: so large, of the memory type, and mapped whole where the host sees it
-pub record IsThere (b : Buddy) (chunk : Chunk) (o : Object) : Type 0 where
-  pub of_type : o.memory_type ≡ b.memory_type
+pub record IsThere (memory_type : ℕ) (visible : Bool) (chunk : Chunk) (o : Object) : Type 0 where
+  pub of_type : o.memory_type ≡ memory_type
   pub of_size : o.size ≡ chunk.size
-  pub mapped : IsTrue (sees_chunks b) → o.mapped ≡ Some (0, o.size)
+  pub mapped : IsTrue visible → o.mapped ≡ Some (0, o.size)
 
 -- the device has the memory type with its properties, and holds each chunk
 pub record Agrees (b : Buddy) (p : Properties) (objects : ℕ → Option Object) : Type 0 where
   pub known : b.memory_type < length p.memory_types
   pub props : props_at p b.memory_type ≡ b.props
-  pub holds : (key : ℕ) → IfSome (map.get b.chunks key) (λ chunk. HeldWith objects chunk.object (IsThere b chunk))
+  pub holds : (key : ℕ) → IfSome (map.get b.chunks key) (λ chunk. HeldWith objects chunk.object (IsThere b.memory_type (sees_chunks b) chunk))
 
 -- the heap counts each held chunk, and will not overflow; nor will the count of objects
 pub record IsCounted (a : Account) : Type 0 where

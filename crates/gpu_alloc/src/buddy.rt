@@ -11,7 +11,6 @@ ghost use Rattle.gpu_alloc.specs.BuddyInside.{IsPowerUpTo};
 ghost use Rattle.gpu_alloc.specs.BuddyState.{Buddy, IsLiveLeaf, IsFreeAt};
 ghost use Rattle.gpu_alloc.specs.Pieces.{AreKept};
 ghost use Rattle.slab.specs.Slab.{get, Updates, HasRoomFor, slab_len};
-ghost use Rattle.std.specs.List.{All};
 ghost use Rattle.gpu_alloc.specs.Request.{IsAlignMask};
 
 mod block;
@@ -25,9 +24,9 @@ use crate::AllocationError;
 pub use block::BuddyBlock;
 pub(crate) use block::Leaf;
 use gpu_alloc_types::{AllocationFlags, MemoryDevice, MemoryObject, MemoryPropertyFlags};
-use pieces::{Piece, bytes, order_of, put_back, shortest};
+use pieces::{Piece, bytes, order_of, put_back, shortest, split, take_front};
 use slab::Slab;
-use space::{forget, grant, make_room};
+use space::{forget, leaf_of, make_room};
 use std::alloc::{Allocator, Global};
 use std::marker::Model;
 
@@ -142,16 +141,7 @@ impl<M: MemoryObject, A: Allocator> BuddyAllocator<M, A> {
         ensures total { chunks_and_remaining (account self.new heap.new allocations_remains.new) ≡ chunks_and_remaining (account self.old heap.old allocations_remains.old) }
     {
         let order = self.rounded_order(size, align_mask);
-        if order > 62 {
-            return Err(AllocationError::OutOfDeviceMemory);
-        }
-        if let Some(block) = self.take_place(order)? {
-            return Ok(block);
-        }
-        if *allocations_remains == 0 {
-            return Err(AllocationError::TooManyObjects);
-        }
-        self.take_chunk(device, order, flags, heap, allocations_remains)
+        self.alloc_rounded(device, order, flags, heap, allocations_remains)
     }
 
     /// The refusal that `alloc` gives such a request before it takes any memory or asks anything, by the same conditions:
@@ -189,6 +179,36 @@ impl<M: MemoryObject, A: Allocator> BuddyAllocator<M, A> {
         next_order(aligned.max(least))
     }
 
+    /// Allocates a block of 2^order bytes.
+    fn alloc_rounded<D: MemoryDevice<M>>(
+        &mut self,
+        device: &mut D,
+        order: u32,
+        flags: AllocationFlags,
+        heap: &mut Heap,
+        allocations_remains: &mut u32,
+    ) -> Result<BuddyBlock<M>, AllocationError>
+        requires address { IsTrue (has_bit (allocation_bits flags) 1) → IsTrue (D.properties device.old).buffer_device_address }
+        requires agrees { Agrees self.old (D.properties device.old) (D.objects device.old) }
+        requires counted { IsCounted (account self.old heap.old allocations_remains.old) }
+        ensures answers { (es : List Event) × Chain D.step device.old es device.new × Answers (account self.old heap.old allocations_remains.old) (2 ^ order) (allocation_bits flags) es result (account self.new heap.new allocations_remains.new) }
+        ensures objects { ObjectsAfter self.old (2 ^ order) (allocation_bits flags) result (D.objects device.old) (D.objects device.new) }
+        ensures properties { D.properties device.new ≡ D.properties device.old }
+    {
+        if order > 62 {
+            return Err(AllocationError::OutOfDeviceMemory);
+        }
+        match self.take_place(order) {
+            Ok(Some(block)) => return Ok(block),
+            Ok(None) => {}
+            Err(refusal) => return Err(refusal),
+        }
+        if *allocations_remains == 0 {
+            return Err(AllocationError::TooManyObjects);
+        }
+        self.take_chunk(device, order, flags, heap, allocations_remains)
+    }
+
     /// Whether some free piece is as long as that.
     fn has_place(&self, order: u32) -> bool
         ensures { IsTrue result ↔ HasPlace self.now (2 ^ order) }
@@ -212,13 +232,9 @@ impl<M: MemoryObject, A: Allocator> BuddyAllocator<M, A> {
             Ok(memory) => memory,
             Err(_) => return Err(AllocationError::OutOfHostMemory),
         };
-        let leaf = grant(
-            &mut self.pieces,
-            &mut self.live,
-            index,
-            order,
-            memory.object(),
-        );
+        let front = take_front(&mut self.pieces, index, order);
+        let leaf = leaf_of(front, memory.object());
+        self.live.push_reserved(leaf);
         Ok(Some(BuddyBlock::new(memory, leaf)))
     }
 
@@ -238,17 +254,22 @@ impl<M: MemoryObject, A: Allocator> BuddyAllocator<M, A> {
         requires counted { IsCounted (account self.old heap.old allocations_remains.old) }
         ensures answers { (es : List Event) × Chain D.step device.old es device.new × Answers (account self.old heap.old allocations_remains.old) (2 ^ order) (allocation_bits flags) es result (account self.new heap.new allocations_remains.new) }
         ensures objects { ObjectsAfter self.old (2 ^ order) (allocation_bits flags) result (D.objects device.old) (D.objects device.new) }
-        ensures begins { IfOk result (λ leaf. BeginsChunk self.old (2 ^ order) leaf × (account self.new heap.new allocations_remains.new ≡ in_new_chunk (account self.old heap.old allocations_remains.old) leaf (chunk_size self.old (2 ^ order)))) }
-        ensures refused { OnErr result (account self.new heap.new allocations_remains.new ≡ account self.old heap.old allocations_remains.old) }
         ensures properties { D.properties device.new ≡ D.properties device.old }
     {
-        if make_room(&mut self.pieces, &mut self.live).is_err() || self.chunks.reserve(1).is_err() {
+        if make_room(&mut self.pieces, &mut self.live).is_err() {
+            return Err(AllocationError::OutOfHostMemory);
+        }
+        if self.chunks.reserve(1).is_err() {
             return Err(AllocationError::OutOfHostMemory);
         }
         let chunk_order = self.next_order.max(order + 1);
         let size = bytes(chunk_order);
-        let visible = self.props.contains(MemoryPropertyFlags::HOST_VISIBLE);
-        let (memory, handle) = new_chunk_with_handle(device, size, self.memory_type, flags, visible)?;
+        let visible = self.props.intersects(MemoryPropertyFlags::HOST_VISIBLE);
+        let (memory, handle) =
+            match new_chunk_with_handle(device, size, self.memory_type, flags, visible) {
+                Ok(handles) => handles,
+                Err(refusal) => return Err(refusal),
+            };
         let leaf = begin_chunk(
             &mut self.chunks,
             &mut self.pieces,
@@ -329,7 +350,6 @@ fn begin_chunk<M: MemoryObject, A: Allocator>(
     requires order { order < chunk.order }
     requires bound { chunk.order ≤ 63 }
     requires chunk_room { HasRoomFor chunks.old 1 }
-    requires bounded { All (λ p. (p.order ≤ 63) × (p.start + 2 ^ p.order ≤ 2 ^ 63)) pieces.old.items }
     requires room { vec_len pieces.old + 64 ≤ vec_capacity pieces.old }
     requires live_room { vec_len live.old < vec_capacity live.old }
     ensures leaf { result ≡ record { object = M.object chunk.memory; chunk = result.chunk; offset = 0; size = 2 ^ order; index = 0 } }
@@ -349,7 +369,7 @@ fn begin_chunk<M: MemoryObject, A: Allocator>(
         start: 0,
         order: chunk_order,
     };
-    let index = pieces.len();
-    pieces.push_reserved(whole);
-    grant(pieces, live, index, order, object)
+    let leaf = leaf_of(split(pieces, whole, order), object);
+    live.push_reserved(leaf);
+    leaf
 }

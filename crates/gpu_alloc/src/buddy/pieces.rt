@@ -63,8 +63,8 @@ pub(super) fn shortest(pieces: &[Piece], order: u32) -> Option<usize>
     best
 }
 
-/// Takes a piece off the list and splits it: see `split`. The list has as many pieces more as the piece's order was
-/// greater, less the piece itself.
+/// Takes a piece off the list and gives its front, of the order asked for; the rest goes back as right halves. So the list
+/// has as many pieces more as the piece's order was greater, less the piece itself.
 pub(super) fn take_front<A: Allocator>(
     pieces: &mut Vec<Piece, A>,
     index: usize,
@@ -85,8 +85,8 @@ pub(super) fn take_front<A: Allocator>(
     split(pieces, piece, order)
 }
 
-/// The front of a piece in hand, as long as asked for. Of each half of the piece that is longer than that the right half
-/// goes into the list, so the list has as many pieces more as the piece's order was greater.
+/// The front of a piece in hand, of the order asked for. The piece is halved until it is as short, and each right half
+/// goes into the list, which so has as many pieces more as the piece's order was greater.
 pub(super) fn split<A: Allocator>(pieces: &mut Vec<Piece, A>, piece: Piece, order: u32) -> Piece
     requires long_enough { order ≤ piece.order }
     requires bounded { (piece.order ≤ 63) × (piece.start + 2 ^ piece.order ≤ 2 ^ 63) }
