@@ -4,6 +4,7 @@ pub mod BuddyAnswers
 pub mod BuddyCalls
 pub mod BuddyGrants
 pub mod BuddyLeaves
+pub mod BuddyReturns
 pub mod Candidates
 pub mod Consistency
 pub mod ExactPieces

@@ -1,9 +1,9 @@
 -- The rows of the table: what is found of them, as one is added or taken off.
-use Rattle.std.proofs.Common.{◌≡◌, ◌≢◌, ℕ, suc, ◌+◌, ◌≤◌, Bool, true, false, cond, not, ◌==◌, ◌⊎◌, inl, inr, List, [], ◌∷◌, ◌++◌, length, get_or, map, Option, Some, None, refl, sym, ◌∙◌, ap, subst, arith, Equal}
+use Rattle.std.proofs.Common.{◌≡◌, ◌≢◌, ℕ, Bool, true, false, cond, ◌==◌, ◌⊎◌, inl, inr, List, [], ◌∷◌, ◌++◌, length, get_or, map, Option, Some, None, refl, sym, ◌∙◌, ap, subst, arith, Equal}
 use Rattle.std.proofs.lemmas.Bool.Decides.{nat_tests, same_from_decides}
 use Rattle.std.proofs.lemmas.List.{map-append}
 use Rattle.std.specs.Bool.{Decides}
-use Rattle.std.specs.List.{Contains, IsDistinct, position, prefix_len}
+use Rattle.std.specs.List.{Contains, IsDistinct, position}
 use Rattle.std.proofs.lemmas.List.Quantifiers.{position-Some}
 use Rattle.std.proofs.lemmas.List.Elements.{Contains-get_or}
 use Rattle.std.specs.Ordering.{nat_cmp, eq_by_cmp}
@@ -17,7 +17,7 @@ use Rattle.gpu_alloc.specs.State.{HeldObject, Span, span_cmp, span_numbers}
 use Rattle.gpu_alloc.specs.Spans.{IsRowOf, HasNoRow, held_of, span_in, entry_of, same_object}
 use Rattle.gpu_alloc.specs.declared.spans.Row.{Row}
 use Rattle.gpu_alloc.proofs.ListSets.{key_test, in_set, in_removed, set_push}
-use Rattle.gpu_alloc.proofs.Lists.{contains_head, contains_later, contains_cases, contains_none, head_is_other, IsLess, seek, distinct_push}
+use Rattle.gpu_alloc.proofs.Lists.{contains_head, contains_later, contains_cases, contains_none, head_is_other, IsLess, seek, distinct_push, not_found}
 
 -- Spans in their order.
 
@@ -249,24 +249,10 @@ row_at rows room name i row d at is =
     equal : (a : ℕ) → (a == name) ≡ true → a ≡ name
     equal a e = grind (arith, nat_tests)
 
-passes : (q : Row → Bool) (rows : List Row) → length rows ≤ prefix_len q rows → (row : Row) → Contains rows row → q row ≡ true
-passes q [] le row has = absurd (contains_none row has)
-passes q (r ∷ rows) le row has = elim (q r) as (λ b. q r ≡ b → suc (length rows) ≤ cond b (1 + prefix_len q rows) 0 → q row ≡ true) [
-  | true ↦ λ e more. elim (contains_cases r row rows has) [ inl is ↦ ap q is ∙ e | inr h ↦ passes q rows (omega arith) row h ]
-  | false ↦ λ e none. absurd (omega (arith, none))
-] refl le
-
 -- there is none where no place was found
 pub absent_at : (rows : List Row) (name : ℕ) → position (λ r. r.object == name) rows ≡ None → IsAbsent name rows
-absent_at rows name none row has = differs row.object (negated (row.object == name) (passes (λ r. not (r.object == name)) rows past row has))
+absent_at rows name none row has = differs row.object (not_found (λ r. r.object == name) rows none row has)
   where
-    past : length rows ≤ prefix_len (λ r. not (r.object == name)) rows
-    past = grind (arith, nat_tests)
-
-    negated : (b : Bool) → not b ≡ true → b ≡ false
-    negated true e = cc
-    negated false e = refl
-
     differs : (a : ℕ) → (a == name) ≡ false → a ≢ name
     differs a e = grind (arith, nat_tests)
 

@@ -29,6 +29,10 @@ buddy_in chunks live next_order minimal memory_type props atom = record {
 abbrev pub same_leaf : Leaf → Leaf → Bool
 same_leaf a b = eq_by_cmp leaf_cmp a b
 
+-- the same, field by field, as a list is searched
+abbrev pub same_fields : Leaf → Leaf → Bool
+same_fields a b = (a.object == b.object) && ((a.chunk == b.chunk) && ((a.offset == b.offset) && ((a.size == b.size) && (a.index == b.index))))
+
 -- a power of two, of at most this order
 abbrev pub IsPowerUpTo : ℕ → ℕ → Type 0
 IsPowerUpTo limit n = (k : ℕ) × ((k ≤ limit) × (n ≡ 2 ^ k))

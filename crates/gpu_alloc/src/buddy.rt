@@ -319,9 +319,9 @@ impl<M: MemoryObject, A: Allocator> BuddyAllocator<M, A> {
         };
         let limit = self.chunks[leaf.chunk].order;
         if put_back(&mut self.pieces, piece, limit).is_some() {
-            let chunk = self.chunks.remove(leaf.chunk);
+            let _ = self.chunks.remove(leaf.chunk);
             device.deallocate_memory(&memory);
-            heap.dealloc(bytes(chunk.order));
+            heap.dealloc(bytes(limit));
             *allocations_remains += 1;
         }
     }

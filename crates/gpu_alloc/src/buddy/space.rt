@@ -1,9 +1,9 @@
 //! Free pieces and live blocks side by side, as a block comes and goes.
 
-ghost use Rattle.std.specs.Prelude.{◌≡◌, ◌≤◌, ◌<◌, ◌+◌, ◌^◌, OnOk, IsTrue, vec_len, vec_capacity};
+ghost use Rattle.std.specs.Prelude.{◌≡◌, ◌≤◌, ◌<◌, ◌+◌, ◌^◌, OnOk, IsTrue, position, vec_len, vec_capacity};
 ghost use Rattle.std.specs.List.{IsDistinct};
 ghost use Rattle.std.specs.FinSet as set;
-ghost use Rattle.gpu_alloc.specs.BuddyInside.{same_leaf, leaf_set};
+ghost use Rattle.gpu_alloc.specs.BuddyInside.{same_leaf, same_fields, leaf_set};
 
 use super::block::Leaf;
 use super::pieces::{Piece, bytes};
@@ -42,6 +42,13 @@ pub(super) fn leaf_of(piece: Piece, object: u64) -> Leaf
     }
 }
 
+/// Where a block stands in the list.
+fn place_of(live: &[Leaf], leaf: Leaf) -> Option<usize>
+    ensures { result ≡ position (λ other. same_fields other leaf) live.now }
+{
+    live.iter().position(|other| *other == leaf)
+}
+
 /// Takes a live block off the list.
 pub(super) fn forget<A: Allocator>(live: &mut Vec<Leaf, A>, leaf: Leaf)
     requires once { IsDistinct same_leaf live.old.items }
@@ -50,7 +57,7 @@ pub(super) fn forget<A: Allocator>(live: &mut Vec<Leaf, A>, leaf: Leaf)
     ensures live { leaf_set live.new.items ≡ set.remove (leaf_set live.old.items) leaf }
     ensures len { vec_len live.new + 1 ≡ vec_len live.old }
 {
-    match live.iter().position(|other| *other == leaf) {
+    match place_of(live, leaf) {
         Some(at) => {
             let _ = live.swap_remove(at);
         }
