@@ -29,7 +29,7 @@ use Rattle.gpu_alloc.proofs.AlignedPowers.{doubled, pow-from_shorter, pow-le, or
 use Rattle.gpu_alloc.proofs.BuddyCalls.{IsLeafOf, AreBounded, granted, chunk_comes, in_hand_lies}
 use Rattle.gpu_alloc.proofs.BuddyLeaves.{leaf_test, leaf_inserted, in_leaves, leaves_push}
 use Rattle.gpu_alloc.proofs.ExactPieces.{kept_is_free_piece, free_piece_is_kept, piece_for_place}
-use Rattle.gpu_alloc.proofs.Lists.{distinct_push}
+use Rattle.gpu_alloc.proofs.Lists.{contains_none, distinct_push}
 
 -- Free pieces and places.
 
@@ -391,3 +391,53 @@ pub in_new_chunk_is : (a : Account) (leaf : Leaf) (size n m : ℕ) (b : Buddy) (
 in_new_chunk_is a leaf size n m b heap b_is heap_is n_is m_is =
     ap (λ x. account x heap (a.remaining - 1)) (b_is ∙ ap (λ k. with_leaf (with_chunk a.buddy leaf k) leaf) n_is)
     ∙ ap (λ h. account (with_leaf (with_chunk a.buddy leaf size) leaf) h (a.remaining - 1)) (heap_is ∙ ap (λ k. record a.heap { used = a.heap.used + k }) m_is)
+
+-- Nothing is held.
+
+none_live : (n m t p a : ℕ) (leaf : Leaf) → IsLiveLeaf (buddy_in map.empty [] n m t p a) leaf → ⊥
+none_live n m t p a leaf live = contains_none leaf ((in_leaves [] leaf).0 live)
+
+abbrev no_chunks : map.FinMap nat_cmp Chunk
+no_chunks = map.empty
+
+none_held : (key : ℕ) (chunk : Chunk) → map.get no_chunks key ≡ Some chunk → ⊥
+none_held key chunk is = let none : map.get no_chunks key ≡ None = map.get-empty nat_cmp key in cc
+
+pub sound_empty : (n m t p a : ℕ) → n ≤ 63 → IsPowerUpTo 63 m → IsPowerUpTo 62 a → IsSound (buddy_in map.empty [] n m t p a)
+sound_empty n m t p a short minimal atom = record {
+  one_object = λ k l c d is_c is_d same. absurd (none_held k c is_c);
+  powers = λ k c is. absurd (none_held k c is);
+  used = λ k c is. absurd (none_held k c is);
+  inside = λ leaf live. absurd (none_live n m t p a leaf live);
+  apart = λ x y x_live y_live same at in_x in_y. absurd (none_live n m t p a x x_live);
+  next_chunk = (n, (short, refl));
+  minimal = minimal;
+  atom = atom;
+}
+
+pub stored_empty : (n m t p a capacity : ℕ) → IsStored (buddy_in map.empty [] n m t p a) [] [] capacity
+unfolding IsDistinct
+stored_empty n m t p a capacity = record {
+  kept = record {
+    canonical = record {
+      aligned = λ q has. absurd (contains_none q has);
+      apart = λ q r has_q has_r same at in_q in_r. absurd (contains_none q has_q);
+      no_halves = λ q r has_q has_r halves. contains_none q has_q;
+      free = λ q has at in_q. absurd (contains_none q has);
+      covers = λ chunk at f. absurd (none_held chunk f.held f.is);
+    };
+    distinct = tt;
+  };
+  once = tt;
+  room = omega arith;
+}
+
+-- powers of two by a bound on them
+pub power_up_to : (limit n : ℕ) → (k : ℕ) × (n ≡ 2 ^ k) → n < 2 ^ (limit + 1) → IsPowerUpTo limit n
+power_up_to limit n power lt = (power.0, (omega (arith, below power.0 (limit + 1) (omega (arith, power.1, lt))), power.1))
+  where
+    below : (j k : ℕ) → 2 ^ j < 2 ^ k → j < k
+    below j k less = elim (cases_lt j k) [ inl lt ↦ lt | inr ge ↦ absurd (let le = pow-le k j ge in omega (arith, le, less)) ]
+
+pub power_below : (n : ℕ) → 2 ^ n < 2 ^ 64 → n ≤ 63
+power_below n lt = let p = power_up_to 63 (2 ^ n) (n, refl) (omega (arith, lt)) in power_order n p

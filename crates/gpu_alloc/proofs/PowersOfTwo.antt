@@ -1,5 +1,6 @@
 -- The next power of two, and the exponent of one.
 use Rattle.std.proofs.Common.{◌≡◌, ◌≤◌, ◌<◌, ◌⊎◌, inl, inr, ◌*◌, ◌+◌, ◌^◌, ℕ, zero, suc, true, false, cond, nat_le, refl, sym, ◌∙◌, ap, subst, arith, w64, ◌/◌, ◌%◌, IsTrue, ◌==◌, Bool, count_ones}
+use Rattle.std.specs.Prelude.{max}
 use Rattle.std.specs.Int.{trailing_zeros, bit_at, is_power_of_two}
 use Rattle.std.specs.Int.Count.{ones_step}
 use Rattle.std.proofs.lemmas.Bool.{cases_eq}
@@ -76,3 +77,14 @@ power_within (suc d) n le one = by_lowest (n % 2) refl (λ small. power_within d
 
 pub power_of_bit : (n : ℕ) → IsTrue (is_power_of_two n) → (k : ℕ) × (n ≡ 2 ^ k)
 power_of_bit n one = power_within n n (omega arith) (let test : (count_ones n == 1) ≡ true = one in grind (arith, nat_tests))
+
+-- a power of two is its own next one
+pub power_is_next : (n k : ℕ) → n ≡ 2 ^ k → n ≤ 2 ^ 64 → next_power_of_two n ≡ n
+power_is_next n k is bound = let next = is_next_power_of_two n bound in let least = next.least k (omega (arith, is)) in omega (arith, next.enough, least, is)
+
+-- the greater of two powers is one
+pub greater_power : (m n : ℕ) → (j : ℕ) × (m ≡ 2 ^ j) → (k : ℕ) × (n ≡ 2 ^ k) → (i : ℕ) × (max m n ≡ 2 ^ i)
+greater_power m n p q = elim (nat_le m n) as (λ b. nat_le m n ≡ b → (i : ℕ) × (max m n ≡ 2 ^ i)) [
+  | true ↦ λ e. (q.0, let le : m ≤ n = grind (arith, nat_tests) in omega (arith, le, q.1))
+  | false ↦ λ e. (p.0, let lt : n < m = grind (arith, nat_tests) in omega (arith, lt, p.1))
+] refl
