@@ -18,7 +18,7 @@ pow-from_shorter k j h = let e : j ≡ (j - k) + k = omega arith in ap (λ i. 2 
 pub order-le : (k j : ℕ) → 2 ^ k ≤ 2 ^ j → k ≤ j
 order-le k j h = elim (cases_lt j k) [ inl lt ↦ omega (arith, pow-lt {i = j} {j = k} lt) | inr le ↦ le ]
 
-pow-le : (k j : ℕ) → k ≤ j → 2 ^ k ≤ 2 ^ j
+pub pow-le : (k j : ℕ) → k ≤ j → 2 ^ k ≤ 2 ^ j
 pow-le k j h =
     elim (cases_lt k j) [
       | inl lt ↦ omega (arith, pow-lt {i = k} {j = j} lt)

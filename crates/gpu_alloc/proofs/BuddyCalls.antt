@@ -16,10 +16,10 @@ use mathlib.Core.Bool.{true≢false}
 use Rattle.gpu_alloc.specs.BuddyState.{Chunk, Buddy, IsLiveLeaf, IsFreeAt}
 use Rattle.gpu_alloc.specs.FreeSpace.{IsIn, IsMultipleOf, IsPlace, IsFreePiece}
 use Rattle.gpu_alloc.specs.Pieces.{InPiece, Without, AreKept, AreKeptBeside}
-use Rattle.gpu_alloc.specs.declared.buddy.Leaf.{Leaf}
+use Rattle.gpu_alloc.specs.declared.buddy.block.Leaf.{Leaf}
 use Rattle.gpu_alloc.specs.declared.buddy.pieces.Piece.{Piece}
 use Rattle.gpu_alloc.proofs.AlignedPowers.{order-le}
-use Rattle.gpu_alloc.proofs.Rows.{name_test, eq-true, eq-false}
+use Rattle.gpu_alloc.proofs.Ledgers.{name_test, eq-true, eq-false}
 use Rattle.gpu_alloc.proofs.BuddyLeaves.{in_leaves, leaf_inserted, leaf_removed, leaf_same_or_left}
 use Rattle.gpu_alloc.proofs.ExactPieces.{whole_chunk, piece_for_place, kept_is_free_piece, free_piece_is_kept}
 use Rattle.gpu_alloc.proofs.Lists.{seek, all_contained}
@@ -136,22 +136,22 @@ module _ (leaf : Leaf) (x : Piece) (of : IsLeafOf leaf x) where
 
 -- Chunks by key.
 
-key_at : (m : map.FinMap nat_cmp Chunk) (key : ℕ) (chunk : Chunk) → map.get (map.insert m key chunk) key ≡ Some chunk
+pub key_at : (m : map.FinMap nat_cmp Chunk) (key : ℕ) (chunk : Chunk) → map.get (map.insert m key chunk) key ≡ Some chunk
 key_at m key chunk = map.get-insert nat_cmp_total m key chunk key ∙ rw (name_test key key, eq-true key key refl) refl
 
-other_key : (m : map.FinMap nat_cmp Chunk) (key q : ℕ) (chunk : Chunk) → q ≢ key → map.get (map.insert m key chunk) q ≡ map.get m q
+pub other_key : (m : map.FinMap nat_cmp Chunk) (key q : ℕ) (chunk : Chunk) → q ≢ key → map.get (map.insert m key chunk) q ≡ map.get m q
 other_key m key q chunk other = map.get-insert nat_cmp_total m key chunk q ∙ rw (name_test q key, eq-false q key other) refl
 
-removed_key : (m : map.FinMap nat_cmp Chunk) (key : ℕ) → map.get (map.remove m key) key ≡ None
+pub removed_key : (m : map.FinMap nat_cmp Chunk) (key : ℕ) → map.get (map.remove m key) key ≡ None
 removed_key m key = map.get-remove nat_cmp_total m key key ∙ rw (name_test key key, eq-true key key refl) refl
 
-left_key : (m : map.FinMap nat_cmp Chunk) (key q : ℕ) → q ≢ key → map.get (map.remove m key) q ≡ map.get m q
+pub left_key : (m : map.FinMap nat_cmp Chunk) (key q : ℕ) → q ≢ key → map.get (map.remove m key) q ≡ map.get m q
 left_key m key q other = map.get-remove nat_cmp_total m key q ∙ rw (name_test q key, eq-false q key other) refl
 
-none_is_held : (o : Option Chunk) (held : Chunk) → o ≡ None → o ≡ Some held → ⊥
+pub none_is_held : (o : Option Chunk) (held : Chunk) → o ≡ None → o ≡ Some held → ⊥
 none_is_held o held none some = cc
 
-one_chunk : (o : Option Chunk) (c d : Chunk) → o ≡ Some c → o ≡ Some d → c ≡ d
+pub one_chunk : (o : Option Chunk) (c d : Chunk) → o ≡ Some c → o ≡ Some d → c ≡ d
 one_chunk o c d is also = cc
 
 -- Where free pieces lie.

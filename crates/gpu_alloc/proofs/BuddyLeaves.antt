@@ -8,7 +8,7 @@ use Rattle.std.specs.FinSet as set
 use Rattle.std.specs.List.{Contains}
 use Rattle.std.specs.Ordering.{eq_by_cmp}
 use Rattle.gpu_alloc.specs.BuddyState.{leaf_numbers, leaf_cmp}
-use Rattle.gpu_alloc.specs.declared.buddy.Leaf.{Leaf}
+use Rattle.gpu_alloc.specs.declared.buddy.block.Leaf.{Leaf}
 use Rattle.gpu_alloc.proofs.ListSets.{key_test, in_set, in_inserted, in_removed, same_or_left, set_push, set_less}
 use Rattle.gpu_alloc.proofs.Lists.{IsLess}
 

@@ -1,5 +1,5 @@
 -- Ledgers: sums over the entries of a map, as an entry is added or taken off.
-use Rattle.std.proofs.Common.{◌≡◌, ℕ, ◌+◌, ◌*◌, ◌^◌, ◌<◌, ◌≤◌, Bool, true, false, cond, ◌==◌, List, [], ◌∷◌, length, Some, None, refl, sym, ◌∙◌, ap, subst, arith, Less, Equal, Greater}
+use Rattle.std.proofs.Common.{◌≡◌, ◌≢◌, ℕ, ◌+◌, ◌*◌, ◌^◌, ◌<◌, ◌≤◌, Bool, true, false, cond, ◌==◌, List, [], ◌∷◌, length, Some, None, refl, sym, ◌∙◌, ap, subst, arith, Less, Equal, Greater}
 use Rattle.std.proofs.lemmas.Bool.Decides.{nat_tests}
 use Rattle.std.proofs.lemmas.List.Sums.{sum_by-cons}
 use Rattle.std.specs.List.{sum_by}
@@ -60,6 +60,12 @@ small-insert m k v none small all = subst AreSmall (sym (finite.entries-insert n
 
 pub name_test : (q name : ℕ) → eq_by_cmp nat_cmp q name ≡ (q == name)
 name_test q name = grind (arith, nat_tests)
+
+pub eq-true : (a b : ℕ) → a ≡ b → (a == b) ≡ true
+eq-true a b e = grind (arith, nat_tests)
+
+pub eq-false : (a b : ℕ) → a ≢ b → (a == b) ≡ false
+eq-false a b ne = grind (arith, nat_tests)
 
 pub gone : (m : Held) (k : ℕ) → finite.get (finite.remove m k) k ≡ None
 gone m k = finite.get-remove nat_cmp_total m k k ∙ ap (λ b. cond b None (finite.get m k)) (itself k)

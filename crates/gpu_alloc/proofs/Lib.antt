@@ -1,7 +1,10 @@
 pub mod Agreeing
 pub mod AlignedPowers
+pub mod BuddyAnswers
 pub mod BuddyCalls
+pub mod BuddyGrants
 pub mod BuddyLeaves
+pub mod BuddyReturns
 pub mod Candidates
 pub mod Consistency
 pub mod ExactPieces
@@ -15,6 +18,7 @@ pub mod ListViews
 pub mod Lists
 pub mod LiveSpans
 pub mod Masks
+pub mod NewChunks
 pub mod OtherHalves
 pub mod PieceHalves
 pub mod PieceReturns

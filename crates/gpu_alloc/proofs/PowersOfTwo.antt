@@ -1,9 +1,11 @@
 -- The next power of two, and the exponent of one.
-use Rattle.std.proofs.Common.{◌≡◌, ◌≤◌, ◌<◌, ◌⊎◌, inl, inr, ◌*◌, ◌+◌, ◌^◌, ℕ, zero, suc, true, false, cond, nat_le, refl, sym, ◌∙◌, ap, subst, arith, w64}
-use Rattle.std.specs.Int.{trailing_zeros, bit_at}
+use Rattle.std.proofs.Common.{◌≡◌, ◌≤◌, ◌<◌, ◌⊎◌, inl, inr, ◌*◌, ◌+◌, ◌^◌, ℕ, zero, suc, true, false, cond, nat_le, refl, sym, ◌∙◌, ap, subst, arith, w64, ◌/◌, ◌%◌, IsTrue, ◌==◌, Bool, count_ones}
+use Rattle.std.specs.Prelude.{max}
+use Rattle.std.specs.Int.{trailing_zeros, bit_at, is_power_of_two}
+use Rattle.std.specs.Int.Count.{ones_step}
 use Rattle.std.proofs.lemmas.Bool.{cases_eq}
 use Rattle.std.proofs.lemmas.Bool.Decides.{nat_tests}
-use Rattle.std.proofs.lemmas.Nat.{pow_pos}
+use Rattle.std.proofs.lemmas.Nat.{pow_pos, zero_from_ones, ones_le_self}
 use Rattle.std.proofs.lemmas.Nat.Bits.{bit_at-trailing_zeros, bit_at-pow_other}
 use Rattle.std.proofs.Math.Pow.{pow_mono}
 use Rattle.gpu_alloc.specs.Sizes.{doubled_up, next_power_of_two, IsNextPowerOfTwo}
@@ -46,3 +48,43 @@ trailing_zeros-power n k e fits =
           let none = ap (λ m. bit_at m (trailing_zeros w64 n)) e ∙ bit_at-pow_other k (trailing_zeros w64 n) other in
           omega (arith, one, none))
     ]
+
+-- the least power of two that is enough, by its exponent
+pub least_exponent : (x r : ℕ) → x ≤ 2 ^ 64 → x ≤ 2 ^ r → ((k : ℕ) → x ≤ 2 ^ k → r ≤ k) → next_power_of_two x ≡ 2 ^ r
+least_exponent x r bound enough least =
+    let n = is_next_power_of_two x bound in
+    let up : next_power_of_two x ≤ 2 ^ r = n.least r enough in
+    let j : ℕ = n.power.0 in
+    let e : next_power_of_two x ≡ 2 ^ j = n.power.1 in
+    let le : r ≤ j = least j (omega (arith, n.enough, e)) in
+    let down : 2 ^ r ≤ 2 ^ j = pow_mono le in
+    omega (arith, up, e, down)
+
+-- a number with one bit set is a power of two
+power_within : (d n : ℕ) → n ≤ d → count_ones n ≡ 1 → (k : ℕ) × (n ≡ 2 ^ k)
+power_within zero n le one = absurd (omega (arith, le, one, ones_le_self n))
+power_within (suc d) n le one = by_lowest (n % 2) refl (λ small. power_within d (n / 2) (omega (arith, le, small)))
+  where
+    step : count_ones n ≡ n % 2 + count_ones (n / 2)
+    step = let s = ones_step n in omega (arith, s)
+
+    by_lowest : (b : ℕ) → n % 2 ≡ b → (1 ≤ n → count_ones (n / 2) ≡ 1 → (k : ℕ) × (n / 2 ≡ 2 ^ k)) → (k : ℕ) × (n ≡ 2 ^ k)
+    by_lowest zero e half =
+        let some : 1 ≤ n = let ones = ones_le_self n in omega (arith, one, ones) in
+        let k = half some (omega (arith, e, one, step)) in
+        (suc k.0, (let twice : 2 ^ suc k.0 ≡ 2 * 2 ^ k.0 = omega arith in omega (arith, k.1, e, twice)))
+    by_lowest (suc b) e half = let none = zero_from_ones (n / 2) (omega (arith, e, one, step)) in (0, omega (arith, none, e))
+
+pub power_of_bit : (n : ℕ) → IsTrue (is_power_of_two n) → (k : ℕ) × (n ≡ 2 ^ k)
+power_of_bit n one = power_within n n (omega arith) (let test : (count_ones n == 1) ≡ true = one in grind (arith, nat_tests))
+
+-- a power of two is its own next one
+pub power_is_next : (n k : ℕ) → n ≡ 2 ^ k → n ≤ 2 ^ 64 → next_power_of_two n ≡ n
+power_is_next n k is bound = let next = is_next_power_of_two n bound in let least = next.least k (omega (arith, is)) in omega (arith, next.enough, least, is)
+
+-- the greater of two powers is one
+pub greater_power : (m n : ℕ) → (j : ℕ) × (m ≡ 2 ^ j) → (k : ℕ) × (n ≡ 2 ^ k) → (i : ℕ) × (max m n ≡ 2 ^ i)
+greater_power m n p q = elim (nat_le m n) as (λ b. nat_le m n ≡ b → (i : ℕ) × (max m n ≡ 2 ^ i)) [
+  | true ↦ λ e. (q.0, let le : m ≤ n = grind (arith, nat_tests) in omega (arith, le, q.1))
+  | false ↦ λ e. (p.0, let lt : n < m = grind (arith, nat_tests) in omega (arith, lt, p.1))
+] refl

@@ -176,6 +176,14 @@ module _ {T : Type 0} where
             (λ e has same. let there = ap (get s) (sym same) ∙ (Contains-entries s e.0 e.1).0 has in absurd (cc))
         cases (Some row) at = named_there nat_cmp_total nat_cmp-IsAntisymmetric (λ (e : ℕ × T). e.0) (λ e. value e.1) (entries s) (key, row) (keys_once s) ((Contains-entries s key row).1 at)
 
+    -- what the map has under a key is said by the row there
+    pub found_by_key : (s : Slab T) (key : ℕ) (x : X) → finite.get (by_key value s) key ≡ Some x → (row : T) × (get s key ≡ Some row) × (value row ≡ x)
+    found_by_key s key x is = cases (get s key) refl (sym (get_by_key s key) ∙ is)
+      where
+        cases : (o : Option T) → get s key ≡ o → option_map value (get s key) ≡ Some x → (row : T) × (get s key ≡ Some row) × (value row ≡ x)
+        cases None found h = absurd (let none : None ≡ Some x = rw found at h in cc)
+        cases (Some row) found h = (row, found, (let some : Some (value row) ≡ Some x = rw found at h in cc))
+
     -- a row goes under a key, in the place of what stood there
     pub by_key_put : (old new : Slab T) (key : ℕ) (row : T) → Updates old new key (Some row) → by_key value new ≡ finite.insert (by_key value old) key (value row)
     by_key_put old new key row u = finite.same_map nat_cmp_total nat_cmp-IsAntisymmetric _ _ (λ q.

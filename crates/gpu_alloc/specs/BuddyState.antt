@@ -6,7 +6,7 @@ use Rattle.std.specs.declared.cmp.Ordering.{Ordering}
 use Rattle.std.specs.Ordering.{nat_cmp}
 use Rattle.std.specs.Cmp.Lexicographic.{slice_cmp}
 use Rattle.gpu_alloc.specs.FreeSpace.{IsIn}
-use Rattle.gpu_alloc.specs.declared.buddy.Leaf.{Leaf}
+use Rattle.gpu_alloc.specs.declared.buddy.block.Leaf.{Leaf}
 
 -- a held chunk: its object's name, and its size
 pub record Chunk : Type 0 where

@@ -7,10 +7,12 @@ use Rattle.std.specs.Ordering.{nat_cmp}
 use Rattle.gpu_alloc_types.specs.Codes.{properties_code}
 use Rattle.gpu_alloc_types.specs.Properties.{Properties}
 use Rattle.gpu_alloc.specs.State.{HeldObject, Span, span_cmp, Block, span_of, TypeState, State}
+use Rattle.gpu_alloc.specs.BuddyState.{Chunk, Buddy, leaf_cmp}
 use Rattle.gpu_alloc.specs.Spans.{Place, Table}
 use Rattle.gpu_alloc.specs.declared.block.Kind.{Kind}
 use Rattle.gpu_alloc.specs.declared.block.Kind.TheVariants.{Dedicated, Imported, BuddyChunk, FreeListChunk}
 use Rattle.gpu_alloc.specs.declared.block.Mapping.{Mapping}
+use Rattle.gpu_alloc.specs.declared.buddy.block.Leaf.{Leaf}
 use Rattle.gpu_alloc.specs.declared.config.Config.{Config}
 
 -- a kind as a number and the number of its chunk
@@ -96,3 +98,30 @@ table_code =
     (coded× (map.code coded_ℕ held_code) (coded× (set.code span_code) (coded× (map.code span_code place_code) coded_ℕ)))
     (λ t. (t.held, (t.live, (t.places, t.room))))
     (λ c. record { held = c.0; live = c.1.0; places = c.1.1.0; room = c.1.1.1 }) (λ _. refl)
+
+-- of the buddy allocator
+
+abbrev pub leaf_code : Coded Leaf
+leaf_code =
+    code_by (ℕ × (ℕ × (ℕ × (ℕ × ℕ)))) (coded× coded_ℕ (coded× coded_ℕ (coded× coded_ℕ (coded× coded_ℕ coded_ℕ))))
+    (λ b. (b.object, (b.chunk, (b.offset, (b.size, b.index)))))
+    (λ c. record { object = c.0; chunk = c.1.0; offset = c.1.1.0; size = c.1.1.1.0; index = c.1.1.1.1 }) (λ _. refl)
+
+abbrev pub chunk_code : Coded Chunk
+chunk_code = code_by (ℕ × ℕ) (coded× coded_ℕ coded_ℕ) (λ c. (c.object, c.size)) (λ c. record { object = c.0; size = c.1 }) (λ _. refl)
+
+abbrev pub buddy_code : Coded Buddy
+buddy_code =
+    code_by (map.FinMap nat_cmp Chunk × (set.FinSet leaf_cmp × ((ℕ × ℕ) × (ℕ × (ℕ × ℕ)))))
+    (coded× (map.code coded_ℕ chunk_code) (coded× (set.code leaf_code) (coded× (coded× coded_ℕ coded_ℕ) (coded× coded_ℕ (coded× coded_ℕ coded_ℕ)))))
+    (λ b. (b.chunks, (b.live, ((b.next_chunk, b.minimal), (b.memory_type, (b.props, b.atom))))))
+    (λ c. record {
+      chunks = c.0;
+      live = c.1.0;
+      next_chunk = c.1.1.0.0;
+      minimal = c.1.1.0.1;
+      memory_type = c.1.1.1.0;
+      props = c.1.1.1.1.0;
+      atom = c.1.1.1.1.1;
+    })
+    (λ _. refl)

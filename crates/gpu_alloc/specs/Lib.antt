@@ -1,5 +1,7 @@
 pub mod Agreement
 pub mod Allocation
+pub mod Buddy
+pub mod BuddyInside
 pub mod BuddyState
 pub mod Codes
 pub mod Config
@@ -9,6 +11,7 @@ pub mod Heap
 pub mod Inside
 pub mod KeyByKey
 pub mod Masks
+pub mod NewChunk
 pub mod Opening
 pub mod Pieces
 pub mod Ranked

@@ -3,12 +3,14 @@
 
 mod allocator;
 mod block;
-mod buddy;
+pub mod buddy;
 mod config;
 mod error;
 pub mod heap;
 pub mod laws;
+mod new_chunk;
 mod request;
+mod sizes;
 pub mod spans;
 mod usage;
 

@@ -1,0 +1,212 @@
+-- What follows from the answer to a request: agreement with the device, the totals, and what is known of the block.
+use Rattle.std.proofs.Common.{◌≡◌, ◌≢◌, ◌⊎◌, inl, inr, ℕ, zero, suc, ◌+◌, ◌*◌, ◌-◌, ◌/◌, ◌%◌, ◌^◌, ◌<◌, ◌≤◌, ◌==◌, Bool, true, false, cond, IsTrue, List, [], ◌∷◌, Option, Some, None, Result, Ok, Err, refl, sym, ◌∙◌, ap, subst, arith}
+use Rattle.std.specs.Prelude.{IfSome, IfOk, OnErr, max}
+use Rattle.std.specs.FinMap as map
+use Rattle.std.specs.Int.{is_power_of_two}
+use Rattle.std.specs.Cmp.{nat_cmp_total}
+use Rattle.std.specs.Ordering.{nat_cmp}
+use Rattle.gpu_alloc_types.specs.Device.{Object, Event, HeldWith, put}
+use Rattle.gpu_alloc_types.specs.Objects.{put-same, put-other}
+use Rattle.gpu_alloc_types.specs.Properties.{Properties}
+use Rattle.gpu_alloc.specs.FreeSpace.{IsIn, IsMultipleOf}
+use Rattle.gpu_alloc.specs.Buddy.{Account, account, Wanted, Agrees, Answers, AsksForChunk, ObjectsAfter, BeginsChunk, Fits, HasPlace, IsFront, IsThere, IsGranted, chunk_size, question, sees_chunks, with_leaf, with_chunk, in_new_chunk, rounded, chunks_and_remaining, RefusesFirst}
+use Rattle.gpu_alloc.specs.BuddyState.{Chunk, Buddy, IsLiveLeaf, IsFreeAt}
+use Rattle.gpu_alloc.specs.BuddyInside.{IsSound, IsPowerUpTo}
+use Rattle.gpu_alloc.specs.NewChunk.{ChunkQuestion, HasOneChunkMore, IsChunkObject}
+use Rattle.gpu_alloc.specs.declared.buddy.block.Leaf.{Leaf}
+use Rattle.gpu_alloc.specs.declared.error.AllocationError.{AllocationError}
+use Rattle.gpu_alloc.specs.declared.error.AllocationError.TheVariants.{OutOfDeviceMemory, OutOfHostMemory, NoCompatibleMemoryTypes, TooManyObjects}
+use Rattle.std.proofs.Math.Nat.{mul_assoc, mul-mod_left, zero-mul, one-mul}
+use Rattle.gpu_alloc.specs.Request.{IsAlignMask}
+use Rattle.gpu_alloc.proofs.AlignedPowers.{pow-le, order-le, pow-from_shorter}
+use Rattle.gpu_alloc.proofs.PowersOfTwo.{is_next_power_of_two, power_of_bit}
+use Rattle.gpu_alloc.proofs.BuddyGrants.{if_some, chunk_cases, now_live, other_objects}
+
+-- Sizes whose chunk fits.
+
+pub fits : (order : ℕ) → order ≤ 62 → Fits (2 ^ order)
+fits order le = let short : 2 ^ order ≤ 2 ^ 62 = pow-le order 62 le in omega (arith, short)
+
+pub fits_not : (order : ℕ) → 62 < order → Fits (2 ^ order) → ⊥
+fits_not order lt fits = let long : 2 ^ 63 ≤ 2 ^ order = pow-le 63 order (omega arith) in omega (arith, long, fits)
+
+-- there was a place, and no host memory for a block in it
+pub place_refused : (a : Account) (size flags : ℕ) (e : AllocationError) (b : Buddy) → Fits size → HasPlace a.buddy size → e ≡ OutOfHostMemory → b ≡ a.buddy → Answers a size flags [] (Err e) (account b a.heap a.remaining)
+place_refused a size flags e b fits place is same =
+    subst (λ x. Answers a size flags [] (Err x) (account b a.heap a.remaining)) (sym is) (ap (λ x. account x a.heap a.remaining) same, inl (fits, (refl, inl place)))
+
+-- Agreement with the device.
+
+-- it stays where chunks and memory type do
+pub agrees_with_leaf : (b : Buddy) (leaf : Leaf) (p : Properties) (f : ℕ → Option Object) → Agrees b p f → Agrees (with_leaf b leaf) p f
+agrees_with_leaf b leaf p f a = record { known = a.known; props = a.props; holds = a.holds }
+
+-- each held chunk is there still, once the device holds one object more
+still_held : (q : ChunkQuestion) (object : ℕ) (f g : ℕ → Option Object) (P : Object → Type 0) (name : ℕ) → HasOneChunkMore q object f g → HeldWith f name P → HeldWith g name P
+still_held q object f g P name more held =
+    let other : name ≢ object = λ same. let none : f name ≡ None = ap f same ∙ more.0 in let both = held.1 in cc in
+    (held.0, ap (λ h. h name) more.1.2 ∙ put-other f object (Some more.1.0) name other ∙ held.1, held.2)
+
+new_is_there : (q : ChunkQuestion) (chunk : Chunk) (f g : ℕ → Option Object) → HasOneChunkMore q chunk.object f g → chunk.size ≡ q.size → HeldWith g chunk.object (IsThere q.memory_type q.visible chunk)
+new_is_there q chunk f g more size =
+    let o : Object = more.1.0 in
+    (
+      o,
+      ap (λ h. h chunk.object) more.1.2 ∙ put-same f chunk.object (Some o),
+      record {
+        of_type = more.1.1.of_type;
+        of_size = more.1.1.of_size ∙ sym size;
+        mapped = λ visible. more.1.1.mapped ∙ rw visible (ap (λ n. Some (0, n)) (sym more.1.1.of_size));
+      },
+    )
+
+abbrev IsHeldChunk : Buddy → (ℕ → Option Object) → Chunk → Type 0
+IsHeldChunk b g chunk = HeldWith g chunk.object (IsThere b.memory_type (sees_chunks b) chunk)
+
+-- it holds with a chunk more
+pub agrees_with_chunk : (b : Buddy) (leaf : Leaf) (size flags : ℕ) (p : Properties) (f g : ℕ → Option Object) → Agrees b p f → HasOneChunkMore (question b size flags) leaf.object f g
+    → Agrees (with_chunk b leaf (chunk_size b size)) p g
+agrees_with_chunk b leaf size flags p f g a more = record {
+  known = a.known;
+  props = a.props;
+  holds = λ key. all_held key (map.get (map.insert b.chunks leaf.chunk (record { object = leaf.object; size = chunk_size b size })) key) refl;
+}
+  where
+    all_held : (key : ℕ) (found : Option Chunk) → map.get (map.insert b.chunks leaf.chunk (record { object = leaf.object; size = chunk_size b size })) key ≡ found → IfSome found (IsHeldChunk b g)
+    all_held key None e = tt
+    all_held key (Some chunk) e = elim (chunk_cases b.chunks leaf.chunk (record { object = leaf.object; size = chunk_size b size }) key chunk e) [
+      | inl new ↦ subst (IsHeldChunk b g) new.1 (new_is_there (question b size flags) (record { object = leaf.object; size = chunk_size b size }) f g more refl)
+      | inr old ↦ still_held (question b size flags) leaf.object f g (IsThere b.memory_type (sees_chunks b) chunk) chunk.object more
+          (if_some (λ c. HeldWith f c.object (IsThere b.memory_type (sees_chunks b) c)) (map.get b.chunks key) chunk old (a.holds key))
+    ]
+
+-- a block that begins a chunk is not the front of a piece of a held one
+never_both : (b : Buddy) (size : ℕ) (leaf : Leaf) → BeginsChunk b size leaf → IsFront b size leaf → ⊥
+never_both b size leaf begins front = let none = begins.free_key in let some = front.held in cc
+
+-- after every answer
+pub answers_agree : (a new : Account) (size flags : ℕ) (es : List Event) (answer : Result Leaf AllocationError) (p now : Properties) (f g : ℕ → Option Object) → Agrees a.buddy p f → now ≡ p
+    → Answers a size flags es answer new → ObjectsAfter a.buddy size flags answer f g → Agrees new.buddy now g
+answers_agree a new size flags es (Ok leaf) p now f g agrees same (inl front) (inl begins) = absurd (never_both a.buddy size leaf begins.0 front.1.0)
+answers_agree a new size flags es (Ok leaf) p now f g agrees same (inl front) (inr kept) =
+    rw (front.1.1.1, same, kept.1) (agrees_with_leaf a.buddy leaf p f agrees)
+answers_agree a new size flags es (Ok leaf) p now f g agrees same (inr begins) (inl made) =
+    rw (begins.1.1.1, same) (agrees_with_leaf (with_chunk a.buddy leaf (chunk_size a.buddy size)) leaf p g (agrees_with_chunk a.buddy leaf size flags p f g agrees made.1))
+answers_agree a new size flags es (Ok leaf) p now f g agrees same (inr begins) (inr kept) = absurd (never_both a.buddy size leaf begins.1.0 kept.0)
+answers_agree a new size flags es (Err OutOfDeviceMemory) p now f g agrees same refused kept = rw (refused.0, same, kept) agrees
+answers_agree a new size flags es (Err OutOfHostMemory) p now f g agrees same refused kept = rw (refused.0, same, kept) agrees
+answers_agree a new size flags es (Err NoCompatibleMemoryTypes) p now f g agrees same refused kept = absurd refused
+answers_agree a new size flags es (Err TooManyObjects) p now f g agrees same refused kept = rw (refused.0, same, kept) agrees
+
+-- Nothing changes where it is refused.
+
+pub refused_keeps : (a new : Account) (size flags : ℕ) (es : List Event) (e : AllocationError) → Answers a size flags es (Err e) new → new ≡ a
+refused_keeps a new size flags es OutOfDeviceMemory refused = refused.0
+refused_keeps a new size flags es OutOfHostMemory refused = refused.0
+refused_keeps a new size flags es NoCompatibleMemoryTypes refused = absurd refused
+refused_keeps a new size flags es TooManyObjects refused = refused.0
+
+-- Chunks and what remains.
+
+chunks_more : (m : map.FinMap nat_cmp Chunk) (key : ℕ) (chunk : Chunk) → map.get m key ≡ None → map.len (map.insert m key chunk) ≡ map.len m + 1
+chunks_more m key chunk none = rw none at (map.len-insert {K = ℕ} {X = Chunk} {R = nat_cmp} nat_cmp_total m key chunk)
+
+pub answers_total : (a new : Account) (size flags : ℕ) (es : List Event) (answer : Result Leaf AllocationError) → Answers a size flags es answer new → chunks_and_remaining new ≡ chunks_and_remaining a
+answers_total a new size flags es (Ok leaf) (inl front) = ap chunks_and_remaining front.1.1.1
+answers_total a new size flags es (Ok leaf) (inr begins) =
+    let more = chunks_more a.buddy.chunks leaf.chunk (record { object = leaf.object; size = chunk_size a.buddy size }) begins.1.0.free_key in
+    ap chunks_and_remaining begins.1.1.1 ∙ omega (arith, more, begins.0.1.1)
+answers_total a new size flags es (Err e) refused = ap chunks_and_remaining (refused_keeps a new size flags es e refused)
+
+-- What is known of the block.
+
+-- a block's size is a power of two, and not below what was asked, the alignment and the atom, which are powers of two too
+pub record IsRoundedTo (b : Buddy) (w : Wanted) (size : ℕ) : Type 0 where
+  pub power : (k : ℕ) × (size ≡ 2 ^ k)
+  pub enough : w.size ≤ size
+  pub alignment : (k : ℕ) × (w.align_mask + 1 ≡ 2 ^ k)
+  pub aligned : w.align_mask + 1 ≤ size
+  pub atom : (k : ℕ) × (b.atom ≡ 2 ^ k)
+  pub whole_atoms : b.atom ≤ size
+
+-- a multiple of a power of two is one of each lower power
+lower_multiple : (x n m j k : ℕ) → n ≡ 2 ^ j → m ≡ 2 ^ k → n ≤ m → IsMultipleOf m x → x % n ≡ 0
+lower_multiple x n m j k n_is m_is le (q, is) =
+    let le' : j ≤ k = order-le j k (omega (arith, n_is, m_is, le)) in
+    let e = pow-from_shorter j k le' in
+    let whole : x ≡ q * 2 ^ (k - j) * 2 ^ j = is ∙ ap (λ z. q * z) (m_is ∙ e) ∙ sym (mul_assoc q (2 ^ (k - j)) (2 ^ j)) in
+    ap (λ z. x % z) n_is ∙ ap (λ z. z % 2 ^ j) whole ∙ mul-mod_left (q * 2 ^ (k - j)) (2 ^ j)
+
+pub answers_granted : (a new : Account) (w : Wanted) (size flags : ℕ) (es : List Event) (leaf : Leaf) (p : Properties) (f g : ℕ → Option Object) → IsSound a.buddy → Agrees a.buddy p f → IsRoundedTo a.buddy w size
+    → Answers a size flags es (Ok leaf) new → ObjectsAfter a.buddy size flags (Ok leaf) f g → IsGranted a.buddy w new.buddy leaf
+answers_granted a new w size flags es leaf p f g s agrees r (inl front) (inl begins) = absurd (never_both a.buddy size leaf begins.0 front.1.0)
+answers_granted a new w size flags es leaf p f g s agrees r (inl front) (inr kept) =
+    let at = front.1.0 in
+    let place = at.piece.place in
+    let size_is = at.of_size in
+    rw (front.1.1.1) (record {
+      enough = omega (arith, size_is, r.enough);
+      aligned = lower_multiple leaf.offset (w.align_mask + 1) at.length r.alignment.0 place.power.0 r.alignment.1 place.power.1 (omega (arith, r.aligned, at.enough)) place.aligned;
+      whole_atoms = (
+        lower_multiple leaf.offset a.buddy.atom at.length r.atom.0 place.power.0 r.atom.1 place.power.1 (omega (arith, r.whole_atoms, at.enough)) place.aligned,
+        lower_multiple leaf.size a.buddy.atom size r.atom.0 r.power.0 r.atom.1 r.power.1 r.whole_atoms (1, size_is ∙ sym (one-mul size)),
+      );
+      live = now_live a.buddy leaf;
+      was_free = λ other live same b in_other in_leaf.
+          let there = s.inside other live in
+          let chunk = s.one_object other.chunk leaf.chunk there.chunk at.chunk there.held at.held (sym there.object ∙ same ∙ at.object) in
+          (place.free b (record { from = in_leaf.from; to = omega (arith, in_leaf.to, size_is, at.enough) })).unused other live chunk in_other;
+    })
+answers_granted a new w size flags es leaf p f g s agrees r (inr begins) (inl made) =
+    let at = begins.1.0 in
+    let size_is = at.of_size in
+    rw (begins.1.1.1) (record {
+      enough = omega (arith, size_is, r.enough);
+      aligned = lower_multiple leaf.offset (w.align_mask + 1) (w.align_mask + 1) r.alignment.0 r.alignment.0 r.alignment.1 r.alignment.1 (omega arith) (0, at.start ∙ sym (zero-mul (w.align_mask + 1)));
+      whole_atoms = (
+        lower_multiple leaf.offset a.buddy.atom a.buddy.atom r.atom.0 r.atom.0 r.atom.1 r.atom.1 (omega arith) (0, at.start ∙ sym (zero-mul a.buddy.atom)),
+        lower_multiple leaf.size a.buddy.atom size r.atom.0 r.power.0 r.atom.1 r.power.1 r.whole_atoms (1, size_is ∙ sym (one-mul size)),
+      );
+      live = now_live (with_chunk a.buddy leaf (chunk_size a.buddy size)) leaf;
+      was_free = λ other live same b in_other in_leaf.
+          let there = s.inside other live in
+          absurd (other_objects a.buddy p f leaf.object agrees made.1.0 other.chunk there.chunk there.held (sym there.object ∙ same));
+    })
+answers_granted a new w size flags es leaf p f g s agrees r (inr begins) (inr kept) = absurd (never_both a.buddy size leaf begins.1.0 kept.0)
+
+-- what a request is rounded to
+pub rounds : (b : Buddy) (w : Wanted) → IsSound b → w.size < 2 ^ 64 → IsAlignMask w.align_mask → IsRoundedTo b w (rounded b w)
+rounds b w s small mask =
+    let n = is_next_power_of_two (max (max w.size (w.align_mask + 1)) (max b.atom b.minimal)) (omega (arith, small, mask.bound, s.atom.1.1, s.minimal.1.1, pow-le s.atom.0 62 s.atom.1.0, pow-le s.minimal.0 63 s.minimal.1.0)) in
+    record {
+      power = n.power;
+      enough = omega (arith, n.enough);
+      alignment = power_of_bit (w.align_mask + 1) mask.power;
+      aligned = omega (arith, n.enough);
+      atom = (s.atom.0, s.atom.1.1);
+      whole_atoms = omega (arith, n.enough);
+    }
+
+pub answers_refused : (a new : Account) (size flags : ℕ) (es : List Event) (answer : Result Leaf AllocationError) → Answers a size flags es answer new
+    → OnErr answer ((new.buddy ≡ a.buddy) × ((new.heap ≡ a.heap) × (new.remaining ≡ a.remaining)))
+answers_refused a new size flags es (Ok leaf) answers = tt
+answers_refused a new size flags es (Err e) answers =
+    let same = refused_keeps a new size flags es e answers in
+    (ap (λ (x : Account). x.buddy) same, (ap (λ (x : Account). x.heap) same, ap (λ (x : Account). x.remaining) same))
+
+pub answers_all_granted : (a new : Account) (w : Wanted) (size flags : ℕ) (es : List Event) (answer : Result Leaf AllocationError) (p : Properties) (f g : ℕ → Option Object) → IsSound a.buddy → Agrees a.buddy p f
+    → IsRoundedTo a.buddy w size → Answers a size flags es answer new → ObjectsAfter a.buddy size flags answer f g → IfOk answer (IsGranted a.buddy w new.buddy)
+answers_all_granted a new w size flags es (Ok leaf) p f g s agrees r answers objects = answers_granted a new w size flags es leaf p f g s agrees r answers objects
+answers_all_granted a new w size flags es (Err e) p f g s agrees r answers objects = tt
+
+-- Refusals before anything is done.
+
+pub refuses_size : (a : Account) (w : Wanted) (order : ℕ) → rounded a.buddy w ≡ 2 ^ order → 62 < order → RefusesFirst a w (Some OutOfDeviceMemory)
+refuses_size a w order is long fits_it = fits_not order long (subst Fits is fits_it)
+
+pub refuses_count : (a : Account) (w : Wanted) (order : ℕ) → rounded a.buddy w ≡ 2 ^ order → order ≤ 62 → (HasPlace a.buddy (2 ^ order) → ⊥) → a.remaining ≡ 0 → RefusesFirst a w (Some TooManyObjects)
+refuses_count a w order is short none nothing = (subst Fits (sym is) (fits order short), ((λ place. none (subst (HasPlace a.buddy) is place)), nothing))
+
+pub refuses_nothing : (a : Account) (w : Wanted) (order : ℕ) → rounded a.buddy w ≡ 2 ^ order → order ≤ 62 → HasPlace a.buddy (2 ^ order) ⊎ (0 < a.remaining) → RefusesFirst a w None
+refuses_nothing a w order is short (inl place) = (subst Fits (sym is) (fits order short), inl (subst (HasPlace a.buddy) (sym is) place))
+refuses_nothing a w order is short (inr some) = (subst Fits (sym is) (fits order short), inr some)
