@@ -1,18 +1,17 @@
 -- What follows from the answer to a request: agreement with the device, the totals, and what is known of the block.
-use Rattle.std.proofs.Common.{◌≡◌, ◌≢◌, ◌⊎◌, inl, inr, ℕ, zero, suc, ◌+◌, ◌*◌, ◌-◌, ◌/◌, ◌%◌, ◌^◌, ◌<◌, ◌≤◌, ◌==◌, Bool, true, false, cond, IsTrue, List, [], ◌∷◌, Option, Some, None, Result, Ok, Err, refl, sym, ◌∙◌, ap, subst, arith}
+use Rattle.std.proofs.Common.{◌≡◌, ◌≢◌, ◌⊎◌, inl, inr, ℕ, ◌+◌, ◌*◌, ◌-◌, ◌%◌, ◌^◌, ◌<◌, ◌≤◌, List, [], Option, Some, None, Result, Ok, Err, refl, sym, ◌∙◌, ap, subst, arith}
 use Rattle.std.specs.Prelude.{IfSome, IfOk, OnErr, max}
 use Rattle.std.specs.FinMap as map
-use Rattle.std.specs.Int.{is_power_of_two}
 use Rattle.std.specs.Cmp.{nat_cmp_total}
 use Rattle.std.specs.Ordering.{nat_cmp}
-use Rattle.gpu_alloc_types.specs.Device.{Object, Event, HeldWith, put}
+use Rattle.gpu_alloc_types.specs.Device.{Object, Event, HeldWith}
 use Rattle.gpu_alloc_types.specs.Objects.{put-same, put-other}
 use Rattle.gpu_alloc_types.specs.Properties.{Properties}
-use Rattle.gpu_alloc.specs.FreeSpace.{IsIn, IsMultipleOf}
-use Rattle.gpu_alloc.specs.Buddy.{Account, account, Wanted, Agrees, Answers, AsksForChunk, ObjectsAfter, BeginsChunk, Fits, HasPlace, IsFront, IsThere, IsGranted, chunk_size, question, sees_chunks, with_leaf, with_chunk, in_new_chunk, rounded, chunks_and_remaining, RefusesFirst}
-use Rattle.gpu_alloc.specs.BuddyState.{Chunk, Buddy, IsLiveLeaf, IsFreeAt}
-use Rattle.gpu_alloc.specs.BuddyInside.{IsSound, IsPowerUpTo}
-use Rattle.gpu_alloc.specs.NewChunk.{ChunkQuestion, HasOneChunkMore, IsChunkObject}
+use Rattle.gpu_alloc.specs.FreeSpace.{IsMultipleOf}
+use Rattle.gpu_alloc.specs.Buddy.{Account, account, Wanted, Agrees, Answers, ObjectsAfter, BeginsChunk, Fits, HasPlace, IsFront, IsThere, IsGranted, chunk_size, question, sees_chunks, with_leaf, with_chunk, rounded, chunks_and_remaining, RefusesFirst}
+use Rattle.gpu_alloc.specs.BuddyState.{Chunk, Buddy}
+use Rattle.gpu_alloc.specs.BuddyInside.{IsSound}
+use Rattle.gpu_alloc.specs.NewChunk.{ChunkQuestion, HasOneChunkMore}
 use Rattle.gpu_alloc.specs.declared.buddy.block.Leaf.{Leaf}
 use Rattle.gpu_alloc.specs.declared.error.AllocationError.{AllocationError}
 use Rattle.gpu_alloc.specs.declared.error.AllocationError.TheVariants.{OutOfDeviceMemory, OutOfHostMemory, NoCompatibleMemoryTypes, TooManyObjects}
@@ -49,8 +48,7 @@ still_held q object f g P name more held =
 
 new_is_there : (q : ChunkQuestion) (chunk : Chunk) (f g : ℕ → Option Object) → HasOneChunkMore q chunk.object f g → chunk.size ≡ q.size → HeldWith g chunk.object (IsThere q.memory_type q.visible chunk)
 new_is_there q chunk f g more size =
-    let o : Object = more.1.0 in
-    (
+    let o : Object = more.1.0 in (
       o,
       ap (λ h. h chunk.object) more.1.2 ∙ put-same f chunk.object (Some o),
       record {

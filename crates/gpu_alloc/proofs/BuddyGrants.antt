@@ -12,16 +12,16 @@ use Rattle.std.specs.List.{All, IsDistinct}
 use Rattle.std.specs.Ordering.{nat_cmp, eq_by_cmp}
 use Rattle.std.specs.FinMap as map
 use Rattle.std.specs.FinSet as set
-use Rattle.gpu_alloc.specs.FreeSpace.{IsIn, IsMultipleOf, IsPlace, IsFreePiece}
-use Rattle.gpu_alloc.specs.Pieces.{InPiece, AreKept, AreKeptBeside}
+use Rattle.gpu_alloc.specs.FreeSpace.{IsIn, IsMultipleOf, IsFreePiece}
+use Rattle.gpu_alloc.specs.Pieces.{AreKept, AreKeptBeside}
 use Rattle.gpu_alloc_types.specs.Device.{Object, Event, HeldWith}
 use Rattle.gpu_alloc_types.specs.Properties.{Properties}
-use Rattle.gpu_alloc.specs.Buddy.{Account, account, in_new_chunk, Agrees, Answers, AsksForChunk, HasPlace, IsFront, BeginsChunk, chunk_size, question, sees_chunks, IsThere, with_leaf, with_chunk}
+use Rattle.gpu_alloc.specs.Buddy.{Account, account, in_new_chunk, Agrees, Answers, AsksForChunk, HasPlace, IsFront, chunk_size, question, sees_chunks, IsThere, with_leaf, with_chunk}
 use Rattle.gpu_alloc.specs.NewChunk.{AsksChunkTwice, chunk_question}
 use Rattle.gpu_alloc.specs.declared.error.AllocationError.{AllocationError}
 use Rattle.gpu_alloc.specs.declared.error.AllocationError.TheVariants.{OutOfDeviceMemory, OutOfHostMemory, NoCompatibleMemoryTypes, TooManyObjects}
 use Rattle.gpu_alloc.specs.BuddyState.{Chunk, Buddy, IsLiveLeaf, IsFreeAt, leaf_cmp}
-use Rattle.gpu_alloc.specs.BuddyInside.{LiesInChunk, IsUsedChunk, IsPowerUpTo, IsSound, IsStored, buddy_in, same_leaf}
+use Rattle.gpu_alloc.specs.BuddyInside.{LiesInChunk, IsPowerUpTo, IsSound, IsStored, buddy_in, same_leaf}
 use Rattle.gpu_alloc.specs.declared.buddy.block.Leaf.{Leaf}
 use Rattle.gpu_alloc.specs.declared.buddy.pieces.Piece.{Piece}
 use Rattle.gpu_alloc.specs.declared.heap.Heap.{Heap}
@@ -46,8 +46,7 @@ pub place_in : (b : Buddy) (pieces : List Piece) (p : Piece) (order : ℕ) → A
 place_in b pieces p order kept has le =
     let aligned = kept.canonical.aligned p has in
     let e = pow-from_shorter order p.order le in
-    let longer : 2 ^ order ≤ 2 ^ p.order = pow-le order p.order le in
-    (
+    let longer : 2 ^ order ≤ 2 ^ p.order = pow-le order p.order le in (
       p.chunk,
       p.start,
       record {
@@ -218,7 +217,7 @@ pub taken : (b : Buddy) (new : List Piece) (front : Piece) (leaf : Leaf) (chunk 
     → map.get b.chunks leaf.chunk ≡ Some chunk → leaf.object ≡ chunk.object → IsTaken b new leaf
 taken b new front leaf chunk s of beside held object =
     let free : (at : ℕ) → IsIn leaf.offset leaf.size at → IsFreeAt b leaf.chunk at = λ at i. subst (λ k. IsFreeAt b k at) (sym of.chunk)
-        (beside.beside.inside at (record { from = omega (arith, i.from, of.offset); to = omega (arith, i.to, of.offset, of.size) })) in
+    (beside.beside.inside at (record { from = omega (arith, i.from, of.offset); to = omega (arith, i.to, of.offset, of.size) })) in
     let lies = in_hand_lies b new front beside in
     let there : Some chunk ≡ Some lies.held = sym held ∙ ap (λ k. map.get b.chunks k) of.chunk ∙ lies.is in
     let same : chunk ≡ lies.held = cc in

@@ -1,15 +1,15 @@
 -- A new object that is mapped, or given back.
-use Rattle.std.proofs.Common.{◌≡◌, ◌≢◌, ◌⊎◌, inl, inr, ℕ, ◌<◌, ◌≤◌, ◌+◌, Bool, true, false, cond, List, [], ◌∷◌, ◌++◌, Option, Some, None, Result, Ok, Err, refl, sym, ◌∙◌, ap, subst, arith, IsTrue, IsSome}
+use Rattle.std.proofs.Common.{◌≡◌, inl, inr, ℕ, ◌<◌, true, false, [], ◌∷◌, Option, Some, None, Ok, Err, refl, ◌∙◌, ap, arith}
 use Rattle.gpu_alloc_types.specs.Properties.{Properties, is_host_visible}
-use Rattle.gpu_alloc_types.specs.Device.{Object, Event, Row, HeldWith, IsHeld, IsMappable, put}
-use Rattle.gpu_alloc_types.specs.Device.Event.{Allocated, Deallocated, Mapped}
+use Rattle.gpu_alloc_types.specs.Device.{Object, Row, HeldWith, IsHeld, IsMappable, put}
+use Rattle.gpu_alloc_types.specs.Device.Event.{Allocated, Mapped}
 use Rattle.gpu_alloc_types.specs.Objects.{put-same, put-put, put-undone}
 use Rattle.gpu_alloc_types.specs.declared.types.DeviceMapError.{DeviceMapError}
 use Rattle.gpu_alloc_types.specs.declared.types.DeviceMapError.TheVariants.{OutOfDeviceMemory as MapDeviceFull, OutOfHostMemory as MapHostFull, MapFailed}
 use Rattle.gpu_alloc_types.specs.declared.types.OutOfMemory.{OutOfMemory}
 use Rattle.gpu_alloc_types.specs.declared.types.OutOfMemory.TheVariants.{OutOfDeviceMemory as DeviceFull, OutOfHostMemory as HostFull}
 use Rattle.gpu_alloc.specs.Errors.{like_memory}
-use Rattle.gpu_alloc.specs.NewChunk.{ChunkQuestion, HasOneChunkMore, AsksChunk, made, unmapped, new_chunk_refusal}
+use Rattle.gpu_alloc.specs.NewChunk.{ChunkQuestion, HasOneChunkMore, AsksChunk, unmapped, new_chunk_refusal}
 
 module _ (q : ChunkQuestion) (f g : ℕ → Option Object) (flags name : ℕ) (p : Properties) where
   -- a new object may be mapped whole

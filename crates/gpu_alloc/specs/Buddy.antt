@@ -1,15 +1,15 @@
 -- What the calls of a buddy allocator do.
-use Rattle.std.specs.Prelude.{◌≡◌, ◌⊎◌, ℕ, ◌+◌, ◌-◌, ◌*◌, ◌%◌, ◌^◌, ◌<◌, ◌≤◌, Bool, ◌==◌, List, [], ◌∷◌, length, max, Option, Some, None, Result, Ok, Err, IfSome, IsTrue, cond}
+use Rattle.std.specs.Prelude.{◌≡◌, ◌⊎◌, ℕ, ◌+◌, ◌-◌, ◌*◌, ◌%◌, ◌^◌, ◌<◌, ◌≤◌, Bool, List, [], ◌∷◌, length, max, Option, Some, None, Result, Ok, Err, IfSome, IsTrue}
 use Rattle.std.specs.FinMap as map
 use Rattle.std.specs.FinSet as set
 use Rattle.gpu_alloc_types.specs.Flags.{has_bit}
 use Rattle.gpu_alloc_types.specs.Properties.{Properties, props_at}
 use Rattle.gpu_alloc_types.specs.Device.{Object, Event, HeldWith, put}
 use Rattle.gpu_alloc_types.specs.Device.Event.{Deallocated}
-use Rattle.gpu_alloc.specs.FreeSpace.{IsIn, IsMultipleOf, IsPlace, IsFreePiece}
+use Rattle.gpu_alloc.specs.FreeSpace.{IsIn, IsPlace, IsFreePiece}
 use Rattle.gpu_alloc.specs.NewChunk.{ChunkQuestion, made, LacksDeviceMemory, LacksHostMemory, IsGivenBack, HasOneChunkMore}
 use Rattle.gpu_alloc.specs.Sizes.{next_power_of_two}
-use Rattle.gpu_alloc.specs.BuddyState.{Chunk, Buddy, IsLiveLeaf, IsFreeAt, leaf_cmp}
+use Rattle.gpu_alloc.specs.BuddyState.{Chunk, Buddy, IsLiveLeaf, IsFreeAt}
 use Rattle.gpu_alloc.specs.declared.buddy.block.Leaf.{Leaf}
 use Rattle.gpu_alloc.specs.declared.error.AllocationError.{AllocationError}
 use Rattle.gpu_alloc.specs.declared.error.AllocationError.TheVariants.{OutOfDeviceMemory, OutOfHostMemory, NoCompatibleMemoryTypes, TooManyObjects}

@@ -1,6 +1,5 @@
 -- What a device is asked for a new shared chunk, and how that ends.
-use Rattle.std.specs.Prelude.{◌≡◌, ◌≢◌, ◌⊎◌, ℕ, Bool, true, false, List, [], ◌∷◌, ◌++◌, Option, Some, None, Result, Ok, Err, IsTrue, cond}
-use Rattle.gpu_alloc_types.specs.Flags.{has_bit}
+use Rattle.std.specs.Prelude.{◌≡◌, ◌≢◌, ◌⊎◌, ℕ, Bool, List, [], ◌∷◌, ◌++◌, Option, Some, None, Result, Ok, Err, IsTrue, cond}
 use Rattle.gpu_alloc_types.specs.Device.{Object, Event, Range, put}
 use Rattle.gpu_alloc_types.specs.Device.Event.{Allocated, Deallocated, Mapped}
 use Rattle.gpu_alloc_types.specs.declared.types.OutOfMemory.TheVariants.{OutOfDeviceMemory as DeviceFull, OutOfHostMemory as HostFull}

@@ -17,10 +17,10 @@ mod block;
 mod pieces;
 mod space;
 
+use crate::AllocationError;
 use crate::heap::Heap;
 use crate::new_chunk::new_chunk_with_handle;
 use crate::sizes::next_order;
-use crate::AllocationError;
 pub use block::BuddyBlock;
 pub(crate) use block::Leaf;
 use gpu_alloc_types::{AllocationFlags, MemoryDevice, MemoryObject, MemoryPropertyFlags};
@@ -269,11 +269,16 @@ impl<M: MemoryObject, A: Allocator> BuddyAllocator<M, A> {
         let chunk_order = self.next_order.max(order + 1);
         let size = bytes(chunk_order);
         let visible = self.props.intersects(MemoryPropertyFlags::HOST_VISIBLE);
-        let (memory, handle) =
-            match new_chunk_with_handle(device, size, self.memory_type, flags, visible) {
-                Ok(handles) => handles,
-                Err(refusal) => return Err(refusal),
-            };
+        let (memory, handle) = match new_chunk_with_handle(
+            device,
+            size,
+            self.memory_type,
+            flags,
+            visible,
+        ) {
+            Ok(handles) => handles,
+            Err(refusal) => return Err(refusal),
+        };
         let leaf = begin_chunk(
             &mut self.chunks,
             &mut self.pieces,

@@ -8,9 +8,7 @@ ghost use Rattle.gpu_alloc_types.specs.Device.{Event, Chain, IsAskable};
 ghost use Rattle.gpu_alloc.specs.NewChunk.{AsksChunk, ChunkAfter, AsksChunkTwice, ChunkAfterTwice, chunk_question, new_chunk_refusal};
 
 use crate::AllocationError;
-use gpu_alloc_types::{
-    AllocationFlags, DeviceMapError, MemoryDevice, MemoryObject, OutOfMemory,
-};
+use gpu_alloc_types::{AllocationFlags, DeviceMapError, MemoryDevice, MemoryObject, OutOfMemory};
 
 /// A refused mapping of a new chunk, as a refusal of the chunk.
 fn refusal_of(cause: DeviceMapError) -> AllocationError

@@ -1,14 +1,13 @@
-use Rattle.std.proofs.Common.{[], ◌∷◌, Ok, Err, refl, sym, ◌∙◌}
+use Rattle.std.proofs.Common.{[], ◌∷◌, Err, refl, ◌∙◌}
 use Rattle.gpu_alloc_types.specs.Flags.{allocation_bits}
-use Rattle.gpu_alloc_types.specs.Device.Event.{Allocated, Deallocated, Mapped}
+use Rattle.gpu_alloc_types.specs.Device.Event.{Allocated}
 use Rattle.gpu_alloc.specs.NewChunk.{ChunkQuestion, chunk_question, unmapped}
 use Rattle.gpu_alloc.proofs.NewChunks.{may_map, mapped_after, still_there, given_back, refused_question, refused_mapping}
 use Rattle.gpu_alloc.proofs.new_chunk.new_chunk.Goals as goal
 
 pub returns-in-Err-clause-asks : goal.returns-in-Err-clause-asks
 returns-in-Err-clause-asks g c =
-    let q : ChunkQuestion = chunk_question c.args.size c.args.memory_type (allocation_bits c.args.flags) c.args.visible in
-    (
+    let q : ChunkQuestion = chunk_question c.args.size c.args.memory_type (allocation_bits c.args.flags) c.args.visible in (
       Allocated c.args.size c.args.memory_type (allocation_bits c.args.flags) (Err c.in-Err.refusal) ∷ [],
       (c.allocate_memory.new.self, c.in-Err.ensures, refl),
       rw c.from.ensures (refused_question q c.in-Err.refusal),
@@ -39,8 +38,7 @@ returns-in-Ok-map_memory-clause-objects g c =
 
 pub returns-in-Err-map_memory-clause-asks : goal.returns-in-Err-map_memory-clause-asks
 returns-in-Err-map_memory-clause-asks g c =
-    let q : ChunkQuestion = chunk_question c.args.size c.args.memory_type (allocation_bits c.args.flags) c.args.visible in
-    (
+    let q : ChunkQuestion = chunk_question c.args.size c.args.memory_type (allocation_bits c.args.flags) c.args.visible in (
       unmapped q (g.M.MemoryObject.object c.in-Ok.memory) c.in-Err-map_memory.cause,
       (c.allocate_memory.new.self, c.in-Ok.ensures, (c.map_memory.new.self, c.in-Err-map_memory.ensures, (c.deallocate_memory.new.self, c.deallocate_memory.ensures, refl))),
       rw c.refusal_of.ensures (refused_mapping q (g.M.MemoryObject.object c.in-Ok.memory) c.in-Err-map_memory.cause c.if-not-visible.false),

@@ -1,8 +1,8 @@
-use Rattle.std.proofs.Common.{[], ◌∷◌, ◌++◌, refl, ap, inr}
+use Rattle.std.proofs.Common.{[], ◌∷◌, ◌++◌, ap, inr}
 use Rattle.gpu_alloc_types.specs.Flags.{allocation_bits}
 use Rattle.gpu_alloc_types.specs.Chains.{chain_more}
 use Rattle.gpu_alloc_types.specs.Device.Event.{Deallocated}
-use Rattle.gpu_alloc.specs.NewChunk.{ChunkQuestion, chunk_question, made}
+use Rattle.gpu_alloc.specs.NewChunk.{ChunkQuestion, chunk_question}
 use Rattle.gpu_alloc.proofs.NewChunks.{chunk_is_there, chunk_given_back}
 use Rattle.gpu_alloc.proofs.new_chunk.new_chunk_with_handle.Goals as goal
 
@@ -15,8 +15,7 @@ pub returns-in-Err-clause-asks : goal.returns-in-Err-clause-asks
 returns-in-Err-clause-asks g c =
     let q : ChunkQuestion = chunk_question c.args.size c.args.memory_type (allocation_bits c.args.flags) c.args.visible in
     let object = g.M.MemoryObject.object c.in_ok-memory.memory in
-    let asked = c.in_ok-memory.ensures.asks in
-    (
+    let asked = c.in_ok-memory.ensures.asks in (
       asked.0 ++ Deallocated object ∷ [],
       chain_more g.D.MemoryDevice.step asked.0 (Deallocated object) c.args.device.now c.new_chunk.new.device c.deallocate_memory.new.self asked.1 c.deallocate_memory.ensures,
       inr (object, ap (λ es. es ++ Deallocated object ∷ []) asked.2),

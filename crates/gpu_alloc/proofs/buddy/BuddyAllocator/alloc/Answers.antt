@@ -1,4 +1,4 @@
-use Rattle.std.proofs.Common.{◌≡◌, ◌^◌, sym, subst, arith}
+use Rattle.std.proofs.Common.{◌^◌, sym, subst, arith}
 use Rattle.gpu_alloc_types.specs.Flags.{allocation_bits}
 use Rattle.gpu_alloc.specs.Buddy.{account, wanted, rounded, Answers, ObjectsAfter}
 use Rattle.gpu_alloc.proofs.BuddyAnswers.{rounds, answers_agree, answers_all_granted, answers_total}

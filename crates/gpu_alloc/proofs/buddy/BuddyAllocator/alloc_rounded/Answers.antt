@@ -1,4 +1,4 @@
-use Rattle.std.proofs.Common.{◌≡◌, ◌<◌, ◌^◌, [], inl, inr, refl, sym, ap, subst, arith}
+use Rattle.std.proofs.Common.{◌^◌, [], inl, refl, ap, subst, arith}
 use Rattle.gpu_alloc_types.specs.Flags.{allocation_bits}
 use Rattle.gpu_alloc.specs.Buddy.{account, HasPlace}
 use Rattle.gpu_alloc.proofs.BuddyAnswers.{fits, fits_not, place_refused}
@@ -14,18 +14,16 @@ returns-in-Ok-Some-clause-answers g c =
 
 pub returns-in-Err-clause-answers : goal.returns-in-Err-clause-answers
 returns-in-Err-clause-answers g c =
-    let refused = c.in-Err.ensures in
-    (
+    let refused = c.in-Err.ensures in (
       [],
       refl,
       place_refused (account c.args.self.now c.args.heap.now c.args.allocations_remains.now) (2 ^ c.args.order) (allocation_bits c.args.flags) c.in-Err.refusal c.take_place.new.self
-      (fits c.args.order (omega (arith, c.if-order-gt62.false))) refused.0 refused.1.0 refused.1.1,
+          (fits c.args.order (omega (arith, c.if-order-gt62.false))) refused.0 refused.1.0 refused.1.1,
     )
 
 pub returns-then-allocations_remains-eq0-clause-answers : goal.returns-then-allocations_remains-eq0-clause-answers
 returns-then-allocations_remains-eq0-clause-answers g c =
-    let none = rw (c.in-Ok-None.field-0-is) at c.in-Ok-None.ensures in
-    (
+    let none = rw (c.in-Ok-None.field-0-is) at c.in-Ok-None.ensures in (
       [],
       refl,
       (

@@ -1,9 +1,7 @@
 use Rattle.std.proofs.Common.{◌≡◌, ◌+◌, ◌≤◌, ◌^◌, refl, sym, ◌∙◌, ap, arith, vec_capacity}
 use Rattle.std.specs.Prelude.{max}
 use Rattle.gpu_alloc_types.specs.Flags.{property_bits}
-use Rattle.gpu_alloc.specs.BuddyInside.{IsPowerUpTo}
 use Rattle.gpu_alloc.specs.Sizes.{next_power_of_two}
-use Rattle.gpu_alloc.proofs.AlignedPowers.{order-le}
 use Rattle.gpu_alloc.proofs.BuddyGrants.{sound_empty, stored_empty, power_up_to, power_below}
 use Rattle.gpu_alloc.proofs.PowersOfTwo.{power_of_bit, power_is_next, greater_power}
 use Rattle.gpu_alloc.proofs.buddy.BuddyAllocator.new.Goals as goal
@@ -19,7 +17,7 @@ invariant_of-result g c =
     let short : c.next_order.result ≤ 63 = power_below c.next_order.result (omega (arith, next, c.ranges.minimal_size.fits, c.ranges.initial_dedicated_size.fits)) in
     rw (c.new-3.ensures.items, c.new-2.ensures.items, c.new.ensures.empty) (
       sound_empty c.next_order.result c.args.minimal_size c.args.memory_type (property_bits c.args.props) (c.args.atom_mask + 1) short
-      (power_up_to 63 c.args.minimal_size minimal (omega (arith, c.ranges.minimal_size.fits))) (power_up_to 62 (c.args.atom_mask + 1) atom (omega (arith, c.requires.atom_bound))),
+          (power_up_to 63 c.args.minimal_size minimal (omega (arith, c.ranges.minimal_size.fits))) (power_up_to 62 (c.args.atom_mask + 1) atom (omega (arith, c.requires.atom_bound))),
       stored_empty c.next_order.result c.args.minimal_size c.args.memory_type (property_bits c.args.props) (c.args.atom_mask + 1) (vec_capacity c.new-2.result),
     )
 

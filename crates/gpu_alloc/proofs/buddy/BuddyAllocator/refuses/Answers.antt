@@ -1,4 +1,4 @@
-use Rattle.std.proofs.Common.{◌≡◌, true, inl, inr, refl, sym, ◌∙◌, arith}
+use Rattle.std.proofs.Common.{inl, inr, arith}
 use Rattle.gpu_alloc.specs.Buddy.{account, wanted}
 use Rattle.gpu_alloc.proofs.BuddyAnswers.{refuses_size, refuses_count, refuses_nothing}
 use Rattle.gpu_alloc.proofs.buddy.BuddyAllocator.refuses.Goals as goal

@@ -1,18 +1,17 @@
-use Rattle.std.proofs.Common.{◌≡◌, ℕ, ◌+◌, ◌≤◌, ◌<◌, ◌^◌, ◌++◌, ◌∷◌, [], inl, inr, List, length, get_or, Some, None, Ok, Err, refl, sym, ◌∙◌, ap, subst, arith, vec_len, vec_capacity}
-use Rattle.std.specs.Prelude.{option_map, max}
+use Rattle.std.proofs.Common.{◌≡◌, ℕ, ◌+◌, ◌^◌, ◌++◌, ◌∷◌, [], inl, inr, length, Some, None, Err, refl, sym, ◌∙◌, ap, subst, arith, vec_capacity}
+use Rattle.std.specs.Prelude.{option_map}
 use Rattle.std.specs.FinMap as map
 use Rattle.std.proofs.lemmas.List.{length-append}
 use Rattle.slab.specs.Slab.{Slab}
 use Rattle.gpu_alloc_types.specs.Flags.{property_bits, allocation_bits}
-use Rattle.gpu_alloc.specs.Buddy.{Account, account, Answers, question, AsksForChunk, BeginsChunk, in_new_chunk, chunk_size, with_leaf, with_chunk}
+use Rattle.gpu_alloc.specs.Buddy.{account, Answers, question, BeginsChunk, chunk_size}
 use Rattle.gpu_alloc.specs.BuddyState.{Buddy, Chunk, IsFreeAt}
 use Rattle.gpu_alloc.specs.BuddyInside.{buddy_in}
-use Rattle.gpu_alloc.specs.NewChunk.{ChunkQuestion, chunk_question, made, AsksChunkTwice, HasOneChunkMore}
+use Rattle.gpu_alloc.specs.NewChunk.{chunk_question, made, AsksChunkTwice, HasOneChunkMore}
 use Rattle.gpu_alloc.specs.Pieces.{AreKept}
 use Rattle.gpu_alloc.specs.SlabViews.{by_key}
 use Rattle.gpu_alloc.specs.declared.buddy.Chunk.{Chunk as HeldChunk}
 use Rattle.gpu_alloc.specs.declared.buddy.block.Leaf.{Leaf}
-use Rattle.gpu_alloc.specs.declared.heap.Heap.{Heap}
 use Rattle.gpu_alloc.proofs.BuddyGrants.{when_ok, power_order, question_is, chunk_size_is, in_new_chunk_is, refused_chunk, other_objects, no_leaf_at, with_chunk_in, stored_with_chunk}
 use Rattle.gpu_alloc.proofs.SlabViews.{get_by_key, by_key_put}
 use Rattle.gpu_alloc.proofs.buddy.BuddyAllocator.take_chunk.Given.{Over}
@@ -57,12 +56,11 @@ returns-in-Err-clause-answers g c =
     let lacks = subst (λ q. AsksChunkTwice q told.0 (Err c.in-Err.refusal)) is told.2 in
     let after : Buddy = buddy_in (by_key (seen g) c.reserve.new.self) c.make_room.new.live.items c.self.inside.next_order c.self.inside.minimal_size c.self.inside.memory_type (property_bits c.self.inside.props) c.self.inside.atom in
     let same : after ≡ b = rw (c.make_room.ensures.live, c.reserve.ensures.rest_kept) refl in
-    let refused = refused_chunk (account b c.args.heap.now c.args.allocations_remains.now) (2 ^ c.args.order) (allocation_bits c.args.flags) told.0 c.in-Err.refusal asks lacks in
-    (
+    let refused = refused_chunk (account b c.args.heap.now c.args.allocations_remains.now) (2 ^ c.args.order) (allocation_bits c.args.flags) told.0 c.in-Err.refusal asks lacks in (
       told.0,
       told.1,
       subst (λ x. Answers (account x c.args.heap.now c.args.allocations_remains.now) (2 ^ c.args.order) (allocation_bits c.args.flags) told.0 (Err c.in-Err.refusal) (account after c.args.heap.now c.args.allocations_remains.now)) c.self.view_is
-      (subst (λ x. Answers (account b c.args.heap.now c.args.allocations_remains.now) (2 ^ c.args.order) (allocation_bits c.args.flags) told.0 (Err c.in-Err.refusal) (account x c.args.heap.now c.args.allocations_remains.now)) (sym same) refused),
+          (subst (λ x. Answers (account b c.args.heap.now c.args.allocations_remains.now) (2 ^ c.args.order) (allocation_bits c.args.flags) told.0 (Err c.in-Err.refusal) (account x c.args.heap.now c.args.allocations_remains.now)) (sym same) refused),
     )
 
 -- The new chunk, and the block in it.
@@ -116,8 +114,19 @@ invariant_of-self-2 g c =
     c.begin_chunk-leaf.new.pieces.items (vec_capacity c.begin_chunk-leaf.new.pieces) c.args.order c.self.invariant.0 c.self.invariant.1.once (none g c) (other g c)
     (omega (arith, c.max-chunk_order.ensures, short, c.requires.short)) (ap (λ (l : Leaf). l.size) is) (omega (arith, c.max-chunk_order.ensures)) (ap (λ (l : Leaf). l.offset) is)
     (c.begin_chunk-leaf.ensures.kept b (none g c) (no_leaf_at b leaf.chunk c.self.invariant.0 (none g c)) kept)
-    (omega (arith, c.max-chunk_order.ensures, short, c.requires.short, made_room, c.begin_chunk-leaf.ensures.count, c.begin_chunk-leaf.ensures.capacity, long, lives,
-    c.begin_chunk-leaf.new.pieces.ok.0, c.make_room.new.live.ok.0))
+    (omega (
+      arith,
+      c.max-chunk_order.ensures,
+      short,
+      c.requires.short,
+      made_room,
+      c.begin_chunk-leaf.ensures.count,
+      c.begin_chunk-leaf.ensures.capacity,
+      long,
+      lives,
+      c.begin_chunk-leaf.new.pieces.ok.0,
+      c.make_room.new.live.ok.0,
+    ))
 
 begins : (g : Over) (c : After-new g) → BeginsChunk (before g c) (2 ^ c.args.order) c.begin_chunk-leaf.result
 begins g c = let is = c.begin_chunk-leaf.ensures.leaf in record { of_size = ap (λ (l : Leaf). l.size) is; start = ap (λ (l : Leaf). l.offset) is; free_key = none g c }

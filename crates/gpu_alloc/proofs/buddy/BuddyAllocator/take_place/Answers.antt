@@ -1,16 +1,14 @@
-use Rattle.std.proofs.Common.{◌≡◌, ◌+◌, ◌≤◌, ◌<◌, ◌^◌, ◌++◌, ◌∷◌, [], List, length, get_or, Some, None, refl, sym, ◌∙◌, ap, subst, arith, vec_len, vec_capacity}
-use Rattle.std.specs.Prelude.{option_map, IsSome}
+use Rattle.std.proofs.Common.{◌≡◌, ◌+◌, ◌≤◌, ◌^◌, ◌++◌, ◌∷◌, [], length, get_or, Some, refl, sym, ◌∙◌, ap, subst, arith, vec_len, vec_capacity}
+use Rattle.std.specs.Prelude.{option_map}
 use Rattle.std.specs.FinMap as map
-use Rattle.std.proofs.lemmas.List.{length-append}
-use Rattle.gpu_alloc.specs.BuddyState.{Buddy, Chunk, IsFreeAt}
+use Rattle.gpu_alloc.specs.BuddyState.{Chunk, IsFreeAt}
 use Rattle.gpu_alloc.specs.BuddyInside.{buddy_in}
 use Rattle.gpu_alloc.specs.SlabViews.{by_key}
 use Rattle.gpu_alloc_types.specs.Flags.{property_bits}
 use Rattle.gpu_alloc.specs.Pieces.{AreKept}
 use Rattle.gpu_alloc.specs.declared.buddy.block.Leaf.{Leaf}
-use Rattle.gpu_alloc.specs.declared.buddy.pieces.Piece.{Piece}
 use Rattle.gpu_alloc.specs.declared.buddy.Chunk.{Chunk as HeldChunk}
-use Rattle.gpu_alloc.proofs.BuddyCalls.{IsLeafOf, kept_lies, bounded_pieces}
+use Rattle.gpu_alloc.proofs.BuddyCalls.{kept_lies, bounded_pieces}
 use Rattle.gpu_alloc.proofs.BuddyGrants.{no_place, place_at, IsShortestAt, IsFrontOf, shortest_front, chunk_of_front, taken, with_leaf_in, stored_with_leaf, bounded_chunks, when_ok}
 use Rattle.gpu_alloc.proofs.SlabViews.{found_by_key, get_by_key}
 use Rattle.gpu_alloc.proofs.buddy.BuddyAllocator.take_place.Given.{Over}
@@ -87,7 +85,7 @@ invariant_of-self-2 g c =
     let p = c.index.result.now in
     let bounded = bounded_pieces b c.self.inside.pieces.items (bounded_chunks b c.self.invariant.0) c.self.invariant.1.kept c.in-Some.index p f.shortest.0 in
     let count : vec_len c.take_front-front.new.pieces + 1 + c.args.order ≡ vec_len c.make_room.new.pieces + (get_or c.self.inside.pieces.items c.in-Some.index p).order = c.take_front-front.ensures.count p
-        ∙ ap (λ ps. vec_len c.make_room.new.pieces + (get_or ps c.in-Some.index p).order) c.make_room.ensures.pieces in
+    ∙ ap (λ ps. vec_len c.make_room.new.pieces + (get_or ps c.in-Some.index p).order) c.make_room.ensures.pieces in
     let room : length c.take_front-front.new.pieces.items + length c.push_reserved.new.self.items ≤ vec_capacity c.take_front-front.new.pieces =
     omega (arith, made, count, bounded.0, c.take_front-front.ensures.capacity, c.push_reserved.ensures.len, c.take_front-front.new.pieces.ok.0, c.push_reserved.new.self.ok.0) in
     stored_with_leaf (by_key (seen g) c.self.inside.chunks) c.self.inside.next_order c.self.inside.minimal_size c.self.inside.memory_type (property_bits c.self.inside.props) c.self.inside.atom
@@ -99,5 +97,5 @@ returns g c =
     rw (← c.self.view_is, c.new.ensures) (
       shortest_front b c.self.inside.pieces.items c.in-Some.index c.args.order c.index.result.now c.take_front-front.result c.leaf_of-leaf.result (seen g c.index-2.result.now) c.self.invariant.1.kept (front g c) (held g c) (object g c),
       with_leaf_in (by_key (seen g) c.self.inside.chunks) c.self.inside.next_order c.self.inside.minimal_size c.self.inside.memory_type (property_bits c.self.inside.props) c.self.inside.atom
-      c.self.inside.live.items c.push_reserved.new.self.items c.leaf_of-leaf.result (live g c),
+          c.self.inside.live.items c.push_reserved.new.self.items c.leaf_of-leaf.result (live g c),
     )
