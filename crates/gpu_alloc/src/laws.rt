@@ -4,6 +4,8 @@ ghost use Rattle.std.specs.Prelude.{◌≡◌, ◌≤◌, ◌^◌, ◌↔◌, �
 ghost use Rattle.gpu_alloc_types.specs.declared.types.MemoryType.{MemoryType};
 ghost use Rattle.gpu_alloc.specs.Allocation.{strategy};
 ghost use Rattle.gpu_alloc.specs.Allocation.Strategy.{OwnObject, InBuddyChunk, InFreeList};
+ghost use Rattle.gpu_alloc.specs.Buddy.{opened as empty_buddy, wanted, rounded, chunk_size};
+ghost use Rattle.gpu_alloc.specs.BuddyState.{Buddy, IsFreeAt};
 ghost use Rattle.gpu_alloc.specs.Config.{potato, prototyping};
 ghost use Rattle.gpu_alloc.specs.FreeSpace.{IsIn, IsPlace, IsFreePiece, IsFreeByte};
 ghost use Rattle.gpu_alloc.specs.Pieces.{IsCanonical};
@@ -44,13 +46,29 @@ pub fn rankings_of_samples()
 /// Pieces that are aligned and apart, of which no two are halves of one range, and which together are the free bytes, are
 /// exactly the longest free ranges of a power of two.
 pub fn kept_pieces_are_the_free_pieces()
-    ensures exact { (s : State) (memory_type : ℕ) (kind : Kind) (pieces : List Piece) → IsCanonical (Contains pieces) (IsFreeByte s memory_type kind) → (p : Piece) → Contains pieces p ↔ IsFreePiece (IsFreeByte s memory_type kind) p.chunk p.start (2 ^ p.order) }
-    ensures place { (s : State) (memory_type : ℕ) (kind : Kind) (pieces : List Piece) → IsCanonical (Contains pieces) (IsFreeByte s memory_type kind) → (object start order : ℕ) → IsPlace (IsFreeByte s memory_type kind) object start (2 ^ order) → (p : Piece) × Contains pieces p × (order ≤ p.order) }
+    ensures exact { (b : Buddy) (pieces : List Piece) → IsCanonical (Contains pieces) (IsFreeAt b) → (p : Piece) → Contains pieces p ↔ IsFreePiece (IsFreeAt b) p.chunk p.start (2 ^ p.order) }
+    ensures place { (b : Buddy) (pieces : List Piece) → IsCanonical (Contains pieces) (IsFreeAt b) → (chunk start order : ℕ) → IsPlace (IsFreeAt b) chunk start (2 ^ order) → (p : Piece) × Contains pieces p × (order ≤ p.order) }
 {}
 
 /// Two free pieces that share a byte are one.
 pub fn free_pieces_are_apart()
-    ensures { (s : State) (memory_type : ℕ) (kind : Kind) (object a n b m at : ℕ) → IsFreePiece (IsFreeByte s memory_type kind) object a n → IsFreePiece (IsFreeByte s memory_type kind) object b m → IsIn a n at → IsIn b m at → (a ≡ b) × (n ≡ m) }
+    ensures in_chunks { (b : Buddy) (chunk a n c m at : ℕ) → IsFreePiece (IsFreeAt b) chunk a n → IsFreePiece (IsFreeAt b) chunk c m → IsIn a n at → IsIn c m at → (a ≡ c) × (n ≡ m) }
+    ensures in_objects { (s : State) (memory_type : ℕ) (kind : Kind) (object a n b m at : ℕ) → IsFreePiece (IsFreeByte s memory_type kind) object a n → IsFreePiece (IsFreeByte s memory_type kind) object b m → IsIn a n at → IsIn b m at → (a ≡ b) × (n ≡ m) }
+{}
+
+/// Sizes of buddy blocks and of the chunks for them, over a least block of 1 and a first chunk of 8192, with an atom, and
+/// with a least block that is larger.
+#[tactic(auto, unfolding(crate::specs::Sizes::doubled_up))]
+pub fn buddy_sizes_of_samples()
+    ensures small { rounded (empty_buddy 1 8192 0 1 1) (wanted 100 0 0) ≡ 128 }
+    ensures small_chunk { chunk_size (empty_buddy 1 8192 0 1 1) 128 ≡ 8192 }
+    ensures large { rounded (empty_buddy 1 8192 0 1 1) (wanted 20000 0 0) ≡ 32768 }
+    ensures large_chunk { chunk_size (empty_buddy 1 8192 0 1 1) 32768 ≡ 65536 }
+    ensures aligned { rounded (empty_buddy 1 8192 0 1 1) (wanted 1 16383 0) ≡ 16384 }
+    ensures past_64_bits { rounded (empty_buddy 1 8192 0 1 1) (wanted 1 9223372036854775807 0) ≡ 9223372036854775808 }
+    ensures atom { rounded (empty_buddy 1 128 0 2 64) (wanted 20 0 0) ≡ 64 }
+    ensures least { rounded (empty_buddy 1024 1 0 1 1) (wanted 1 0 0) ≡ 1024 }
+    ensures least_chunk { chunk_size (empty_buddy 1024 1 0 1 1) 1024 ≡ 2048 }
 {}
 
 /// The next power of two is the least one that is not below.
