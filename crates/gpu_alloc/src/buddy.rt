@@ -111,6 +111,9 @@ impl<M: MemoryObject, A: Allocator> BuddyAllocator<M, A> {
     /// mapped whole. `heap` is the ledger of the memory type's heap, to which a chunk is added, and `allocations_remains`
     /// how many more objects may be held, which a chunk lowers.
     ///
+    /// The size has to be at least 1, `align_mask + 1` a power of two of at most 2^63, the address flag set only where the
+    /// device has the feature, and the device the one that this allocator has served.
+    ///
     /// Refusals, after which all is as before: `OutOfDeviceMemory` where a chunk would be of 2^64 bytes or more, and where
     /// the device answers so; `TooManyObjects` where a chunk is wanted and no more objects may be held; `OutOfHostMemory`
     /// where the host's memory is refused to the allocator or to the device, and where a chunk cannot be mapped. A chunk
@@ -169,6 +172,58 @@ impl<M: MemoryObject, A: Allocator> BuddyAllocator<M, A> {
             return None;
         }
         Some(AllocationError::TooManyObjects)
+    }
+
+    /// Takes a block back. Free halves are joined, and a chunk in which no other block is live goes back to the device at
+    /// once: then `heap` is lowered by its size, and one more object may be held. It takes no memory and cannot fail.
+    ///
+    /// The block has to be live here, and the device the one that this allocator has served.
+    pub fn dealloc<D: MemoryDevice<M>>(
+        &mut self,
+        device: &mut D,
+        block: BuddyBlock<M>,
+        heap: &mut Heap,
+        allocations_remains: &mut u32,
+    )
+        requires live { IsLiveLeaf self.old block }
+        requires agrees { Agrees self.old (D.properties device.old) (D.objects device.old) }
+        requires counted { IsCounted (account self.old heap.old allocations_remains.old) }
+
+        ensures frees { (es : List Event) × Chain D.step device.old es device.new × Frees (account self.old heap.old allocations_remains.old) block es (account self.new heap.new allocations_remains.new) }
+        ensures objects { ObjectsFreed self.old block (D.objects device.old) (D.objects device.new) }
+        ensures agrees { Agrees self.new (D.properties device.new) (D.objects device.new) }
+        ensures total { chunks_and_remaining (account self.new heap.new allocations_remains.new) ≡ chunks_and_remaining (account self.old heap.old allocations_remains.old) }
+    {
+        let (memory, leaf) = block.into_parts();
+        forget(&mut self.live, leaf);
+        let piece = Piece {
+            chunk: leaf.chunk,
+            start: leaf.offset,
+            order: order_of(leaf.size),
+        };
+        let limit = self.chunks[leaf.chunk].order;
+        if put_back(&mut self.pieces, piece, limit).is_some() {
+            let _ = self.chunks.remove(leaf.chunk);
+            device.deallocate_memory(&memory);
+            heap.dealloc(bytes(limit));
+            *allocations_remains += 1;
+        }
+    }
+
+    /// Ends an allocator that holds no chunk.
+    pub fn close(self)
+        requires { map.len self.chunks ≡ 0 }
+    {
+        let BuddyAllocator {
+            chunks: _,
+            pieces: _,
+            live: _,
+            next_order: _,
+            minimal_size: _,
+            memory_type: _,
+            props: _,
+            atom: _,
+        } = self;
     }
 
     /// The size of a block for a request, as the exponent of a power of two.
@@ -293,58 +348,6 @@ impl<M: MemoryObject, A: Allocator> BuddyAllocator<M, A> {
         heap.alloc(size);
         *allocations_remains -= 1;
         Ok(BuddyBlock::new(handle, leaf))
-    }
-
-    /// Takes a block back. Free halves are joined, and a chunk in which no other block is live goes back to the device at
-    /// once: then `heap` is lowered by its size, and one more object may be held. It takes no memory and cannot fail.
-    ///
-    /// The block has to be live here, and the device the one that this allocator has served.
-    pub fn dealloc<D: MemoryDevice<M>>(
-        &mut self,
-        device: &mut D,
-        block: BuddyBlock<M>,
-        heap: &mut Heap,
-        allocations_remains: &mut u32,
-    )
-        requires live { IsLiveLeaf self.old block }
-        requires agrees { Agrees self.old (D.properties device.old) (D.objects device.old) }
-        requires counted { IsCounted (account self.old heap.old allocations_remains.old) }
-
-        ensures frees { (es : List Event) × Chain D.step device.old es device.new × Frees (account self.old heap.old allocations_remains.old) block es (account self.new heap.new allocations_remains.new) }
-        ensures objects { ObjectsFreed self.old block (D.objects device.old) (D.objects device.new) }
-        ensures agrees { Agrees self.new (D.properties device.new) (D.objects device.new) }
-        ensures total { chunks_and_remaining (account self.new heap.new allocations_remains.new) ≡ chunks_and_remaining (account self.old heap.old allocations_remains.old) }
-    {
-        let (memory, leaf) = block.into_parts();
-        forget(&mut self.live, leaf);
-        let piece = Piece {
-            chunk: leaf.chunk,
-            start: leaf.offset,
-            order: order_of(leaf.size),
-        };
-        let limit = self.chunks[leaf.chunk].order;
-        if put_back(&mut self.pieces, piece, limit).is_some() {
-            let _ = self.chunks.remove(leaf.chunk);
-            device.deallocate_memory(&memory);
-            heap.dealloc(bytes(limit));
-            *allocations_remains += 1;
-        }
-    }
-
-    /// Ends an allocator that holds no chunk.
-    pub fn close(self)
-        requires { map.len self.chunks ≡ 0 }
-    {
-        let BuddyAllocator {
-            chunks: _,
-            pieces: _,
-            live: _,
-            next_order: _,
-            minimal_size: _,
-            memory_type: _,
-            props: _,
-            atom: _,
-        } = self;
     }
 }
 
