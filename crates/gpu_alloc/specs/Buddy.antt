@@ -42,7 +42,7 @@ rounded b w = next_power_of_two (max (max w.size (w.align_mask + 1)) (max b.atom
 abbrev pub chunk_size : Buddy → ℕ → ℕ
 chunk_size b size = max b.next_chunk (2 * size)
 
--- a chunk for two blocks of this size has a size of 64 bits
+-- a chunk for two blocks of this size is below 2^64 bytes
 abbrev pub Fits : ℕ → Type 0
 Fits size = 2 * size < 2 ^ 64
 
@@ -179,7 +179,7 @@ pub record Agrees (b : Buddy) (p : Properties) (objects : ℕ → Option Object)
   pub props : props_at p b.memory_type ≡ b.props
   pub holds : (key : ℕ) → IfSome (map.get b.chunks key) (λ chunk. HeldWith objects chunk.object (IsThere b.memory_type (sees_chunks b) chunk))
 
--- the heap counts each held chunk, and will not overflow; nor will the count of objects
+-- the ledger is at least as large as each held chunk, and will not overflow; nor will the count of objects
 pub record IsCounted (a : Account) : Type 0 where
   pub chunks : (key : ℕ) → IfSome (map.get a.buddy.chunks key) (λ chunk. chunk.size ≤ a.heap.used)
   pub bound : a.heap.used ≤ 2 ^ 127

@@ -10,7 +10,7 @@ use Rattle.gpu_alloc.specs.State.{HeldObject, Span, span_cmp}
 use Rattle.gpu_alloc.specs.declared.spans.HeldRow.{HeldRow}
 use Rattle.gpu_alloc.specs.declared.spans.LiveSpan.{LiveSpan}
 
--- where a block stands in the allocator that its object has: its chunk, and its place in the chunk
+-- where a block stands in the allocator that its object has: its chunk, and its place in that allocator's own store
 pub record Place : Type 0 where
   pub chunk : ℕ
   pub index : ℕ

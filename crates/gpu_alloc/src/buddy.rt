@@ -116,8 +116,11 @@ impl<M: MemoryObject, A: Allocator> BuddyAllocator<M, A> {
     ///
     /// Refusals, after which all is as before: `OutOfDeviceMemory` where a chunk would be of 2^64 bytes or more, and where
     /// the device answers so; `TooManyObjects` where a chunk is wanted and no more objects may be held; `OutOfHostMemory`
-    /// where the host's memory is refused to the allocator or to the device, and where a chunk cannot be mapped. A chunk
-    /// that was made is given back then.
+    /// where the host's memory is refused to the allocator or to the device, and where a chunk cannot be mapped for another
+    /// reason. A chunk that was made is given back then.
+    ///
+    /// `heap` has to count each chunk that is held, and at most 2^127 bytes; what remains and the held chunks have to fit
+    /// 32 bits.
     pub fn alloc<D: MemoryDevice<M>>(
         &mut self,
         device: &mut D,
@@ -147,7 +150,7 @@ impl<M: MemoryObject, A: Allocator> BuddyAllocator<M, A> {
         self.alloc_rounded(device, order, flags, heap, allocations_remains)
     }
 
-    /// The refusal that `alloc` gives such a request before it takes any memory or asks anything, by the same conditions:
+    /// The refusal that `alloc` gives such a request before it takes any memory or asks anything:
     /// `OutOfDeviceMemory` where a chunk for it would be of 2^64 bytes or more, `TooManyObjects` where a chunk is wanted and
     /// no more objects may be held. None where it goes further. It takes no memory.
     pub fn refuses(
@@ -324,13 +327,8 @@ impl<M: MemoryObject, A: Allocator> BuddyAllocator<M, A> {
         let chunk_order = self.next_order.max(order + 1);
         let size = bytes(chunk_order);
         let visible = self.props.intersects(MemoryPropertyFlags::HOST_VISIBLE);
-        let (memory, handle) = match new_chunk_with_handle(
-            device,
-            size,
-            self.memory_type,
-            flags,
-            visible,
-        ) {
+        let made = new_chunk_with_handle(device, size, self.memory_type, flags, visible);
+        let (memory, handle) = match made {
             Ok(handles) => handles,
             Err(refusal) => return Err(refusal),
         };

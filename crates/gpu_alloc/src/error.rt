@@ -10,12 +10,13 @@ use std::fmt;
 /// Why an allocation is refused. What the allocator holds is then as it was.
 #[derive(Clone, Copy, Debug, PartialEq, Eq, Hash)]
 pub enum AllocationError {
-    /// The size is over the limit that `new` was given, no heap that serves the request is large enough for it, or the
-    /// device's memory is exhausted. In the last case to give memory of the same heap back may help.
+    /// The size is over the limit that `new` was given, no heap that serves the request is large enough for it, a shared
+    /// object for it would have 2^64 bytes or more, or the device's memory is exhausted. In the last case to give memory of
+    /// the same heap back may help.
     OutOfDeviceMemory,
 
-    /// The host's memory is exhausted, for the device or for the allocator itself. To give memory of the host back may
-    /// help.
+    /// The host's memory is exhausted, for the device or for the allocator itself, or a new shared object could not be
+    /// mapped. To give memory of the host back may help.
     OutOfHostMemory,
 
     /// None of the memory types that the request allows serves its usage.

@@ -45,7 +45,7 @@ impl Heap {
         self.used
     }
 
-    /// Counts `size` bytes more as held. They may be more than the heap's size, and less than 2^128 in all.
+    /// Counts `size` bytes more as held. They may be more than the heap's size, and have to stay below 2^128 in all.
     pub fn alloc(&mut self, size: u64)
         requires { self.old.used + size < 2 ^ 128 }
         ensures { self.new ≡ record self.old { used = self.old.used + size } }

@@ -44,7 +44,7 @@ pub fn rankings_of_samples()
 {}
 
 /// Pieces that are aligned and apart, of which no two are halves of one range, and which together are the free bytes, are
-/// exactly the longest free ranges of a power of two.
+/// exactly the longest free ranges of a power of two that start at a multiple of their length.
 pub fn kept_pieces_are_the_free_pieces()
     ensures exact { (b : Buddy) (pieces : List Piece) → IsCanonical (Contains pieces) (IsFreeAt b) → (p : Piece) → Contains pieces p ↔ IsFreePiece (IsFreeAt b) p.chunk p.start (2 ^ p.order) }
     ensures place { (b : Buddy) (pieces : List Piece) → IsCanonical (Contains pieces) (IsFreeAt b) → (chunk start order : ℕ) → IsPlace (IsFreeAt b) chunk start (2 ^ order) → (p : Piece) × Contains pieces p × (order ≤ p.order) }

@@ -29,7 +29,7 @@ pub struct LiveSpan {
     /// The block's chunk among those of its allocator, or 0 where the block is an object of its own.
     pub chunk: usize,
 
-    /// The block's place in that chunk, or 0 where the block is an object of its own.
+    /// The block's place in its allocator's own store, or 0 where the block is an object of its own.
     pub index: usize,
 }
 

@@ -37,8 +37,8 @@ bytes-size-requires g c =
     let short = power_order c.self.inside.next_order c.self.invariant.0.next_chunk in
     omega (arith, c.max-chunk_order.ensures, short, c.requires.short)
 
-pub new_chunk_with_handle-requires-clause-visible : goal.new_chunk_with_handle-requires-clause-visible
-new_chunk_with_handle-requires-clause-visible g c =
+pub new_chunk_with_handle-made-requires-clause-visible : goal.new_chunk_with_handle-made-requires-clause-visible
+new_chunk_with_handle-made-requires-clause-visible g c =
     let props = rw (← c.self.view_is) at c.requires.agrees.props in
     rw (props, c.intersects-visible.ensures) refl
 
@@ -150,6 +150,6 @@ pub returns-clause-objects : goal.returns-clause-objects
 returns-clause-objects g c =
     let object = ap (λ (l : Leaf). l.object) c.begin_chunk-leaf.ensures.leaf in
     let q = question (before g c) (2 ^ c.args.order) (allocation_bits c.args.flags) in
-    let more = subst (λ x. HasOneChunkMore x (g.M.MemoryObject.object c.in-Ok.handles.0) (g.D.MemoryDevice.objects c.args.device.now) (g.D.MemoryDevice.objects c.new_chunk_with_handle.new.device)) (asked g c) c.in-Ok.ensures.objects in
+    let more = subst (λ x. HasOneChunkMore x (g.M.MemoryObject.object c.in-Ok.handles.0) (g.D.MemoryDevice.objects c.args.device.now) (g.D.MemoryDevice.objects c.new_chunk_with_handle-made.new.device)) (asked g c) c.in-Ok.ensures.objects in
     rw (← c.self.view_is, c.new.ensures)
-    (inl (begins g c, subst (λ n. HasOneChunkMore q n (g.D.MemoryDevice.objects c.args.device.now) (g.D.MemoryDevice.objects c.new_chunk_with_handle.new.device)) (sym object) more))
+    (inl (begins g c, subst (λ n. HasOneChunkMore q n (g.D.MemoryDevice.objects c.args.device.now) (g.D.MemoryDevice.objects c.new_chunk_with_handle-made.new.device)) (sym object) more))
