@@ -2,6 +2,7 @@
 //! and configurations as text. The tests of the crates below stand here too, since a crate with tests is proved twice.
 
 mod allocator;
+mod buddy;
 mod config;
 mod ends;
 mod errors;
