@@ -140,6 +140,7 @@ impl<M: MemoryObject, A: Allocator> BuddyAllocator<M, A> {
         ensures allocates { (es : List Event) × Chain D.step device.old es device.new × Allocates (account self.old heap.old allocations_remains.old) (wanted size align_mask (allocation_bits flags)) es result (account self.new heap.new allocations_remains.new) }
         ensures objects { ObjectsAfter self.old (rounded self.old (wanted size align_mask (allocation_bits flags))) (allocation_bits flags) result (D.objects device.old) (D.objects device.new) }
         ensures agrees { Agrees self.new (D.properties device.new) (D.objects device.new) }
+        ensures properties { D.properties device.new ≡ D.properties device.old }
 
         // What follows from it.
         ensures granted { IfOk result (IsGranted self.old (wanted size align_mask (allocation_bits flags)) self.new) }
@@ -195,6 +196,7 @@ impl<M: MemoryObject, A: Allocator> BuddyAllocator<M, A> {
         ensures frees { (es : List Event) × Chain D.step device.old es device.new × Frees (account self.old heap.old allocations_remains.old) block es (account self.new heap.new allocations_remains.new) }
         ensures objects { ObjectsFreed self.old block (D.objects device.old) (D.objects device.new) }
         ensures agrees { Agrees self.new (D.properties device.new) (D.objects device.new) }
+        ensures properties { D.properties device.new ≡ D.properties device.old }
         ensures total { chunks_and_remaining (account self.new heap.new allocations_remains.new) ≡ chunks_and_remaining (account self.old heap.old allocations_remains.old) }
     {
         let (memory, leaf) = block.into_parts();

@@ -44,10 +44,13 @@ pub fn rankings_of_samples()
 {}
 
 /// Pieces that are aligned and apart, of which no two are halves of one range, and which together are the free bytes, are
-/// exactly the longest free ranges of a power of two that start at a multiple of their length.
+/// exactly the longest free ranges of a power of two that start at a multiple of their length: of a buddy allocator's chunks
+/// by key, and of an allocator's objects by name.
 pub fn kept_pieces_are_the_free_pieces()
     ensures exact { (b : Buddy) (pieces : List Piece) → IsCanonical (Contains pieces) (IsFreeAt b) → (p : Piece) → Contains pieces p ↔ IsFreePiece (IsFreeAt b) p.chunk p.start (2 ^ p.order) }
     ensures place { (b : Buddy) (pieces : List Piece) → IsCanonical (Contains pieces) (IsFreeAt b) → (chunk start order : ℕ) → IsPlace (IsFreeAt b) chunk start (2 ^ order) → (p : Piece) × Contains pieces p × (order ≤ p.order) }
+    ensures exact_in_objects { (s : State) (memory_type : ℕ) (kind : Kind) (pieces : List Piece) → IsCanonical (Contains pieces) (IsFreeByte s memory_type kind) → (p : Piece) → Contains pieces p ↔ IsFreePiece (IsFreeByte s memory_type kind) p.chunk p.start (2 ^ p.order) }
+    ensures place_in_objects { (s : State) (memory_type : ℕ) (kind : Kind) (pieces : List Piece) → IsCanonical (Contains pieces) (IsFreeByte s memory_type kind) → (object start order : ℕ) → IsPlace (IsFreeByte s memory_type kind) object start (2 ^ order) → (p : Piece) × Contains pieces p × (order ≤ p.order) }
 {}
 
 /// Two free pieces that share a byte are one.
