@@ -10,7 +10,7 @@ use Rattle.gpu_alloc_types.specs.Properties.{Properties}
 use Rattle.gpu_alloc.specs.FreeSpace.{IsMultipleOf}
 use Rattle.gpu_alloc.specs.Buddy.{Account, account, Wanted, Agrees, Answers, ObjectsAfter, BeginsChunk, Fits, HasPlace, IsFront, IsThere, IsGranted, chunk_size, question, sees_chunks, with_leaf, with_chunk, rounded, chunks_and_remaining, RefusesFirst}
 use Rattle.gpu_alloc.specs.BuddyState.{Chunk, Buddy}
-use Rattle.gpu_alloc.specs.BuddyInside.{IsSound}
+use Rattle.gpu_alloc.specs.BuddySound.{IsSound}
 use Rattle.gpu_alloc.specs.NewChunk.{ChunkQuestion, HasOneChunkMore}
 use Rattle.gpu_alloc.specs.declared.buddy.block.Leaf.{Leaf}
 use Rattle.gpu_alloc.specs.declared.error.AllocationError.{AllocationError}

@@ -21,7 +21,8 @@ use Rattle.gpu_alloc.specs.NewChunk.{AsksChunkTwice, chunk_question}
 use Rattle.gpu_alloc.specs.declared.error.AllocationError.{AllocationError}
 use Rattle.gpu_alloc.specs.declared.error.AllocationError.TheVariants.{OutOfDeviceMemory, OutOfHostMemory, NoCompatibleMemoryTypes, TooManyObjects}
 use Rattle.gpu_alloc.specs.BuddyState.{Chunk, Buddy, IsLiveLeaf, IsFreeAt, leaf_cmp}
-use Rattle.gpu_alloc.specs.BuddyInside.{LiesInChunk, IsPowerUpTo, IsSound, IsStored, buddy_in, same_leaf}
+use Rattle.gpu_alloc.specs.BuddyInside.{IsStored, buddy_in, same_leaf}
+use Rattle.gpu_alloc.specs.BuddySound.{LiesInChunk, IsPowerUpTo, IsSound}
 use Rattle.gpu_alloc.specs.declared.buddy.block.Leaf.{Leaf}
 use Rattle.gpu_alloc.specs.declared.buddy.pieces.Piece.{Piece}
 use Rattle.gpu_alloc.specs.declared.heap.Heap.{Heap}

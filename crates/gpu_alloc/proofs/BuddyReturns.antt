@@ -20,7 +20,8 @@ use Rattle.gpu_alloc_types.specs.Device.Event.{Deallocated}
 use Rattle.gpu_alloc_types.specs.Objects.{put-other}
 use Rattle.gpu_alloc_types.specs.Properties.{Properties}
 use Rattle.gpu_alloc.specs.Buddy.{account, Frees, IsUnusedChunk, without_leaf, sees_chunks, Agrees, IsThere, IsCounted}
-use Rattle.gpu_alloc.specs.BuddyInside.{IsSound, IsStored, IsUsedChunk, same_leaf, same_fields, leaf_set}
+use Rattle.gpu_alloc.specs.BuddyInside.{IsStored, same_leaf, same_fields, leaf_set}
+use Rattle.gpu_alloc.specs.BuddySound.{IsSound, IsUsedChunk}
 use Rattle.gpu_alloc.specs.BuddyState.{Chunk, Buddy, IsLiveLeaf, IsFreeAt}
 use Rattle.gpu_alloc.specs.FreeSpace.{IsMultipleOf}
 use Rattle.gpu_alloc.specs.Pieces.{AreKept, AreKeptBeside}

@@ -2,6 +2,7 @@ pub mod Agreement
 pub mod Allocation
 pub mod Buddy
 pub mod BuddyInside
+pub mod BuddySound
 pub mod BuddyState
 pub mod Codes
 pub mod Config

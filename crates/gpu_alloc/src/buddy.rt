@@ -7,7 +7,7 @@ ghost use Rattle.gpu_alloc_types.specs.Flags.{allocation_bits, property_bits, ha
 ghost use Rattle.gpu_alloc_types.specs.Device.{Event, Chain};
 ghost use Rattle.std.specs.Int.{is_power_of_two};
 ghost use Rattle.gpu_alloc.specs.Buddy.{opened, account, wanted, rounded, Allocates, Answers, AsksForChunk, BeginsChunk, HasPlace, TakesPlace, RefusesFirst, Frees, ObjectsFreed, IsGranted, with_leaf, with_chunk, in_new_chunk, chunk_size, Agrees, IsCounted, ObjectsAfter, chunks_and_remaining};
-ghost use Rattle.gpu_alloc.specs.BuddyInside.{IsSound};
+ghost use Rattle.gpu_alloc.specs.BuddySound.{IsSound};
 ghost use Rattle.gpu_alloc.specs.BuddyState.{Buddy, IsLiveLeaf, IsFreeAt};
 ghost use Rattle.gpu_alloc.specs.Pieces.{AreKept};
 ghost use Rattle.slab.specs.Slab.{get, Updates, HasRoomFor, slab_len};
@@ -61,7 +61,8 @@ impl<M: MemoryObject, A: Allocator> Model for BuddyAllocator<M, A> {
     ghost use Rattle.std.specs.FinSet as set;
     ghost use Rattle.gpu_alloc_types.specs.Flags.{property_bits};
     ghost use Rattle.gpu_alloc.specs.SlabViews.{by_key};
-    ghost use Rattle.gpu_alloc.specs.BuddyInside.{IsSound, IsStored, buddy_in};
+    ghost use Rattle.gpu_alloc.specs.BuddyInside.{IsStored, buddy_in};
+    ghost use Rattle.gpu_alloc.specs.BuddySound.{IsSound};
 
     ghost view = { λ a. buddy_in (by_key (λ c. record { object = M.object c.memory; size = 2 ^ c.order }) a.chunks) a.live.items a.next_order a.minimal_size a.memory_type (property_bits a.props) a.atom };
 

@@ -1,4 +1,4 @@
-use Rattle.gpu_alloc.specs.BuddyInside.{IsSound}
+use Rattle.gpu_alloc.specs.BuddySound.{IsSound}
 use Rattle.std.proofs.Common.{subst}
 use Rattle.gpu_alloc.proofs.buddy.BuddyAllocator.rounded_order.Goals as goal
 
