@@ -12,7 +12,7 @@ use Rattle.gpu_alloc.specs.Allocation.{Decides, IsGranted, asked, holding, whole
 use Rattle.gpu_alloc.specs.Inside.{state_in}
 use Rattle.gpu_alloc.specs.Spans.{Table}
 use Rattle.gpu_alloc.specs.State.{State, HeldObject, Span, Block, IsLive, span_of, total}
-use Rattle.gpu_alloc.specs.declared.allocator.Limits.{Limits}
+use Rattle.gpu_alloc.specs.declared.limits.Limits.{Limits}
 use Rattle.gpu_alloc.specs.declared.block.Kind.TheVariants.{Dedicated as DedicatedObject}
 use Rattle.gpu_alloc.specs.declared.heap.Heap.{Heap}
 use Rattle.gpu_alloc.specs.declared.request.Request.{Request}

@@ -12,7 +12,7 @@ use Rattle.gpu_alloc.specs.Spans.{Table}
 use Rattle.gpu_alloc.specs.Inside.{properties_in, state_in, AreLedgers, offer_of}
 use Rattle.gpu_alloc.specs.Heap.{unused}
 use Rattle.gpu_alloc.specs.Sizes.{first_types}
-use Rattle.gpu_alloc.specs.declared.allocator.Limits.{Limits}
+use Rattle.gpu_alloc.specs.declared.limits.Limits.{Limits}
 use Rattle.gpu_alloc_types.specs.declared.types.MemoryHeap.{MemoryHeap}
 use Rattle.gpu_alloc.specs.declared.heap.Heap.{Heap}
 use Rattle.gpu_alloc.proofs.Ledgers.{Entries}

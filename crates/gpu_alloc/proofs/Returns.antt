@@ -7,7 +7,7 @@ use Rattle.gpu_alloc.specs.State.{State, HeldObject, Span, Block, IsOwned, span_
 use Rattle.gpu_alloc.specs.Spans.{Table, held_of, span_at}
 use Rattle.gpu_alloc.specs.Inside.{state_in, properties_in, IsConsistent}
 use Rattle.gpu_alloc.specs.Release.{GoesWith, without_span, without_all}
-use Rattle.gpu_alloc.specs.declared.allocator.Limits.{Limits}
+use Rattle.gpu_alloc.specs.declared.limits.Limits.{Limits}
 use Rattle.gpu_alloc.specs.declared.block.Kind.{Kind}
 use Rattle.gpu_alloc.specs.declared.block.Kind.TheVariants.{Dedicated}
 use Rattle.gpu_alloc.specs.declared.heap.Heap.{Heap}

@@ -1,6 +1,6 @@
 -- How an allocation is decided: what is asked of the device for each candidate, and what the first one that is not
 -- passed answers.
-use Rattle.std.specs.Prelude.{◌≡◌, ◌⊎◌, ℕ, ◌+◌, ◌-◌, ◌%◌, ◌/◌, ◌<◌, ◌≤◌, ◌==◌, Bool, ◌&&◌, List, [], ◌∷◌, ◌++◌, length, Option, Some, None, Result, Ok, Err, cond, min, nat_lt, nat_le, nat_eq, MatchBool}
+use Rattle.std.specs.Prelude.{◌≡◌, ◌⊎◌, ℕ, ◌+◌, ◌-◌, ◌%◌, ◌/◌, ◌<◌, ◌≤◌, ◌==◌, Bool, true, false, ◌&&◌, List, [], ◌∷◌, ◌++◌, length, Option, Some, None, Result, Ok, Err, cond, min, nat_lt, nat_le, nat_eq, MatchBool, MatchOption}
 use Rattle.std.specs.FinMap as map
 use Rattle.std.specs.FinSet as set
 use Rattle.gpu_alloc_types.specs.Flags.{usage_bits, has_bit}
@@ -9,16 +9,19 @@ use Rattle.gpu_alloc_types.specs.Device.{Object, Event, IsFresh, put}
 use Rattle.gpu_alloc_types.specs.Device.Event.{Allocated}
 use Rattle.gpu_alloc_types.specs.declared.types.OutOfMemory.{OutOfMemory}
 use Rattle.gpu_alloc_types.specs.declared.types.OutOfMemory.TheVariants.{OutOfDeviceMemory as DeviceFull, OutOfHostMemory as HostFull}
-use Rattle.gpu_alloc.specs.declared.block.Kind.TheVariants.{Dedicated as DedicatedObject}
+use Rattle.gpu_alloc.specs.declared.block.Kind.{Kind}
+use Rattle.gpu_alloc.specs.declared.block.Kind.TheVariants.{Dedicated as DedicatedObject, Imported, BuddyChunk, FreeListChunk}
 use Rattle.gpu_alloc.specs.declared.error.AllocationError.{AllocationError}
 use Rattle.gpu_alloc.specs.declared.error.AllocationError.TheVariants.{OutOfDeviceMemory, OutOfHostMemory, NoCompatibleMemoryTypes, TooManyObjects}
 use Rattle.gpu_alloc.specs.declared.request.Request.{Request}
 use Rattle.gpu_alloc.specs.declared.request.Dedicated.{Dedicated}
 use Rattle.gpu_alloc.specs.declared.request.Dedicated.TheVariants.{Required, Preferred}
+use Rattle.gpu_alloc.specs.NewChunk.{flags_of, HasOneChunkMore}
 use Rattle.gpu_alloc.specs.Ranking.{candidates}
 use Rattle.gpu_alloc.specs.Request.{is_required}
+use Rattle.gpu_alloc.specs.Sharing.{buddy_size, buddy_question, IsPassedByBuddy, DecidesInBuddyChunk}
 use Rattle.gpu_alloc.specs.Sizes.{up, preferred_threshold, transient_threshold, final_size}
-use Rattle.gpu_alloc.specs.State.{HeldObject, Span, Block, span_of, State, IsLive, IsOwned, AreApart}
+use Rattle.gpu_alloc.specs.State.{HeldObject, Span, Block, span_of, State, IsLive, IsOwned, AreApart, is_shared}
 
 -- Which way a candidate is served.
 
@@ -48,28 +51,28 @@ strategy s r (Some Required) t = OwnObject
 strategy s r (Some Preferred) t = cond (nat_le (preferred_threshold s.config) r.size) OwnObject (unhinted s r t)
 strategy s r None t = unhinted s r t
 
--- What is asked of the device.
+-- for now: the request needs no free list
+abbrev pub NeedsNoFreeList : Request → Option Dedicated → Type 0
+NeedsNoFreeList r hint = is_required hint ≡ false → has_bit (usage_bits r.usage) 16 ≡ false
 
--- the flags of every question: the address flag exactly where the device has the feature
-abbrev pub flags_of : Properties → ℕ
-flags_of p = cond p.buffer_device_address 1 0
+-- What is asked of the device.
 
 -- a question to allocate, with its answer
 abbrev pub asked : State → ℕ → ℕ → Result ℕ OutOfMemory → Event
 asked s size t answer = Allocated size t (flags_of s.properties) answer
 
--- for a candidate without a place an object of this size is asked for: for an object of its own, the request's size
-abbrev pub Asks : Strategy → State → Request → ℕ → ℕ → Type 0
-Asks OwnObject s r t size = (0 < s.remaining) × (size ≡ r.size)
-Asks InBuddyChunk s r t size = ⊥
-Asks InFreeList s r t size = ⊥
+-- A candidate that is served so is passed: the device, asked exactly for what was wanted, had no memory, or what would be
+-- asked for is too large for any device.
+abbrev pub IsPassedBy : Strategy → State → Request → ℕ → List Event → Type 0
+IsPassedBy OwnObject s r t es = (0 < s.remaining) × (es ≡ asked s r.size t (Err DeviceFull) ∷ [])
+IsPassedBy InBuddyChunk s r t es = IsPassedByBuddy s t (buddy_size s r t) es
+IsPassedBy InFreeList s r t es = ⊥
 
--- A candidate is passed: its heap is smaller than the request, or the device, asked exactly this, had no memory.
+-- A candidate is passed: its heap is smaller than the request, or its way of being served passes it.
 abbrev pub IsPassed : State → Request → Option Dedicated → ℕ → List Event → Type 0
 IsPassed s r hint t es =
     ((heap_size s.properties t < r.size) × (es ≡ []))
-    ⊎ ((r.size ≤ heap_size s.properties t)
-    × ((size : ℕ) × Asks (strategy s r hint t) s r t size × (es ≡ asked s size t (Err DeviceFull) ∷ [])))
+    ⊎ ((r.size ≤ heap_size s.properties t) × IsPassedBy (strategy s r hint t) s r t es)
 
 -- What a candidate that decides answers.
 
@@ -105,11 +108,17 @@ DecidesBy OwnObject s r t es (Ok b) new =
     × (es ≡ asked s r.size t (Ok b.object) ∷ [])
     × (b ≡ whole_block s b.object r.size t)
     × (new ≡ holding s (record { memory_type = t; counted = r.size; kind = DedicatedObject }) b)
-DecidesBy InBuddyChunk s r t es answer new = ⊥
+DecidesBy InBuddyChunk s r t es answer new = DecidesInBuddyChunk s t (buddy_size s r t) es answer new
 DecidesBy InFreeList s r t es answer new = ⊥
 
 abbrev pub Decides : State → Request → Option Dedicated → ℕ → List Event → Result Block AllocationError → State → Type 0
 Decides s r hint t es answer new = (r.size ≤ heap_size s.properties t) × DecidesBy (strategy s r hint t) s r t es answer new
+
+-- A candidate was tried that is served so, and whose heap is no smaller than the request.
+abbrev pub TriesBy : Strategy → State → Request → ℕ → List Event → Result (Option Block) AllocationError → State → Type 0
+TriesBy w s r t es (Ok None) new = IsPassedBy w s r t es × (new ≡ s)
+TriesBy w s r t es (Ok (Some b)) new = DecidesBy w s r t es (Ok b) new
+TriesBy w s r t es (Err e) new = DecidesBy w s r t es (Err e) new
 
 -- One candidate was tried: it is passed, or it decides.
 abbrev pub Tries : State → Request → Option Dedicated → ℕ → List Event → Result (Option Block) AllocationError → State → Type 0
@@ -144,27 +153,31 @@ Allocates s r hint es answer new =
 abbrev pub HasOneMore : Block → (ℕ → Option Object) → (ℕ → Option Object) → Type 0
 HasOneMore b old new = (old b.object ≡ None) × ((o : Object) × IsFresh b.size b.memory_type o × (new ≡ put old b.object (Some o)))
 
--- What an allocation makes of the device's objects: one more where the block is an object of its own, and nothing where
--- it is refused. For the other kinds the chain of questions tells.
-abbrev pub ObjectsAfter : Result Block AllocationError → (ℕ → Option Object) → (ℕ → Option Object) → Type 0
-ObjectsAfter (Ok b) old new = b.kind ≡ DedicatedObject → HasOneMore b old new
-ObjectsAfter (Err e) old new = new ≡ old
+-- What a grant makes of the device's objects, by what the block's object is held for: one object more where it is the
+-- block's own, or a new chunk.
+abbrev pub ObjectsWith : Kind → State → Block → (ℕ → Option Object) → (ℕ → Option Object) → Type 0
+ObjectsWith DedicatedObject s b old new = HasOneMore b old new
+ObjectsWith BuddyChunk s b old new =
+    MatchOption (map.get s.held b.object) (HasOneChunkMore (buddy_question s b.memory_type b.size) b.object old new) (λ _. new ≡ old)
+ObjectsWith Imported s b old new = ⊥
+ObjectsWith (FreeListChunk number) s b old new = ⊥
 
--- the same where every candidate is tried for an object of its own
-abbrev pub OwnObjectsAfter : Result Block AllocationError → (ℕ → Option Object) → (ℕ → Option Object) → Type 0
-OwnObjectsAfter (Ok b) old new = HasOneMore b old new
-OwnObjectsAfter (Err e) old new = new ≡ old
+-- what an allocation makes of them: nothing where it is refused
+abbrev pub ObjectsAfter : State → Result Block AllocationError → (ℕ → Option Object) → (ℕ → Option Object) → Type 0
+ObjectsAfter s (Ok b) old new = ObjectsWith b.kind s b old new
+ObjectsAfter s (Err e) old new = new ≡ old
 
 -- the same of one candidate that was tried
-abbrev pub ObjectsTried : Result (Option Block) AllocationError → (ℕ → Option Object) → (ℕ → Option Object) → Type 0
-ObjectsTried (Ok None) old new = new ≡ old
-ObjectsTried (Ok (Some b)) old new = HasOneMore b old new
-ObjectsTried (Err e) old new = new ≡ old
+abbrev pub ObjectsTried : State → Result (Option Block) AllocationError → (ℕ → Option Object) → (ℕ → Option Object) → Type 0
+ObjectsTried s (Ok None) old new = new ≡ old
+ObjectsTried s (Ok (Some b)) old new = ObjectsWith b.kind s b old new
+ObjectsTried s (Err e) old new = new ≡ old
 
 -- what a caller may know of a granted block without following the decision
 pub record IsGranted (s : State) (r : Request) (new : State) (b : Block) : Type 0 where
   pub enough : r.size ≤ b.size
   pub aligned : b.offset % (r.align_mask + 1) ≡ 0
+  pub whole_atoms : is_shared b.kind ≡ true → (b.offset % atom_of s.properties b.memory_type ≡ 0) × (b.size % atom_of s.properties b.memory_type ≡ 0)
   pub unmapped : b.mapping ≡ None
   pub owned : IsOwned new b
   pub was_free : (span : Span) → IsLive s span → AreApart span (span_of b)

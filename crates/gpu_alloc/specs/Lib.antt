@@ -20,6 +20,7 @@ pub mod Ranking
 pub mod Release
 pub mod Request
 pub mod Samples
+pub mod Sharing
 pub mod Sizes
 pub mod SlabViews
 pub mod Spans

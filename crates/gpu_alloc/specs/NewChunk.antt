@@ -1,12 +1,17 @@
 -- What a device is asked for a new shared chunk, and how that ends.
 use Rattle.std.specs.Prelude.{◌≡◌, ◌≢◌, ◌⊎◌, ℕ, Bool, List, [], ◌∷◌, ◌++◌, Option, Some, None, Result, Ok, Err, IsTrue, cond}
 use Rattle.gpu_alloc_types.specs.Device.{Object, Event, Range, put}
+use Rattle.gpu_alloc_types.specs.Properties.{Properties}
 use Rattle.gpu_alloc_types.specs.Device.Event.{Allocated, Deallocated, Mapped}
 use Rattle.gpu_alloc_types.specs.declared.types.OutOfMemory.TheVariants.{OutOfDeviceMemory as DeviceFull, OutOfHostMemory as HostFull}
 use Rattle.gpu_alloc_types.specs.declared.types.DeviceMapError.{DeviceMapError}
 use Rattle.gpu_alloc_types.specs.declared.types.DeviceMapError.TheVariants.{OutOfDeviceMemory as MapDeviceFull, OutOfHostMemory as MapHostFull, MapFailed}
 use Rattle.gpu_alloc.specs.declared.error.AllocationError.{AllocationError}
 use Rattle.gpu_alloc.specs.declared.error.AllocationError.TheVariants.{OutOfDeviceMemory, OutOfHostMemory, NoCompatibleMemoryTypes, TooManyObjects}
+
+-- the flags of every question: the address flag exactly where the device has the feature
+abbrev pub flags_of : Properties → ℕ
+flags_of p = cond p.buffer_device_address 1 0
 
 -- what is asked for: so many bytes of a memory type with these flags, and whether the host sees that type
 pub record ChunkQuestion : Type 0 where

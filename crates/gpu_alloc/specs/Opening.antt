@@ -1,9 +1,13 @@
 -- An allocator at first.
+use Rattle.std.specs.Prelude.{◌≡◌, ℕ, List, IfSome, slice_get}
 use Rattle.std.specs.FinMap as map
 use Rattle.std.specs.FinSet as set
-use Rattle.gpu_alloc_types.specs.Properties.{Properties}
+use Rattle.gpu_alloc_types.specs.Properties.{Properties, heap_size, props_at, atom_of}
+use Rattle.gpu_alloc.specs.Buddy as buddy
+use Rattle.gpu_alloc.specs.BuddySound.{IsSound}
+use Rattle.gpu_alloc.specs.BuddyState.{Buddy}
 use Rattle.gpu_alloc.specs.State.{State}
-use Rattle.gpu_alloc.specs.Sizes.{first_types}
+use Rattle.gpu_alloc.specs.Sizes.{first_types, minimal_size, initial_size}
 use Rattle.gpu_alloc.specs.declared.config.Config.{Config}
 
 -- nothing is held or live, as many objects may be held as the device allows, and the chunk sizes are the first ones
@@ -16,3 +20,12 @@ opened c p = record {
   config = c;
   properties = p;
 }
+
+-- a memory type's buddy allocator, with no chunk
+abbrev pub first_buddy : Config → Properties → ℕ → Buddy
+first_buddy c p t =
+    let heap = heap_size p t in
+    buddy.opened (minimal_size c heap) (initial_size c heap) t (props_at p t) (atom_of p t)
+
+abbrev pub AreFirstBuddies : Config → Properties → List Buddy → Type 0
+AreFirstBuddies c p buddies = (t : ℕ) → IfSome (slice_get buddies t) (λ b. (b ≡ first_buddy c p t) × IsSound b)

@@ -1,8 +1,11 @@
 //! The sizes by which an allocator decides.
 
-ghost use Rattle.std.specs.Prelude.{◌≡◌};
+ghost use Rattle.std.specs.Prelude.{◌≡◌, IsTrue};
+ghost use Rattle.std.specs.Int.{is_power_of_two};
 ghost use Rattle.gpu_alloc.specs.Config.{potato, prototyping};
+ghost use Rattle.gpu_alloc.specs.Sizes.{preferred_threshold, minimal_size, initial_size};
 
+use crate::sizes::next_power_of_two;
 use serde::{Deserialize, Serialize};
 
 /// 1024 bytes.
@@ -78,5 +81,29 @@ impl Config {
             minimal_buddy_size: 1,
             initial_buddy_dedicated_size: 8 * KIBIBYTE,
         }
+    }
+
+    /// From which size on an object of its own that is preferred is given, in bytes.
+    pub(crate) fn preferred_threshold(&self) -> u64
+        ensures { result ≡ preferred_threshold self.now }
+    {
+        self.preferred_dedicated_threshold
+            .min(self.dedicated_threshold)
+    }
+
+    /// The size of a least buddy block, in bytes, for a memory type in a heap of this size.
+    pub(crate) fn minimal_size(&self, heap: u64) -> u64
+        ensures is { result ≡ minimal_size self.now heap }
+        ensures power { IsTrue (is_power_of_two result) }
+    {
+        next_power_of_two(self.minimal_buddy_size.min(heap / 1024))
+    }
+
+    /// The least size of a first buddy chunk, in bytes, for a memory type in a heap of this size.
+    pub(crate) fn initial_size(&self, heap: u64) -> u64
+        ensures is { result ≡ initial_size self.now heap }
+        ensures power { IsTrue (is_power_of_two result) }
+    {
+        next_power_of_two(self.initial_buddy_dedicated_size.min(heap / 32))
     }
 }

@@ -8,6 +8,7 @@ mod config;
 mod error;
 pub mod heap;
 pub mod laws;
+mod limits;
 mod new_chunk;
 mod request;
 mod sizes;

@@ -1,7 +1,7 @@
 //! What is asked of an allocator.
 
-ghost use Rattle.std.specs.Prelude.{◌↔◌, IsTrue};
-ghost use Rattle.gpu_alloc.specs.Request.{IsAskable};
+ghost use Rattle.std.specs.Prelude.{◌≡◌, ◌↔◌, IsTrue};
+ghost use Rattle.gpu_alloc.specs.Request.{IsAskable, is_required};
 
 use gpu_alloc_types::UsageFlags;
 
@@ -42,4 +42,14 @@ pub enum Dedicated {
 
     /// It would gain by one. The allocator may place the block in a shared object all the same.
     Preferred,
+}
+
+/// Whether a hint demands an object of its own.
+pub(crate) fn is_required(hint: Option<Dedicated>) -> bool
+    ensures { result ≡ is_required hint }
+{
+    match hint {
+        Some(Dedicated::Required) => true,
+        Some(Dedicated::Preferred) | None => false,
+    }
 }

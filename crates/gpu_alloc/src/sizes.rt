@@ -1,6 +1,7 @@
 //! Powers of two.
 
-ghost use Rattle.std.specs.Prelude.{◌≡◌, ◌≤◌, ◌^◌};
+ghost use Rattle.std.specs.Prelude.{◌≡◌, ◌≤◌, ◌^◌, IsTrue};
+ghost use Rattle.std.specs.Int.{is_power_of_two};
 ghost use Rattle.gpu_alloc.specs.Sizes.{next_power_of_two};
 
 /// The exponent of the least power of two that is not below a number: at most 64.
@@ -13,4 +14,13 @@ pub(crate) fn next_order(n: u64) -> u32
         order += 1;
     }
     order
+}
+
+/// The least power of two that is not below a number of at most 2^63.
+pub(crate) fn next_power_of_two(n: u64) -> u64
+    requires { n ≤ 2 ^ 63 }
+    ensures is { result ≡ next_power_of_two n }
+    ensures power { IsTrue (is_power_of_two result) }
+{
+    1 << next_order(n)
 }

@@ -47,7 +47,7 @@ impl<M: MemoryObject> Model for BuddyBlock<M> {
 
 impl<M: MemoryObject> BuddyBlock<M> {
     /// The block with this handle of its chunk's object.
-    pub(super) fn new(memory: M, leaf: Leaf) -> Self
+    pub(crate) fn new(memory: M, leaf: Leaf) -> Self
         requires { leaf.object ≡ M.object memory }
         ensures { result ≡ leaf }
     {

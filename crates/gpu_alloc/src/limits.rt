@@ -1,0 +1,62 @@
+//! What an allocator was given and keeps.
+
+ghost use Rattle.std.specs.Prelude.{◌≡◌, ◌<◌, length, cond, slice_get};
+ghost use Rattle.gpu_alloc_types.specs.Flags.{allocation_bits, property_bits, usage_bits};
+ghost use Rattle.gpu_alloc_types.specs.Properties.{heap_of, bits_of};
+ghost use Rattle.gpu_alloc.specs.Ranked.{ranked_types};
+ghost use Rattle.gpu_alloc.specs.Ranking.{candidates, IsTable};
+
+use crate::usage::MemoryForOneUsage;
+use crate::{Config, MemoryForUsage, Request};
+use gpu_alloc_types::{AllocationFlags, MemoryPropertyFlags, MemoryType};
+use std::alloc::{Allocator, Global};
+
+/// What stays as `new` was given it.
+#[derive(Drop)]
+pub(crate) struct Limits<A: Allocator = Global> {
+    pub(crate) config: Config,
+    pub(crate) memory_types: Vec<MemoryType, A>,
+    pub(crate) memory_for_usage: MemoryForUsage,
+    pub(crate) max_memory_allocation_count: u32,
+    pub(crate) max_memory_allocation_size: u64,
+    pub(crate) non_coherent_atom_size: u64,
+    pub(crate) buffer_device_address: bool,
+    ghost ranked: { IsTable memory_types.items memory_for_usage },
+}
+
+impl<A: Allocator> Limits<A> {
+    /// The index of a memory type's heap.
+    pub(crate) fn heap_index(&self, memory_type: u32) -> usize
+        requires { memory_type < length self.now.memory_types.items }
+        ensures { result ≡ heap_of (slice_get self.now.memory_types.items memory_type) }
+    {
+        self.memory_types[memory_type as usize].heap as usize
+    }
+
+    /// The properties of a memory type.
+    pub(crate) fn props(&self, memory_type: u32) -> MemoryPropertyFlags
+        requires { memory_type < length self.now.memory_types.items }
+        ensures { property_bits result ≡ bits_of (slice_get self.now.memory_types.items memory_type) }
+    {
+        self.memory_types[memory_type as usize].props
+    }
+
+    /// The memory types to be tried for a request, the best first.
+    pub(crate) fn candidates(&self, request: Request) -> MemoryForOneUsage
+        ensures { ranked_types result ≡ candidates self.now.memory_types.items (usage_bits request.usage) request.memory_types }
+    {
+        self.memory_for_usage
+            .candidates(request.usage, request.memory_types)
+    }
+
+    /// The flags of every question.
+    pub(crate) fn flags(&self) -> AllocationFlags
+        ensures { allocation_bits result ≡ cond self.now.buffer_device_address 1 0 }
+    {
+        if self.buffer_device_address {
+            AllocationFlags::DEVICE_ADDRESS
+        } else {
+            AllocationFlags::empty()
+        }
+    }
+}
