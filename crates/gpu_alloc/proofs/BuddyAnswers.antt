@@ -7,19 +7,21 @@ use Rattle.std.specs.Ordering.{nat_cmp}
 use Rattle.gpu_alloc_types.specs.Device.{Object, Event, HeldWith}
 use Rattle.gpu_alloc_types.specs.Objects.{put-same, put-other}
 use Rattle.gpu_alloc_types.specs.Properties.{Properties}
-use Rattle.gpu_alloc.specs.FreeSpace.{IsMultipleOf}
+use Rattle.gpu_alloc.specs.FreeSpace.{IsMultipleOf, IsPowerOfTwo}
 use Rattle.gpu_alloc.specs.Buddy.{Account, account, Wanted, Agrees, Answers, ObjectsAfter, BeginsChunk, Fits, HasPlace, IsFront, IsThere, IsGranted, chunk_size, question, sees_chunks, with_leaf, with_chunk, rounded, chunks_and_remaining, RefusesFirst}
 use Rattle.gpu_alloc.specs.BuddyState.{Chunk, Buddy}
-use Rattle.gpu_alloc.specs.BuddySound.{IsSound}
+use Rattle.gpu_alloc.specs.BuddySound.{IsSound, IsPowerUpTo, LiesInChunk}
 use Rattle.gpu_alloc.specs.NewChunk.{ChunkQuestion, HasOneChunkMore}
 use Rattle.gpu_alloc.specs.declared.buddy.block.Leaf.{Leaf}
 use Rattle.gpu_alloc.specs.declared.error.AllocationError.{AllocationError}
 use Rattle.gpu_alloc.specs.declared.error.AllocationError.TheVariants.{OutOfDeviceMemory, OutOfHostMemory, NoCompatibleMemoryTypes, TooManyObjects}
+use Rattle.std.proofs.lemmas.Nat.{pow_pos}
 use Rattle.std.proofs.Math.Nat.{mul_assoc, mul-mod_left, zero-mul, one-mul}
 use Rattle.gpu_alloc.specs.Request.{IsAlignMask}
-use Rattle.gpu_alloc.proofs.AlignedPowers.{pow-le, order-le, pow-from_shorter}
-use Rattle.gpu_alloc.proofs.PowersOfTwo.{is_next_power_of_two, power_of_bit}
-use Rattle.gpu_alloc.proofs.BuddyGrants.{if_some, chunk_cases, now_live, other_objects}
+use Rattle.gpu_alloc.proofs.AlignedPowers.{doubled, pow-le, order-le, pow-from_shorter}
+use Rattle.gpu_alloc.proofs.PowersOfTwo.{is_next_power_of_two, power_of_bit, greater_power}
+use Rattle.gpu_alloc.proofs.BuddyCalls.{one_chunk}
+use Rattle.gpu_alloc.proofs.BuddyGrants.{if_some, chunk_cases, now_live, other_objects, power_up_to, sound_with_leaf, sound_with_chunk}
 
 -- Sizes whose chunk fits.
 
@@ -116,6 +118,61 @@ answers_total a new size flags es (Ok leaf) (inr begins) =
     ap chunks_and_remaining begins.1.1.1 ∙ omega (arith, more, begins.0.1.1)
 answers_total a new size flags es (Err e) refused = ap chunks_and_remaining (refused_keeps a new size flags es e refused)
 
+-- What is sound stays so.
+
+-- a multiple of a power of two is one of each lower power
+of_lower_power : (x n m j k : ℕ) → n ≡ 2 ^ j → m ≡ 2 ^ k → n ≤ m → IsMultipleOf m x → IsMultipleOf n x
+of_lower_power x n m j k n_is m_is le (q, is) =
+    let le' : j ≤ k = order-le j k (omega (arith, n_is, m_is, le)) in
+    let e = pow-from_shorter j k le' in
+    (q * 2 ^ (k - j), is ∙ ap (λ z. q * z) (m_is ∙ e) ∙ sym (mul_assoc q (2 ^ (k - j)) (2 ^ j)) ∙ ap (λ z. q * 2 ^ (k - j) * z) (sym n_is))
+
+lower_multiple : (x n m j k : ℕ) → n ≡ 2 ^ j → m ≡ 2 ^ k → n ≤ m → IsMultipleOf m x → x % n ≡ 0
+lower_multiple x n m j k n_is m_is le multiple =
+    let (q, is) = of_lower_power x n m j k n_is m_is le multiple in
+    ap (λ z. z % n) is ∙ mul-mod_left q n
+
+-- the front of a free piece lies in its chunk
+front_lies : (b : Buddy) (size : ℕ) (leaf : Leaf) → IsPowerOfTwo size → IsFront b size leaf → LiesInChunk b leaf
+front_lies b size leaf power at =
+    let place = at.piece.place in
+    let size_is = at.of_size in
+    let some = pow_pos power.0 in
+    let last = place.free (leaf.offset + size - 1) (record { from = omega (arith, some, power.1); to = omega (arith, some, power.1, at.enough) }) in
+    let same = one_chunk _ last.held at.chunk last.is at.held in
+    record {
+      chunk = at.chunk;
+      held = at.held;
+      object = at.object;
+      power = (power.0, size_is ∙ power.1);
+      aligned = of_lower_power leaf.offset leaf.size at.length power.0 place.power.0 (size_is ∙ power.1) place.power.1 (omega (arith, size_is, at.enough)) place.aligned;
+      inside = omega (arith, size_is, some, power.1, last.inside, ap (λ (c : Chunk). c.size) same);
+    }
+
+-- a chunk is a power of two
+chunk_power : (b : Buddy) (size : ℕ) → IsSound b → IsPowerOfTwo size → Fits size → IsPowerUpTo 63 (chunk_size b size)
+chunk_power b size s power fits =
+    let twice = doubled power.0 in
+    let both = greater_power b.next_chunk (2 * size) (s.next_chunk.0, s.next_chunk.1.1) (power.0 + 1, omega (arith, power.1, twice)) in
+    let least = pow-le s.next_chunk.0 63 s.next_chunk.1.0 in
+    power_up_to 63 (chunk_size b size) both (omega (arith, fits, least, s.next_chunk.1.1))
+
+-- after every answer
+pub answers_sound : (a new : Account) (size flags : ℕ) (es : List Event) (answer : Result Leaf AllocationError) (p : Properties) (f g : ℕ → Option Object) → IsSound a.buddy → Agrees a.buddy p f
+    → IsPowerOfTwo size → Answers a size flags es answer new → ObjectsAfter a.buddy size flags answer f g → IsSound new.buddy
+answers_sound a new size flags es (Ok leaf) p f g s agrees power (inl front) objects =
+    let at = front.1.0 in
+    let size_is = at.of_size in
+    rw (front.1.1.1) (sound_with_leaf a.buddy leaf s (front_lies a.buddy size leaf power at) (λ i in_leaf. at.piece.place.free i (record { from = in_leaf.from; to = omega (arith, in_leaf.to, size_is, at.enough) })))
+answers_sound a new size flags es (Ok leaf) p f g s agrees power (inr begins) (inl made) =
+    let at = begins.1.0 in
+    let size_is = at.of_size in
+    rw (begins.1.1.1) (sound_with_chunk a.buddy leaf (chunk_size a.buddy size) s (chunk_power a.buddy size s power begins.0.0) at.free_key
+    (λ k c held same. other_objects a.buddy p f leaf.object agrees made.1.0 k c held same)
+    (power.0, size_is ∙ power.1) (0, at.start ∙ sym (zero-mul leaf.size)) (omega (arith, at.start, size_is)))
+answers_sound a new size flags es (Ok leaf) p f g s agrees power (inr begins) (inr kept) = absurd (never_both a.buddy size leaf begins.1.0 kept.0)
+answers_sound a new size flags es (Err e) p f g s agrees power refused objects = rw (refused_keeps a new size flags es e refused) s
+
 -- What is known of the block.
 
 -- a block's size is a power of two, and not below what was asked, the alignment and the atom, which are powers of two too
@@ -126,14 +183,6 @@ pub record IsRoundedTo (b : Buddy) (w : Wanted) (size : ℕ) : Type 0 where
   pub aligned : w.align_mask + 1 ≤ size
   pub atom : (k : ℕ) × (b.atom ≡ 2 ^ k)
   pub whole_atoms : b.atom ≤ size
-
--- a multiple of a power of two is one of each lower power
-lower_multiple : (x n m j k : ℕ) → n ≡ 2 ^ j → m ≡ 2 ^ k → n ≤ m → IsMultipleOf m x → x % n ≡ 0
-lower_multiple x n m j k n_is m_is le (q, is) =
-    let le' : j ≤ k = order-le j k (omega (arith, n_is, m_is, le)) in
-    let e = pow-from_shorter j k le' in
-    let whole : x ≡ q * 2 ^ (k - j) * 2 ^ j = is ∙ ap (λ z. q * z) (m_is ∙ e) ∙ sym (mul_assoc q (2 ^ (k - j)) (2 ^ j)) in
-    ap (λ z. x % z) n_is ∙ ap (λ z. z % 2 ^ j) whole ∙ mul-mod_left (q * 2 ^ (k - j)) (2 ^ j)
 
 pub answers_granted : (a new : Account) (w : Wanted) (size flags : ℕ) (es : List Event) (leaf : Leaf) (p : Properties) (f g : ℕ → Option Object) → IsSound a.buddy → Agrees a.buddy p f → IsRoundedTo a.buddy w size
     → Answers a size flags es (Ok leaf) new → ObjectsAfter a.buddy size flags (Ok leaf) f g → IsGranted a.buddy w new.buddy leaf

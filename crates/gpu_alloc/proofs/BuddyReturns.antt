@@ -279,6 +279,9 @@ module _ {b : Buddy} {leaf : Leaf} {held : Chunk} (r : IsOfChunk b leaf held) wh
       pub still_in_use : IsUnusedChunk (without_leaf b leaf) leaf.chunk → ⊥
       still_in_use unused = unused used.0 used.1.0 used.1.1
 
+      pub still_sound : IsSound (record b { live = leaf_set left })
+      still_sound = subst IsSound (λ i. record b { live = sym left_is i }) (sound_left used)
+
       pub invariant_left : IsDistinct same_leaf left → length now + length left ≤ after → IsSound (record b { live = leaf_set left }) × IsStored (record b { live = leaf_set left }) now left after
       invariant_left once room =
           subst (λ (a : Buddy). IsSound a × IsStored a now left after) (λ i. record b { live = sym left_is i })

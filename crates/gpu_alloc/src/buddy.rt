@@ -88,9 +88,36 @@ impl<M: MemoryObject, A: Allocator + Copy> BuddyAllocator<M, A> {
         requires atom { IsTrue (is_power_of_two (atom_mask + 1)) }
         requires atom_bound { atom_mask + 1 ≤ 2 ^ 62 }
         ensures opened { IfOk result (λ b. b ≡ opened minimal_size initial_dedicated_size memory_type (property_bits props) (atom_mask + 1)) }
+        ensures sound { IfOk result IsSound }
         ensures refused { IfErr result (λ e. e ≡ AllocationError.OutOfHostMemory) }
     {
-        Ok(BuddyAllocator {
+        Ok(BuddyAllocator::empty(
+            alloc,
+            minimal_size,
+            initial_dedicated_size,
+            memory_type,
+            props,
+            atom_mask,
+        ))
+    }
+
+    /// The allocator that `new` gives. It is not refused, since no memory is taken.
+    pub(crate) fn empty(
+        alloc: A,
+        minimal_size: u64,
+        initial_dedicated_size: u64,
+        memory_type: u32,
+        props: MemoryPropertyFlags,
+        atom_mask: u64,
+    ) -> Self
+        requires minimal { IsTrue (is_power_of_two minimal_size) }
+        requires initial { IsTrue (is_power_of_two initial_dedicated_size) }
+        requires atom { IsTrue (is_power_of_two (atom_mask + 1)) }
+        requires atom_bound { atom_mask + 1 ≤ 2 ^ 62 }
+        ensures opened { result ≡ opened minimal_size initial_dedicated_size memory_type (property_bits props) (atom_mask + 1) }
+        ensures sound { IsSound result }
+    {
+        BuddyAllocator {
             chunks: Slab::new(alloc),
             pieces: Vec::new(alloc),
             live: Vec::new(alloc),
@@ -99,7 +126,7 @@ impl<M: MemoryObject, A: Allocator + Copy> BuddyAllocator<M, A> {
             memory_type,
             props,
             atom: atom_mask + 1,
-        })
+        }
     }
 }
 
@@ -146,6 +173,7 @@ impl<M: MemoryObject, A: Allocator> BuddyAllocator<M, A> {
         // What follows from it.
         ensures granted { IfOk result (IsGranted self.old (wanted size align_mask (allocation_bits flags)) self.new) }
         ensures refused { OnErr result ((self.new ≡ self.old) × ((heap.new ≡ heap.old) × (allocations_remains.new ≡ allocations_remains.old))) }
+        ensures sound { IsSound self.new }
         ensures total { chunks_and_remaining (account self.new heap.new allocations_remains.new) ≡ chunks_and_remaining (account self.old heap.old allocations_remains.old) }
     {
         let order = self.rounded_order(size, align_mask);
@@ -198,6 +226,7 @@ impl<M: MemoryObject, A: Allocator> BuddyAllocator<M, A> {
         ensures objects { ObjectsFreed self.old block (D.objects device.old) (D.objects device.new) }
         ensures agrees { Agrees self.new (D.properties device.new) (D.objects device.new) }
         ensures properties { D.properties device.new ≡ D.properties device.old }
+        ensures sound { IsSound self.new }
         ensures total { chunks_and_remaining (account self.new heap.new allocations_remains.new) ≡ chunks_and_remaining (account self.old heap.old allocations_remains.old) }
     {
         let (memory, leaf) = block.into_parts();

@@ -1,7 +1,7 @@
-use Rattle.std.proofs.Common.{◌^◌, sym, subst, arith}
+use Rattle.std.proofs.Common.{◌^◌, refl, sym, subst, arith}
 use Rattle.gpu_alloc_types.specs.Flags.{allocation_bits}
 use Rattle.gpu_alloc.specs.Buddy.{account, wanted, rounded, Answers, ObjectsAfter}
-use Rattle.gpu_alloc.proofs.BuddyAnswers.{rounds, answers_agree, answers_all_granted, answers_total}
+use Rattle.gpu_alloc.proofs.BuddyAnswers.{rounds, answers_agree, answers_all_granted, answers_sound, answers_total}
 use Rattle.gpu_alloc.proofs.buddy.BuddyAllocator.alloc.Goals as goal
 
 pub returns-clause-allocates : goal.returns-clause-allocates
@@ -41,6 +41,14 @@ returns-clause-granted g c =
     sound c.requires.agrees (rounds c.args.self.now w sound (omega (arith, c.ranges.size.fits)) c.requires.alignment)
     (subst (λ n. Answers old n flags told.0 c.alloc_rounded.result new) (sym size) told.2)
     (subst (λ n. ObjectsAfter c.args.self.now n flags c.alloc_rounded.result (g.D.MemoryDevice.objects c.args.device.now) (g.D.MemoryDevice.objects c.alloc_rounded.new.device)) (sym size) c.alloc_rounded.ensures.objects)
+
+pub returns-clause-sound : goal.returns-clause-sound
+returns-clause-sound g c =
+    let old = account c.args.self.now c.args.heap.now c.args.allocations_remains.now in
+    let new = account c.alloc_rounded.new.self c.alloc_rounded.new.heap c.alloc_rounded.new.allocations_remains in
+    let told = c.alloc_rounded.ensures.answers in
+    answers_sound old new (2 ^ c.rounded_order-order.result) (allocation_bits c.args.flags) told.0 c.alloc_rounded.result (g.D.MemoryDevice.properties c.args.device.now) (g.D.MemoryDevice.objects c.args.device.now) (g.D.MemoryDevice.objects c.alloc_rounded.new.device)
+    c.rounded_order-order.ensures.sound c.requires.agrees (c.rounded_order-order.result, refl) told.2 c.alloc_rounded.ensures.objects
 
 pub returns-clause-total : goal.returns-clause-total
 returns-clause-total g c =

@@ -4,7 +4,7 @@ use Rattle.gpu_alloc_types.specs.Flags.{property_bits}
 use Rattle.gpu_alloc.specs.Sizes.{next_power_of_two}
 use Rattle.gpu_alloc.proofs.BuddyGrants.{sound_empty, stored_empty, power_up_to, power_below}
 use Rattle.gpu_alloc.proofs.PowersOfTwo.{power_of_bit, power_is_next, greater_power}
-use Rattle.gpu_alloc.proofs.buddy.BuddyAllocator.new.Goals as goal
+use Rattle.gpu_alloc.proofs.buddy.BuddyAllocator.empty.Goals as goal
 
 pub invariant_of-result : goal.invariant_of-result
 invariant_of-result g c =
@@ -29,3 +29,6 @@ returns-clause-opened g c =
     let next : 2 ^ c.next_order.result ≡ max c.args.initial_dedicated_size c.args.minimal_size =
     sym c.next_order.ensures.least ∙ ap next_power_of_two c.max.ensures ∙ power_is_next (max c.args.initial_dedicated_size c.args.minimal_size) both.0 both.1 (omega (arith, c.ranges.minimal_size.fits, c.ranges.initial_dedicated_size.fits)) in
     rw (c.new-3.ensures.items, c.new.ensures.empty, next) refl
+
+pub returns-clause-sound : goal.returns-clause-sound
+returns-clause-sound g c = (invariant_of-result g c).0
