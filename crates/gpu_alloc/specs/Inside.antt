@@ -108,21 +108,21 @@ pub record IsLinked (t : Table) (b : Buddy) : Type 0 where
   pub spans : (span : Span) (h : HeldObject) → IsLiveIn t span → IsChunkOf t b.memory_type span.object h → (place : Place) × ((map_of.get t.places span ≡ Some place) × IsLiveLeaf b (leaf_at span place))
 
 -- what a memory type's buddy allocator was given
-pub record IsForType (c : Config) (p : Properties) (memory_type : ℕ) (b : Buddy) : Type 0 where
-  pub memory_type : b.memory_type ≡ memory_type
-  pub props : b.props ≡ props_at p memory_type
-  pub atom : b.atom ≡ atom_of p memory_type
-  pub minimal : b.minimal ≡ minimal_size c (heap_size p memory_type)
+pub record IsForType (c : Config) (p : Properties) (index : ℕ) (b : Buddy) : Type 0 where
+  pub memory_type : b.memory_type ≡ index
+  pub props : b.props ≡ props_at p index
+  pub atom : b.atom ≡ atom_of p index
+  pub minimal : b.minimal ≡ minimal_size c (heap_size p index)
 
-pub record IsBuddyOf (c : Config) (p : Properties) (t : Table) (memory_type : ℕ) (b : Buddy) : Type 0 where
-  pub for_type : IsForType c p memory_type b
+pub record IsBuddyOf (c : Config) (p : Properties) (t : Table) (index : ℕ) (b : Buddy) : Type 0 where
+  pub for_type : IsForType c p index b
   pub sound : IsSound b
   pub linked : IsLinked t b
 
 -- each memory type has a buddy allocator
 pub record HasBuddies (c : Config) (p : Properties) (t : Table) (buddies : List Buddy) : Type 0 where
   pub count : length buddies ≡ length p.memory_types
-  pub each : (memory_type : ℕ) → IfSome (slice_get buddies memory_type) (IsBuddyOf c p t memory_type)
+  pub each : (index : ℕ) → IfSome (slice_get buddies index) (IsBuddyOf c p t index)
 
 -- The table, the heaps and the count.
 pub record IsBooked (p : Properties) (heaps : List Heap) (t : Table) (remaining : ℕ) : Type 0 where
@@ -135,4 +135,4 @@ pub record IsBooked (p : Properties) (heaps : List Heap) (t : Table) (remaining 
 
 pub record IsConsistent (c : Config) (p : Properties) (heaps : List Heap) (buddies : List Buddy) (t : Table) (remaining : ℕ) : Type 0 where
   pub books : IsBooked p heaps t remaining
-  pub buddies : HasBuddies c p t buddies
+  pub shared : HasBuddies c p t buddies
