@@ -15,6 +15,7 @@ pub mod KeptPieces
 pub mod Ledgers
 pub mod ListSets
 pub mod ListViews
+pub mod Links
 pub mod Lists
 pub mod LiveSpans
 pub mod Masks
@@ -28,6 +29,8 @@ pub mod RankingOrder
 pub mod RankingSteps
 pub mod Returns
 pub mod Rising
+pub mod ServedBlocks
+pub mod Serving
 pub mod SlabViews
 pub mod Tables
 pub mod Trials
