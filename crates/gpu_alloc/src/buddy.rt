@@ -1,6 +1,6 @@
 //! The buddy allocator: shared chunks of one memory type, whose blocks are aligned powers of two.
 
-ghost use Rattle.std.specs.Prelude.{◌≡◌, ℕ, ◌+◌, ◌≤◌, ◌<◌, ◌≢◌, ◌↔◌, ◌^◌, ◌++◌, ◌∷◌, [], max, List, length, IfOk, IfErr, OnOk, OnErr, IfSome, IsTrue, Some, None, slice_index_or, vec_len, vec_capacity};
+ghost use Rattle.std.specs.Prelude.{◌≡◌, ℕ, ◌+◌, ◌≤◌, ◌<◌, ◌≢◌, ◌↔◌, ◌^◌, ◌++◌, ◌∷◌, [], max, List, length, IfOk, IfErr, OnOk, OnErr, IfSome, IsSome, IsTrue, Some, None, slice_index_or, vec_len, vec_capacity};
 ghost use Rattle.std.specs.FinMap as map;
 ghost use Rattle.std.specs.FinSet as set;
 ghost use Rattle.gpu_alloc_types.specs.Flags.{allocation_bits, property_bits, has_bit};
@@ -243,6 +243,14 @@ impl<M: MemoryObject, A: Allocator> BuddyAllocator<M, A> {
             heap.dealloc(bytes(limit));
             *allocations_remains += 1;
         }
+    }
+
+    /// The size of a held chunk, in bytes.
+    pub(crate) fn chunk_size(&self, chunk: usize) -> u64
+        requires { IsSome (map.get self.now.chunks chunk) }
+        ensures { IfSome (map.get self.now.chunks chunk) (λ c. c.size ≡ result) }
+    {
+        bytes(self.chunks[chunk].order)
     }
 
     /// Ends an allocator that holds no chunk.
