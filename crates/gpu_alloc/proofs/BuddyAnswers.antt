@@ -8,7 +8,7 @@ use Rattle.gpu_alloc_types.specs.Device.{Object, Event, HeldWith}
 use Rattle.gpu_alloc_types.specs.Objects.{put-same, put-other}
 use Rattle.gpu_alloc_types.specs.Properties.{Properties}
 use Rattle.gpu_alloc.specs.FreeSpace.{IsMultipleOf, IsPowerOfTwo}
-use Rattle.gpu_alloc.specs.Buddy.{Account, account, Wanted, Agrees, Answers, ObjectsAfter, BeginsChunk, Fits, HasPlace, IsFront, IsThere, IsGranted, chunk_size, question, sees_chunks, with_leaf, with_chunk, rounded, chunks_and_remaining, RefusesFirst}
+use Rattle.gpu_alloc.specs.Buddy.{Account, account, Wanted, Agrees, Answers, ObjectsAfter, BeginsChunk, Fits, HasPlace, IsFront, IsThere, IsGranted, IsCounted, chunk_bytes, chunk_size, question, sees_chunks, with_leaf, with_chunk, rounded, chunks_and_remaining, RefusesFirst}
 use Rattle.gpu_alloc.specs.BuddyState.{Chunk, Buddy}
 use Rattle.gpu_alloc.specs.BuddySound.{IsSound, IsPowerUpTo, LiesInChunk}
 use Rattle.gpu_alloc.specs.NewChunk.{ChunkQuestion, HasOneChunkMore}
@@ -20,6 +20,7 @@ use Rattle.std.proofs.Math.Nat.{mul_assoc, mul-mod_left, zero-mul, one-mul}
 use Rattle.gpu_alloc.specs.Request.{IsAlignMask}
 use Rattle.gpu_alloc.proofs.AlignedPowers.{doubled, pow-le, order-le, pow-from_shorter}
 use Rattle.gpu_alloc.proofs.PowersOfTwo.{is_next_power_of_two, power_of_bit, greater_power}
+use Rattle.gpu_alloc.proofs.Ledgers.{sum_by-insert, len_more}
 use Rattle.gpu_alloc.proofs.BuddyCalls.{one_chunk}
 use Rattle.gpu_alloc.proofs.BuddyGrants.{if_some, chunk_cases, now_live, other_objects, power_up_to, sound_with_leaf, sound_with_chunk}
 
@@ -108,15 +109,26 @@ refused_keeps a new size flags es TooManyObjects refused = refused.0
 
 -- Chunks and what remains.
 
-chunks_more : (m : map.FinMap nat_cmp Chunk) (key : ℕ) (chunk : Chunk) → map.get m key ≡ None → map.len (map.insert m key chunk) ≡ map.len m + 1
-chunks_more m key chunk none = rw none at (map.len-insert {K = ℕ} {X = Chunk} {R = nat_cmp} nat_cmp_total m key chunk)
-
 pub answers_total : (a new : Account) (size flags : ℕ) (es : List Event) (answer : Result Leaf AllocationError) → Answers a size flags es answer new → chunks_and_remaining new ≡ chunks_and_remaining a
 answers_total a new size flags es (Ok leaf) (inl front) = ap chunks_and_remaining front.1.1.1
 answers_total a new size flags es (Ok leaf) (inr begins) =
-    let more = chunks_more a.buddy.chunks leaf.chunk (record { object = leaf.object; size = chunk_size a.buddy size }) begins.1.0.free_key in
+    let more = len_more a.buddy.chunks leaf.chunk (record { object = leaf.object; size = chunk_size a.buddy size }) begins.1.0.free_key in
     ap chunks_and_remaining begins.1.1.1 ∙ omega (arith, more, begins.0.1.1)
 answers_total a new size flags es (Err e) refused = ap chunks_and_remaining (refused_keeps a new size flags es e refused)
+
+-- the ledger counts each held chunk still
+answers_bytes : (a new : Account) (size flags : ℕ) (es : List Event) (answer : Result Leaf AllocationError) → chunk_bytes a.buddy ≤ a.heap.used → Answers a size flags es answer new → chunk_bytes new.buddy ≤ new.heap.used
+answers_bytes a new size flags es (Ok leaf) counted (inl front) = rw (front.1.1.1) counted
+answers_bytes a new size flags es (Ok leaf) counted (inr begins) =
+    let more = sum_by-insert (λ e. e.1.size) a.buddy.chunks leaf.chunk (record { object = leaf.object; size = chunk_size a.buddy size }) begins.1.0.free_key in
+    rw (begins.1.1.1) (omega (arith, more, counted))
+answers_bytes a new size flags es (Err e) counted refused = rw (refused_keeps a new size flags es e refused) counted
+
+pub answers_counted : (a new : Account) (size flags : ℕ) (es : List Event) (answer : Result Leaf AllocationError) → IsCounted a → Answers a size flags es answer new → IsCounted new
+answers_counted a new size flags es answer counted answers = record {
+  chunks = answers_bytes a new size flags es answer counted.chunks answers;
+  objects = omega (arith, answers_total a new size flags es answer answers, counted.objects);
+}
 
 -- What is sound stays so.
 

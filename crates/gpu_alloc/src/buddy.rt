@@ -163,6 +163,7 @@ impl<M: MemoryObject, A: Allocator> BuddyAllocator<M, A> {
         requires address { IsTrue (has_bit (allocation_bits flags) 1) → IsTrue (D.properties device.old).buffer_device_address }
         requires agrees { Agrees self.old (D.properties device.old) (D.objects device.old) }
         requires counted { IsCounted (account self.old heap.old allocations_remains.old) }
+        requires bound { heap.old.used ≤ 2 ^ 127 }
 
         // What was asked of the device, the answer, and what changed.
         ensures allocates { (es : List Event) × Chain D.step device.old es device.new × Allocates (account self.old heap.old allocations_remains.old) (wanted size align_mask (allocation_bits flags)) es result (account self.new heap.new allocations_remains.new) }
@@ -174,6 +175,7 @@ impl<M: MemoryObject, A: Allocator> BuddyAllocator<M, A> {
         ensures granted { IfOk result (IsGranted self.old (wanted size align_mask (allocation_bits flags)) self.new) }
         ensures refused { OnErr result ((self.new ≡ self.old) × ((heap.new ≡ heap.old) × (allocations_remains.new ≡ allocations_remains.old))) }
         ensures sound { IsSound self.new }
+        ensures counted { IsCounted (account self.new heap.new allocations_remains.new) }
         ensures total { chunks_and_remaining (account self.new heap.new allocations_remains.new) ≡ chunks_and_remaining (account self.old heap.old allocations_remains.old) }
     {
         let order = self.rounded_order(size, align_mask);
@@ -227,6 +229,7 @@ impl<M: MemoryObject, A: Allocator> BuddyAllocator<M, A> {
         ensures agrees { Agrees self.new (D.properties device.new) (D.objects device.new) }
         ensures properties { D.properties device.new ≡ D.properties device.old }
         ensures sound { IsSound self.new }
+        ensures counted { IsCounted (account self.new heap.new allocations_remains.new) }
         ensures total { chunks_and_remaining (account self.new heap.new allocations_remains.new) ≡ chunks_and_remaining (account self.old heap.old allocations_remains.old) }
     {
         let (memory, leaf) = block.into_parts();
@@ -293,6 +296,7 @@ impl<M: MemoryObject, A: Allocator> BuddyAllocator<M, A> {
         requires address { IsTrue (has_bit (allocation_bits flags) 1) → IsTrue (D.properties device.old).buffer_device_address }
         requires agrees { Agrees self.old (D.properties device.old) (D.objects device.old) }
         requires counted { IsCounted (account self.old heap.old allocations_remains.old) }
+        requires bound { heap.old.used ≤ 2 ^ 127 }
         ensures answers { (es : List Event) × Chain D.step device.old es device.new × Answers (account self.old heap.old allocations_remains.old) (2 ^ order) (allocation_bits flags) es result (account self.new heap.new allocations_remains.new) }
         ensures objects { ObjectsAfter self.old (2 ^ order) (allocation_bits flags) result (D.objects device.old) (D.objects device.new) }
         ensures properties { D.properties device.new ≡ D.properties device.old }
@@ -354,6 +358,7 @@ impl<M: MemoryObject, A: Allocator> BuddyAllocator<M, A> {
         requires address { IsTrue (has_bit (allocation_bits flags) 1) → IsTrue (D.properties device.old).buffer_device_address }
         requires agrees { Agrees self.old (D.properties device.old) (D.objects device.old) }
         requires counted { IsCounted (account self.old heap.old allocations_remains.old) }
+        requires bound { heap.old.used ≤ 2 ^ 127 }
         ensures answers { (es : List Event) × Chain D.step device.old es device.new × Answers (account self.old heap.old allocations_remains.old) (2 ^ order) (allocation_bits flags) es result (account self.new heap.new allocations_remains.new) }
         ensures objects { ObjectsAfter self.old (2 ^ order) (allocation_bits flags) result (D.objects device.old) (D.objects device.new) }
         ensures properties { D.properties device.new ≡ D.properties device.old }
