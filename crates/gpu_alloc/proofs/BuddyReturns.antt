@@ -2,9 +2,7 @@
 use Rattle.std.proofs.Common.{◌≡◌, ℕ, ◌+◌, ◌*◌, ◌-◌, ◌^◌, ◌<◌, ◌≤◌, ◌≢◌, ◌⊎◌, inl, inr, true, false, List, [], ◌∷◌, length, get_or, Option, Some, None, IsSome, IfSome, IsTrue, refl, sym, ◌∙◌, ap, subst, arith}
 use Rattle.std.specs.Prelude.{option_map, is_some, IfNone}
 use Rattle.std.specs.Bool.{Decides}
-use Rattle.std.specs.Cmp.{nat_cmp_total}
 use Rattle.std.specs.FinMap as map
-use Rattle.std.specs.FinMap.{nat_cmp-IsAntisymmetric}
 use Rattle.std.specs.FinSet as set
 use Rattle.std.specs.List.{Contains, IsDistinct, position, swap_remove}
 use Rattle.std.specs.Ordering.{nat_cmp}
@@ -30,7 +28,7 @@ use Rattle.gpu_alloc.specs.declared.buddy.block.Leaf.{Leaf}
 use Rattle.gpu_alloc.specs.declared.buddy.pieces.Piece.{Piece}
 use Rattle.gpu_alloc.specs.declared.heap.Heap.{Heap}
 use Rattle.gpu_alloc.proofs.AlignedPowers.{order-le}
-use Rattle.gpu_alloc.proofs.BuddyCalls.{IsLeafOf, returned, chunk_goes, whole_is_unused, held_is_used, used_is_shorter, one_chunk, none_is_held, key_at, other_key, removed_key, left_key}
+use Rattle.gpu_alloc.proofs.BuddyCalls.{IsLeafOf, returned, chunk_goes, whole_is_unused, held_is_used, used_is_shorter, one_chunk, none_is_held, removed_key, left_key}
 use Rattle.gpu_alloc.proofs.BuddyLeaves.{leaf_test, in_leaves, leaf_removed, leaves_less}
 use Rattle.gpu_alloc.proofs.Ledgers.{sum_by-remove, len_less}
 use Rattle.gpu_alloc.proofs.Lists.{not_found, less}

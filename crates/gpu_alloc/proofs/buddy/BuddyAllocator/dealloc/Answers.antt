@@ -1,6 +1,5 @@
 use Rattle.std.proofs.Common.{◌-◌, ◌^◌, ◌≤◌, [], ◌∷◌, vec_capacity, inl, inr, refl, sym, ◌∙◌, ap, arith}
 use Rattle.gpu_alloc_types.specs.Device.Event.{Deallocated}
-use Rattle.gpu_alloc.specs.Buddy.{account}
 use Rattle.gpu_alloc.specs.BuddyState.{Chunk}
 use Rattle.gpu_alloc.specs.SlabViews.{by_key}
 use Rattle.gpu_alloc.specs.declared.buddy.block.Leaf.{Leaf}
