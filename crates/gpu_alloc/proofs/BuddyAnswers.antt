@@ -7,7 +7,7 @@ use Rattle.gpu_alloc_types.specs.Objects.{put-same, put-other}
 use Rattle.gpu_alloc_types.specs.Properties.{Properties}
 use Rattle.gpu_alloc.specs.FreeSpace.{IsMultipleOf, IsPowerOfTwo}
 use Rattle.gpu_alloc.specs.Buddy.{Account, account, Wanted, Agrees, Answers, ObjectsAfter, BeginsChunk, Fits, HasPlace, IsFront, IsThere, IsGranted, IsCounted, chunk_bytes, chunk_size, question, sees_chunks, with_leaf, with_chunk, rounded, chunks_and_remaining, RefusesFirst}
-use Rattle.gpu_alloc.specs.BuddyState.{Chunk, Buddy}
+use Rattle.gpu_alloc.specs.BuddyState.{Chunk, Buddy, IsLiveLeaf}
 use Rattle.gpu_alloc.specs.BuddySound.{IsSound, IsPowerUpTo, LiesInChunk}
 use Rattle.gpu_alloc.specs.NewChunk.{ChunkQuestion, HasOneChunkMore}
 use Rattle.gpu_alloc.specs.declared.buddy.block.Leaf.{Leaf}
@@ -194,6 +194,10 @@ pub record IsRoundedTo (b : Buddy) (w : Wanted) (size : ℕ) : Type 0 where
   pub atom : (k : ℕ) × (b.atom ≡ 2 ^ k)
   pub whole_atoms : b.atom ≤ size
 
+-- a live block lies in its chunk, once the state is sound
+lies_now : (b : Buddy) (new : Account) (leaf : Leaf) → new.buddy ≡ b → IsSound new.buddy → IsLiveLeaf b leaf → LiesInChunk b leaf
+lies_now b new leaf is sound live = (subst IsSound is sound).inside leaf live
+
 pub answers_granted : (a new : Account) (w : Wanted) (size flags : ℕ) (es : List Event) (leaf : Leaf) (p : Properties) (f g : ℕ → Option Object) → IsSound a.buddy → Agrees a.buddy p f → IsRoundedTo a.buddy w size
     → Answers a size flags es (Ok leaf) new → ObjectsAfter a.buddy size flags (Ok leaf) f g → IsGranted a.buddy w new.buddy leaf
 answers_granted a new w size flags es leaf p f g s agrees r (inl front) (inl begins) = absurd (never_both a.buddy size leaf begins.0 front.1.0)
@@ -201,6 +205,7 @@ answers_granted a new w size flags es leaf p f g s agrees r (inl front) (inr kep
     let at = front.1.0 in
     let place = at.piece.place in
     let size_is = at.of_size in
+    let there = lies_now (with_leaf a.buddy leaf) new leaf (ap (λ (x : Account). x.buddy) front.1.1.1) (answers_sound a new size flags es (Ok leaf) p f g s agrees r.power (inl front) (inr kept)) (now_live a.buddy leaf) in
     rw (front.1.1.1) (record {
       enough = omega (arith, size_is, r.enough);
       aligned = lower_multiple leaf.offset (w.align_mask + 1) at.length r.alignment.0 place.power.0 r.alignment.1 place.power.1 (omega (arith, r.aligned, at.enough)) place.aligned;
@@ -208,6 +213,9 @@ answers_granted a new w size flags es leaf p f g s agrees r (inl front) (inr kep
         lower_multiple leaf.offset a.buddy.atom at.length r.atom.0 place.power.0 r.atom.1 place.power.1 (omega (arith, r.whole_atoms, at.enough)) place.aligned,
         lower_multiple leaf.size a.buddy.atom size r.atom.0 r.power.0 r.atom.1 r.power.1 r.whole_atoms (1, size_is ∙ sym (one-mul size)),
       );
+      power = there.power;
+      front = there.aligned;
+      inside = (there.chunk, there.held, (there.object, there.inside));
       live = now_live a.buddy leaf;
       was_free = λ other live same b in_other in_leaf.
           let there = s.inside other live in
@@ -217,6 +225,8 @@ answers_granted a new w size flags es leaf p f g s agrees r (inl front) (inr kep
 answers_granted a new w size flags es leaf p f g s agrees r (inr begins) (inl made) =
     let at = begins.1.0 in
     let size_is = at.of_size in
+    let chunk = with_chunk a.buddy leaf (chunk_size a.buddy size) in
+    let there = lies_now (with_leaf chunk leaf) new leaf (ap (λ (x : Account). x.buddy) begins.1.1.1) (answers_sound a new size flags es (Ok leaf) p f g s agrees r.power (inr begins) (inl made)) (now_live chunk leaf) in
     rw (begins.1.1.1) (record {
       enough = omega (arith, size_is, r.enough);
       aligned = lower_multiple leaf.offset (w.align_mask + 1) (w.align_mask + 1) r.alignment.0 r.alignment.0 r.alignment.1 r.alignment.1 (omega arith) (0, at.start ∙ sym (zero-mul (w.align_mask + 1)));
@@ -224,7 +234,10 @@ answers_granted a new w size flags es leaf p f g s agrees r (inr begins) (inl ma
         lower_multiple leaf.offset a.buddy.atom a.buddy.atom r.atom.0 r.atom.0 r.atom.1 r.atom.1 (omega arith) (0, at.start ∙ sym (zero-mul a.buddy.atom)),
         lower_multiple leaf.size a.buddy.atom size r.atom.0 r.power.0 r.atom.1 r.power.1 r.whole_atoms (1, size_is ∙ sym (one-mul size)),
       );
-      live = now_live (with_chunk a.buddy leaf (chunk_size a.buddy size)) leaf;
+      power = there.power;
+      front = there.aligned;
+      inside = (there.chunk, there.held, (there.object, there.inside));
+      live = now_live chunk leaf;
       was_free = λ other live same b in_other in_leaf.
           let there = s.inside other live in
           absurd (other_objects a.buddy p f leaf.object agrees made.1.0 other.chunk there.chunk there.held (sym there.object ∙ same));

@@ -6,7 +6,7 @@ use Rattle.gpu_alloc_types.specs.Flags.{has_bit}
 use Rattle.gpu_alloc_types.specs.Properties.{Properties, props_at}
 use Rattle.gpu_alloc_types.specs.Device.{Object, Event, HeldWith, put}
 use Rattle.gpu_alloc_types.specs.Device.Event.{Deallocated}
-use Rattle.gpu_alloc.specs.FreeSpace.{IsIn, IsPlace, IsFreePiece}
+use Rattle.gpu_alloc.specs.FreeSpace.{IsIn, IsMultipleOf, IsPowerOfTwo, IsPlace, IsFreePiece}
 use Rattle.gpu_alloc.specs.NewChunk.{ChunkQuestion, made, LacksDeviceMemory, LacksHostMemory, IsGivenBack, HasOneChunkMore}
 use Rattle.gpu_alloc.specs.Sizes.{next_power_of_two}
 use Rattle.gpu_alloc.specs.BuddyState.{Chunk, Buddy, IsLiveLeaf, IsFreeAt}
@@ -162,6 +162,9 @@ pub record IsGranted (old : Buddy) (w : Wanted) (new : Buddy) (leaf : Leaf) : Ty
   pub enough : w.size ≤ leaf.size
   pub aligned : leaf.offset % (w.align_mask + 1) ≡ 0
   pub whole_atoms : (leaf.offset % old.atom ≡ 0) × (leaf.size % old.atom ≡ 0)
+  pub power : IsPowerOfTwo leaf.size
+  pub front : IsMultipleOf leaf.size leaf.offset
+  pub inside : (chunk : Chunk) × (map.get new.chunks leaf.chunk ≡ Some chunk) × ((leaf.object ≡ chunk.object) × (leaf.offset + leaf.size ≤ chunk.size))
   pub live : IsLiveLeaf new leaf
   pub was_free : (other : Leaf) → IsLiveLeaf old other → other.object ≡ leaf.object → (at : ℕ) → IsIn other.offset other.size at → IsIn leaf.offset leaf.size at → ⊥
 
