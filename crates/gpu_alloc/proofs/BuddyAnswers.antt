@@ -2,14 +2,12 @@
 use Rattle.std.proofs.Common.{◌≡◌, ◌≢◌, ◌⊎◌, inl, inr, ℕ, ◌+◌, ◌*◌, ◌-◌, ◌%◌, ◌^◌, ◌<◌, ◌≤◌, List, [], Option, Some, None, Result, Ok, Err, refl, sym, ◌∙◌, ap, subst, arith}
 use Rattle.std.specs.Prelude.{IfSome, IfOk, OnErr, max}
 use Rattle.std.specs.FinMap as map
-use Rattle.std.specs.Cmp.{nat_cmp_total}
-use Rattle.std.specs.Ordering.{nat_cmp}
 use Rattle.gpu_alloc_types.specs.Device.{Object, Event, HeldWith}
 use Rattle.gpu_alloc_types.specs.Objects.{put-same, put-other}
 use Rattle.gpu_alloc_types.specs.Properties.{Properties}
 use Rattle.gpu_alloc.specs.FreeSpace.{IsMultipleOf, IsPowerOfTwo}
-use Rattle.gpu_alloc.specs.Buddy.{Account, account, Wanted, Agrees, Answers, ObjectsAfter, BeginsChunk, Fits, HasPlace, IsFront, IsThere, IsGranted, chunk_size, question, sees_chunks, with_leaf, with_chunk, rounded, chunks_and_remaining, RefusesFirst}
-use Rattle.gpu_alloc.specs.BuddyState.{Chunk, Buddy}
+use Rattle.gpu_alloc.specs.Buddy.{Account, account, Wanted, Agrees, Answers, ObjectsAfter, BeginsChunk, Fits, HasPlace, IsFront, IsThere, IsGranted, IsCounted, chunk_bytes, chunk_size, question, sees_chunks, with_leaf, with_chunk, rounded, chunks_and_remaining, RefusesFirst}
+use Rattle.gpu_alloc.specs.BuddyState.{Chunk, Buddy, IsLiveLeaf}
 use Rattle.gpu_alloc.specs.BuddySound.{IsSound, IsPowerUpTo, LiesInChunk}
 use Rattle.gpu_alloc.specs.NewChunk.{ChunkQuestion, HasOneChunkMore}
 use Rattle.gpu_alloc.specs.declared.buddy.block.Leaf.{Leaf}
@@ -20,6 +18,7 @@ use Rattle.std.proofs.Math.Nat.{mul_assoc, mul-mod_left, zero-mul, one-mul}
 use Rattle.gpu_alloc.specs.Request.{IsAlignMask}
 use Rattle.gpu_alloc.proofs.AlignedPowers.{doubled, pow-le, order-le, pow-from_shorter}
 use Rattle.gpu_alloc.proofs.PowersOfTwo.{is_next_power_of_two, power_of_bit, greater_power}
+use Rattle.gpu_alloc.proofs.Ledgers.{sum_by-insert, len_more}
 use Rattle.gpu_alloc.proofs.BuddyCalls.{one_chunk}
 use Rattle.gpu_alloc.proofs.BuddyGrants.{if_some, chunk_cases, now_live, other_objects, power_up_to, sound_with_leaf, sound_with_chunk}
 
@@ -108,15 +107,26 @@ refused_keeps a new size flags es TooManyObjects refused = refused.0
 
 -- Chunks and what remains.
 
-chunks_more : (m : map.FinMap nat_cmp Chunk) (key : ℕ) (chunk : Chunk) → map.get m key ≡ None → map.len (map.insert m key chunk) ≡ map.len m + 1
-chunks_more m key chunk none = rw none at (map.len-insert {K = ℕ} {X = Chunk} {R = nat_cmp} nat_cmp_total m key chunk)
-
 pub answers_total : (a new : Account) (size flags : ℕ) (es : List Event) (answer : Result Leaf AllocationError) → Answers a size flags es answer new → chunks_and_remaining new ≡ chunks_and_remaining a
 answers_total a new size flags es (Ok leaf) (inl front) = ap chunks_and_remaining front.1.1.1
 answers_total a new size flags es (Ok leaf) (inr begins) =
-    let more = chunks_more a.buddy.chunks leaf.chunk (record { object = leaf.object; size = chunk_size a.buddy size }) begins.1.0.free_key in
+    let more = len_more a.buddy.chunks leaf.chunk (record { object = leaf.object; size = chunk_size a.buddy size }) begins.1.0.free_key in
     ap chunks_and_remaining begins.1.1.1 ∙ omega (arith, more, begins.0.1.1)
 answers_total a new size flags es (Err e) refused = ap chunks_and_remaining (refused_keeps a new size flags es e refused)
+
+-- the ledger counts each held chunk still
+answers_bytes : (a new : Account) (size flags : ℕ) (es : List Event) (answer : Result Leaf AllocationError) → chunk_bytes a.buddy ≤ a.heap.used → Answers a size flags es answer new → chunk_bytes new.buddy ≤ new.heap.used
+answers_bytes a new size flags es (Ok leaf) counted (inl front) = rw (front.1.1.1) counted
+answers_bytes a new size flags es (Ok leaf) counted (inr begins) =
+    let more = sum_by-insert (λ e. e.1.size) a.buddy.chunks leaf.chunk (record { object = leaf.object; size = chunk_size a.buddy size }) begins.1.0.free_key in
+    rw (begins.1.1.1) (omega (arith, more, counted))
+answers_bytes a new size flags es (Err e) counted refused = rw (refused_keeps a new size flags es e refused) counted
+
+pub answers_counted : (a new : Account) (size flags : ℕ) (es : List Event) (answer : Result Leaf AllocationError) → IsCounted a → Answers a size flags es answer new → IsCounted new
+answers_counted a new size flags es answer counted answers = record {
+  chunks = answers_bytes a new size flags es answer counted.chunks answers;
+  objects = omega (arith, answers_total a new size flags es answer answers, counted.objects);
+}
 
 -- What is sound stays so.
 
@@ -184,6 +194,10 @@ pub record IsRoundedTo (b : Buddy) (w : Wanted) (size : ℕ) : Type 0 where
   pub atom : (k : ℕ) × (b.atom ≡ 2 ^ k)
   pub whole_atoms : b.atom ≤ size
 
+-- a live block lies in its chunk, once the state is sound
+lies_now : (b : Buddy) (new : Account) (leaf : Leaf) → new.buddy ≡ b → IsSound new.buddy → IsLiveLeaf b leaf → LiesInChunk b leaf
+lies_now b new leaf is sound live = (subst IsSound is sound).inside leaf live
+
 pub answers_granted : (a new : Account) (w : Wanted) (size flags : ℕ) (es : List Event) (leaf : Leaf) (p : Properties) (f g : ℕ → Option Object) → IsSound a.buddy → Agrees a.buddy p f → IsRoundedTo a.buddy w size
     → Answers a size flags es (Ok leaf) new → ObjectsAfter a.buddy size flags (Ok leaf) f g → IsGranted a.buddy w new.buddy leaf
 answers_granted a new w size flags es leaf p f g s agrees r (inl front) (inl begins) = absurd (never_both a.buddy size leaf begins.0 front.1.0)
@@ -191,6 +205,7 @@ answers_granted a new w size flags es leaf p f g s agrees r (inl front) (inr kep
     let at = front.1.0 in
     let place = at.piece.place in
     let size_is = at.of_size in
+    let there = lies_now (with_leaf a.buddy leaf) new leaf (ap (λ (x : Account). x.buddy) front.1.1.1) (answers_sound a new size flags es (Ok leaf) p f g s agrees r.power (inl front) (inr kept)) (now_live a.buddy leaf) in
     rw (front.1.1.1) (record {
       enough = omega (arith, size_is, r.enough);
       aligned = lower_multiple leaf.offset (w.align_mask + 1) at.length r.alignment.0 place.power.0 r.alignment.1 place.power.1 (omega (arith, r.aligned, at.enough)) place.aligned;
@@ -198,6 +213,9 @@ answers_granted a new w size flags es leaf p f g s agrees r (inl front) (inr kep
         lower_multiple leaf.offset a.buddy.atom at.length r.atom.0 place.power.0 r.atom.1 place.power.1 (omega (arith, r.whole_atoms, at.enough)) place.aligned,
         lower_multiple leaf.size a.buddy.atom size r.atom.0 r.power.0 r.atom.1 r.power.1 r.whole_atoms (1, size_is ∙ sym (one-mul size)),
       );
+      power = there.power;
+      front = there.aligned;
+      inside = (there.chunk, there.held, (there.object, there.inside));
       live = now_live a.buddy leaf;
       was_free = λ other live same b in_other in_leaf.
           let there = s.inside other live in
@@ -207,6 +225,8 @@ answers_granted a new w size flags es leaf p f g s agrees r (inl front) (inr kep
 answers_granted a new w size flags es leaf p f g s agrees r (inr begins) (inl made) =
     let at = begins.1.0 in
     let size_is = at.of_size in
+    let chunk = with_chunk a.buddy leaf (chunk_size a.buddy size) in
+    let there = lies_now (with_leaf chunk leaf) new leaf (ap (λ (x : Account). x.buddy) begins.1.1.1) (answers_sound a new size flags es (Ok leaf) p f g s agrees r.power (inr begins) (inl made)) (now_live chunk leaf) in
     rw (begins.1.1.1) (record {
       enough = omega (arith, size_is, r.enough);
       aligned = lower_multiple leaf.offset (w.align_mask + 1) (w.align_mask + 1) r.alignment.0 r.alignment.0 r.alignment.1 r.alignment.1 (omega arith) (0, at.start ∙ sym (zero-mul (w.align_mask + 1)));
@@ -214,7 +234,10 @@ answers_granted a new w size flags es leaf p f g s agrees r (inr begins) (inl ma
         lower_multiple leaf.offset a.buddy.atom a.buddy.atom r.atom.0 r.atom.0 r.atom.1 r.atom.1 (omega arith) (0, at.start ∙ sym (zero-mul a.buddy.atom)),
         lower_multiple leaf.size a.buddy.atom size r.atom.0 r.power.0 r.atom.1 r.power.1 r.whole_atoms (1, size_is ∙ sym (one-mul size)),
       );
-      live = now_live (with_chunk a.buddy leaf (chunk_size a.buddy size)) leaf;
+      power = there.power;
+      front = there.aligned;
+      inside = (there.chunk, there.held, (there.object, there.inside));
+      live = now_live chunk leaf;
       was_free = λ other live same b in_other in_leaf.
           let there = s.inside other live in
           absurd (other_objects a.buddy p f leaf.object agrees made.1.0 other.chunk there.chunk there.held (sym there.object ∙ same));

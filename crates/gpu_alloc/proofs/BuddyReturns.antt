@@ -2,9 +2,7 @@
 use Rattle.std.proofs.Common.{◌≡◌, ℕ, ◌+◌, ◌*◌, ◌-◌, ◌^◌, ◌<◌, ◌≤◌, ◌≢◌, ◌⊎◌, inl, inr, true, false, List, [], ◌∷◌, length, get_or, Option, Some, None, IsSome, IfSome, IsTrue, refl, sym, ◌∙◌, ap, subst, arith}
 use Rattle.std.specs.Prelude.{option_map, is_some, IfNone}
 use Rattle.std.specs.Bool.{Decides}
-use Rattle.std.specs.Cmp.{nat_cmp_total}
 use Rattle.std.specs.FinMap as map
-use Rattle.std.specs.FinMap.{nat_cmp-IsAntisymmetric}
 use Rattle.std.specs.FinSet as set
 use Rattle.std.specs.List.{Contains, IsDistinct, position, swap_remove}
 use Rattle.std.specs.Ordering.{nat_cmp}
@@ -15,11 +13,11 @@ use Rattle.std.proofs.lemmas.Nat.{pow_pos}
 use Rattle.std.proofs.Math.Pow.{pow_mono}
 use mathlib.Core.Bool.{true≢false}
 use Rattle.slab.specs.Slab.{Slab, get, ContainsKey}
-use Rattle.gpu_alloc_types.specs.Device.{Object, HeldWith, put}
+use Rattle.gpu_alloc_types.specs.Device.{Object, Event, HeldWith, put}
 use Rattle.gpu_alloc_types.specs.Device.Event.{Deallocated}
 use Rattle.gpu_alloc_types.specs.Objects.{put-other}
 use Rattle.gpu_alloc_types.specs.Properties.{Properties}
-use Rattle.gpu_alloc.specs.Buddy.{account, Frees, IsUnusedChunk, without_leaf, sees_chunks, Agrees, IsThere, IsCounted}
+use Rattle.gpu_alloc.specs.Buddy.{Account, account, Frees, IsUnusedChunk, without_leaf, sees_chunks, Agrees, IsThere, IsCounted, chunk_bytes, chunks_and_remaining}
 use Rattle.gpu_alloc.specs.BuddyInside.{IsStored, same_leaf, same_fields, leaf_set}
 use Rattle.gpu_alloc.specs.BuddySound.{IsSound, IsUsedChunk}
 use Rattle.gpu_alloc.specs.BuddyState.{Chunk, Buddy, IsLiveLeaf, IsFreeAt}
@@ -30,8 +28,9 @@ use Rattle.gpu_alloc.specs.declared.buddy.block.Leaf.{Leaf}
 use Rattle.gpu_alloc.specs.declared.buddy.pieces.Piece.{Piece}
 use Rattle.gpu_alloc.specs.declared.heap.Heap.{Heap}
 use Rattle.gpu_alloc.proofs.AlignedPowers.{order-le}
-use Rattle.gpu_alloc.proofs.BuddyCalls.{IsLeafOf, returned, chunk_goes, whole_is_unused, held_is_used, used_is_shorter, one_chunk, none_is_held, key_at, other_key, removed_key, left_key}
+use Rattle.gpu_alloc.proofs.BuddyCalls.{IsLeafOf, returned, chunk_goes, whole_is_unused, held_is_used, used_is_shorter, one_chunk, none_is_held, removed_key, left_key}
 use Rattle.gpu_alloc.proofs.BuddyLeaves.{leaf_test, in_leaves, leaf_removed, leaves_less}
+use Rattle.gpu_alloc.proofs.Ledgers.{sum_by-remove, len_less}
 use Rattle.gpu_alloc.proofs.Lists.{not_found, less}
 use Rattle.gpu_alloc.proofs.SlabViews.{get_by_key, found_by_key}
 
@@ -69,17 +68,6 @@ kept_key : (m : map.FinMap nat_cmp Chunk) (key k : ℕ) (c : Chunk) → map.get 
 kept_key m key k c is =
     let other : k ≢ key = λ same. none_is_held _ c (removed_key m key) (subst (λ n. map.get (map.remove m key) n ≡ Some c) same is) in
     (other, sym (left_key m key k other) ∙ is)
-
--- one less is held
-one_less : (m : map.FinMap nat_cmp Chunk) (key : ℕ) (c : Chunk) → map.get m key ≡ Some c → map.len (map.remove m key) + 1 ≡ map.len m
-one_less m key c is =
-    sym (rw (removed_key m key) at (map.len-insert nat_cmp_total (map.remove m key) key c)) ∙ ap (λ (n : map.FinMap nat_cmp Chunk). map.len n) back
-  where
-    back : map.insert (map.remove m key) key c ≡ m
-    back = map.same_map nat_cmp_total nat_cmp-IsAntisymmetric _ _ (λ q. elim (cases_eq q key) [
-      | inl same ↦ subst (λ n. map.get (map.insert (map.remove m key) key c) n ≡ map.get m n) (sym same) (key_at (map.remove m key) key c ∙ sym is)
-      | inr other ↦ other_key (map.remove m key) key q c other ∙ left_key m key q other
-    ])
 
 -- A live block and its chunk.
 
@@ -256,13 +244,13 @@ module _ {b : Buddy} {leaf : Leaf} {held : Chunk} (r : IsOfChunk b leaf held) wh
 
   module _ {heap : Heap} {remaining : ℕ} (counted : IsCounted (account b heap remaining)) where
     pub is_counted : held.size ≤ heap.used
-    is_counted = subst (λ o. IfSome o (λ (c : Chunk). c.size ≤ heap.used)) r.is (counted.chunks leaf.chunk)
+    is_counted = omega (arith, counted.chunks, sum_by-remove (λ e. e.1.size) b.chunks leaf.chunk held r.is)
 
     pub one_more_fits : remaining + 1 < 2 ^ 32
-    one_more_fits = omega (arith, counted.objects, one_less b.chunks leaf.chunk held r.is)
+    one_more_fits = omega (arith, counted.objects, len_less b.chunks leaf.chunk held r.is)
 
   pub total_kept : (remaining : ℕ) → remaining + 1 + map.len (map.remove b.chunks leaf.chunk) ≡ remaining + map.len b.chunks
-  total_kept remaining = omega (arith, one_less b.chunks leaf.chunk held r.is)
+  total_kept remaining = omega (arith, len_less b.chunks leaf.chunk held r.is)
 
   -- What the fields keep, and what a caller is told.
 
@@ -315,6 +303,21 @@ module _ {b : Buddy} {leaf : Leaf} {held : Chunk} (r : IsOfChunk b leaf held) wh
 
         pub agrees_freed : {p q : Properties} {old new : ℕ → Option Object} → Agrees b p old → q ≡ p → new ≡ put old leaf.object None → Agrees (record b { live = leaf_set left; chunks = chunks }) q new
         agrees_freed {p} {q} {old} {new} agreed same freed = rw (same, freed) (subst (λ (a : Buddy). Agrees a p (put old leaf.object None)) is_without (agrees_without agreed))
+
+-- The ledger counts what is left.
+
+frees_bytes : (a new : Account) (leaf : Leaf) (es : List Event) → chunk_bytes a.buddy ≤ a.heap.used → Frees a leaf es new → chunk_bytes new.buddy ≤ new.heap.used
+frees_bytes a new leaf es counted (inl stays) = rw (stays.1.1) counted
+frees_bytes a new leaf es counted (inr goes) =
+    let chunk : Chunk = goes.1.0 in
+    rw (goes.1.2.1) (omega (arith, counted, sum_by-remove (λ e. e.1.size) a.buddy.chunks leaf.chunk chunk goes.1.1))
+
+frees_total : (a new : Account) (leaf : Leaf) (es : List Event) → Frees a leaf es new → chunks_and_remaining new ≡ chunks_and_remaining a
+frees_total a new leaf es (inl stays) = ap chunks_and_remaining stays.1.1
+frees_total a new leaf es (inr goes) = ap chunks_and_remaining goes.1.2.1 ∙ omega (arith, len_less a.buddy.chunks leaf.chunk goes.1.0 goes.1.1)
+
+pub frees_counted : (a new : Account) (leaf : Leaf) (es : List Event) → IsCounted a → Frees a leaf es new → IsCounted new
+frees_counted a new leaf es counted frees = record { chunks = frees_bytes a new leaf es counted.chunks frees; objects = omega (arith, frees_total a new leaf es frees, counted.objects) }
 
 -- What was put back, by whether the whole chunk was handed out.
 

@@ -20,14 +20,15 @@ Entries = List (ℕ × HeldObject)
 
 -- Entries, with a new key put in its place.
 
-sum_by-put : (f : ℕ × HeldObject → ℕ) (k : ℕ) (v : HeldObject) (es : Entries) → finite.find nat_cmp k es ≡ None → sum_by f (finite.put nat_cmp k v es) ≡ f (k, v) + sum_by f es
-sum_by-put f k v [] none = sum_by-cons f (k, v) []
-sum_by-put f k v (e ∷ es) none = elim (nat_cmp k e.0) as (λ r. cond (is_eq r) (Some e.1) (finite.find nat_cmp k es) ≡ None
-    → sum_by f (by_order r ((k, v) ∷ e ∷ es) ((e.0, v) ∷ es) (e ∷ finite.put nat_cmp k v es)) ≡ f (k, v) + sum_by f (e ∷ es)) [
-      | Less ↦ λ _. sum_by-cons f (k, v) (e ∷ es)
-      | Equal ↦ λ some. absurd (cc)
-      | Greater ↦ λ rest. omega (arith, sum_by-cons f e (finite.put nat_cmp k v es), sum_by-cons f e es, sum_by-put f k v es rest)
-    ] none
+module _ {X : Type 0} where
+  sum_by-put : (f : ℕ × X → ℕ) (k : ℕ) (v : X) (es : List (ℕ × X)) → finite.find nat_cmp k es ≡ None → sum_by f (finite.put nat_cmp k v es) ≡ f (k, v) + sum_by f es
+  sum_by-put f k v [] none = sum_by-cons f (k, v) []
+  sum_by-put f k v (e ∷ es) none = elim (nat_cmp k e.0) as (λ r. cond (is_eq r) (Some e.1) (finite.find nat_cmp k es) ≡ None
+      → sum_by f (by_order r ((k, v) ∷ e ∷ es) ((e.0, v) ∷ es) (e ∷ finite.put nat_cmp k v es)) ≡ f (k, v) + sum_by f (e ∷ es)) [
+        | Less ↦ λ _. sum_by-cons f (k, v) (e ∷ es)
+        | Equal ↦ λ some. absurd (cc)
+        | Greater ↦ λ rest. omega (arith, sum_by-cons f e (finite.put nat_cmp k v es), sum_by-cons f e es, sum_by-put f k v es rest)
+      ] none
 
 small-put : (k : ℕ) (v : HeldObject) (es : Entries) → finite.find nat_cmp k es ≡ None → v.counted < 2 ^ 64 → AreSmall es → AreSmall (finite.put nat_cmp k v es)
 small-put k v [] none small all = (small, tt)
@@ -49,15 +50,6 @@ small-unput k v (e ∷ es) none all = elim (nat_cmp k e.0) as (λ r. cond (is_eq
 
 -- Maps, with a new name inserted or a held one removed.
 
-not_found : (m : Held) (k : ℕ) → finite.get m k ≡ None → finite.find nat_cmp k (finite.entries m) ≡ None
-not_found m k none = sym (finite.get-entries m k) ∙ none
-
-pub sum_by-insert : (f : ℕ × HeldObject → ℕ) (m : Held) (k : ℕ) (v : HeldObject) → finite.get m k ≡ None → sum_by f (finite.entries (finite.insert m k v)) ≡ f (k, v) + sum_by f (finite.entries m)
-sum_by-insert f m k v none = ap (sum_by f) (finite.entries-insert nat_cmp_total m k v) ∙ sum_by-put f k v (finite.entries m) (not_found m k none)
-
-pub small-insert : (m : Held) (k : ℕ) (v : HeldObject) → finite.get m k ≡ None → v.counted < 2 ^ 64 → AreSmall (finite.entries m) → AreSmall (finite.entries (finite.insert m k v))
-small-insert m k v none small all = subst AreSmall (sym (finite.entries-insert nat_cmp_total m k v)) (small-put k v (finite.entries m) (not_found m k none) small all)
-
 pub name_test : (q name : ℕ) → eq_by_cmp nat_cmp q name ≡ (q == name)
 name_test q name = grind (arith, nat_tests)
 
@@ -67,34 +59,44 @@ eq-true a b e = grind (arith, nat_tests)
 pub eq-false : (a b : ℕ) → a ≢ b → (a == b) ≡ false
 eq-false a b ne = grind (arith, nat_tests)
 
-pub gone : (m : Held) (k : ℕ) → finite.get (finite.remove m k) k ≡ None
-gone m k = finite.get-remove nat_cmp_total m k k ∙ ap (λ b. cond b None (finite.get m k)) (itself k)
-  where
-    itself : (a : ℕ) → eq_by_cmp nat_cmp a a ≡ true
-    itself a = grind (arith, nat_tests)
+module _ {X : Type 0} where
+  not_found : (m : finite.FinMap nat_cmp X) (k : ℕ) → finite.get m k ≡ None → finite.find nat_cmp k (finite.entries m) ≡ None
+  not_found m k none = sym (finite.get-entries m k) ∙ none
 
--- what was removed and is inserted again is as it was
-pub back : (m : Held) (k : ℕ) (v : HeldObject) → finite.get m k ≡ Some v → finite.insert (finite.remove m k) k v ≡ m
-back m k v is = finite.same_map nat_cmp_total nat_cmp-IsAntisymmetric _ _ (λ q.
-    finite.get-insert nat_cmp_total (finite.remove m k) k v q ∙ ap (cond (eq_by_cmp nat_cmp q k) (Some v)) (finite.get-remove nat_cmp_total m k q) ∙ same q (eq_by_cmp nat_cmp q k) (name_test q k))
-  where
-    same : (q : ℕ) (b : Bool) → b ≡ (q == k) → cond b (Some v) (cond b None (finite.get m q)) ≡ finite.get m q
-    same q true e = let here : q ≡ k = grind (arith, nat_tests) in sym (ap (finite.get m) here ∙ is)
-    same q false e = refl
+  pub sum_by-insert : (f : ℕ × X → ℕ) (m : finite.FinMap nat_cmp X) (k : ℕ) (v : X) → finite.get m k ≡ None → sum_by f (finite.entries (finite.insert m k v)) ≡ f (k, v) + sum_by f (finite.entries m)
+  sum_by-insert f m k v none = ap (sum_by f) (finite.entries-insert nat_cmp_total m k v) ∙ sum_by-put f k v (finite.entries m) (not_found m k none)
 
-pub sum_by-remove : (f : ℕ × HeldObject → ℕ) (m : Held) (k : ℕ) (v : HeldObject) → finite.get m k ≡ Some v → f (k, v) + sum_by f (finite.entries (finite.remove m k)) ≡ sum_by f (finite.entries m)
-sum_by-remove f m k v is = sym (sum_by-insert f (finite.remove m k) k v (gone m k)) ∙ ap (λ (n : Held). sum_by f (finite.entries n)) (back m k v is)
+  pub gone : (m : finite.FinMap nat_cmp X) (k : ℕ) → finite.get (finite.remove m k) k ≡ None
+  gone m k = finite.get-remove nat_cmp_total m k k ∙ ap (λ b. cond b None (finite.get m k)) (itself k)
+    where
+      itself : (a : ℕ) → eq_by_cmp nat_cmp a a ≡ true
+      itself a = grind (arith, nat_tests)
+
+  -- what was removed and is inserted again is as it was
+  pub back : (m : finite.FinMap nat_cmp X) (k : ℕ) (v : X) → finite.get m k ≡ Some v → finite.insert (finite.remove m k) k v ≡ m
+  back m k v is = finite.same_map nat_cmp_total nat_cmp-IsAntisymmetric _ _ (λ q.
+      finite.get-insert nat_cmp_total (finite.remove m k) k v q ∙ ap (cond (eq_by_cmp nat_cmp q k) (Some v)) (finite.get-remove nat_cmp_total m k q) ∙ same q (eq_by_cmp nat_cmp q k) (name_test q k))
+    where
+      same : (q : ℕ) (b : Bool) → b ≡ (q == k) → cond b (Some v) (cond b None (finite.get m q)) ≡ finite.get m q
+      same q true e = let here : q ≡ k = grind (arith, nat_tests) in sym (ap (finite.get m) here ∙ is)
+      same q false e = refl
+
+  pub sum_by-remove : (f : ℕ × X → ℕ) (m : finite.FinMap nat_cmp X) (k : ℕ) (v : X) → finite.get m k ≡ Some v → f (k, v) + sum_by f (finite.entries (finite.remove m k)) ≡ sum_by f (finite.entries m)
+  sum_by-remove f m k v is = sym (sum_by-insert f (finite.remove m k) k v (gone m k)) ∙ ap (λ (n : finite.FinMap nat_cmp X). sum_by f (finite.entries n)) (back m k v is)
+
+  pub len_more : (m : finite.FinMap nat_cmp X) (k : ℕ) (v : X) → finite.get m k ≡ None → finite.len (finite.insert m k v) ≡ finite.len m + 1
+  len_more m k v none = rw none at (finite.len-insert {K = ℕ} {X = X} {R = nat_cmp} nat_cmp_total m k v)
+
+  pub len_less : (m : finite.FinMap nat_cmp X) (k : ℕ) (v : X) → finite.get m k ≡ Some v → finite.len (finite.remove m k) + 1 ≡ finite.len m
+  len_less m k v is = sym (len_more (finite.remove m k) k v (gone m k)) ∙ ap (λ (n : finite.FinMap nat_cmp X). finite.len n) (back m k v is)
+
+pub small-insert : (m : Held) (k : ℕ) (v : HeldObject) → finite.get m k ≡ None → v.counted < 2 ^ 64 → AreSmall (finite.entries m) → AreSmall (finite.entries (finite.insert m k v))
+small-insert m k v none small all = subst AreSmall (sym (finite.entries-insert nat_cmp_total m k v)) (small-put k v (finite.entries m) (not_found m k none) small all)
 
 pub small-remove : (m : Held) (k : ℕ) (v : HeldObject) → finite.get m k ≡ Some v → AreSmall (finite.entries m) → AreSmall (finite.entries (finite.remove m k))
 small-remove m k v is all =
     let again : AreSmall (finite.entries (finite.insert (finite.remove m k) k v)) = subst (λ (n : Held). AreSmall (finite.entries n)) (sym (back m k v is)) all in
     small-unput k v _ (not_found (finite.remove m k) k (gone m k)) (subst AreSmall (finite.entries-insert nat_cmp_total (finite.remove m k) k v) again)
-
-pub len_more : (m : Held) (k : ℕ) (v : HeldObject) → finite.get m k ≡ None → finite.len (finite.insert m k v) ≡ finite.len m + 1
-len_more m k v none = rw none at (finite.len-insert {K = ℕ} {X = HeldObject} {R = nat_cmp} nat_cmp_total m k v)
-
-pub len_less : (m : Held) (k : ℕ) (v : HeldObject) → finite.get m k ≡ Some v → finite.len (finite.remove m k) + 1 ≡ finite.len m
-len_less m k v is = sym (len_more (finite.remove m k) k v (gone m k)) ∙ ap (λ (n : Held). finite.len n) (back m k v is)
 
 -- How large a ledger may be.
 

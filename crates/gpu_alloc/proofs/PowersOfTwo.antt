@@ -1,5 +1,5 @@
 -- The next power of two, and the exponent of one.
-use Rattle.std.proofs.Common.{◌≡◌, ◌≤◌, ◌<◌, ◌⊎◌, inl, inr, ◌*◌, ◌+◌, ◌^◌, ℕ, zero, suc, true, false, cond, nat_le, refl, sym, ◌∙◌, ap, subst, arith, w64, ◌/◌, ◌%◌, IsTrue, ◌==◌, count_ones}
+use Rattle.std.proofs.Common.{◌≡◌, ◌≤◌, ◌<◌, ◌⊎◌, inl, inr, ◌*◌, ◌+◌, ◌-◌, ◌^◌, ℕ, zero, suc, true, false, cond, nat_le, refl, sym, ◌∙◌, ap, subst, arith, w64, ◌/◌, ◌%◌, IsTrue, ◌==◌, count_ones}
 use Rattle.std.specs.Prelude.{max}
 use Rattle.std.specs.Int.{trailing_zeros, bit_at, is_power_of_two}
 use Rattle.std.specs.Int.Count.{ones_step}
@@ -8,6 +8,7 @@ use Rattle.std.proofs.lemmas.Bool.Decides.{nat_tests}
 use Rattle.std.proofs.lemmas.Nat.{pow_pos, zero_from_ones, ones_le_self}
 use Rattle.std.proofs.lemmas.Nat.Bits.{bit_at-trailing_zeros, bit_at-pow_other}
 use Rattle.std.proofs.Math.Pow.{pow_mono}
+use Rattle.gpu_alloc.specs.Request.{IsAlignMask}
 use Rattle.gpu_alloc.specs.Sizes.{doubled_up, next_power_of_two, IsNextPowerOfTwo}
 
 -- a power that is above another has the greater exponent
@@ -77,6 +78,27 @@ power_within (suc d) n le one = by_lowest (n % 2) refl (λ small. power_within d
 
 pub power_of_bit : (n : ℕ) → IsTrue (is_power_of_two n) → (k : ℕ) × (n ≡ 2 ^ k)
 power_of_bit n one = power_within n n (omega arith) (let test : (count_ones n == 1) ≡ true = one in grind (arith, nat_tests))
+
+-- a power of two has one bit set
+one_bit : (k : ℕ) → count_ones (2 ^ k) ≡ 1
+one_bit zero = let step = ones_step 1 in omega (arith, step, ones_le_self (1 / 2))
+one_bit (suc k) =
+    let twice : 2 ^ suc k ≡ 2 * 2 ^ k = omega arith in
+    let half : 2 ^ suc k / 2 ≡ 2 ^ k = omega (arith, twice) in
+    let step = ones_step (2 ^ suc k) in
+    let rest : count_ones (2 ^ suc k / 2) ≡ 1 = ap count_ones half ∙ one_bit k in
+    omega (arith, step, rest, twice)
+
+pub bit_of_power : (k : ℕ) → IsTrue (is_power_of_two (2 ^ k))
+bit_of_power k = let one : count_ones (2 ^ k) ≡ 1 = one_bit k in let test : (count_ones (2 ^ k) == 1) ≡ true = grind (arith, nat_tests) in test
+
+-- one less than a power of two is an alignment mask
+pub align_mask_of_power : (k : ℕ) → k ≤ 63 → IsAlignMask (2 ^ k - 1)
+align_mask_of_power k le =
+    let some = pow_pos k in
+    let whole : 2 ^ k - 1 + 1 ≡ 2 ^ k = omega (arith, some) in
+    let bound : 2 ^ k ≤ 2 ^ 63 = pow_mono {i = k} {j = 63} le in
+    record { power = rw whole (bit_of_power k); bound = omega (arith, whole, bound) }
 
 -- a power of two is its own next one
 pub power_is_next : (n k : ℕ) → n ≡ 2 ^ k → n ≤ 2 ^ 64 → next_power_of_two n ≡ n

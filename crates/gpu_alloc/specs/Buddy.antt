@@ -1,12 +1,12 @@
 -- What the calls of a buddy allocator do.
-use Rattle.std.specs.Prelude.{◌≡◌, ◌⊎◌, ℕ, ◌+◌, ◌-◌, ◌*◌, ◌%◌, ◌^◌, ◌<◌, ◌≤◌, Bool, List, [], ◌∷◌, length, max, Option, Some, None, Result, Ok, Err, IfSome, IsTrue}
+use Rattle.std.specs.Prelude.{◌≡◌, ◌⊎◌, ℕ, ◌+◌, ◌-◌, ◌*◌, ◌%◌, ◌^◌, ◌<◌, ◌≤◌, Bool, List, [], ◌∷◌, length, max, Option, Some, None, Result, Ok, Err, IfSome, IsTrue, sum_by}
 use Rattle.std.specs.FinMap as map
 use Rattle.std.specs.FinSet as set
 use Rattle.gpu_alloc_types.specs.Flags.{has_bit}
 use Rattle.gpu_alloc_types.specs.Properties.{Properties, props_at}
 use Rattle.gpu_alloc_types.specs.Device.{Object, Event, HeldWith, put}
 use Rattle.gpu_alloc_types.specs.Device.Event.{Deallocated}
-use Rattle.gpu_alloc.specs.FreeSpace.{IsIn, IsPlace, IsFreePiece}
+use Rattle.gpu_alloc.specs.FreeSpace.{IsIn, IsMultipleOf, IsPowerOfTwo, IsPlace, IsFreePiece}
 use Rattle.gpu_alloc.specs.NewChunk.{ChunkQuestion, made, LacksDeviceMemory, LacksHostMemory, IsGivenBack, HasOneChunkMore}
 use Rattle.gpu_alloc.specs.Sizes.{next_power_of_two}
 use Rattle.gpu_alloc.specs.BuddyState.{Chunk, Buddy, IsLiveLeaf, IsFreeAt}
@@ -162,6 +162,9 @@ pub record IsGranted (old : Buddy) (w : Wanted) (new : Buddy) (leaf : Leaf) : Ty
   pub enough : w.size ≤ leaf.size
   pub aligned : leaf.offset % (w.align_mask + 1) ≡ 0
   pub whole_atoms : (leaf.offset % old.atom ≡ 0) × (leaf.size % old.atom ≡ 0)
+  pub power : IsPowerOfTwo leaf.size
+  pub front : IsMultipleOf leaf.size leaf.offset
+  pub inside : (chunk : Chunk) × (map.get new.chunks leaf.chunk ≡ Some chunk) × ((leaf.object ≡ chunk.object) × (leaf.offset + leaf.size ≤ chunk.size))
   pub live : IsLiveLeaf new leaf
   pub was_free : (other : Leaf) → IsLiveLeaf old other → other.object ≡ leaf.object → (at : ℕ) → IsIn other.offset other.size at → IsIn leaf.offset leaf.size at → ⊥
 
@@ -179,10 +182,13 @@ pub record Agrees (b : Buddy) (p : Properties) (objects : ℕ → Option Object)
   pub props : props_at p b.memory_type ≡ b.props
   pub holds : (key : ℕ) → IfSome (map.get b.chunks key) (λ chunk. HeldWith objects chunk.object (IsThere b.memory_type (sees_chunks b) chunk))
 
--- the ledger is at least as large as each held chunk, and will not overflow; nor will the count of objects
+-- what the held chunks add to the ledger
+abbrev pub chunk_bytes : Buddy → ℕ
+chunk_bytes b = sum_by (λ e. e.1.size) (map.entries b.chunks)
+
+-- the ledger counts each held chunk, and the count of objects will not overflow
 pub record IsCounted (a : Account) : Type 0 where
-  pub chunks : (key : ℕ) → IfSome (map.get a.buddy.chunks key) (λ chunk. chunk.size ≤ a.heap.used)
-  pub bound : a.heap.used ≤ 2 ^ 127
+  pub chunks : chunk_bytes a.buddy ≤ a.heap.used
   pub objects : a.remaining + map.len a.buddy.chunks < 2 ^ 32
 
 -- What a request makes of the device's objects: one more where its block begins a chunk, and else nothing.

@@ -38,6 +38,9 @@ struct Chunk<M: MemoryObject> {
 }
 
 /// Gives out blocks of shared chunks of one memory type. It cannot be let go: [`close`](BuddyAllocator::close) ends it.
+///
+/// Between calls each held chunk is of an object of its own, of a power of two of at most 2^63 bytes, and some block in it is
+/// live. Each live block lies whole in its chunk, at a multiple of its size, and no two of them share a byte.
 pub struct BuddyAllocator<M: MemoryObject, A: Allocator = Global> {
     chunks: Slab<Chunk<M>, A>,
     pieces: Vec<Piece, A>,
@@ -134,10 +137,11 @@ impl<M: MemoryObject, A: Allocator> BuddyAllocator<M, A> {
     /// Allocates a block of at least `size` bytes at a multiple of `align_mask + 1`: the front of a shortest free piece
     /// that is long enough, or, where none is, of a new chunk that the device is asked for with these flags.
     ///
-    /// The block's size is the least power of two that is not below the size, the alignment, the atom and the least block;
-    /// a new chunk has room for two such blocks, and is no smaller than the one before it. A chunk that the host sees is
-    /// mapped whole. `heap` is the ledger of the memory type's heap, to which a chunk is added, and `allocations_remains`
-    /// how many more objects may be held, which a chunk lowers.
+    /// The block's size is the least power of two that is not below the size, the alignment, the atom and the least block.
+    /// The block starts at a multiple of its size and lies whole in a held chunk, whose object is its own. A new chunk has
+    /// room for two such blocks, and is no smaller than the one before it. A chunk that the host sees is mapped whole.
+    /// `heap` is the ledger of the memory type's heap, to which a chunk is added, and `allocations_remains` how many more
+    /// objects may be held, which a chunk lowers.
     ///
     /// The size has to be at least 1, `align_mask + 1` a power of two of at most 2^63, the address flag set only where the
     /// device has the feature, and the device the one that this allocator has served.
@@ -147,8 +151,8 @@ impl<M: MemoryObject, A: Allocator> BuddyAllocator<M, A> {
     /// where the host's memory is refused to the allocator or to the device, and where a chunk cannot be mapped for another
     /// reason. A chunk that was made is given back then.
     ///
-    /// `heap` has to count each chunk that is held, and at most 2^127 bytes; what remains and the held chunks have to fit
-    /// 32 bits.
+    /// `heap` has to count no less than the sum of the held chunks, and at most 2^127 bytes; what remains and the number of
+    /// held chunks have to fit 32 bits together. All but the bound of 2^127 bytes is so again after the call.
     pub fn alloc<D: MemoryDevice<M>>(
         &mut self,
         device: &mut D,
@@ -163,6 +167,7 @@ impl<M: MemoryObject, A: Allocator> BuddyAllocator<M, A> {
         requires address { IsTrue (has_bit (allocation_bits flags) 1) → IsTrue (D.properties device.old).buffer_device_address }
         requires agrees { Agrees self.old (D.properties device.old) (D.objects device.old) }
         requires counted { IsCounted (account self.old heap.old allocations_remains.old) }
+        requires bound { heap.old.used ≤ 2 ^ 127 }
 
         // What was asked of the device, the answer, and what changed.
         ensures allocates { (es : List Event) × Chain D.step device.old es device.new × Allocates (account self.old heap.old allocations_remains.old) (wanted size align_mask (allocation_bits flags)) es result (account self.new heap.new allocations_remains.new) }
@@ -174,6 +179,7 @@ impl<M: MemoryObject, A: Allocator> BuddyAllocator<M, A> {
         ensures granted { IfOk result (IsGranted self.old (wanted size align_mask (allocation_bits flags)) self.new) }
         ensures refused { OnErr result ((self.new ≡ self.old) × ((heap.new ≡ heap.old) × (allocations_remains.new ≡ allocations_remains.old))) }
         ensures sound { IsSound self.new }
+        ensures counted { IsCounted (account self.new heap.new allocations_remains.new) }
         ensures total { chunks_and_remaining (account self.new heap.new allocations_remains.new) ≡ chunks_and_remaining (account self.old heap.old allocations_remains.old) }
     {
         let order = self.rounded_order(size, align_mask);
@@ -210,7 +216,9 @@ impl<M: MemoryObject, A: Allocator> BuddyAllocator<M, A> {
     /// Takes a block back. Free halves are joined, and a chunk in which no other block is live goes back to the device at
     /// once: then `heap` is lowered by its size, and one more object may be held. It takes no memory and cannot fail.
     ///
-    /// The block has to be live here, and the device the one that this allocator has served.
+    /// The block has to be live here, and the device the one that this allocator has served. `heap` has to count no less than
+    /// the sum of the held chunks; what remains and the number of held chunks have to fit 32 bits together. Both is so again
+    /// after the call.
     pub fn dealloc<D: MemoryDevice<M>>(
         &mut self,
         device: &mut D,
@@ -227,6 +235,7 @@ impl<M: MemoryObject, A: Allocator> BuddyAllocator<M, A> {
         ensures agrees { Agrees self.new (D.properties device.new) (D.objects device.new) }
         ensures properties { D.properties device.new ≡ D.properties device.old }
         ensures sound { IsSound self.new }
+        ensures counted { IsCounted (account self.new heap.new allocations_remains.new) }
         ensures total { chunks_and_remaining (account self.new heap.new allocations_remains.new) ≡ chunks_and_remaining (account self.old heap.old allocations_remains.old) }
     {
         let (memory, leaf) = block.into_parts();
@@ -293,6 +302,7 @@ impl<M: MemoryObject, A: Allocator> BuddyAllocator<M, A> {
         requires address { IsTrue (has_bit (allocation_bits flags) 1) → IsTrue (D.properties device.old).buffer_device_address }
         requires agrees { Agrees self.old (D.properties device.old) (D.objects device.old) }
         requires counted { IsCounted (account self.old heap.old allocations_remains.old) }
+        requires bound { heap.old.used ≤ 2 ^ 127 }
         ensures answers { (es : List Event) × Chain D.step device.old es device.new × Answers (account self.old heap.old allocations_remains.old) (2 ^ order) (allocation_bits flags) es result (account self.new heap.new allocations_remains.new) }
         ensures objects { ObjectsAfter self.old (2 ^ order) (allocation_bits flags) result (D.objects device.old) (D.objects device.new) }
         ensures properties { D.properties device.new ≡ D.properties device.old }
@@ -354,6 +364,7 @@ impl<M: MemoryObject, A: Allocator> BuddyAllocator<M, A> {
         requires address { IsTrue (has_bit (allocation_bits flags) 1) → IsTrue (D.properties device.old).buffer_device_address }
         requires agrees { Agrees self.old (D.properties device.old) (D.objects device.old) }
         requires counted { IsCounted (account self.old heap.old allocations_remains.old) }
+        requires bound { heap.old.used ≤ 2 ^ 127 }
         ensures answers { (es : List Event) × Chain D.step device.old es device.new × Answers (account self.old heap.old allocations_remains.old) (2 ^ order) (allocation_bits flags) es result (account self.new heap.new allocations_remains.new) }
         ensures objects { ObjectsAfter self.old (2 ^ order) (allocation_bits flags) result (D.objects device.old) (D.objects device.new) }
         ensures properties { D.properties device.new ≡ D.properties device.old }

@@ -1,6 +1,6 @@
 //! Laws of the definitions that contracts cite, and those definitions computed on samples. The functions do nothing.
 
-ghost use Rattle.std.specs.Prelude.{◌≡◌, ◌≤◌, ◌^◌, ◌↔◌, ℕ, List, [], ◌∷◌, Some, None, Contains};
+ghost use Rattle.std.specs.Prelude.{◌≡◌, ◌-◌, ◌≤◌, ◌^◌, ◌↔◌, ℕ, List, [], ◌∷◌, Some, None, Contains};
 ghost use Rattle.gpu_alloc_types.specs.declared.types.MemoryType.{MemoryType};
 ghost use Rattle.gpu_alloc.specs.Allocation.{strategy};
 ghost use Rattle.gpu_alloc.specs.Allocation.Strategy.{OwnObject, InBuddyChunk, InFreeList};
@@ -10,6 +10,7 @@ ghost use Rattle.gpu_alloc.specs.Config.{potato, prototyping};
 ghost use Rattle.gpu_alloc.specs.FreeSpace.{IsIn, IsPlace, IsFreePiece, IsFreeByte};
 ghost use Rattle.gpu_alloc.specs.Pieces.{IsCanonical};
 ghost use Rattle.gpu_alloc.specs.Ranking.{IsRanking, IsRankingWithin, ranking, candidates, implied};
+ghost use Rattle.gpu_alloc.specs.Request.{IsAlignMask};
 ghost use Rattle.gpu_alloc.specs.Samples.{one_type, three_types, over, bytes_for, buddy_config};
 ghost use Rattle.gpu_alloc.specs.Sizes.{IsNextPowerOfTwo, next_power_of_two, minimal_size, initial_size, starting_size, final_size, first_types};
 ghost use Rattle.gpu_alloc.specs.State.{State};
@@ -77,6 +78,11 @@ pub fn buddy_sizes_of_samples()
 /// The next power of two is the least one that is not below.
 pub fn next_power_of_two_is_least()
     ensures { (x : ℕ) → x ≤ 2 ^ 64 → IsNextPowerOfTwo x (next_power_of_two x) }
+{}
+
+/// One less than each power of two from 1 to 2^63 is an alignment mask.
+pub fn align_masks_of_powers()
+    ensures { (k : ℕ) → k ≤ 63 → IsAlignMask (2 ^ k - 1) }
 {}
 
 /// First chunk sizes: of both defaults, of a small heap with an atom, and of a minimum above the initial size.

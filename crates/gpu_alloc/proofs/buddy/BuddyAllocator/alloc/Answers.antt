@@ -1,7 +1,7 @@
 use Rattle.std.proofs.Common.{◌^◌, refl, sym, subst, arith}
 use Rattle.gpu_alloc_types.specs.Flags.{allocation_bits}
 use Rattle.gpu_alloc.specs.Buddy.{account, wanted, rounded, Answers, ObjectsAfter}
-use Rattle.gpu_alloc.proofs.BuddyAnswers.{rounds, answers_agree, answers_all_granted, answers_sound, answers_total}
+use Rattle.gpu_alloc.proofs.BuddyAnswers.{rounds, answers_agree, answers_all_granted, answers_sound, answers_total, answers_counted}
 use Rattle.gpu_alloc.proofs.buddy.BuddyAllocator.alloc.Goals as goal
 
 pub returns-clause-allocates : goal.returns-clause-allocates
@@ -56,3 +56,10 @@ returns-clause-total g c =
     let new = account c.alloc_rounded.new.self c.alloc_rounded.new.heap c.alloc_rounded.new.allocations_remains in
     let told = c.alloc_rounded.ensures.answers in
     answers_total old new (2 ^ c.rounded_order-order.result) (allocation_bits c.args.flags) told.0 c.alloc_rounded.result told.2
+
+pub returns-clause-counted : goal.returns-clause-counted
+returns-clause-counted g c =
+    let old = account c.args.self.now c.args.heap.now c.args.allocations_remains.now in
+    let new = account c.alloc_rounded.new.self c.alloc_rounded.new.heap c.alloc_rounded.new.allocations_remains in
+    let told = c.alloc_rounded.ensures.answers in
+    answers_counted old new (2 ^ c.rounded_order-order.result) (allocation_bits c.args.flags) told.0 c.alloc_rounded.result c.requires.counted told.2

@@ -4,7 +4,7 @@ use Rattle.gpu_alloc.specs.BuddyState.{Chunk}
 use Rattle.gpu_alloc.specs.SlabViews.{by_key}
 use Rattle.gpu_alloc.specs.declared.buddy.block.Leaf.{Leaf}
 use Rattle.gpu_alloc.specs.declared.buddy.Chunk.{Chunk as ChunkRecord}
-use Rattle.gpu_alloc.proofs.BuddyReturns.{has_chunk, of_chunk, is_piece_of, is_put_back, is_counted, one_more_fits, agrees_left, total_kept, if_none, if_some, still_in_use, no_more_in_use, still_sound, invariant_left, invariant_without, frees_left, frees_without, agrees_freed}
+use Rattle.gpu_alloc.proofs.BuddyReturns.{has_chunk, of_chunk, is_piece_of, is_put_back, is_counted, one_more_fits, agrees_left, total_kept, if_none, if_some, still_in_use, no_more_in_use, still_sound, invariant_left, invariant_without, frees_left, frees_without, frees_counted, agrees_freed}
 use Rattle.gpu_alloc.proofs.SlabViews.{by_key_removed}
 use Rattle.gpu_alloc.proofs.buddy.BuddyAllocator.dealloc.Given.{Over}
 use Rattle.gpu_alloc.proofs.buddy.BuddyAllocator.dealloc.Goals as goal
@@ -104,6 +104,17 @@ returns-then-is_some-clause-agrees g c =
 pub returns-then-is_some-clause-sound : goal.returns-then-is_some-clause-sound
 returns-then-is_some-clause-sound g c = (invariant_of-self g c).0
 
+pub returns-then-is_some-clause-counted : goal.returns-then-is_some-clause-counted
+returns-then-is_some-clause-counted g c =
+    let r = of_chunk (read g) c.self.inside.chunks c.self.invariant.0 c.self.view_is c.into_parts-memory.ensures.leaf refl c.requires.live c.index.ensures in
+    let of = is_piece_of c.into_parts-memory.result.1 c.order_of.result c.order_of.ensures.is in
+    let whole = if_some _ (sym c.is_some.ensures ∙ c.if-is_some.true) c.put_back.ensures.whole in
+    let gone = by_key_removed (read g) _ _ _ c.remove.ensures.updates in
+    let counted = rw (← c.self.view_is) at c.requires.counted in
+    frees_counted _ _ _ _ counted
+    (frees_without r of c.index.result.now.order refl c.self.invariant.1 c.put_back.new.pieces.items c.forget.new.live.items (vec_capacity c.put_back.new.pieces) c.forget.ensures.live whole.0 whole.1 (by_key (read g) c.remove.new.self) gone c.args.heap.now c.dealloc.new.self c.args.allocations_remains.now
+    (c.dealloc.ensures ∙ ap (λ n. record c.args.heap.now { used = c.args.heap.now.used - n }) c.bytes.ensures))
+
 pub returns-then-is_some-clause-total : goal.returns-then-is_some-clause-total
 returns-then-is_some-clause-total g c =
     let r = of_chunk (read g) c.self.inside.chunks c.self.invariant.0 c.self.view_is c.into_parts-memory.ensures.leaf refl c.requires.live c.index.ensures in
@@ -147,3 +158,12 @@ returns-clause-sound g c =
     let of = is_piece_of c.into_parts-memory.result.1 c.order_of.result c.order_of.ensures.is in
     let joined = if_none _ (sym c.is_some.ensures ∙ c.if-is_some.false) c.put_back.ensures.joined in
     still_sound r of c.index.result.now.order refl c.self.invariant.1 c.put_back.new.pieces.items c.forget.new.live.items (vec_capacity c.put_back.new.pieces) c.forget.ensures.live joined c.put_back.ensures.shorter
+
+pub returns-clause-counted : goal.returns-clause-counted
+returns-clause-counted g c =
+    let r = of_chunk (read g) c.self.inside.chunks c.self.invariant.0 c.self.view_is c.into_parts-memory.ensures.leaf refl c.requires.live c.index.ensures in
+    let of = is_piece_of c.into_parts-memory.result.1 c.order_of.result c.order_of.ensures.is in
+    let joined = if_none _ (sym c.is_some.ensures ∙ c.if-is_some.false) c.put_back.ensures.joined in
+    let counted = rw (← c.self.view_is) at c.requires.counted in
+    frees_counted _ _ _ _ counted
+    (frees_left r of c.index.result.now.order refl c.self.invariant.1 c.put_back.new.pieces.items c.forget.new.live.items (vec_capacity c.put_back.new.pieces) c.forget.ensures.live joined c.put_back.ensures.shorter c.args.heap.now c.args.allocations_remains.now)
