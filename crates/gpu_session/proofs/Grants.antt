@@ -6,7 +6,7 @@ use Rattle.gpu_alloc_types.specs.Properties.{Properties}
 use Rattle.gpu_alloc_types.specs.Device.{Event, Object, IsFresh, put}
 use Rattle.gpu_alloc_types.specs.Objects.{put-same, put-other}
 use Rattle.gpu_alloc.specs.Agreement.{Agrees}
-use Rattle.gpu_alloc.specs.Allocation.{Allocates, TriesAll, Refuses, candidates_of, IsGranted, ObjectsAfter, whole_block, holding}
+use Rattle.gpu_alloc.specs.Allocation.{Allocates, TriesAll, Refuses, candidates_of, IsGranted, HasOneMore, ObjectsWith, ObjectsAfter, whole_block, holding}
 use Rattle.gpu_alloc.specs.declared.error.AllocationError.{AllocationError}
 use Rattle.gpu_alloc.specs.declared.error.AllocationError.TheVariants.{OutOfDeviceMemory, NoCompatibleMemoryTypes, TooManyObjects}
 use Rattle.gpu_alloc.specs.State.{Span, span_of, HeldObject, Block, State, IsLive}
@@ -53,7 +53,7 @@ pub record Grants (s : State) (blocks : finite.FinMap nat_cmp Block) (r : Reques
   pub nonempty : 0 < r.size
   pub whole : IsWholeGrant s r new b
   pub granted : IsGranted s r new b
-  pub objects : ObjectsAfter (Ok b) before after
+  pub objects : ObjectsAfter s (Ok b) before after
   pub agrees : Agrees new q after
 
 module _ {s : State} {blocks : finite.FinMap nat_cmp Block} {r : Request} {name : ℕ} {b : Block} {new : State} {p q : Properties} {before after : ℕ → Option Object}
@@ -69,14 +69,17 @@ module _ {s : State} {blocks : finite.FinMap nat_cmp Block} {r : Request} {name 
   of_kind : b.kind ≡ DedicatedObject
   of_kind = ap (λ (c : Block). c.kind) g.whole.block
 
+  more : HasOneMore b before after
+  more = subst (λ kind. ObjectsWith kind s b before after) of_kind g.objects
+
   abbrev object : Object
-  object = (g.objects of_kind).1.0
+  object = more.1.0
 
   fresh : IsFresh b.size b.memory_type object
-  fresh = (g.objects of_kind).1.1
+  fresh = more.1.1
 
   after_is : after ≡ put before b.object (Some object)
-  after_is = (g.objects of_kind).1.2
+  after_is = more.1.2
 
   there : after b.object ≡ Some object
   there = ap (λ f. f b.object) after_is ∙ put-same before b.object (Some object)
@@ -97,7 +100,7 @@ module _ {s : State} {blocks : finite.FinMap nat_cmp Block} {r : Request} {name 
   other n c at same =
       let held = (block_at n c at).inside in
       let had : before b.object ≡ Some held.0 = subst (λ k. before k ≡ Some held.0) same held.1 in
-      let none : before b.object ≡ None = (g.objects of_kind).0 in cc
+      let none : before b.object ≡ None = more.0 in cc
 
   after_other : (k : ℕ) → k ≢ b.object → after k ≡ before k
   after_other k ne = ap (λ f. f k) after_is ∙ put-other before b.object (Some object) k ne

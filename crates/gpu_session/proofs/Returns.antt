@@ -8,7 +8,7 @@ use Rattle.gpu_alloc_types.specs.Device.{Event, Object, put}
 use Rattle.gpu_alloc_types.specs.Device.Event.{Deallocated}
 use Rattle.gpu_alloc_types.specs.Objects.{put-same, put-other}
 use Rattle.gpu_alloc.specs.Agreement.{Agrees}
-use Rattle.gpu_alloc.specs.Release.{Frees, GoesWith, without_span}
+use Rattle.gpu_alloc.specs.Release.{Frees, GoesWith, ObjectsFreed, without_objects, without_span}
 use Rattle.gpu_alloc.specs.State.{Span, span_of, Block, State, IsLive}
 use Rattle.gpu_alloc.specs.declared.block.Kind.{Kind}
 use Rattle.gpu_alloc.specs.declared.block.Kind.TheVariants.{Dedicated as DedicatedObject}
@@ -33,6 +33,10 @@ pub from_frees : (s : State) (b : Block) (es : List Event) (new : State) → b.k
 from_frees s b es new is frees =
     let gone = only b.kind (without_span s b) b.object frees.0 is frees.1 in
     record { asked = rw gone at frees.2.0; state = rw gone at frees.2.1 }
+
+-- and leaves the device
+pub from_objects : (s : State) (b : Block) (before after : ℕ → Option Object) → b.kind ≡ DedicatedObject → ObjectsFreed s b before after → after ≡ put before b.object None
+from_objects s b before after is freed = freed.2 ∙ ap (without_objects before) (only b.kind (without_span s b) b.object freed.0 is freed.1)
 
 -- The block of a name was given back, on a device that went on from `before` to `after`.
 pub record Returns (s : State) (blocks : finite.FinMap nat_cmp Block) (name : ℕ) (b : Block) (new : State) (q : Properties) (before after : ℕ → Option Object) : Type 0 where

@@ -5,7 +5,7 @@ use Rattle.gpu_alloc.specs.declared.block.Kind.TheVariants.{Dedicated}
 use Rattle.gpu_session.specs.Faults.{fault_of_block}
 use Rattle.gpu_session.specs.Sound.{IsBlock}
 use Rattle.gpu_session.proofs.Names.{here, get_entries, removed_by_name}
-use Rattle.gpu_session.proofs.Returns.{from_frees, return_is_kept}
+use Rattle.gpu_session.proofs.Returns.{from_frees, return_is_kept, from_objects}
 use Rattle.gpu_session.proofs.session.Session.free.Goals as goal
 
 pub dealloc-requires-clause-owned : goal.dealloc-requires-clause-owned
@@ -22,7 +22,7 @@ invariant_of-self g c =
     (return_is_kept c.self.invariant (record {
       named = at;
       state = (from_frees c.self.inside.allocator c.in-Some.block freed.0 c.dealloc.new.self kind freed.2).state;
-      objects = c.dealloc.ensures.objects kind;
+      objects = from_objects _ _ _ _ kind c.dealloc.ensures.objects;
       agrees = c.dealloc.ensures.agrees;
     }))
 
