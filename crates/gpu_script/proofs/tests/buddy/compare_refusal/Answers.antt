@@ -1,4 +1,5 @@
-use Rattle.std.proofs.Common.{refl, arith, ap, ◌∙◌}
+use Rattle.std.proofs.Common.{◌≡◌, ℕ, List, [], ◌∷◌, length, refl, sym, ◌∙◌, ap, arith}
+use Rattle.std.specs.Prelude.{sum_by}
 use Rattle.std.specs.FinMap as map
 use Rattle.std.specs.Ordering.{nat_cmp}
 use Rattle.gpu_alloc.specs.BuddyState.{Buddy, Chunk}
@@ -25,14 +26,19 @@ alloc-requires-clause-agrees g c =
       holds = λ key. rw (map.get-empty {K = _} {X = Chunk} nat_cmp key) tt;
     })
 
+-- no entries add up to nothing
+no_sum : {X : Type 0} (f : X → ℕ) (xs : List X) → length xs ≡ 0 → sum_by f xs ≡ 0
+no_sum f [] none = refl
+no_sum f (x ∷ xs) none = absurd (omega (arith, none))
+
 pub alloc-requires-clause-counted : goal.alloc-requires-clause-counted
 alloc-requires-clause-counted g c =
-    rw (c.in_ok-allocator.ensures.opened, c.new-heap.ensures)
-    (record {
-      chunks = λ key. rw (map.get-empty {K = _} {X = Chunk} nat_cmp key) tt;
-      bound = omega arith;
-      objects = let none = map.len-empty nat_cmp Chunk in omega (arith, none, c.requires.count);
-    })
+    let none = map.len-empty nat_cmp Chunk in
+    let nothing = no_sum (λ e. e.1.size) (map.entries {X = Chunk} {R = nat_cmp} map.empty) (sym (map.len-entries {X = Chunk} {R = nat_cmp} map.empty) ∙ none) in
+    rw (c.in_ok-allocator.ensures.opened, c.new-heap.ensures) (record { chunks = omega (arith, nothing); objects = omega (arith, none, c.requires.count) })
+
+pub alloc-requires-clause-bound : goal.alloc-requires-clause-bound
+alloc-requires-clause-bound g c = rw (c.new-heap.ensures) (omega arith)
 
 pub close-requires : goal.close-requires
 close-requires g c = ap (λ (b : Buddy). map.len b.chunks) (c.in-Err.ensures.refused.0 ∙ c.in_ok-allocator.ensures.opened) ∙ map.len-empty nat_cmp Chunk
