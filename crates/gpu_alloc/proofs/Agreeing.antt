@@ -1,5 +1,5 @@
 -- An allocator and its device that agree, as both hold one object more, or one fewer.
-use Rattle.std.proofs.Common.{◌≡◌, ◌≢◌, inl, inr, ℕ, ◌==◌, Bool, true, false, cond, Option, Some, None, Result, Ok, Err, IfSome, refl, sym, ◌∙◌, ap, subst, arith}
+use Rattle.std.proofs.Common.{◌≡◌, ◌≢◌, inl, inr, ℕ, ◌==◌, Bool, true, false, cond, Option, Some, None, IfSome, refl, sym, ◌∙◌, ap, subst, arith}
 use Rattle.std.proofs.lemmas.Bool.Decides.{nat_tests}
 use Rattle.std.specs.Cmp.{nat_cmp_total}
 use Rattle.std.specs.FinMap as finite
@@ -8,9 +8,8 @@ use Rattle.gpu_alloc_types.specs.Device.{Object, HeldWith, put}
 use Rattle.gpu_alloc_types.specs.Objects.{put-same, put-other}
 use Rattle.gpu_alloc.specs.State.{State, HeldObject, Span, Block, IsLive, span_of}
 use Rattle.gpu_alloc.specs.Agreement.{Agrees, IsThere, IsCounted, IsInside, IsMappedWhole}
-use Rattle.gpu_alloc.specs.Allocation.{ObjectsAfter, OwnObjectsAfter, HasOneMore, holding}
+use Rattle.gpu_alloc.specs.Allocation.{HasOneMore, holding}
 use Rattle.gpu_alloc.specs.declared.block.Kind.{Kind}
-use Rattle.gpu_alloc.specs.declared.error.AllocationError.{AllocationError}
 use Rattle.gpu_alloc.specs.declared.block.Kind.TheVariants.{Dedicated, Imported, BuddyChunk, FreeListChunk}
 use Rattle.gpu_alloc.proofs.Ledgers.{name_test}
 use Rattle.gpu_alloc.proofs.LiveSpans.{live_before}
@@ -25,7 +24,7 @@ counted_kept Imported s now name counted o same older is = λ span live of_it. s
 counted_kept BuddyChunk s now name counted o same older is = (is.0, subst (λ p. IsMappedWhole p o) (sym same) is.1)
 counted_kept (FreeListChunk number) s now name counted o same older is = (is.0, subst (λ p. IsMappedWhole p o) (sym same) is.1)
 
-there_kept : (s now : State) (name : ℕ) (h : HeldObject) (o : Object) → now.properties ≡ s.properties → IsOlder s now name → IsThere s name h o → IsThere now name h o
+pub there_kept : (s now : State) (name : ℕ) (h : HeldObject) (o : Object) → now.properties ≡ s.properties → IsOlder s now name → IsThere s name h o → IsThere now name h o
 there_kept s now name h o same older is = record { of_type = is.of_type; of_size = counted_kept h.kind s now name h.counted o same older is.of_size }
 
 -- a name that the device has not, the allocator has not
@@ -48,7 +47,7 @@ there_more s now f name h o q (Some x) false e same older there was =
     let other : q ≢ name = grind (arith, nat_tests) in
     (was.0, put-other f name (Some o) q other ∙ was.1, there_kept s now q x was.0 same (older other) was.2)
 
-agrees_more : (s now : State) (p : Properties) (f : ℕ → Option Object) (name : ℕ) (h : HeldObject) (o : Object) → Agrees s p f → now.properties ≡ s.properties
+pub agrees_more : (s now : State) (p : Properties) (f : ℕ → Option Object) (name : ℕ) (h : HeldObject) (o : Object) → Agrees s p f → now.properties ≡ s.properties
     → now.held ≡ finite.insert s.held name h → ((q : ℕ) → q ≢ name → IsOlder s now q) → IsThere now name h o → Agrees now p (put f name (Some o))
 agrees_more s now p f name h o a same held older there = record {
   properties = a.properties ∙ sym same;
@@ -72,11 +71,6 @@ agrees_granted s p q f g b a same after =
       | inr was ↦ was
     ])
     (record { of_type = fresh.of_type; of_size = fresh.of_size })))
-
--- where every candidate is tried for an object of its own, so is the deciding one
-pub objects_after : (answer : Result Block AllocationError) (f g : ℕ → Option Object) → OwnObjectsAfter answer f g → ObjectsAfter answer f g
-objects_after (Ok b) f g more = λ kind. more
-objects_after (Err e) f g same = same
 
 -- One object fewer, on both sides.
 

@@ -1,5 +1,5 @@
 -- Ledgers: sums over the entries of a map, as an entry is added or taken off.
-use Rattle.std.proofs.Common.{◌≡◌, ◌≢◌, ℕ, ◌+◌, ◌*◌, ◌^◌, ◌<◌, ◌≤◌, Bool, true, false, cond, ◌==◌, List, [], ◌∷◌, length, Some, None, refl, sym, ◌∙◌, ap, subst, arith, Less, Equal, Greater}
+use Rattle.std.proofs.Common.{◌≡◌, ◌≢◌, ℕ, zero, suc, ◌+◌, ◌*◌, ◌^◌, ◌<◌, ◌≤◌, Bool, true, false, cond, ◌==◌, List, [], ◌∷◌, length, Some, None, refl, sym, ◌∙◌, ap, subst, arith, Less, Equal, Greater}
 use Rattle.std.proofs.lemmas.Bool.Decides.{nat_tests}
 use Rattle.std.proofs.lemmas.List.Sums.{sum_by-cons}
 use Rattle.std.specs.List.{sum_by}
@@ -72,6 +72,16 @@ module _ {X : Type 0} where
       itself : (a : ℕ) → eq_by_cmp nat_cmp a a ≡ true
       itself a = grind (arith, nat_tests)
 
+  -- another name is held as before
+  pub kept_other : (m : finite.FinMap nat_cmp X) (k q : ℕ) → q ≢ k → finite.get (finite.remove m k) q ≡ finite.get m q
+  kept_other m k q other = finite.get-remove nat_cmp_total m k q ∙ rw (name_test q k, eq-false q k other) refl
+
+  -- what is held once a name is removed has another one
+  pub kept_key : (m : finite.FinMap nat_cmp X) (k q : ℕ) (v : X) → finite.get (finite.remove m k) q ≡ Some v → (q ≢ k) × (finite.get m q ≡ Some v)
+  kept_key m k q v is =
+      let other : q ≢ k = λ same. let none : finite.get (finite.remove m k) q ≡ None = ap (finite.get (finite.remove m k)) same ∙ gone m k in absurd (cc) in
+      (other, sym (kept_other m k q other) ∙ is)
+
   -- what was removed and is inserted again is as it was
   pub back : (m : finite.FinMap nat_cmp X) (k : ℕ) (v : X) → finite.get m k ≡ Some v → finite.insert (finite.remove m k) k v ≡ m
   back m k v is = finite.same_map nat_cmp_total nat_cmp-IsAntisymmetric _ _ (λ q.
@@ -104,10 +114,76 @@ share-le : (b : Bool) (counted : ℕ) → counted < 2 ^ 64 → cond b counted 0 
 share-le true counted small = omega arith
 share-le false counted small = omega arith
 
-sum_by-small : (p : Properties) (heap : ℕ) (es : Entries) → AreSmall es → sum_by (share p heap) es ≤ length es * 2 ^ 64
+pub sum_by-small : (p : Properties) (heap : ℕ) (es : Entries) → AreSmall es → sum_by (share p heap) es ≤ length es * 2 ^ 64
 sum_by-small p heap [] all = omega arith
 sum_by-small p heap (e ∷ es) all = omega (arith, sum_by-cons (share p heap) e es, share-le (heap_at p e.1.memory_type == heap) e.1.counted all.0, sum_by-small p heap es all.1)
 
 -- a number of bytes more is still far below the largest number
 pub ledger-bound : (p : Properties) (heap : ℕ) (m : Held) (n : ℕ) → AreSmall (finite.entries m) → finite.len m < 2 ^ 32 → n < 2 ^ 64 → sum_by (share p heap) (finite.entries m) + n < 2 ^ 128
 ledger-bound p heap m n all few small = omega (arith, sum_by-small p heap (finite.entries m) all, finite.len-entries m)
+
+-- A sum over one map against a sum over another, where each key of the first has a name of its own in the second.
+
+-- the first entry is found by its key
+first_found : {X : Type 0} (e : ℕ × X) (es : List (ℕ × X)) → finite.find nat_cmp e.0 (e ∷ es) ≡ Some e.1
+first_found e es = rw (name_test e.0 e.0, eq-true e.0 e.0 refl) refl
+
+module _ {X Y : Type 0} (name : X → ℕ) (f : ℕ × X → ℕ) (g : ℕ × Y → ℕ) where
+  -- each key weighs no more than what is named by it
+  abbrev pub WeighsWithin : finite.FinMap nat_cmp X → finite.FinMap nat_cmp Y → Type 0
+  WeighsWithin m held = (k : ℕ) (c : X) → finite.get m k ≡ Some c → (h : Y) × (finite.get held (name c) ≡ Some h) × (f (k, c) ≤ g (name c, h))
+
+  -- no two keys have the same name
+  abbrev pub AreNamedOnce : finite.FinMap nat_cmp X → Type 0
+  AreNamedOnce m = (k l : ℕ) (c d : X) → finite.get m k ≡ Some c → finite.get m l ≡ Some d → name c ≡ name d → k ≡ l
+
+  module _ (m : finite.FinMap nat_cmp X) (held : finite.FinMap nat_cmp Y) (k : ℕ) (c : X) (is : finite.get m k ≡ Some c) where
+    left_within : WeighsWithin m held → AreNamedOnce m → WeighsWithin (finite.remove m k) (finite.remove held (name c))
+    left_within within once l d at =
+        let was = kept_key m k l d at in
+        let w = within l d was.1 in
+        (w.0, kept_other held (name c) (name d) (λ same. was.0 (once l k d c was.1 is same)) ∙ w.1, w.2)
+
+    left_once : AreNamedOnce m → AreNamedOnce (finite.remove m k)
+    left_once once i j x y at also same = once i j x y (kept_key m k i x at).1 (kept_key m k j y also).1 same
+
+  -- by the number of keys
+  sum_by-counted : (n : ℕ) (m : finite.FinMap nat_cmp X) (held : finite.FinMap nat_cmp Y) → finite.len m ≡ n → WeighsWithin m held → AreNamedOnce m
+      → sum_by f (finite.entries m) ≤ sum_by g (finite.entries held)
+  sum_by-counted zero m held len within once = rw (empty (finite.entries m) (sym (finite.len-entries m) ∙ len)) (omega arith)
+    where
+      empty : (es : List (ℕ × X)) → length es ≡ zero → sum_by f es ≡ 0
+      empty [] none = refl
+      empty (e ∷ es) none = absurd (omega (arith, none))
+  sum_by-counted (suc n) m held len within once =
+      let e = first (finite.entries m) (sym (finite.len-entries m) ∙ len) in
+      let is : finite.get m e.0.0 ≡ Some e.0.1 = finite.get-entries m e.0.0 ∙ e.1 in
+      let w = within e.0.0 e.0.1 is in
+      let less = sum_by-counted n (finite.remove m e.0.0) (finite.remove held (name e.0.1)) (omega (arith, len, len_less m e.0.0 e.0.1 is))
+      (left_within m held e.0.0 e.0.1 is within once) (left_once m held e.0.0 e.0.1 is once) in
+      omega (arith, less, w.2, sum_by-remove f m e.0.0 e.0.1 is, sum_by-remove g held (name e.0.1) w.0 w.1)
+    where
+      first : (es : List (ℕ × X)) → length es ≡ suc n → (e : ℕ × X) × (finite.find nat_cmp e.0 es ≡ Some e.1)
+      first [] none = absurd (omega (arith, none))
+      first (e ∷ es) some = (e, first_found e es)
+
+  pub sum_by-within : (m : finite.FinMap nat_cmp X) (held : finite.FinMap nat_cmp Y) → WeighsWithin m held → AreNamedOnce m → sum_by f (finite.entries m) ≤ sum_by g (finite.entries held)
+  sum_by-within m held within once = sum_by-counted (finite.len m) m held refl within once
+
+sum_by-one : {X : Type 0} (es : List (ℕ × X)) → sum_by (λ _. 1) es ≡ length es
+sum_by-one [] = refl
+sum_by-one (e ∷ es) = omega (arith, sum_by-cons (λ _. 1) e es, sum_by-one es)
+
+-- so there are no more keys than names
+pub len-within : {X Y : Type 0} (name : X → ℕ) (m : finite.FinMap nat_cmp X) (held : finite.FinMap nat_cmp Y)
+    → ((k : ℕ) (c : X) → finite.get m k ≡ Some c → (h : Y) × (finite.get held (name c) ≡ Some h)) → AreNamedOnce name (λ _. 1) (λ (_ : ℕ × Y). 1) m
+    → finite.len m ≤ finite.len held
+len-within {X} {Y} name m held there once =
+    omega (
+      arith,
+      finite.len-entries m,
+      finite.len-entries held,
+      sum_by-one (finite.entries m),
+      sum_by-one (finite.entries held),
+      sum_by-within name (λ (_ : ℕ × X). 1) (λ (_ : ℕ × Y). 1) m held (λ k c is. let t = there k c is in (t.0, t.1, omega arith)) once,
+    )
