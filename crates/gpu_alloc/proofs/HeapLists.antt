@@ -1,15 +1,15 @@
 -- The list of heaps: what is read of it, and what stays as one heap's ledger changes.
-use Rattle.std.proofs.Common.{◌≡◌, ◌≢◌, ℕ, zero, suc, ◌<◌, true, false, ◌==◌, List, [], ◌∷◌, length, get_or, map, Option, Some, IfSome, refl, sym, ◌∙◌, ap, subst, arith, inl, inr}
+use Rattle.std.proofs.Common.{◌≡◌, ◌≢◌, ℕ, zero, suc, ◌<◌, List, [], ◌∷◌, length, get_or, map, Option, Some, IfSome, refl, sym, ◌∙◌, ap, subst, arith, inl, inr}
 use Rattle.std.proofs.Math.ListN.{set}
 use Rattle.std.proofs.Math.Seq.{map-set_same}
-use Rattle.std.proofs.lemmas.Bool.Decides.{nat_tests}
 use Rattle.std.proofs.lemmas.Option.{slice_get_read, slice_get_cases}
 use Rattle.std.specs.List.{sum_by, slice_get}
 use Rattle.gpu_alloc_types.specs.Properties.{Properties, IsUsable, heap_at, heap_of}
 use Rattle.gpu_alloc_types.specs.declared.types.MemoryType.{MemoryType}
 use Rattle.gpu_alloc.specs.State.{share}
 use Rattle.gpu_alloc.specs.Spans.{Table}
-use Rattle.gpu_alloc.specs.Inside.{properties_in, state_in, AreLedgers, offer_of}
+use Rattle.gpu_alloc.specs.BuddyState.{Buddy}
+use Rattle.gpu_alloc.specs.Inside.{properties_in, state_in, types_in, AreLedgers, offer_of}
 use Rattle.gpu_alloc.specs.Heap.{unused}
 use Rattle.gpu_alloc.specs.Sizes.{first_types}
 use Rattle.gpu_alloc.specs.declared.limits.Limits.{Limits}
@@ -19,17 +19,13 @@ use Rattle.gpu_alloc.proofs.Ledgers.{Entries}
 
 -- Heaps, as one of them changes.
 
-get-set_same : (heaps : List Heap) (i : ℕ) (h : Heap) → i < length heaps → slice_get (set heaps i h) i ≡ Some h
-get-set_same [] i h lt = absurd (omega arith)
-get-set_same (x ∷ heaps) zero h lt = refl
-get-set_same (x ∷ heaps) (suc i) h lt = get-set_same heaps i h (omega arith)
-
-get-set_other : (heaps : List Heap) (i q : ℕ) (h : Heap) → q ≢ i → slice_get (set heaps i h) q ≡ slice_get heaps q
-get-set_other [] i q h other = refl
-get-set_other (x ∷ heaps) zero zero h other = absurd (other refl)
-get-set_other (x ∷ heaps) zero (suc q) h other = refl
-get-set_other (x ∷ heaps) (suc i) zero h other = refl
-get-set_other (x ∷ heaps) (suc i) (suc q) h other = get-set_other heaps i q h (λ e. other (ap suc e))
+-- what holds of the new element at its place, and of each other one at its own
+pub each_set : {X : Type 0} (P : ℕ → X → Type 0) (xs : List X) (i : ℕ) (x : X) → P i x → ((q : ℕ) → q ≢ i → IfSome (slice_get xs q) (P q)) → (q : ℕ) → IfSome (slice_get (set xs i x) q) (P q)
+each_set P [] i x is others q = tt
+each_set P (y ∷ xs) zero x is others zero = is
+each_set P (y ∷ xs) zero x is others (suc q) = others (suc q) (λ e. omega (arith, e))
+each_set P (y ∷ xs) (suc i) x is others zero = others zero (λ e. omega (arith, e))
+each_set P (y ∷ xs) (suc i) x is others (suc q) = each_set (λ n. P (suc n)) xs i x is (λ r other. others (suc r) (λ e. other (omega (arith, e)))) q
 
 -- a ledger more or less is no other offer
 pub offers_kept : (heaps : List Heap) (i : ℕ) (h old : Heap) → old ≡ get_or heaps i old → h.size ≡ old.size → map offer_of (set heaps i h) ≡ map offer_of heaps
@@ -51,26 +47,21 @@ pub ledger_at : (p : Properties) (heaps : List Heap) (i : ℕ) (h : Heap) (entri
 ledger_at p heaps i h entries are lt at = subst (λ (o : Option Heap). IfSome o (λ x. x.used ≡ sum_by (share p i) entries)) (slice_get_read heaps (length heaps) i h refl lt at) (are i)
 
 -- one heap's ledger is changed, and no share of another heap is
-pub ledgers_set : (p : Properties) (heaps : List Heap) (i : ℕ) (h : Heap) (old new : Entries) → AreLedgers p heaps old → i < length heaps → h.used ≡ sum_by (share p i) new
+pub ledgers_set : (p : Properties) (heaps : List Heap) (i : ℕ) (h : Heap) (old new : Entries) → AreLedgers p heaps old → h.used ≡ sum_by (share p i) new
     → ((q : ℕ) → q ≢ i → sum_by (share p q) new ≡ sum_by (share p q) old) → AreLedgers p (set heaps i h) new
-ledgers_set p heaps i h old new are lt is others q = elim (q == i) as (λ b. (q == i) ≡ b → IfSome (slice_get (set heaps i h) q) (λ x. x.used ≡ sum_by (share p q) new)) [
-  | true ↦ λ e.
-      let here : i ≡ q = grind (arith, nat_tests) in
-      subst (λ k. IfSome (slice_get (set heaps i h) k) (λ x. x.used ≡ sum_by (share p k) new)) here
-      (subst (λ (o : Option Heap). IfSome o (λ x. x.used ≡ sum_by (share p i) new)) (sym (get-set_same heaps i h lt)) is)
-  | false ↦ λ e.
-      let other : q ≢ i = grind (arith, nat_tests) in
-      subst (λ (o : Option Heap). IfSome o (λ x. x.used ≡ sum_by (share p q) new)) (sym (get-set_other heaps i q h other))
-      (subst (λ n. IfSome (slice_get heaps q) (λ x. x.used ≡ n)) (sym (others q other)) (are q))
-] refl
+ledgers_set p heaps i h old new are is others =
+    each_set (λ q x. x.used ≡ sum_by (share p q) new) heaps i h is
+    (λ q other. subst (λ n. IfSome (slice_get heaps q) (λ x. x.used ≡ n)) (sym (others q other)) (are q))
 
 -- The properties and the state, as one heap's ledger changes.
 
 pub properties_kept : {A : Type 0} (l : Limits A) (heaps : List Heap) (i : ℕ) (h old : Heap) → old ≡ get_or heaps i old → h.size ≡ old.size → properties_in l (set heaps i h) ≡ properties_in l heaps
 properties_kept l heaps i h old at same = ap (λ (offers : List MemoryHeap). record (properties_in l heaps) { memory_heaps = offers }) (offers_kept heaps i h old at same)
 
-pub state_kept : {A : Type 0} (l : Limits A) (heaps : List Heap) (i : ℕ) (h old : Heap) (t : Table) (remaining : ℕ) → old ≡ get_or heaps i old → h.size ≡ old.size → state_in l (set heaps i h) t remaining ≡ state_in l heaps t remaining
-state_kept l heaps i h old t remaining at same = ap (λ (p : Properties). record (state_in l heaps t remaining) { types = first_types l.config p; properties = p }) (properties_kept l heaps i h old at same)
+pub state_kept : {A : Type 0} (l : Limits A) (heaps : List Heap) (buddies : List Buddy) (i : ℕ) (h old : Heap) (t : Table) (remaining : ℕ) → old ≡ get_or heaps i old → h.size ≡ old.size
+    → state_in l (set heaps i h) buddies t remaining ≡ state_in l heaps buddies t remaining
+state_kept l heaps buddies i h old t remaining at same =
+    ap (λ (p : Properties). record (state_in l heaps buddies t remaining) { types = types_in (first_types l.config p) buddies; properties = p }) (properties_kept l heaps i h old at same)
 
 -- heaps of which nothing is held are those that are offered
 pub unused-offers : (hs : List MemoryHeap) → map offer_of (map (λ h. unused h.size) hs) ≡ hs

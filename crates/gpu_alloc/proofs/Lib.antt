@@ -9,6 +9,7 @@ pub mod Candidates
 pub mod Consistency
 pub mod ExactPieces
 pub mod Grants
+pub mod HasBuddies
 pub mod HeapLists
 pub mod HeldObjects
 pub mod KeptPieces
@@ -34,3 +35,4 @@ pub mod Serving
 pub mod SlabViews
 pub mod Tables
 pub mod Trials
+pub mod TypeStates
