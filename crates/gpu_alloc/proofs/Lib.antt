@@ -32,6 +32,7 @@ pub mod Returns
 pub mod Rising
 pub mod ServedBlocks
 pub mod Serving
+pub mod SharedAnswers
 pub mod SharedGrants
 pub mod SlabViews
 pub mod Tables

@@ -1,7 +1,14 @@
+use Rattle.std.proofs.Common.{◌≡◌, [], refl, sym, ap, ◌∙◌, arith}
+use Rattle.gpu_alloc.proofs.Serving.{first_passed, first_refused, first_open}
+use Rattle.gpu_alloc.proofs.SharedGrants.{serves, counted_before, bounded_before, consistent_refused, state_refused}
 use Rattle.gpu_alloc.proofs.allocator.GpuAllocator.try_buddy.Goals as goal
 
 pub returns-in-Some-OutOfDeviceMemory-clause-tries : goal.returns-in-Some-OutOfDeviceMemory-clause-tries
-returns-in-Some-OutOfDeviceMemory-clause-tries g c = ?
+returns-in-Some-OutOfDeviceMemory-clause-tries g c =
+    let known = rw (← c.self.view_is) at c.requires.known in
+    let b = serves c.self.inside.limits _ _ _ _ c.args.memory_type c.index.result.now c.self.invariant known ? in
+    let first = c.refuses-first.ensures 0 in
+    ?
 
 pub returns-in-Some : goal.returns-in-Some
 returns-in-Some g c = ?
