@@ -173,12 +173,12 @@ module _ {A : Type 0} {l : Limits A} {heaps : List Heap} {buddies : List Buddy} 
       | inr there ↦ elim (objects) [
         | inl begins ↦
             let asked = ap (question b size) given.flags_are ∙ question_is before t.places t.room index b serving size in
-            in_new_chunk there.3 (not_held_yet begins.1.0) there.2 there.5 (subst (λ x. HasOneChunkMore x leaf.object old new) asked begins.1) (
-              asks_is before t.places t.room index b serving size heap (there.0, there.1, there.2),
-              (λ k. record { object = leaf.object; offset = there.3.start k; size = there.3.of_size k }),
-              there.4 ∙ ap (λ x. made x leaf.object) asked,
+            in_new_chunk there.1 (not_held_yet begins.1.0) there.0.2 there.3 (subst (λ x. HasOneChunkMore x leaf.object old new) asked begins.1) (
+              asks_is before t.places t.room index b serving size heap there.0,
+              (λ k. record { object = leaf.object; offset = there.1.start k; size = there.1.of_size k }),
+              there.2 ∙ ap (λ x. made x leaf.object) asked,
               refl,
             )
-        | inr front ↦ absurd (let none = there.3.free_key in let some = front.0.held in cc)
+        | inr front ↦ absurd (let none = there.1.free_key in let some = front.0.held in cc)
       ]
     ]
