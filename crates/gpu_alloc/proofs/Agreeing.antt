@@ -1,5 +1,5 @@
 -- An allocator and its device that agree, as both hold one object more, or one fewer.
-use Rattle.std.proofs.Common.{◌≡◌, ◌≢◌, inl, inr, ℕ, ◌==◌, Bool, true, false, cond, Option, Some, None, Result, Ok, Err, IfSome, refl, sym, ◌∙◌, ap, subst, arith}
+use Rattle.std.proofs.Common.{◌≡◌, ◌≢◌, inl, inr, ℕ, ◌==◌, Bool, true, false, cond, Option, Some, None, IfSome, refl, sym, ◌∙◌, ap, subst, arith}
 use Rattle.std.proofs.lemmas.Bool.Decides.{nat_tests}
 use Rattle.std.specs.Cmp.{nat_cmp_total}
 use Rattle.std.specs.FinMap as finite
@@ -8,9 +8,8 @@ use Rattle.gpu_alloc_types.specs.Device.{Object, HeldWith, put}
 use Rattle.gpu_alloc_types.specs.Objects.{put-same, put-other}
 use Rattle.gpu_alloc.specs.State.{State, HeldObject, Span, Block, IsLive, span_of}
 use Rattle.gpu_alloc.specs.Agreement.{Agrees, IsThere, IsCounted, IsInside, IsMappedWhole}
-use Rattle.gpu_alloc.specs.Allocation.{ObjectsAfter, OwnObjectsAfter, HasOneMore, holding}
+use Rattle.gpu_alloc.specs.Allocation.{HasOneMore, holding}
 use Rattle.gpu_alloc.specs.declared.block.Kind.{Kind}
-use Rattle.gpu_alloc.specs.declared.error.AllocationError.{AllocationError}
 use Rattle.gpu_alloc.specs.declared.block.Kind.TheVariants.{Dedicated, Imported, BuddyChunk, FreeListChunk}
 use Rattle.gpu_alloc.proofs.Ledgers.{name_test}
 use Rattle.gpu_alloc.proofs.LiveSpans.{live_before}
@@ -72,11 +71,6 @@ agrees_granted s p q f g b a same after =
       | inr was ↦ was
     ])
     (record { of_type = fresh.of_type; of_size = fresh.of_size })))
-
--- where every candidate is tried for an object of its own, so is the deciding one
-pub objects_after : (answer : Result Block AllocationError) (f g : ℕ → Option Object) → OwnObjectsAfter answer f g → ObjectsAfter answer f g
-objects_after (Ok b) f g more = λ kind. more
-objects_after (Err e) f g same = same
 
 -- One object fewer, on both sides.
 
