@@ -28,6 +28,7 @@ goes_with kind s object is = subst (λ k. GoesWith k s object (object ∷ [])) (
 -- a live block is the whole of an object of its own
 pub record IsWholeBlock (t : Table) (b : Block) (h : HeldObject) : Type 0 where
   pub found : finite.get t.held b.object ≡ Some h
+  pub own : h.kind ≡ Dedicated
   pub kind : b.kind ≡ Dedicated
   pub span : ◌≡◌ {A = Span} (span_of b) (whole_span b.object h)
 
@@ -43,6 +44,7 @@ owned_whole l heaps buddies t remaining b is owned no_chunk =
         h.0,
         record {
           found = h.1;
+          own = own.0;
           kind = sym h.3 ∙ own.0;
           span = o.whole (ap (λ (x : HeldObject). x.kind) same ∙ own.0) ∙ ap (whole_span b.object) same;
         },
@@ -60,9 +62,7 @@ let_go l heaps buddies t now remaining b name offset size row is owned no_chunk 
     let there : finite.get t.held b.object ≡ Some (held_of row) = ap (finite.get t.held) (sym same_name) ∙ found in
     let both : Some whole.0 ≡ Some (held_of row) = sym whole.1.found ∙ there in
     let same : whole.0 ≡ held_of row = cc in
-    let h = owned.held in
-    let one : Some whole.0 ≡ Some h.0 = sym whole.1.found ∙ h.1 in
-    let own : row.kind ≡ Dedicated = sym (ap (λ (x : HeldObject). x.kind) same) ∙ ap (λ (x : HeldObject). x.kind) (let e : whole.0 ≡ h.0 = cc in e) ∙ h.3 ∙ whole.1.kind in (
+    let own : row.kind ≡ Dedicated = sym (ap (λ (x : HeldObject). x.kind) same) ∙ whole.1.own in (
       own,
       record {
         found = there;
