@@ -1,5 +1,5 @@
 -- What a granted object of its own leaves.
-use Rattle.std.proofs.Common.{◌≡◌, ℕ, ◌+◌, ◌-◌, ◌<◌, ◌≤◌, List, [], ◌∷◌, get_or, true, cond, Some, None, Ok, refl, sym, ◌∙◌, ap, subst, arith, inl}
+use Rattle.std.proofs.Common.{◌≡◌, ℕ, ◌+◌, ◌-◌, ◌<◌, List, [], ◌∷◌, get_or, true, cond, Some, None, Ok, refl, sym, ◌∙◌, ap, subst, arith, inl}
 use Rattle.std.proofs.Math.ListN.{set}
 use Rattle.std.proofs.Math.Nat.{zero-mod}
 use Rattle.std.proofs.lemmas.Bool.Decides.{nat_tests}
@@ -7,8 +7,9 @@ use Rattle.std.specs.Cmp.{nat_cmp_total}
 use Rattle.std.specs.Ordering.{nat_cmp, eq_by_cmp}
 use Rattle.std.specs.FinMap as finite
 use Rattle.std.specs.FinSet as set_of
-use Rattle.gpu_alloc_types.specs.Properties.{heap_size}
-use Rattle.gpu_alloc.specs.Allocation.{Decides, IsGranted, asked, holding, whole_block}
+use Rattle.gpu_alloc.specs.Allocation.{DecidesBy, IsGranted, asked, holding, whole_block}
+use Rattle.gpu_alloc.specs.Allocation.Strategy.{OwnObject}
+use Rattle.gpu_alloc.specs.BuddyState.{Buddy}
 use Rattle.gpu_alloc.specs.Inside.{state_in}
 use Rattle.gpu_alloc.specs.Spans.{Table}
 use Rattle.gpu_alloc.specs.State.{State, HeldObject, Span, Block, IsLive, span_of, total}
@@ -16,7 +17,6 @@ use Rattle.gpu_alloc.specs.declared.limits.Limits.{Limits}
 use Rattle.gpu_alloc.specs.declared.block.Kind.TheVariants.{Dedicated as DedicatedObject}
 use Rattle.gpu_alloc.specs.declared.heap.Heap.{Heap}
 use Rattle.gpu_alloc.specs.declared.request.Request.{Request}
-use Rattle.gpu_alloc.specs.declared.request.Dedicated.TheVariants.{Required}
 use Rattle.gpu_alloc.proofs.HeapLists.{state_kept}
 use Rattle.gpu_alloc.proofs.Ledgers.{len_more}
 use Rattle.gpu_alloc.proofs.LiveSpans.{live_new}
@@ -26,18 +26,18 @@ abbrev pub own_object : ℕ → ℕ → HeldObject
 own_object size memory_type = record { memory_type = memory_type; counted = size; kind = DedicatedObject }
 
 -- what the fields stand for then
-pub state_held : {A : Type 0} (l : Limits A) (heaps : List Heap) (i : ℕ) (h old : Heap) (t now : Table) (remaining object size memory_type : ℕ) → old ≡ get_or heaps i old → h.size ≡ old.size
+pub state_held : {A : Type 0} (l : Limits A) (heaps : List Heap) (buddies : List Buddy) (i : ℕ) (h old : Heap) (t now : Table) (remaining object size memory_type : ℕ) → old ≡ get_or heaps i old → h.size ≡ old.size
     → now.held ≡ finite.insert t.held object (own_object size memory_type) → now.live ≡ set_of.insert t.live (record { object = object; offset = 0; size = size })
-    → state_in l (set heaps i h) now (remaining - 1) ≡ holding (state_in l heaps t remaining) (own_object size memory_type) (whole_block (state_in l heaps t remaining) object size memory_type)
-state_held l heaps i h old t now remaining object size memory_type at same held live =
-    state_kept l heaps i h old now (remaining - 1) at same
-    ∙ (λ k. record (state_in l heaps t remaining) { held = held k; live = live k; remaining = remaining - 1 })
+    → state_in l (set heaps i h) buddies now (remaining - 1) ≡ holding (state_in l heaps buddies t remaining) (own_object size memory_type) (whole_block (state_in l heaps buddies t remaining) object size memory_type)
+state_held l heaps buddies i h old t now remaining object size memory_type at same held live =
+    state_kept l heaps buddies i h old now (remaining - 1) at same
+    ∙ (λ k. record (state_in l heaps buddies t remaining) { held = held k; live = live k; remaining = remaining - 1 })
 
 -- the candidate decides
-pub decides_granted : (s now : State) (r : Request) (memory_type object : ℕ) (b : Block) → b ≡ whole_block s object r.size memory_type → r.size ≤ heap_size s.properties memory_type → 0 < s.remaining
-    → now ≡ holding s (own_object r.size memory_type) (whole_block s object r.size memory_type) → Decides s r (Some Required) memory_type (asked s r.size memory_type (Ok object) ∷ []) (Ok b) now
-decides_granted s now r memory_type object b is le some held =
-    subst (λ x. Decides s r (Some Required) memory_type (asked s r.size memory_type (Ok object) ∷ []) (Ok x) now) (sym is) (le, (some, refl, refl, held))
+pub decides_granted : (s now : State) (r : Request) (memory_type object : ℕ) (b : Block) → b ≡ whole_block s object r.size memory_type → 0 < s.remaining
+    → now ≡ holding s (own_object r.size memory_type) (whole_block s object r.size memory_type) → DecidesBy OwnObject s r memory_type (asked s r.size memory_type (Ok object) ∷ []) (Ok b) now
+decides_granted s now r memory_type object b is some held =
+    subst (λ x. DecidesBy OwnObject s r memory_type (asked s r.size memory_type (Ok object) ∷ []) (Ok x) now) (sym is) (some, refl, refl, held)
 
 -- a live span is in a held object, and so apart from one that is not held
 pub granted : (s : State) (r : Request) (memory_type object : ℕ) → finite.get s.held object ≡ None → ((span : Span) → IsLive s span → (h : HeldObject) × (finite.get s.held span.object ≡ Some h))
@@ -45,6 +45,7 @@ pub granted : (s : State) (r : Request) (memory_type object : ℕ) → finite.ge
 granted s r memory_type object free live = record {
   enough = omega arith;
   aligned = zero-mod (r.align_mask + 1);
+  whole_atoms = λ shared. absurd (cc);
   unmapped = refl;
   owned = record {
     live = live_new s.live (span_of (whole_block s object r.size memory_type));

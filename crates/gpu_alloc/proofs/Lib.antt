@@ -22,6 +22,7 @@ pub mod LiveSpans
 pub mod Masks
 pub mod NewChunks
 pub mod OtherHalves
+pub mod OwnObjects
 pub mod PieceHalves
 pub mod PieceReturns
 pub mod PieceSteps

@@ -1,18 +1,19 @@
 -- What the return of a block leaves.
-use Rattle.std.proofs.Common.{◌≡◌, ℕ, ◌+◌, List, [], ◌∷◌, length, get_or, Some, refl, sym, ◌∙◌, ap, subst, arith}
+use Rattle.std.proofs.Common.{◌≡◌, ◌≢◌, inl, inr, ℕ, ◌+◌, List, [], ◌∷◌, length, get_or, Some, refl, sym, ◌∙◌, ap, subst, arith}
 use Rattle.std.proofs.Math.ListN.{set}
 use Rattle.std.specs.FinMap as finite
 use Rattle.std.specs.FinSet as set_of
 use Rattle.gpu_alloc.specs.State.{State, HeldObject, Span, Block, IsOwned, span_of, total}
 use Rattle.gpu_alloc.specs.Spans.{Table, held_of, span_at}
-use Rattle.gpu_alloc.specs.Inside.{state_in, properties_in, IsConsistent}
+use Rattle.gpu_alloc.specs.BuddyState.{Buddy}
+use Rattle.gpu_alloc.specs.Inside.{state_in, properties_in, whole_span, IsBooked}
 use Rattle.gpu_alloc.specs.Release.{GoesWith, without_span, without_all}
 use Rattle.gpu_alloc.specs.declared.limits.Limits.{Limits}
 use Rattle.gpu_alloc.specs.declared.block.Kind.{Kind}
-use Rattle.gpu_alloc.specs.declared.block.Kind.TheVariants.{Dedicated}
+use Rattle.gpu_alloc.specs.declared.block.Kind.TheVariants.{Dedicated, BuddyChunk}
 use Rattle.gpu_alloc.specs.declared.heap.Heap.{Heap}
 use Rattle.gpu_alloc.specs.declared.spans.HeldRow.{HeldRow}
-use Rattle.gpu_alloc.proofs.Consistency.{HoldsFewer, whole_object, whole_span}
+use Rattle.gpu_alloc.proofs.Consistency.{HoldsFewer, known_object, whole_last}
 use Rattle.gpu_alloc.proofs.HeapLists.{state_kept}
 use Rattle.gpu_alloc.proofs.Ledgers.{len_less}
 
@@ -27,42 +28,56 @@ goes_with kind s object is = subst (λ k. GoesWith k s object (object ∷ [])) (
 -- a live block is the whole of an object of its own
 pub record IsWholeBlock (t : Table) (b : Block) (h : HeldObject) : Type 0 where
   pub found : finite.get t.held b.object ≡ Some h
+  pub own : h.kind ≡ Dedicated
   pub kind : b.kind ≡ Dedicated
   pub span : ◌≡◌ {A = Span} (span_of b) (whole_span b.object h)
 
-pub owned_whole : {A : Type 0} (l : Limits A) (heaps : List Heap) (t : Table) (remaining : ℕ) (b : Block) → IsConsistent (properties_in l heaps) heaps t remaining
-    → IsOwned (state_in l heaps t remaining) b → (h : HeldObject) × IsWholeBlock t b h
-owned_whole l heaps t remaining b is owned =
+pub owned_whole : {A : Type 0} (l : Limits A) (heaps : List Heap) (buddies : List Buddy) (t : Table) (remaining : ℕ) (b : Block) → IsBooked (properties_in l heaps) heaps t remaining
+    → IsOwned (state_in l heaps buddies t remaining) b → b.kind ≢ BuddyChunk → (h : HeldObject) × IsWholeBlock t b h
+owned_whole l heaps buddies t remaining b is owned no_chunk =
     let h = owned.held in
-    let w = is.spans (span_of b) owned.live in
-    let whole = whole_object (properties_in l heaps) heaps t remaining is refl b.object h.0 h.1 in
-    let both : Some w.object ≡ Some h.0 = sym w.held ∙ h.1 in
-    let same : w.object ≡ h.0 = cc in
-    (h.0, record { found = h.1; kind = sym h.3 ∙ whole.kind; span = λ k. record { object = b.object; offset = w.start k; size = (w.size ∙ ap (λ (x : HeldObject). x.counted) same) k } })
+    let o = is.spans (span_of b) owned.live in
+    let both : Some o.object ≡ Some h.0 = sym o.held ∙ h.1 in
+    let same : o.object ≡ h.0 = cc in
+    elim ((known_object (properties_in l heaps) heaps t remaining is refl b.object h.0 h.1).of_kind) [
+      | inl own ↦ (
+        h.0,
+        record {
+          found = h.1;
+          own = own.0;
+          kind = sym h.3 ∙ own.0;
+          span = o.whole (ap (λ (x : HeldObject). x.kind) same ∙ own.0) ∙ ap (whole_span b.object) same;
+        },
+      )
+      | inr chunk ↦ absurd (no_chunk (sym h.3 ∙ chunk))
+    ]
 
 -- The table gave back what it had of the block's object, and holds it no more.
-pub let_go : {A : Type 0} (l : Limits A) (heaps : List Heap) (t now : Table) (remaining : ℕ) (b : Block) (name offset size : ℕ) (row : HeldRow) (is : IsConsistent (properties_in l heaps) heaps t remaining)
-    → IsOwned (state_in l heaps t remaining) b → name ≡ b.object → offset ≡ b.offset → size ≡ b.size → finite.get t.held name ≡ Some (held_of row)
+pub let_go : {A : Type 0} (l : Limits A) (heaps : List Heap) (buddies : List Buddy) (t now : Table) (remaining : ℕ) (b : Block) (name offset size : ℕ) (row : HeldRow) (is : IsBooked (properties_in l heaps) heaps t remaining)
+    → IsOwned (state_in l heaps buddies t remaining) b → b.kind ≢ BuddyChunk → name ≡ b.object → offset ≡ b.offset → size ≡ b.size → finite.get t.held name ≡ Some (held_of row)
     → now.held ≡ finite.remove t.held name → now.live ≡ set_of.remove t.live (span_at name offset size)
-    → HoldsFewer (properties_in l heaps) heaps t remaining is refl now b.object (held_of row)
-let_go l heaps t now remaining b name offset size row is owned same_name same_offset same_size found held live =
-    let whole = owned_whole l heaps t remaining b is owned in
+    → (row.kind ≡ Dedicated) × HoldsFewer (properties_in l heaps) heaps t remaining is refl now (held_of row) (span_of b)
+let_go l heaps buddies t now remaining b name offset size row is owned no_chunk same_name same_offset same_size found held live =
+    let whole = owned_whole l heaps buddies t remaining b is owned no_chunk in
     let there : finite.get t.held b.object ≡ Some (held_of row) = ap (finite.get t.held) (sym same_name) ∙ found in
     let both : Some whole.0 ≡ Some (held_of row) = sym whole.1.found ∙ there in
     let same : whole.0 ≡ held_of row = cc in
-    let is_block : ◌≡◌ {A = Span} (span_at name offset size) (span_of b) = λ k. record { object = same_name k; offset = same_offset k; size = same_size k } in
-    record {
-      found = there;
-      held = held ∙ ap (finite.remove t.held) same_name;
-      live = live ∙ ap (set_of.remove t.live) (is_block ∙ whole.1.span ∙ ap (whole_span b.object) same);
-    }
+    let own : row.kind ≡ Dedicated = sym (ap (λ (x : HeldObject). x.kind) same) ∙ whole.1.own in (
+      own,
+      record {
+        found = there;
+        last = whole_last (properties_in l heaps) heaps t remaining is refl (held_of row) (span_of b) there own (whole.1.span ∙ ap (whole_span b.object) same);
+        held = held ∙ ap (finite.remove t.held) same_name;
+        live = live ∙ ap (set_of.remove t.live) (λ k. record { object = same_name k; offset = same_offset k; size = same_size k });
+      },
+    )
 
 -- what the fields stand for then
-pub state_returned : {A : Type 0} (l : Limits A) (heaps : List Heap) (i : ℕ) (h old : Heap) (t now : Table) (remaining : ℕ) (b : Block) → old ≡ get_or heaps i old → h.size ≡ old.size
-    → now.held ≡ finite.remove t.held b.object → now.live ≡ set_of.remove t.live (span_of b) → state_in l (set heaps i h) now (remaining + 1) ≡ returned (state_in l heaps t remaining) b
-state_returned l heaps i h old t now remaining b at same held live =
-    state_kept l heaps i h old now (remaining + 1) at same
-    ∙ (λ k. record (state_in l heaps t remaining) { held = held k; live = live k; remaining = remaining + 1 })
+pub state_returned : {A : Type 0} (l : Limits A) (heaps : List Heap) (buddies : List Buddy) (i : ℕ) (h old : Heap) (t now : Table) (remaining : ℕ) (b : Block) → old ≡ get_or heaps i old → h.size ≡ old.size
+    → now.held ≡ finite.remove t.held b.object → now.live ≡ set_of.remove t.live (span_of b) → state_in l (set heaps i h) buddies now (remaining + 1) ≡ returned (state_in l heaps buddies t remaining) b
+state_returned l heaps buddies i h old t now remaining b at same held live =
+    state_kept l heaps buddies i h old now (remaining + 1) at same
+    ∙ (λ k. record (state_in l heaps buddies t remaining) { held = held k; live = live k; remaining = remaining + 1 })
 
 -- as many are held or may be as before
 pub total_returned : (s : State) (b : Block) (h : HeldObject) → finite.get s.held b.object ≡ Some h → total (returned s b) ≡ total s

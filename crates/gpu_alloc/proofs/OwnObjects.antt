@@ -1,0 +1,106 @@
+-- What an allocator's fields keep, as room is made in its table, and as an object of its own comes or goes.
+use Rattle.std.proofs.Common.{◌≡◌, ◌≢◌, ℕ, ◌+◌, ◌-◌, ◌<◌, cond, List, get_or, map, Option, Some, None, IfSome, refl, sym, ◌∙◌, ap, subst}
+use Rattle.std.proofs.Math.ListN.{set}
+use Rattle.std.specs.Cmp.{nat_cmp_total}
+use Rattle.std.specs.FinMap as finite
+use Rattle.gpu_alloc_types.specs.Properties.{Properties, heap_at}
+use Rattle.gpu_alloc.specs.BuddyState.{Buddy}
+use Rattle.gpu_alloc.specs.Inside.{IsKnown, IsOfObject, IsChunkOf, IsLinked, IsBuddyOf, IsConsistent, offer_of}
+use Rattle.gpu_alloc.specs.Spans.{Place, Table}
+use Rattle.gpu_alloc.specs.State.{HeldObject, Span}
+use Rattle.gpu_alloc.specs.declared.block.Kind.{Kind}
+use Rattle.gpu_alloc.specs.declared.block.Kind.TheVariants.{Dedicated, BuddyChunk}
+use Rattle.gpu_alloc.specs.declared.config.Config.{Config}
+use Rattle.gpu_alloc.specs.declared.heap.Heap.{Heap}
+use Rattle.gpu_alloc.proofs.Consistency.{HoldsMore, HoldsFewer, booked-held, booked-gone}
+use Rattle.gpu_alloc.proofs.HasBuddies.{IsNoChunk, other_inserted, other_removed, beside_more, beside_fewer, buddies_beside}
+use Rattle.gpu_alloc.proofs.Ledgers.{Held, gone, name_test, eq-true}
+
+some_also : {X : Type 0} (P Q : X → Type 0) (o : Option X) → ((x : X) → P x → Q x) → IfSome o P → IfSome o Q
+some_also P Q None also is = is
+some_also P Q (Some x) also is = also x is
+
+-- Room is made, and nothing else changes.
+
+module _ (c : Config) (p : Properties) (t : Table) (room : ℕ) where
+  abbrev wider : Table
+  wider = record t { room = room }
+
+  known_wider : (q : ℕ) (h : HeldObject) → IsKnown t p q h → IsKnown wider p q h
+  known_wider q h k = record { of_type = k.of_type; of_kind = k.of_kind }
+
+  of_object_wider : (span : Span) → IsOfObject t span → IsOfObject wider span
+  of_object_wider span o = record { object = o.object; held = o.held; whole = o.whole }
+
+  chunk_before : (memory_type object : ℕ) (h : HeldObject) → IsChunkOf wider memory_type object h → IsChunkOf t memory_type object h
+  chunk_before memory_type object h chunk = record { held = chunk.held; of_kind = chunk.of_kind; of_type = chunk.of_type }
+
+  linked_wider : (b : Buddy) → IsLinked t b → IsLinked wider b
+  linked_wider b l = record {
+    chunks = l.chunks;
+    objects = λ object h chunk. l.objects object h (chunk_before b.memory_type object h chunk);
+    leaves = l.leaves;
+    spans = λ span h live chunk. l.spans span h live (chunk_before b.memory_type span.object h chunk);
+  }
+
+  buddy_wider : (index : ℕ) (b : Buddy) → IsBuddyOf c p t index b → IsBuddyOf c p wider index b
+  buddy_wider index b is = record { for_type = is.for_type; sound = is.sound; linked = linked_wider b is.linked }
+
+  consistent_wider : (heaps : List Heap) (buddies : List Buddy) (remaining : ℕ) → IsConsistent c p heaps buddies t remaining → IsConsistent c p heaps buddies wider remaining
+  consistent_wider heaps buddies remaining is = record {
+    books = record {
+      usable = is.books.usable;
+      count = is.books.count;
+      known = λ q. some_also (IsKnown t p q) (IsKnown wider p q) (finite.get t.held q) (known_wider q) (is.books.known q);
+      spans = λ span live. of_object_wider span (is.books.spans span live);
+      small = is.books.small;
+      ledgers = is.books.ledgers;
+    };
+    shared = record {
+      count = is.shared.count;
+      each = λ q. some_also (IsBuddyOf c p t q) (IsBuddyOf c p wider q) _ (buddy_wider q) (is.shared.each q);
+    };
+  }
+
+pub consistent-room : (c : Config) (p : Properties) (heaps : List Heap) (buddies : List Buddy) (t now : Table) (remaining : ℕ) → now ≡ record t { room = now.room }
+    → IsConsistent c p heaps buddies t remaining → IsConsistent c p heaps buddies now remaining
+consistent-room c p heaps buddies t now remaining kept is =
+    subst (λ (x : Table). IsConsistent c p heaps buddies x remaining) (sym kept) (consistent_wider c p t now.room heaps buddies remaining is)
+
+-- An object of its own comes or goes.
+
+own_is_no_chunk : (kind : Kind) → kind ≡ Dedicated → kind ≢ BuddyChunk
+own_is_no_chunk kind own chunk = let both = sym own ∙ chunk in absurd (cc)
+
+module _ (c : Config) (p : Properties) (heaps : List Heap) (buddies : List Buddy) (t : Table) (remaining : ℕ) (is : IsConsistent c p heaps buddies t remaining) (offers : p.memory_heaps ≡ map offer_of heaps)
+    (now : Table) (h : HeldObject) (span : Span) (own : h.kind ≡ Dedicated) where
+  own_object : (m : Table) → finite.get m.held span.object ≡ Some h → IsNoChunk m span.object
+  own_object m found = subst (λ (o : Option HeldObject). IfSome o (λ x. x.kind ≢ BuddyChunk)) (sym found) (own_is_no_chunk h.kind own)
+
+  no_object : (m : Table) → finite.get m.held span.object ≡ None → IsNoChunk m span.object
+  no_object m none = subst (λ (o : Option HeldObject). IfSome o (λ x. x.kind ≢ BuddyChunk)) (sym none) tt
+
+  pub consistent-held : HoldsMore p heaps t remaining is.books offers now h span → (place : Place) → now.places ≡ finite.insert t.places span place
+      → (heap changed : Heap) (i : ℕ) → 0 < remaining → i ≡ heap_at p h.memory_type → heap ≡ get_or heaps i heap → changed.used ≡ heap.used + h.counted
+      → IsConsistent c p (set heaps i changed) buddies now (remaining - 1)
+  consistent-held m place places heap changed i some here at more = record {
+    books = booked-held p heaps t remaining is.books offers now h span m heap changed i some here at more;
+    shared = buddies_beside c p t now buddies span.object
+        (beside_more t now span (λ q other. ap (λ (x : Held). finite.get x q) m.held ∙ other_inserted t.held span.object h q other) place m.live places)
+        is.shared (no_object t m.free) (own_object now found);
+  }
+    where
+      found : finite.get now.held span.object ≡ Some h
+      found =
+          ap (λ (x : Held). finite.get x span.object) m.held ∙ finite.get-insert nat_cmp_total t.held span.object h span.object
+          ∙ ap (λ b. cond b (Some h) (finite.get t.held span.object)) (name_test span.object span.object ∙ eq-true span.object span.object refl)
+
+  pub consistent-gone : HoldsFewer p heaps t remaining is.books offers now h span → now.places ≡ finite.remove t.places span
+      → (heap changed : Heap) (i : ℕ) → i ≡ heap_at p h.memory_type → heap ≡ get_or heaps i heap → changed.used ≡ heap.used - h.counted
+      → IsConsistent c p (set heaps i changed) buddies now (remaining + 1)
+  consistent-gone l places heap changed i here at less = record {
+    books = booked-gone p heaps t remaining is.books offers now h span l heap changed i here at less;
+    shared = buddies_beside c p t now buddies span.object
+        (beside_fewer t now span (λ q other. ap (λ (x : Held). finite.get x q) l.held ∙ other_removed t.held span.object q other) l.live places)
+        is.shared (own_object t l.found) (no_object now (ap (λ (x : Held). finite.get x span.object) l.held ∙ gone t.held span.object));
+  }

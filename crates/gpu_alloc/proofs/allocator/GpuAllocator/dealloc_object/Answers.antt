@@ -1,0 +1,87 @@
+use Rattle.std.proofs.Common.{◌≡◌, ◌+◌, ◌∷◌, [], option_map, refl, sym, ap, ◌∙◌, arith, subst}
+use Rattle.std.proofs.Math.ListN.{set}
+use Rattle.std.specs.FinMap as finite
+use Rattle.std.specs.FinSet as set_of
+use Rattle.gpu_alloc_types.specs.Device.Event.{Deallocated}
+use Rattle.gpu_alloc.specs.Agreement.{Agrees}
+use Rattle.gpu_alloc.specs.Inside.{state_in}
+use Rattle.gpu_alloc.specs.Spans.{held_of, span_at}
+use Rattle.gpu_alloc.specs.State.{State, HeldObject, Span, IsOwned, span_of, total}
+use Rattle.gpu_alloc.specs.declared.heap.Heap.{Heap}
+use Rattle.gpu_alloc.proofs.Agreeing.{agrees_returned}
+use Rattle.gpu_alloc.proofs.Consistency.{covers, fits_again}
+use Rattle.gpu_alloc.proofs.HeapLists.{properties_kept}
+use Rattle.gpu_alloc.proofs.LiveSpans.{live_other}
+use Rattle.gpu_alloc.proofs.OwnObjects.{consistent-gone}
+use Rattle.gpu_alloc.proofs.Returns.{IsWholeBlock, returned, goes_with, owned_whole, let_go, state_returned, total_returned}
+use Rattle.gpu_alloc.proofs.allocator.GpuAllocator.dealloc_object.Given.{Over}
+use Rattle.gpu_alloc.proofs.allocator.GpuAllocator.dealloc_object.Goals as goal
+
+pub dealloc-requires : goal.dealloc-requires
+dealloc-requires g c =
+    let found = sym c.remove-removed.ensures.object ∙ ap (option_map held_of) c.unwrap-object.ensures in
+    omega (arith, covers _ _ _ _ c.self.invariant.books refl c.object.result (held_of c.unwrap-object.result) found c.index_mut.result.now _ c.heap_index-heap.ensures c.index_mut.ensures.value)
+
+pub overflow_add-self : goal.overflow_add-self
+overflow_add-self g c =
+    let found = sym c.remove-removed.ensures.object ∙ ap (option_map held_of) c.unwrap-object.ensures in
+    omega (arith, fits_again _ _ _ _ c.self.invariant.books refl c.object.result (held_of c.unwrap-object.result) found)
+
+pub invariant_of-self : goal.invariant_of-self
+invariant_of-self g c =
+    let at = c.index_mut.ensures.value in
+    let owned = rw (← c.self.view_is) at c.requires.owned in
+    let found = sym c.remove-removed.ensures.object ∙ ap (option_map held_of) c.unwrap-object.ensures in
+    let name = c.object.ensures ∙ c.into_memory-memory.ensures in
+    let span : ◌≡◌ {A = Span} (span_at c.object.result c.offset-offset.result c.size-size.result) (span_of c.args.block) =
+    λ k. record { object = name k; offset = c.offset-offset.ensures k; size = c.size-size.ensures k } in
+    let fewer = let_go c.self.inside.limits _ _ _ c.remove-removed.new.self _ c.args.block _ _ _ c.unwrap-object.result c.self.invariant.books owned c.requires.own name
+    c.offset-offset.ensures c.size-size.ensures found c.remove-removed.ensures.held c.remove-removed.ensures.live in
+    rw (properties_kept c.self.inside.limits c.self.inside.heaps.items c.heap_index-heap.result c.dealloc.new.self c.index_mut.result.now at (ap (λ (h : Heap). h.size) c.dealloc.ensures))
+    (consistent-gone _ _ _ _ c.self.inside.spans _ c.self.invariant refl c.remove-removed.new.self (held_of c.unwrap-object.result) (span_of c.args.block) fewer.0 fewer.1
+    (c.remove-removed.ensures.places ∙ ap (finite.remove c.self.inside.spans.places) span) c.index_mut.result.now _ _ c.heap_index-heap.ensures at (ap (λ (h : Heap). h.used) c.dealloc.ensures))
+
+-- What is known at the end: the state before, what the block was, and the state that is left.
+
+abbrev before : (g : Over) → goal.After-drop-memory g → State
+before g c = state_in c.self.inside.limits c.self.inside.heaps.items c.self.inside.buddies.items c.self.inside.spans c.self.inside.allocations_remains
+
+owned : (g : Over) (c : goal.After-drop-memory g) → IsOwned (before g c) c.args.block
+owned g c = rw (← c.self.view_is) at c.requires.owned
+
+whole : (g : Over) (c : goal.After-drop-memory g) → (h : HeldObject) × IsWholeBlock c.self.inside.spans c.args.block h
+whole g c = owned_whole c.self.inside.limits _ c.self.inside.buddies.items _ _ c.args.block c.self.invariant.books (owned g c) c.requires.own
+
+left : (g : Over) (c : goal.After-drop-memory g)
+    → state_in c.self.inside.limits (set c.self.inside.heaps.items c.heap_index-heap.result c.dealloc.new.self) c.self.inside.buddies.items c.remove-removed.new.self (c.self.inside.allocations_remains + 1)
+    ≡ returned (before g c) c.args.block
+left g c =
+    let name = c.object.ensures ∙ c.into_memory-memory.ensures in
+    let span : ◌≡◌ {A = Span} (span_at c.object.result c.offset-offset.result c.size-size.result) (span_of c.args.block) =
+    λ k. record { object = name k; offset = c.offset-offset.ensures k; size = c.size-size.ensures k } in
+    state_returned c.self.inside.limits _ c.self.inside.buddies.items _ _ c.index_mut.result.now c.self.inside.spans c.remove-removed.new.self _ c.args.block c.index_mut.ensures.value (ap (λ (h : Heap). h.size) c.dealloc.ensures)
+    (c.remove-removed.ensures.held ∙ ap (finite.remove c.self.inside.spans.held) name) (c.remove-removed.ensures.live ∙ ap (set_of.remove c.self.inside.spans.live) span)
+
+pub returns-clause-freed : goal.returns-clause-freed
+returns-clause-freed g c =
+    rw (← c.self.view_is) (
+      Deallocated c.args.block.object ∷ [],
+      (c.deallocate_memory.new.self, rw (← c.into_memory-memory.ensures) c.deallocate_memory.ensures, refl),
+      (c.args.block.object ∷ [], goes_with _ _ _ (whole g c).1.kind, (refl, left g c)),
+    )
+
+pub returns-clause-objects : goal.returns-clause-objects
+returns-clause-objects g c =
+    let gone = rw c.into_memory-memory.ensures at (g.met.D.MemoryDevice.row _ _ _ c.deallocate_memory.ensures) in
+    rw (← c.self.view_is) (c.args.block.object ∷ [], goes_with _ _ _ (whole g c).1.kind, gone)
+
+pub returns-clause-agrees : goal.returns-clause-agrees
+returns-clause-agrees g c =
+    let agreed = rw (← c.self.view_is) at c.requires.agrees in
+    let gone = rw c.into_memory-memory.ensures at (g.met.D.MemoryDevice.row _ _ _ c.deallocate_memory.ensures) in
+    let same = g.met.D.MemoryDevice.keeps_properties _ _ _ c.deallocate_memory.ensures in
+    subst (λ s. Agrees s (g.D.MemoryDevice.properties c.deallocate_memory.new.self) (g.D.MemoryDevice.objects c.deallocate_memory.new.self)) (sym (left g c))
+    (agrees_returned _ _ _ _ _ _ c.args.block agreed same gone refl refl (λ span live. (live_other _ _ span live).1))
+
+pub returns-clause-total : goal.returns-clause-total
+returns-clause-total g c = rw (← c.self.view_is) (ap total (left g c) ∙ total_returned (before g c) c.args.block _ (whole g c).1.found)

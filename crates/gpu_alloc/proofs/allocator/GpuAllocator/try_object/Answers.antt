@@ -1,0 +1,124 @@
+use Rattle.std.proofs.Common.{◌≡◌, ◌-◌, ◌<◌, ◌∷◌, [], ◌^◌, None, Ok, Err, refl, sym, ap, ◌∙◌, arith, subst, inl, inr, length, vec_len}
+use Rattle.std.proofs.Math.ListN.{set}
+use Rattle.std.proofs.lemmas.Grind.{common_steps}
+use Rattle.std.specs.FinMap as finite
+use Rattle.std.specs.FinSet as set_of
+use Rattle.gpu_alloc_types.specs.Device.Event.{Allocated}
+use Rattle.gpu_alloc.specs.Agreement.{Agrees}
+use Rattle.gpu_alloc.specs.Allocation.{HasOneMore, whole_block, holding, asked}
+use Rattle.gpu_alloc.specs.Inside.{state_in, properties_in, whole_span}
+use Rattle.gpu_alloc.specs.NewChunk.{flags_of}
+use Rattle.gpu_alloc.specs.Spans.{Table}
+use Rattle.gpu_alloc.specs.State.{State, HeldObject, Block, total}
+use Rattle.gpu_alloc.specs.declared.heap.Heap.{Heap}
+use Rattle.gpu_alloc.proofs.Agreeing.{agrees_granted, not_held}
+use Rattle.gpu_alloc.proofs.Consistency.{HoldsMore, heap_there, ledger-room}
+use Rattle.gpu_alloc.proofs.Grants.{own_object, state_held, decides_granted, granted, total_held}
+use Rattle.gpu_alloc.proofs.HeapLists.{properties_kept}
+use Rattle.gpu_alloc.proofs.OwnObjects.{consistent-room, consistent-held}
+use Rattle.gpu_alloc.proofs.allocator.GpuAllocator.try_object.Given.{Over}
+use Rattle.gpu_alloc.proofs.allocator.GpuAllocator.try_object.Goals as goal
+
+-- Room is made, and nothing else changes.
+
+pub invariant_of-self : goal.invariant_of-self
+invariant_of-self g c = consistent-room _ _ _ _ _ _ _ c.reserve.ensures.kept c.self.invariant
+
+pub invariant_of-self-in-Err-OutOfDeviceMemory : goal.invariant_of-self-in-Err-OutOfDeviceMemory
+invariant_of-self-in-Err-OutOfDeviceMemory g c = consistent-room _ _ _ _ _ _ _ c.reserve.ensures.kept c.self.invariant
+
+pub invariant_of-self-in-Err-OutOfHostMemory : goal.invariant_of-self-in-Err-OutOfHostMemory
+invariant_of-self-in-Err-OutOfHostMemory g c = consistent-room _ _ _ _ _ _ _ c.reserve.ensures.kept c.self.invariant
+
+pub index_mut-requires : goal.index_mut-requires
+index_mut-requires g c =
+    let known = rw (← c.self.view_is) at c.requires.known in
+    let n : vec_len c.self.inside.heaps ≡ length c.self.inside.heaps.items = grind (arith, common_steps) in
+    omega (arith, n, c.heap_index-heap.ensures, heap_there _ _ _ _ c.self.invariant.books refl c.args.memory_type known)
+
+pub alloc-requires : goal.alloc-requires
+alloc-requires g c =
+    let known = rw (← c.self.view_is) at c.requires.known in
+    let small : c.args.request.size < 2 ^ 64 = omega arith in
+    ledger-room _ _ _ _ c.self.invariant.books refl c.args.memory_type _ _ c.index_mut.result.now known c.heap_index-heap.ensures c.index_mut.ensures.value small
+
+-- What is known where the device granted an object: the state before, the new row and block, and what follows from the steps.
+
+abbrev before : (g : Over) → goal.After-new g → State
+before g c = state_in c.self.inside.limits c.self.inside.heaps.items c.self.inside.buddies.items c.self.inside.spans c.self.inside.allocations_remains
+
+abbrev object : (g : Over) → goal.After-new g → HeldObject
+object g c = own_object c.args.request.size c.args.memory_type
+
+abbrev block : (g : Over) → goal.After-new g → Block
+block g c = whole_block (before g c) c.object.result c.args.request.size c.args.memory_type
+
+free : (g : Over) (c : goal.After-new g) → finite.get (before g c).held c.object.result ≡ None
+free g c =
+    let made = g.met.D.MemoryDevice.row _ _ _ c.in-Ok.ensures in
+    let none : g.D.MemoryDevice.objects c.args.device.now c.object.result ≡ None = rw c.object.ensures made.0 in
+    ap (λ (s : State). finite.get s.held c.object.result) c.self.view_is ∙ not_held c.args.self.now _ _ _ c.requires.agrees none
+
+more : (g : Over) (c : goal.After-new g) → HoldsMore _ _ _ _ c.self.invariant.books refl c.insert-key.new.self (object g c) (whole_span c.object.result (object g c))
+more g c =
+    let known = rw (← c.self.view_is) at c.requires.known in
+    let small : c.args.request.size < 2 ^ 64 = omega arith in
+    record {
+      with = record { small = small; known = known; kind = inl (refl, refl) };
+      free = free g c;
+      held = c.insert-key.ensures.held ∙ ap (λ (t : Table). finite.insert t.held c.object.result (object g c)) c.reserve.ensures.kept;
+      live = c.insert-key.ensures.live ∙ ap (λ (t : Table). set_of.insert t.live (whole_span c.object.result (object g c))) c.reserve.ensures.kept;
+    }
+
+state_is : (g : Over) (c : goal.After-new g)
+    → state_in c.self.inside.limits (set c.self.inside.heaps.items c.heap_index-heap.result c.alloc.new.self) c.self.inside.buddies.items c.insert-key.new.self (c.self.inside.allocations_remains - 1)
+    ≡ holding (before g c) (own_object c.args.request.size c.args.memory_type) (block g c)
+state_is g c =
+    state_held c.self.inside.limits _ c.self.inside.buddies.items _ _ c.index_mut.result.now c.self.inside.spans c.insert-key.new.self _ _ _ _ c.index_mut.ensures.value (ap (λ (h : Heap). h.size) c.alloc.ensures)
+    (more g c).held (more g c).live
+
+block_is : (g : Over) (c : goal.After-new g) → c.new.result ≡ block g c
+block_is g c = c.new.ensures ∙ (λ k. record (block g c) { object = sym c.object.ensures k; props = c.props-props.ensures k })
+
+pub invariant_of-self-in-Ok : goal.invariant_of-self-in-Ok
+invariant_of-self-in-Ok g c =
+    rw (properties_kept c.self.inside.limits c.self.inside.heaps.items c.heap_index-heap.result c.alloc.new.self c.index_mut.result.now c.index_mut.ensures.value (ap (λ (h : Heap). h.size) c.alloc.ensures))
+    (consistent-held _ _ _ _ c.self.inside.spans _ c.self.invariant refl c.insert-key.new.self (object g c) (whole_span c.object.result (object g c)) refl (more g c) _
+    (c.insert-key.ensures.places ∙ ap (λ (t : Table). finite.insert t.places (whole_span c.object.result (object g c)) (record { chunk = 0; index = 0 })) c.reserve.ensures.kept) c.index_mut.result.now _ _ (omega arith)
+    c.heap_index-heap.ensures c.index_mut.ensures.value (ap (λ (h : Heap). h.used) c.alloc.ensures))
+
+pub returns-in-Ok-clause-tries : goal.returns-in-Ok-clause-tries
+returns-in-Ok-clause-tries g c =
+    rw (← c.self.view_is) (
+      asked (before g c) c.args.request.size c.args.memory_type (Ok c.object.result) ∷ [],
+      (c.allocate_memory-answer.new.self, rw (← c.flags-flags.ensures, c.object.ensures) c.in-Ok.ensures, refl),
+      decides_granted (before g c) _ c.args.request c.args.memory_type c.object.result _ (block_is g c) (omega arith) (state_is g c),
+    )
+
+pub returns-in-Ok-clause-agrees : goal.returns-in-Ok-clause-agrees
+returns-in-Ok-clause-agrees g c =
+    let agreed = rw (← c.self.view_is) at c.requires.agrees in
+    let same = g.met.D.MemoryDevice.keeps_properties _ _ _ c.in-Ok.ensures in
+    let after : HasOneMore (block g c) (g.D.MemoryDevice.objects c.args.device.now) (g.D.MemoryDevice.objects c.allocate_memory-answer.new.self) =
+    subst (λ n. HasOneMore (whole_block (before g c) n c.args.request.size c.args.memory_type) (g.D.MemoryDevice.objects c.args.device.now) (g.D.MemoryDevice.objects c.allocate_memory-answer.new.self))
+    (sym c.object.ensures) (g.met.D.MemoryDevice.row _ _ _ c.in-Ok.ensures) in
+    subst (λ s. Agrees s (g.D.MemoryDevice.properties c.allocate_memory-answer.new.self) (g.D.MemoryDevice.objects c.allocate_memory-answer.new.self)) (sym (state_is g c))
+    (agrees_granted (before g c) _ _ _ _ (block g c) agreed same after)
+
+pub returns-in-Ok-clause-granted : goal.returns-in-Ok-clause-granted
+returns-in-Ok-clause-granted g c =
+    rw (← c.self.view_is, block_is g c, state_is g c)
+    (granted (before g c) c.args.request c.args.memory_type c.object.result (free g c) (λ span live. let w = c.self.invariant.books.spans span live in (w.object, w.held)))
+
+pub returns-in-Ok-clause-total : goal.returns-in-Ok-clause-total
+returns-in-Ok-clause-total g c =
+    rw (← c.self.view_is) (ap total (state_is g c) ∙ total_held (before g c) _ (block g c) (omega arith) (free g c))
+
+pub returns-in-Err-OutOfHostMemory-clause-tries : goal.returns-in-Err-OutOfHostMemory-clause-tries
+returns-in-Err-OutOfHostMemory-clause-tries g c =
+    let same = ap (λ t. state_in c.self.inside.limits c.self.inside.heaps.items c.self.inside.buddies.items t c.self.inside.allocations_remains) c.reserve.ensures.kept in
+    rw (← c.self.view_is) (
+      Allocated c.args.request.size c.args.memory_type (flags_of (properties_in c.self.inside.limits c.self.inside.heaps.items)) (Err c.in-Err-OutOfHostMemory.field-0) ∷ [],
+      (c.allocate_memory-answer.new.self, rw (← c.flags-flags.ensures) (rw c.in-Err-OutOfHostMemory.is at c.allocate_memory-answer.ensures), refl),
+      (omega arith, inr (rw (rw c.in-Err-OutOfHostMemory.is at c.in-Err-OutOfHostMemory.field-0-is) refl), same),
+    )
