@@ -265,7 +265,8 @@ impl<A: Allocator + Copy> Bench<A> {
             blocks,
         } = self;
         assert_eq!(rt; (objects, used), (0, 0));
-        assert_eq!(rt; (allocator.held_objects(), blocks.len()), (0, 0));
+        assert_eq!(rt; allocator.held_objects(), 0);
+        assert!(rt; blocks.is_empty());
         blocks.destroy_empty();
         allocator.close();
     }

@@ -199,7 +199,8 @@ impl Chunks {
         ensures new { IsLiveLeaf self.old result → ⊥ }
         ensures others { (leaf : Leaf) → IsLiveLeaf self.old leaf → IsLiveLeaf self.new leaf }
     {
-        assert!(rt; size > 0 && self.heap.used() <= 1 << 127);
+        assert!(rt; size > 0);
+        assert!(rt; self.heap.used() <= 1 << 127);
         match self.allocator.alloc(
             &mut self.device,
             size,
