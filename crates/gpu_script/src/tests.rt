@@ -2,11 +2,14 @@
 //! and configurations as text. The tests of the crates below stand here too, since a crate with tests is proved twice.
 
 mod allocator;
+mod bench;
+mod blocks;
 mod buddy;
 mod config;
 mod ends;
 mod errors;
 mod flags;
 mod memory;
+mod refusals;
 mod scripts;
 mod usage;

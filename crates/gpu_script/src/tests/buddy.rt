@@ -1,16 +1,20 @@
 //! The buddy allocator by itself, over the simulated device.
 
-ghost use Rattle.std.specs.Prelude.{◌≤◌};
+ghost use Rattle.std.specs.Prelude.{◌≤◌, ◌≢◌, ⊥};
+ghost use Rattle.gpu_alloc.specs.BuddyState.{IsLiveLeaf};
 ghost use Rattle.gpu_alloc.specs.Request.{IsAlignMask};
+ghost use Rattle.gpu_alloc.specs.declared.buddy.block.Leaf.{Leaf};
 ghost use Rattle.gpu_script.specs.Question.{CanRefuse};
 
 use crate::sim::{Cause, Question, Sim, SimMemory};
-use gpu_alloc::buddy::BuddyAllocator;
+use gpu_alloc::buddy::{BuddyAllocator, BuddyBlock};
 use gpu_alloc::heap::Heap;
 use gpu_alloc::{
     AllocationError, AllocationFlags, DeviceProperties, MemoryHeap, MemoryPropertyFlags, MemoryType,
 };
+use gpu_alloc_types::MemoryObject;
 use std::alloc::Global;
+use std::marker::Model;
 use std::process::Abort;
 use std::test::Fail;
 
@@ -137,4 +141,122 @@ fn a_chunk_that_cannot_be_mapped_is_given_back(rt: HostRuntime) -> Result<(), Fa
             asked: 1,
         },
     )
+}
+
+/// A buddy allocator with its device, its ledger and its count of objects. Contracts see the allocator.
+struct Chunks {
+    allocator: BuddyAllocator<SimMemory>,
+    device: Sim,
+    heap: Heap,
+    remaining: u32,
+}
+
+impl Model for Chunks {
+    ghost use Rattle.std.specs.Prelude.{◌≡◌, ◌×◌};
+    ghost use Rattle.gpu_alloc.specs.Buddy.{Agrees, IsCounted, account, chunks_and_remaining};
+    ghost use Rattle.gpu_alloc.specs.BuddyState.{Buddy};
+    ghost use Rattle.gpu_alloc.specs.Codes.{buddy_code};
+    ghost use Rattle.gpu_script.specs.Sim.{objects_of};
+
+    ghost Value = { Buddy };
+
+    ghost coded = { buddy_code };
+
+    ghost view = { λ c. c.allocator };
+
+    ghost invariant = { λ c. Agrees c.allocator (c.device).properties (objects_of c.device) × (IsCounted (account c.allocator c.heap c.remaining) × (chunks_and_remaining (account c.allocator c.heap c.remaining) ≡ 4096)) };
+}
+
+impl Chunks {
+    /// One that holds nothing, over one device-local type.
+    fn new(alloc: Global) -> Result<Chunks, Fail> {
+        let types = [MemoryType {
+            heap: 0,
+            props: MemoryPropertyFlags::DEVICE_LOCAL,
+        }];
+        let offered = DeviceProperties {
+            memory_types: &types,
+            memory_heaps: &HEAPS,
+            max_memory_allocation_count: 4096,
+            max_memory_allocation_size: 1 << 30,
+            non_coherent_atom_size: 1,
+            buffer_device_address: false,
+        };
+        let device = Sim::new(alloc, offered)?;
+        let props = MemoryPropertyFlags::DEVICE_LOCAL;
+        let allocator = BuddyAllocator::new(alloc, 1, 8192, 0, props, 0)?;
+        Ok(Chunks {
+            allocator,
+            device,
+            heap: Heap::new(1 << 20),
+            remaining: 4096,
+        })
+    }
+
+    /// A block of at least so many bytes.
+    fn take(&mut self, rt: &impl Abort, size: u64) -> BuddyBlock<SimMemory>
+        ensures live { IsLiveLeaf self.new result }
+        ensures new { IsLiveLeaf self.old result → ⊥ }
+        ensures others { (leaf : Leaf) → IsLiveLeaf self.old leaf → IsLiveLeaf self.new leaf }
+    {
+        assert!(rt; size > 0);
+        assert!(rt; self.heap.used() <= 1 << 127);
+        match self.allocator.alloc(
+            &mut self.device,
+            size,
+            0,
+            AllocationFlags::empty(),
+            &mut self.heap,
+            &mut self.remaining,
+        ) {
+            Ok(block) => block,
+            Err(error) => panic!(rt; "{error}"),
+        }
+    }
+
+    fn give_back(&mut self, block: BuddyBlock<SimMemory>)
+        requires live { IsLiveLeaf self.old block }
+        ensures others { (leaf : Leaf) → IsLiveLeaf self.old leaf → leaf ≢ block → IsLiveLeaf self.new leaf }
+    {
+        self.allocator.dealloc(&mut self.device, block, &mut self.heap, &mut self.remaining);
+    }
+
+    /// Compares how many objects the device holds, and how much the ledger counts.
+    fn compare(&self, rt: &impl Abort, objects: usize, used: u128) {
+        assert_eq!(rt; self.device.asked(Question::Allocate), 1);
+        assert_eq!(rt; (self.device.objects(), self.heap.used()), (objects, used));
+    }
+
+    /// Ends the allocator, which holds nothing.
+    fn end(self, rt: &impl Abort) {
+        let Chunks {
+            allocator,
+            device: _,
+            heap: _,
+            remaining,
+        } = self;
+        assert_eq!(rt; remaining, 4096);
+        allocator.close();
+    }
+}
+
+/// Where a block lies: the name of its object, its offset and its size.
+fn place_of(block: &BuddyBlock<SimMemory>) -> (u64, u64, u64) {
+    (block.memory().object(), block.offset(), block.size())
+}
+
+#[test]
+fn two_blocks_share_a_chunk(rt: HostRuntime) -> Result<(), Fail> {
+    let mut chunks = Chunks::new(rt.alloc())?;
+    let first = chunks.take(&rt, 100);
+    let second = chunks.take(&rt, 200);
+    assert_eq!(rt; place_of(&first), (1, 0, 128));
+    assert_eq!(rt; place_of(&second), (1, 256, 256));
+    chunks.compare(&rt, 1, 8192);
+    chunks.give_back(second);
+    chunks.compare(&rt, 1, 8192);
+    chunks.give_back(first);
+    chunks.compare(&rt, 0, 0);
+    chunks.end(&rt);
+    Ok(())
 }

@@ -17,10 +17,14 @@ use std::process::Abort;
 use std::test::Fail;
 
 /// All that a plugged heap gives out.
-type Plug<'a> = Vec<u8, &'a LocalHeap>;
+pub(super) type Plug<'a> = Vec<u8, &'a LocalHeap>;
 
 /// Takes all of the heap but one hole of this size.
-fn plug<'a>(alloc: Global, heap: &'a LocalHeap, hole: usize) -> Result<Vec<Plug<'a>>, AllocError> {
+pub(super) fn plug<'a>(
+    alloc: Global,
+    heap: &'a LocalHeap,
+    hole: usize,
+) -> Result<Vec<Plug<'a>>, AllocError> {
     let gap: Plug<'a> = Vec::with_capacity(heap, hole)?;
     let mut plugs = Vec::new(alloc);
     for size in [1 << 16, 1 << 12, 1 << 8, 64, 32, 16, 1] {

@@ -1,0 +1,273 @@
+//! Refused requests: which refusal it is, what the device is asked, and that nothing is left behind.
+
+use super::bench::{
+    Bench, DEVICE_LOCAL, HEAPS, Place, TYPES, bytes, compare_grants, compare_refusal, offering,
+    one_type, place_in,
+};
+use super::memory::plug;
+use crate::sim::{Cause, Question};
+use gpu_alloc::{
+    AllocationError, AllocationFlags, Dedicated, DeviceProperties, MemoryHeap, MemoryPropertyFlags,
+    MemoryType, Request, UsageFlags,
+};
+use linked_list_allocator::LocalHeap;
+use std::alloc::{AllocError, Global};
+use std::process::Abort;
+use std::test::Fail;
+
+/// Compares a refusal to which the device isn't asked.
+fn compare_unasked(
+    rt: &impl Abort,
+    alloc: Global,
+    offered: DeviceProperties<'_>,
+    request: Request,
+    hint: Option<Dedicated>,
+    error: AllocationError,
+) -> Result<(), Fail> {
+    let mut bench = Bench::new(rt, alloc, offered)?;
+    compare_refusal(rt, &mut bench, request, hint, error, 0);
+    bench.end(rt);
+    Ok(())
+}
+
+/// A request that is too large comes before the count of objects, and that before the memory types.
+#[test]
+fn refusals_come_in_their_order(rt: HostRuntime) -> Result<(), Fail> {
+    let required = Some(Dedicated::Required);
+    for (size, hint, count, error) in [
+        (1, None, 4096, AllocationError::NoCompatibleMemoryTypes),
+        (1, None, 0, AllocationError::NoCompatibleMemoryTypes),
+        (1, required, 0, AllocationError::TooManyObjects),
+        (
+            (1 << 30) + 1,
+            required,
+            0,
+            AllocationError::OutOfDeviceMemory,
+        ),
+    ] {
+        let offered = DeviceProperties {
+            max_memory_allocation_count: count,
+            ..one_type()
+        };
+        let request = Request {
+            memory_types: 0,
+            ..bytes(size)
+        };
+        compare_unasked(&rt, rt.alloc(), offered, request, hint, error)?;
+    }
+    Ok(())
+}
+
+#[test]
+fn an_alignment_of_2_to_the_63_fits_no_chunk(rt: HostRuntime) -> Result<(), Fail> {
+    let request = Request {
+        align_mask: (1 << 63) - 1,
+        ..bytes(1)
+    };
+    let error = AllocationError::OutOfDeviceMemory;
+    compare_unasked(&rt, rt.alloc(), one_type(), request, None, error)
+}
+
+#[test]
+fn a_heap_that_is_too_small_is_not_asked(rt: HostRuntime) -> Result<(), Fail> {
+    for (heap, size) in [(31, 32), (0, 1)] {
+        let heaps = [MemoryHeap { size: heap }];
+        let offered = offering(&TYPES, &heaps);
+        let error = AllocationError::OutOfDeviceMemory;
+        compare_unasked(&rt, rt.alloc(), offered, bytes(size), None, error)?;
+    }
+    Ok(())
+}
+
+#[test]
+fn a_device_without_memory_types_serves_nothing(rt: HostRuntime) -> Result<(), Fail> {
+    let error = AllocationError::NoCompatibleMemoryTypes;
+    compare_unasked(
+        &rt,
+        rt.alloc(),
+        offering(&[], &HEAPS),
+        bytes(1),
+        None,
+        error,
+    )
+}
+
+/// What a device offers that has two memory types in one heap, and allows one object.
+fn one_object<'a>(types: &'a [MemoryType]) -> DeviceProperties<'a> {
+    DeviceProperties {
+        max_memory_allocation_count: 1,
+        ..offering(types, &HEAPS)
+    }
+}
+
+#[test]
+fn objects_are_used_up(rt: HostRuntime) -> Result<(), Fail> {
+    let mut bench = Bench::new(&rt, rt.alloc(), one_object(&TYPES))?;
+    let first = bench.ask(&rt, bytes(10), Some(Dedicated::Required));
+    assert_eq!(rt; first, Ok(place_in(1, 0, 10)));
+    assert_eq!(rt; bench.counts().remaining, 0);
+    let error = AllocationError::TooManyObjects;
+    compare_refusal(&rt, &mut bench, bytes(32768), None, error, 0);
+    bench.end(&rt);
+    Ok(())
+}
+
+/// A memory type for which no more objects may be held is not passed, though a later one has a free piece.
+#[test]
+fn a_lack_of_objects_is_not_passed(rt: HostRuntime) -> Result<(), Fail> {
+    let types = [DEVICE_LOCAL, DEVICE_LOCAL];
+    let mut bench = Bench::new(&rt, rt.alloc(), one_object(&types))?;
+    let second = Request {
+        memory_types: 2,
+        ..bytes(100)
+    };
+    let either = Request {
+        memory_types: 3,
+        ..bytes(100)
+    };
+    let granted = Place {
+        memory_type: 1,
+        ..place_in(1, 0, 128)
+    };
+    assert_eq!(rt; bench.ask(&rt, second, None), Ok(granted));
+    assert_eq!(rt;
+        bench.last_allocation(),
+        Some((8192, 1, AllocationFlags::empty()))
+    );
+    let error = AllocationError::TooManyObjects;
+    compare_refusal(&rt, &mut bench, either, None, error, 0);
+    bench.end(&rt);
+    Ok(())
+}
+
+/// Compares the refusal of a first chunk whose mapping the device refuses. The chunk goes back.
+fn compare_unmapped(
+    rt: &impl Abort,
+    alloc: Global,
+    cause: Cause,
+    error: AllocationError,
+) -> Result<(), Fail> {
+    let types = [MemoryType {
+        heap: 0,
+        props: MemoryPropertyFlags::HOST_VISIBLE | MemoryPropertyFlags::HOST_COHERENT,
+    }];
+    let request = Request {
+        usage: UsageFlags::HOST_ACCESS,
+        ..bytes(100)
+    };
+    let offered = offering(&types, &HEAPS);
+    let mut bench = Bench::that_refuses(rt, alloc, offered, Question::Map, cause)?;
+    compare_refusal(rt, &mut bench, request, None, error, 1);
+    let counts = bench.counts();
+    assert_eq!(rt;
+        (counts.objects, counts.remaining, counts.used),
+        (0, 4096, 0)
+    );
+    bench.end(rt);
+    Ok(())
+}
+
+#[test]
+fn a_chunk_that_cannot_be_mapped_goes_back(rt: HostRuntime) -> Result<(), Fail> {
+    for (cause, error) in [
+        (Cause::Failed, AllocationError::OutOfHostMemory),
+        (Cause::Host, AllocationError::OutOfHostMemory),
+        (Cause::Device, AllocationError::OutOfDeviceMemory),
+    ] {
+        compare_unmapped(&rt, rt.alloc(), cause, error)?;
+    }
+    Ok(())
+}
+
+/// How far a request came with one hole of memory left.
+#[derive(Clone, Copy, Debug, PartialEq, Eq)]
+enum Reached {
+    /// The device was not asked.
+    Nothing,
+
+    /// The device was asked, and found no memory.
+    Question,
+
+    /// The device made an object, which went back for want of a second handle.
+    Object,
+
+    /// There was memory enough.
+    Block,
+}
+
+/// Asks for 100 bytes with one hole of memory left.
+fn ask_in_hole<'a>(
+    rt: &impl Abort,
+    alloc: Global,
+    heap: &'a LocalHeap,
+    bench: &mut Bench<&'a LocalHeap>,
+    hole: usize,
+) -> Result<Result<Place, AllocationError>, AllocError> {
+    let plugs = plug(alloc, heap, hole)?;
+    let answer = bench.ask(rt, bytes(100), None);
+    drop(plugs);
+    Ok(answer)
+}
+
+/// How far such a request came that was refused. Nothing is held, and the same request is granted with ample memory: its
+/// object's name tells whether there was one before.
+fn how_far(rt: &impl Abort, bench: &mut Bench<&LocalHeap>, hole: usize) -> Reached {
+    let counts = bench.counts();
+    assert_eq!(rt;
+        (counts.objects, counts.remaining, counts.used),
+        (0, 4096, 0),
+        "with {hole}"
+    );
+    let later = bench.ask(rt, bytes(100), None);
+    assert_eq!(rt;
+        bench.last_allocation(),
+        Some((8192, 0, AllocationFlags::empty())),
+        "with {hole}"
+    );
+    match later {
+        Ok(place) if place.object == 2 => Reached::Object,
+        Ok(_) if counts.asked == 1 => Reached::Question,
+        Ok(_) => Reached::Nothing,
+        Err(error) => panic!(rt; "with {hole}: {error}"),
+    }
+}
+
+/// How far a first request for 100 bytes comes with one hole of memory left.
+fn reached_in_hole(rt: &impl Abort, alloc: Global, hole: usize) -> Result<Reached, Fail> {
+    let heap = LocalHeap::new(alloc, 1 << 16)?;
+    let mut bench = Bench::new(rt, &heap, one_type())?;
+    let asked = ask_in_hole(rt, alloc, &heap, &mut bench, hole);
+    let answer = match asked {
+        Ok(Ok(_)) => Ok(Reached::Block),
+        Ok(Err(error)) => {
+            assert_eq!(rt; error, AllocationError::OutOfHostMemory, "with {hole}");
+            Ok(how_far(rt, &mut bench, hole))
+        }
+        Err(_) => Err(Fail::from("no memory for the plugs")),
+    };
+    bench.end(rt);
+    answer
+}
+
+/// Each request for host memory is refused in turn, as the hole grows until the block is granted.
+#[test]
+fn a_want_of_host_memory_leaves_nothing(rt: HostRuntime) -> Result<(), Fail> {
+    let mut nothing = 0u32;
+    let mut question = 0u32;
+    let mut object = 0u32;
+    for hole in 0..4096 {
+        match reached_in_hole(&rt, rt.alloc(), hole << 3)? {
+            Reached::Nothing => nothing = nothing.saturating_add(1),
+            Reached::Question => question = question.saturating_add(1),
+            Reached::Object => object = object.saturating_add(1),
+            Reached::Block => {
+                assert!(rt;
+                    nothing > 0 && question > 0 && object > 0,
+                    "{nothing}, {question} and {object}"
+                );
+                return Ok(());
+            }
+        }
+    }
+    Err(Fail::from("never granted"))
+}
