@@ -20,6 +20,7 @@ pub mod Lists
 pub mod LiveSpans
 pub mod Masks
 pub mod NewChunks
+pub mod Opened
 pub mod OtherHalves
 pub mod PieceHalves
 pub mod PieceReturns
