@@ -1,5 +1,5 @@
 -- An allocator at first.
-use Rattle.std.proofs.Common.{◌≡◌, ◌≢◌, ℕ, ◌+◌, ◌-◌, ◌*◌, ◌^◌, ◌<◌, ◌≤◌, Bool, true, false, cond, not, ◌&&◌, ◌==◌, List, [], ◌∷◌, length, get_or, map, Option, Some, None, IfSome, IsTrue, refl, sym, ◌∙◌, ap, subst, arith, inl, inr}
+use Rattle.std.proofs.Common.{◌≡◌, ◌≢◌, ℕ, zero, suc, ◌+◌, ◌-◌, ◌*◌, ◌^◌, ◌<◌, ◌≤◌, Bool, true, false, cond, not, ◌&&◌, ◌==◌, List, [], ◌∷◌, ◌++◌, length, get_or, map, Option, Some, None, IfSome, IsTrue, refl, sym, ◌∙◌, ap, subst, arith, inl, inr}
 use Rattle.std.proofs.lemmas.Bool.{cases_eq}
 use Rattle.std.proofs.lemmas.Bool.Decides.{nat_tests}
 use Rattle.std.proofs.lemmas.Nat.{pow_pos}
@@ -13,6 +13,7 @@ use Rattle.gpu_alloc_types.specs.Properties.{Properties, IsUsable, heap_at, heap
 use Rattle.gpu_alloc_types.specs.declared.types.MemoryType.{MemoryType}
 use Rattle.gpu_alloc_types.specs.declared.types.MemoryHeap.{MemoryHeap}
 use Rattle.gpu_alloc.specs.Buddy as buddy
+use Rattle.gpu_alloc.specs.BuddySound.{IsSound}
 use Rattle.gpu_alloc.specs.BuddyState.{Buddy}
 use Rattle.gpu_alloc.specs.Opening.{first_buddy, AreFirstBuddies}
 use Rattle.gpu_alloc.specs.Sizes.{minimal_size, initial_size}
@@ -61,3 +62,13 @@ first_buddy_is c p t atom own heap found in_heap is =
     let props : property_bits own.props ≡ props_at p t = sym (ap bits_of found) in
     let whole : atom ≡ atom_of p t = is ∙ ap (atom_for p) props in
     λ k. buddy.opened (minimal_size c (size k)) (initial_size c (size k)) t (props k) (whole k)
+
+-- what holds of each element by its index, with one more
+each_more : {X : Type 0} (P : ℕ → X → Type 0) (xs : List X) (x : X) → ((i : ℕ) → IfSome (slice_get xs i) (P i)) → P (length xs) x → (i : ℕ) → IfSome (slice_get (xs ++ x ∷ []) i) (P i)
+each_more P [] x each is zero = is
+each_more P [] x each is (suc i) = tt
+each_more P (y ∷ xs) x each is zero = each zero
+each_more P (y ∷ xs) x each is (suc i) = each_more (λ j. P (suc j)) xs x (λ j. each (suc j)) is i
+
+pub one_first_more : (c : Config) (p : Properties) (buddies : List Buddy) (t : ℕ) (b : Buddy) → AreFirstBuddies c p buddies → length buddies ≡ t → b ≡ first_buddy c p t → IsSound b → AreFirstBuddies c p (buddies ++ b ∷ [])
+one_first_more c p buddies t b are count is sound = each_more (λ i x. (x ≡ first_buddy c p i) × IsSound x) buddies b are (is ∙ ap (first_buddy c p) (sym count), sound)
