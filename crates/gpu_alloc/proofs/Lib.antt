@@ -6,6 +6,7 @@ pub mod BuddyGrants
 pub mod BuddyLeaves
 pub mod BuddyReturns
 pub mod Candidates
+pub mod Closing
 pub mod Consistency
 pub mod ExactPieces
 pub mod Grants
