@@ -6,6 +6,7 @@ pub mod BuddyGrants
 pub mod BuddyLeaves
 pub mod BuddyReturns
 pub mod Candidates
+pub mod Closing
 pub mod Consistency
 pub mod ExactPieces
 pub mod Grants
@@ -21,6 +22,7 @@ pub mod Lists
 pub mod LiveSpans
 pub mod Masks
 pub mod NewChunks
+pub mod Opened
 pub mod OtherHalves
 pub mod OwnObjects
 pub mod PieceHalves

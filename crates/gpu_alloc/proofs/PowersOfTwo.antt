@@ -110,3 +110,11 @@ greater_power m n p q = elim (nat_le m n) as (λ b. nat_le m n ≡ b → (i : �
   | true ↦ λ e. (q.0, let le : m ≤ n = grind (arith, nat_tests) in omega (arith, le, q.1))
   | false ↦ λ e. (p.0, let lt : n < m = grind (arith, nat_tests) in omega (arith, lt, p.1))
 ] refl
+
+-- the order of a next power of two, where that is at most 2^63
+pub order_of_next : (n r : ℕ) → n ≤ 2 ^ 63 → next_power_of_two n ≡ 2 ^ r → (r ≤ 63) × (2 ^ r ≤ 2 ^ 63)
+order_of_next n r bound is =
+    let next = is_next_power_of_two n (omega (arith, bound)) in
+    let least : 2 ^ r ≤ 2 ^ 63 = omega (arith, next.least 63 bound, is) in
+    let lt : r < 64 = exponent r 64 (omega (arith, least)) in
+    (omega (arith, lt), least)

@@ -3,12 +3,12 @@ use Rattle.gpu_alloc_types.specs.Properties.{Properties, properties_of}
 use Rattle.gpu_alloc_types.specs.declared.types.MemoryType.{MemoryType}
 use Rattle.gpu_alloc.specs.declared.heap.Heap.{Heap}
 use Rattle.gpu_alloc.specs.Heap.{unused}
-use Rattle.gpu_alloc.specs.Inside.{offer_of, IsConsistent}
+use Rattle.gpu_alloc.specs.Inside.{offer_of, types_in, IsConsistent}
 use Rattle.gpu_alloc.specs.Opening.{opened}
 use Rattle.gpu_alloc.specs.Ranking.{IsTable}
 use Rattle.gpu_alloc.specs.Sizes.{first_types}
-use Rattle.gpu_alloc.proofs.Consistency.{consistent-opened}
 use Rattle.gpu_alloc.proofs.HeapLists.{unused-offers}
+use Rattle.gpu_alloc.proofs.Opened.{consistent-opened, first_types_kept}
 use Rattle.gpu_alloc.proofs.allocator.GpuAllocator.open.Goals as goal
 
 -- the properties that the fields stand for are those that were given
@@ -24,15 +24,16 @@ pub invariant_of-result-2 : goal.invariant_of-result-2
 invariant_of-result-2 g c =
     let few : c.args.props.max_memory_allocation_count < 2 ^ 32 = omega arith in
     let given = properties_is (properties_of c.args.props) _ _ c.in_ok-memory_types.ensures.items c.in_ok-heaps.ensures in
-    subst (λ p. IsConsistent p c.in_ok-heaps.heaps.items c.new.result c.args.props.max_memory_allocation_count) (sym given)
-    (consistent-opened (properties_of c.args.props) _ _ _ c.requires few c.new.ensures.held c.new.ensures.live c.in_ok-heaps.ensures)
+    subst (λ p. IsConsistent c.args.config p c.in_ok-heaps.heaps.items c.in_ok-buddies.buddies.items c.new.result c.args.props.max_memory_allocation_count) (sym given)
+    (consistent-opened _ c.new.ensures.held c.new.ensures.live c.args.config (properties_of c.args.props) _ _ _ c.requires few c.in_ok-heaps.ensures c.in_ok-buddies.ensures.count c.in_ok-buddies.ensures.each)
 
 pub returns : goal.returns
 returns g c =
     let given = properties_is (properties_of c.args.props) _ _ c.in_ok-memory_types.ensures.items c.in_ok-heaps.ensures in
+    let types = ap (λ p. types_in (first_types c.args.config p) c.in_ok-buddies.buddies.items) given ∙ first_types_kept c.args.config (properties_of c.args.props) _ c.in_ok-buddies.ensures.count c.in_ok-buddies.ensures.each in
     λ k. record (opened c.args.config (properties_of c.args.props)) {
       held = c.new.ensures.held k;
       live = c.new.ensures.live k;
-      types = first_types c.args.config (given k);
+      types = types k;
       properties = given k;
     }
