@@ -167,18 +167,19 @@ module _ {A : Type 0} {l : Limits A} {heaps : List Heap} {buddies : List Buddy} 
     pub served : IsServed after
     served = elim (answers) [
       | inl here ↦ elim (objects) [
-        | inl begins ↦ absurd (let none = begins.0.free_key in let some = here.1.held in cc)
-        | inr front ↦ in_chunk here.1 front.1 here.3 (here.0, front_is before t.places t.room index b serving size leaf here.1, here.2, refl)
+        | inl begins ↦ absurd (let none = begins.0.free_key in let some = here.1.0.held in cc)
+        | inr front ↦ in_chunk here.1.0 front.1 here.1.1.1 (here.0, (front_is before t.places t.room index b serving size leaf here.1.0, (here.1.1.0, refl)))
       ]
       | inr there ↦ elim (objects) [
         | inl begins ↦
             let asked = ap (question b size) given.flags_are ∙ question_is before t.places t.room index b serving size in
-            in_new_chunk there.1 (not_held_yet begins.1.0) there.0.2 there.3 (subst (λ x. HasOneChunkMore x leaf.object old new) asked begins.1) (
+            in_new_chunk there.1.0 (not_held_yet begins.1.0) there.0.1.1 there.1.1.1 (subst (λ x. HasOneChunkMore x leaf.object old new) asked begins.1) (
               asks_is before t.places t.room index b serving size heap there.0,
-              (λ k. record { object = leaf.object; offset = there.1.start k; size = there.1.of_size k }),
-              there.2 ∙ ap (λ x. made x leaf.object) asked,
-              refl,
+              (
+                (λ k. record { object = leaf.object; offset = there.1.0.start k; size = there.1.0.of_size k }),
+                (there.1.1.0 ∙ ap (λ x. made x leaf.object) asked, refl),
+              ),
             )
-        | inr front ↦ absurd (let none = there.1.free_key in let some = front.0.held in cc)
+        | inr front ↦ absurd (let none = there.1.0.free_key in let some = front.0.held in cc)
       ]
     ]

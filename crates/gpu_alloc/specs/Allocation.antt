@@ -114,6 +114,13 @@ DecidesBy InFreeList s r t es answer new = ⊥
 abbrev pub Decides : State → Request → Option Dedicated → ℕ → List Event → Result Block AllocationError → State → Type 0
 Decides s r hint t es answer new = (r.size ≤ heap_size s.properties t) × DecidesBy (strategy s r hint t) s r t es answer new
 
+-- a refusal of a candidate: where there is no device memory it is passed
+abbrev pub passing : {T : Type 0} → AllocationError → Result (Option T) AllocationError
+passing OutOfDeviceMemory = Ok None
+passing OutOfHostMemory = Err OutOfHostMemory
+passing NoCompatibleMemoryTypes = Err NoCompatibleMemoryTypes
+passing TooManyObjects = Err TooManyObjects
+
 -- A candidate was tried that is served so, and whose heap is no smaller than the request.
 abbrev pub TriesBy : Strategy → State → Request → ℕ → List Event → Result (Option Block) AllocationError → State → Type 0
 TriesBy w s r t es (Ok None) new = IsPassedBy w s r t es × (new ≡ s)

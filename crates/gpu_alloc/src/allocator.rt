@@ -7,7 +7,7 @@ ghost use Rattle.gpu_alloc_types.specs.Properties.{IsUsable, properties_of, heap
 ghost use Rattle.gpu_alloc_types.specs.Flags.{has_bit, usage_bits};
 ghost use Rattle.gpu_alloc_types.specs.Device.{Event, Chain};
 ghost use Rattle.gpu_alloc.specs.Agreement.{Agrees};
-ghost use Rattle.gpu_alloc.specs.Allocation.{NeedsNoFreeList, strategy, Tries, TriesBy, TriesAll, Allocates, ObjectsAfter, ObjectsTried, IsGranted, GrantsTried};
+ghost use Rattle.gpu_alloc.specs.Allocation.{NeedsNoFreeList, passing, strategy, Tries, TriesBy, TriesAll, Allocates, ObjectsAfter, ObjectsTried, IsGranted, GrantsTried};
 ghost use Rattle.gpu_alloc.specs.Allocation.Strategy.{OwnObject, InBuddyChunk};
 ghost use Rattle.gpu_alloc.specs.BuddySound.{IsSound};
 ghost use Rattle.gpu_alloc.specs.Inside.{span_of_leaf, place_of_leaf, leaf_at, with_chunk_of};
@@ -368,10 +368,8 @@ impl<M: MemoryObject, A: Allocator> GpuAllocator<M, A> {
             &self.heaps[heap],
             self.allocations_remains,
         );
-        match first {
-            None => {}
-            Some(AllocationError::OutOfDeviceMemory) => return Ok(None),
-            Some(refusal) => return Err(refusal),
+        if let Some(refusal) = first {
+            return passing(refusal);
         }
         if self.spans.reserve().is_err() {
             return Err(AllocationError::OutOfHostMemory);
@@ -401,8 +399,7 @@ impl<M: MemoryObject, A: Allocator> GpuAllocator<M, A> {
                     key,
                 )))
             }
-            Err(AllocationError::OutOfDeviceMemory) => Ok(None),
-            Err(refusal) => Err(refusal),
+            Err(refusal) => passing(refusal),
         }
     }
 
@@ -543,6 +540,16 @@ impl<M: MemoryObject, A: Allocator> GpuAllocator<M, A> {
             buddy.close();
         }
         buddies.destroy_empty();
+    }
+}
+
+/// A refusal of a memory type, as the request has it: where there is no device memory the type is passed.
+fn passing<T>(refusal: AllocationError) -> Result<Option<T>, AllocationError>
+    ensures { result ≡ passing refusal }
+{
+    match refusal {
+        AllocationError::OutOfDeviceMemory => Ok(None),
+        refusal => Err(refusal),
     }
 }
 

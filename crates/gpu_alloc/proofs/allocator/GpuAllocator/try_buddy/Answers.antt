@@ -1,49 +1,55 @@
-use Rattle.std.proofs.Common.{◌≡◌, ◌≢◌, ◌≤◌, ◌^◌, [], Some, None, IfSome, refl, sym, ap, ◌∙◌, arith, subst, inl, inr, length, vec_len, get_or}
+use Rattle.std.proofs.Common.{◌≡◌, ◌≤◌, ◌<◌, ◌^◌, [], Some, None, Ok, Err, IfSome, refl, sym, ap, ◌∙◌, arith, subst, inl, inr, length, vec_len, get_or}
 use Rattle.std.proofs.lemmas.Grind.{common_steps}
 use Rattle.std.proofs.lemmas.List.{get_or-set_same}
 use Rattle.std.proofs.Math.ListN.{set}
 use Rattle.std.specs.FinMap as finite
 use Rattle.std.specs.FinSet as set_of
 use Rattle.gpu_alloc_types.specs.Flags.{allocation_bits}
-use Rattle.gpu_alloc.specs.Allocation.{ObjectsWith, IsGranted}
+use Rattle.gpu_alloc_types.specs.Properties.{Properties}
+use Rattle.gpu_alloc.specs.Allocation.{TriesBy, ObjectsWith, ObjectsTried, GrantsTried, IsGranted}
+use Rattle.gpu_alloc.specs.Allocation.Strategy.{InBuddyChunk}
 use Rattle.gpu_alloc.specs.Agreement.{Agrees}
-use Rattle.gpu_alloc.specs.Buddy.{wanted, rounded}
+use Rattle.gpu_alloc.specs.Buddy.{account, wanted, rounded}
 use Rattle.gpu_alloc.specs.BuddyState.{Buddy}
 use Rattle.gpu_alloc.specs.Inside.{state_in, with_chunk_of, span_of_leaf, place_of_leaf}
-use Rattle.gpu_alloc.specs.Sharing.{buddy_block, buddy_size, IsPassedByBuddy, DecidesInBuddyChunk}
+use Rattle.gpu_alloc.specs.Sharing.{buddy_block}
 use Rattle.gpu_alloc.specs.Spans.{Table}
-use Rattle.gpu_alloc.specs.State.{State, Block, total}
+use Rattle.gpu_alloc.specs.State.{State, HeldObject, Block, total}
 use Rattle.gpu_alloc.specs.declared.block.Kind.TheVariants.{BuddyChunk}
-use Rattle.gpu_alloc.specs.declared.buddy.block.Leaf.{Leaf}
 use Rattle.gpu_alloc.proofs.Consistency.{heap_there}
+use Rattle.gpu_alloc.proofs.OwnObjects.{consistent-room}
 use Rattle.gpu_alloc.proofs.ServedBlocks.{buddy_agrees}
-use Rattle.gpu_alloc.proofs.Serving.{Serves, first_passed, first_refused, first_open, answered_passed, answered_refused, rounded_is}
+use Rattle.gpu_alloc.proofs.Serving.{Serves, first_open}
 use Rattle.gpu_alloc.proofs.SharedAnswers.{Given, span_is_free, objects_served, served}
 use Rattle.gpu_alloc.proofs.SharedGrants.{serves, counted_before, bounded_before, consistent_refused, state_refused}
+use Rattle.gpu_alloc.proofs.SharedRefusals.{first_tries, refused_tries, nothing_made, nothing_granted}
 use Rattle.gpu_alloc.proofs.allocator.GpuAllocator.try_buddy.Given.{Over}
 use Rattle.gpu_alloc.proofs.allocator.GpuAllocator.try_buddy.Goals as goal
 
 -- Before anything is asked.
 
-pub returns-in-Some-OutOfDeviceMemory-clause-tries : goal.returns-in-Some-OutOfDeviceMemory-clause-tries
-returns-in-Some-OutOfDeviceMemory-clause-tries g c =
+pub returns-in-Some : goal.returns-in-Some
+returns-in-Some g c =
     let known = rw (← c.self.view_is) at c.requires.known in
     let serving = serves c.self.inside.limits _ _ _ _ c.args.memory_type c.index.result.now c.self.invariant known c.index.ensures in
-    let first = rw (c.in-Some-OutOfDeviceMemory.is, c.in-Some-OutOfDeviceMemory.field-0-is) at (c.refuses-first.ensures 0) in
-    rw (← c.self.view_is) ([], refl, (first_passed _ _ _ c.args.memory_type _ serving _ c.args.request 0 first, refl))
-
-pub returns-in-Some : goal.returns-in-Some
-returns-in-Some g c = ?
+    let first = rw c.in-Some.is at (c.refuses-first.ensures 0) in
+    rw (c.passing.ensures, ← c.self.view_is) (record {
+      tries = ([], refl, first_tries _ _ _ c.args.memory_type _ serving c.index-2.result.now c.args.request 0 c.in-Some.refusal first);
+      objects = nothing_made _ c.in-Some.refusal _ _ refl;
+      agrees = rw (← c.self.view_is) at c.requires.agrees;
+      granted = nothing_granted _ c.args.request c.in-Some.refusal _ refl;
+      total = refl;
+    })
 
 pub invariant_of-self : goal.invariant_of-self
-invariant_of-self g c = ?
+invariant_of-self g c = consistent-room _ _ _ _ _ _ _ c.reserve.ensures.kept c.self.invariant
 
 pub returns-then-is_err-clause-tries : goal.returns-then-is_err-clause-tries
 returns-then-is_err-clause-tries g c =
     let known = rw (← c.self.view_is) at c.requires.known in
     let serving = serves c.self.inside.limits _ _ _ _ c.args.memory_type c.index.result.now c.self.invariant known c.index.ensures in
-    let first = rw c.in-None.is at (c.refuses-first.ensures 0) in
-    let refused = first_open _ _ _ c.args.memory_type _ serving _ c.args.request 0 first in
+    let first = c.in_default.ensures 0 in
+    let refused = first_open _ _ _ c.args.memory_type _ serving c.index-2.result.now c.args.request 0 first in
     let same = ap (λ t. state_in c.self.inside.limits c.self.inside.heaps.items c.self.inside.buddies.items t c.self.inside.allocations_remains) c.reserve.ensures.kept in
     rw (← c.self.view_is) ([], refl, (same, refused.1))
 
@@ -72,17 +78,95 @@ alloc-answer-requires-clause-bound g c =
     let known = rw (← c.self.view_is) at c.requires.known in
     bounded_before c.self.inside.limits _ _ _ _ c.args.memory_type _ c.self.invariant known c.index_mut.ensures.value _ c.index_mut-2.result.now c.heap_index-heap.ensures c.index_mut-2.ensures.value
 
+-- A grant.
+
 pub add_leaf-key-requires-clause-free : goal.add_leaf-key-requires-clause-free
-add_leaf-key-requires-clause-free g c = ?
+add_leaf-key-requires-clause-free g c =
+    let told = c.in-Ok.ensures.allocates in
+    let given : Given c.self.inside.limits c.self.inside.heaps.items c.self.inside.buddies.items c.self.inside.spans c.self.inside.allocations_remains c.args.memory_type c.heap_index-heap.result
+    c.index_mut.result.now c.index_mut-2.result.now c.args.request (allocation_bits c.flags-flags.result) c.in-Ok.block (g.D.MemoryDevice.properties c.args.device.now) (g.D.MemoryDevice.objects c.args.device.now) =
+    record {
+      is = c.self.invariant;
+      known = rw (← c.self.view_is) at c.requires.known;
+      at = c.index_mut.ensures.value;
+      here = c.heap_index-heap.ensures;
+      at_heap = c.index_mut-2.ensures.value;
+      flags_are = c.flags-flags.ensures;
+      agrees = rw (← c.self.view_is) at c.requires.agrees;
+    } in
+    ap (λ (t : Table). set_of.contains t.live (span_of_leaf c.into_parts-memory.result.1)) c.reserve.ensures.kept
+    ∙ ap (λ leaf. set_of.contains c.self.inside.spans.live (span_of_leaf leaf)) c.into_parts-memory.ensures.leaf
+    ∙ span_is_free given _ _ told.0 _ told.2 c.in-Ok.ensures.objects c.in-Ok.ensures.granted
+
+given : (g : Over) (c : goal.After-new g)
+    → Given c.self.inside.limits c.self.inside.heaps.items c.self.inside.buddies.items c.self.inside.spans c.self.inside.allocations_remains c.args.memory_type c.heap_index-heap.result
+    c.index_mut.result.now c.index_mut-2.result.now c.args.request (allocation_bits c.flags-flags.result) c.in-Ok.block (g.D.MemoryDevice.properties c.args.device.now) (g.D.MemoryDevice.objects c.args.device.now)
+given g c = record {
+  is = c.self.invariant;
+  known = rw (← c.self.view_is) at c.requires.known;
+  at = c.index_mut.ensures.value;
+  here = c.heap_index-heap.ensures;
+  at_heap = c.index_mut-2.ensures.value;
+  flags_are = c.flags-flags.ensures;
+  agrees = rw (← c.self.view_is) at c.requires.agrees;
+}
+
+-- The table with the block's span, as `served` asks for it.
+
+size_is : (g : Over) (c : goal.After-new g) → IfSome (finite.get c.alloc-answer.new.self.chunks c.in-Ok.block.chunk) (λ chunk. chunk.size ≡ c.chunk_size-chunk_size.result)
+size_is g c =
+    let known = rw (← c.self.view_is) at c.requires.known in
+    let inside : c.args.memory_type < length c.self.inside.buddies.items = omega (arith, known, c.self.invariant.shared.count) in
+    let own : c.index-in-Ok.result.now ≡ c.alloc-answer.new.self = c.index-in-Ok.ensures ∙ get_or-set_same c.self.inside.buddies.items c.args.memory_type c.alloc-answer.new.self c.index-in-Ok.result.now inside in
+    subst (λ b. IfSome (finite.get b.chunks c.in-Ok.block.chunk) (λ chunk. chunk.size ≡ c.chunk_size-chunk_size.result)) own
+    (subst (λ leaf. IfSome (finite.get c.index-in-Ok.result.now.chunks leaf.chunk) (λ chunk. chunk.size ≡ c.chunk_size-chunk_size.result)) c.into_parts-memory.ensures.leaf c.chunk_size-chunk_size.ensures)
+
+row : (g : Over) → goal.After-new g → HeldObject
+row g c = record { memory_type = c.args.memory_type; counted = c.chunk_size-chunk_size.result; kind = BuddyChunk }
+
+held_is : (g : Over) (c : goal.After-new g) → c.add_leaf-key.new.spans.held ≡ with_chunk_of c.self.inside.spans.held c.in-Ok.block (row g c)
+held_is g c =
+    c.add_leaf-key.ensures.held ∙ ap (λ (t : Table). with_chunk_of t.held c.into_parts-memory.result.1 (row g c)) c.reserve.ensures.kept
+    ∙ ap (λ leaf. with_chunk_of c.self.inside.spans.held leaf (row g c)) c.into_parts-memory.ensures.leaf
+
+live_is : (g : Over) (c : goal.After-new g) → c.add_leaf-key.new.spans.live ≡ set_of.insert c.self.inside.spans.live (span_of_leaf c.in-Ok.block)
+live_is g c =
+    c.add_leaf-key.ensures.live ∙ ap (λ (t : Table). set_of.insert t.live (span_of_leaf c.into_parts-memory.result.1)) c.reserve.ensures.kept
+    ∙ ap (λ leaf. set_of.insert c.self.inside.spans.live (span_of_leaf leaf)) c.into_parts-memory.ensures.leaf
+
+places_are : (g : Over) (c : goal.After-new g) → c.add_leaf-key.new.spans.places ≡ finite.insert c.self.inside.spans.places (span_of_leaf c.in-Ok.block) (place_of_leaf c.in-Ok.block)
+places_are g c =
+    c.add_leaf-key.ensures.places ∙ ap (λ (t : Table). finite.insert t.places (span_of_leaf c.into_parts-memory.result.1) (place_of_leaf c.into_parts-memory.result.1)) c.reserve.ensures.kept
+    ∙ ap (λ leaf. finite.insert c.self.inside.spans.places (span_of_leaf leaf) (place_of_leaf leaf)) c.into_parts-memory.ensures.leaf
+
+before : (g : Over) → goal.After-new g → State
+before g c = state_in c.self.inside.limits c.self.inside.heaps.items c.self.inside.buddies.items c.self.inside.spans c.self.inside.allocations_remains
+
+block : (g : Over) → goal.After-new g → Block
+block g c = buddy_block (before g c) c.args.memory_type (span_of_leaf c.in-Ok.block)
+
+block_is : (g : Over) (c : goal.After-new g) → c.new.result ≡ block g c
+block_is g c =
+    let leaf = c.into_parts-memory.ensures.leaf in
+    let object = c.into_parts-memory.ensures.handle in
+    c.new.ensures ∙ (λ k. record (block g c) { object = object k; offset = (leaf k).offset; size = (leaf k).size; props = c.props-props.ensures k })
+
+serves_now : (g : Over) (c : goal.After-new g) → Serves (before g c) c.self.inside.spans.places c.self.inside.spans.room c.args.memory_type c.index_mut.result.now
+serves_now g c = serves c.self.inside.limits _ _ _ _ c.args.memory_type c.index_mut.result.now c.self.invariant (given g c).known c.index_mut.ensures.value
+
+result_of : (g : Over) (c : goal.After-new g) → ?
+result_of g c = served (given g c) _ _ c.in-Ok.ensures.allocates.0 _ c.in-Ok.ensures.allocates.2 c.in-Ok.ensures.objects c.in-Ok.ensures.granted
+    c.add_leaf-key.new.spans c.chunk_size-chunk_size.result c.in-Ok.ensures.sound (size_is g c) (held_is g c) (live_is g c) (places_are g c)
 
 pub invariant_of-self-in-Ok : goal.invariant_of-self-in-Ok
 invariant_of-self-in-Ok g c = ?
 
-pub invariant_of-self-in-Err-OutOfDeviceMemory : goal.invariant_of-self-in-Err-OutOfDeviceMemory
-invariant_of-self-in-Err-OutOfDeviceMemory g c = ?
-
 pub invariant_of-self-in-Err : goal.invariant_of-self-in-Err
-invariant_of-self-in-Err g c = ?
+invariant_of-self-in-Err g c =
+    let known = rw (← c.self.view_is) at c.requires.known in
+    let same = c.in-Err.ensures.refused in
+    consistent_refused c.self.inside.limits _ _ _ _ c.args.memory_type c.index_mut.result.now c.self.invariant known c.index_mut.ensures.value c.heap_index-heap.result c.index_mut-2.result.now c.heap_index-heap.ensures
+    c.index_mut-2.ensures.value _ _ _ same.0 same.1.0 same.1.1 c.reserve.new.self (consistent-room _ _ _ _ _ _ _ c.reserve.ensures.kept c.self.invariant)
 
 pub returns-in-Ok-clause-tries : goal.returns-in-Ok-clause-tries
 returns-in-Ok-clause-tries g c = ?
@@ -98,9 +182,6 @@ returns-in-Ok-clause-granted g c = ?
 
 pub returns-in-Ok-clause-total : goal.returns-in-Ok-clause-total
 returns-in-Ok-clause-total g c = ?
-
-pub returns-in-Err-OutOfDeviceMemory-clause-tries : goal.returns-in-Err-OutOfDeviceMemory-clause-tries
-returns-in-Err-OutOfDeviceMemory-clause-tries g c = ?
 
 pub returns-in-Err : goal.returns-in-Err
 returns-in-Err g c = ?
