@@ -3,7 +3,7 @@ use Rattle.std.proofs.Common.{◌≡◌, ℕ, zero, suc, List, [], ◌∷◌, �
 use Rattle.std.specs.FinMap as finite
 use Rattle.std.specs.List.{slice_get}
 use Rattle.std.specs.Ordering.{nat_cmp}
-use Rattle.gpu_alloc.specs.BuddyState.{Chunk, Buddy}
+use Rattle.gpu_alloc.specs.BuddyState.{Buddy}
 use Rattle.gpu_alloc.specs.Inside.{HasBuddies, IsBuddyOf, IsLinked}
 use Rattle.gpu_alloc.specs.Spans.{Table}
 use Rattle.gpu_alloc.specs.declared.config.Config.{Config}
@@ -23,7 +23,7 @@ module _ {X : Type 0} where
 
 -- Buddy allocators.
 
--- nothing is held, so none has a chunk
+-- without a chunk, one and all
 abbrev pub HasNoChunk : Buddy → Type 0
 HasNoChunk b = finite.len b.chunks ≡ 0
 

@@ -1,4 +1,4 @@
-use Rattle.std.proofs.Common.{◌≡◌, ◌≤◌, ◌+◌, ◌∷◌, [], ◌++◌, length, length-append, ap, sym, ◌∙◌, subst, arith, vec_capacity}
+use Rattle.std.proofs.Common.{◌+◌, length, length-append, ap, sym, ◌∙◌, subst, arith}
 use Rattle.gpu_alloc_types.specs.Properties.{properties_of}
 use Rattle.gpu_alloc.specs.Opening.{AreFirstBuddies}
 use Rattle.gpu_alloc.proofs.Opened.{one_first_more}

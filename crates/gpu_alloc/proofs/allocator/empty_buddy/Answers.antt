@@ -1,9 +1,7 @@
-use Rattle.std.proofs.Common.{◌≡◌, ◌+◌, ◌-◌, ◌∙◌, sym, ap, subst, refl, cond, not, ◌&&◌, IsTrue}
+use Rattle.std.proofs.Common.{◌≡◌, ◌∙◌, sym, subst, cond, not, ◌&&◌, IsTrue}
 use Rattle.std.proofs.lemmas.Option.{slice_get-get_or}
 use Rattle.std.specs.Int.{is_power_of_two}
-use Rattle.gpu_alloc_types.specs.Flags.{property_bits}
-use Rattle.gpu_alloc_types.specs.Properties.{properties_of, atom_for}
-use Rattle.gpu_alloc.specs.Buddy as buddy
+use Rattle.gpu_alloc_types.specs.Properties.{properties_of}
 use Rattle.gpu_alloc.proofs.Opened.{atom_by_tests, atom_power, one_more, first_buddy_is}
 use Rattle.gpu_alloc.proofs.allocator.empty_buddy.Goals.{then-by_host+then-not-coherent, else-by_host, else-by_host-via-then-by_host+else-not-coherent, else-by_host-via-else-by_host}
 use Rattle.gpu_alloc.proofs.allocator.empty_buddy.Goals as goal
