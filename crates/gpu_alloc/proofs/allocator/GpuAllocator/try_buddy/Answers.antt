@@ -1,4 +1,4 @@
-use Rattle.std.proofs.Common.{◌≡◌, ◌≤◌, ◌<◌, ◌^◌, [], Some, None, Ok, Err, IfSome, refl, sym, ap, ◌∙◌, arith, subst, inl, inr, length, vec_len, get_or}
+use Rattle.std.proofs.Common.{◌≡◌, ◌⊎◌, ◌≤◌, ◌<◌, ◌^◌, [], Some, None, Ok, Err, IfSome, refl, sym, ap, ◌∙◌, arith, subst, inl, inr, length, vec_len, get_or}
 use Rattle.std.proofs.lemmas.Grind.{common_steps}
 use Rattle.std.proofs.lemmas.List.{get_or-set_same}
 use Rattle.std.proofs.Math.ListN.{set}
@@ -12,14 +12,14 @@ use Rattle.gpu_alloc.specs.Agreement.{Agrees}
 use Rattle.gpu_alloc.specs.Buddy.{account, wanted, rounded}
 use Rattle.gpu_alloc.specs.BuddyState.{Buddy}
 use Rattle.gpu_alloc.specs.Inside.{state_in, with_chunk_of, span_of_leaf, place_of_leaf}
-use Rattle.gpu_alloc.specs.Sharing.{buddy_block}
+use Rattle.gpu_alloc.specs.Sharing.{buddy_block, GivesInChunk, GivesInNewChunk}
 use Rattle.gpu_alloc.specs.Spans.{Table}
 use Rattle.gpu_alloc.specs.State.{State, HeldObject, Block, total}
 use Rattle.gpu_alloc.specs.declared.block.Kind.TheVariants.{BuddyChunk}
 use Rattle.gpu_alloc.proofs.Consistency.{heap_there}
 use Rattle.gpu_alloc.proofs.OwnObjects.{consistent-room}
 use Rattle.gpu_alloc.proofs.ServedBlocks.{buddy_agrees}
-use Rattle.gpu_alloc.proofs.Serving.{Serves, first_open}
+use Rattle.gpu_alloc.proofs.Serving.{Serves, first_open, rounded_is}
 use Rattle.gpu_alloc.proofs.SharedAnswers.{Given, span_is_free, objects_served, served}
 use Rattle.gpu_alloc.proofs.SharedGrants.{serves, counted_before, bounded_before, consistent_refused, state_refused}
 use Rattle.gpu_alloc.proofs.SharedRefusals.{first_tries, refused_tries, nothing_made, nothing_granted}
@@ -121,7 +121,7 @@ size_is g c =
     subst (λ b. IfSome (finite.get b.chunks c.in-Ok.block.chunk) (λ chunk. chunk.size ≡ c.chunk_size-chunk_size.result)) own
     (subst (λ leaf. IfSome (finite.get c.index-in-Ok.result.now.chunks leaf.chunk) (λ chunk. chunk.size ≡ c.chunk_size-chunk_size.result)) c.into_parts-memory.ensures.leaf c.chunk_size-chunk_size.ensures)
 
-row : (g : Over) → goal.After-new g → HeldObject
+abbrev row : (g : Over) → goal.After-new g → HeldObject
 row g c = record { memory_type = c.args.memory_type; counted = c.chunk_size-chunk_size.result; kind = BuddyChunk }
 
 held_is : (g : Over) (c : goal.After-new g) → c.add_leaf-key.new.spans.held ≡ with_chunk_of c.self.inside.spans.held c.in-Ok.block (row g c)
@@ -139,10 +139,10 @@ places_are g c =
     c.add_leaf-key.ensures.places ∙ ap (λ (t : Table). finite.insert t.places (span_of_leaf c.into_parts-memory.result.1) (place_of_leaf c.into_parts-memory.result.1)) c.reserve.ensures.kept
     ∙ ap (λ leaf. finite.insert c.self.inside.spans.places (span_of_leaf leaf) (place_of_leaf leaf)) c.into_parts-memory.ensures.leaf
 
-before : (g : Over) → goal.After-new g → State
+abbrev before : (g : Over) → goal.After-new g → State
 before g c = state_in c.self.inside.limits c.self.inside.heaps.items c.self.inside.buddies.items c.self.inside.spans c.self.inside.allocations_remains
 
-block : (g : Over) → goal.After-new g → Block
+abbrev block : (g : Over) → goal.After-new g → Block
 block g c = buddy_block (before g c) c.args.memory_type (span_of_leaf c.in-Ok.block)
 
 block_is : (g : Over) (c : goal.After-new g) → c.new.result ≡ block g c
@@ -154,12 +154,50 @@ block_is g c =
 serves_now : (g : Over) (c : goal.After-new g) → Serves (before g c) c.self.inside.spans.places c.self.inside.spans.room c.args.memory_type c.index_mut.result.now
 serves_now g c = serves c.self.inside.limits _ _ _ _ c.args.memory_type c.index_mut.result.now c.self.invariant (given g c).known c.index_mut.ensures.value
 
-result_of : (g : Over) (c : goal.After-new g) → ?
-result_of g c = served (given g c) _ _ c.in-Ok.ensures.allocates.0 _ c.in-Ok.ensures.allocates.2 c.in-Ok.ensures.objects c.in-Ok.ensures.granted
-    c.add_leaf-key.new.spans c.chunk_size-chunk_size.result c.in-Ok.ensures.sound (size_is g c) (held_is g c) (live_is g c) (places_are g c)
+abbrev after : (g : Over) → goal.After-new g → State
+after g c =
+    state_in c.self.inside.limits (set c.self.inside.heaps.items c.heap_index-heap.result c.alloc-answer.new.heap) (set c.self.inside.buddies.items c.args.memory_type c.alloc-answer.new.self)
+    c.add_leaf-key.new.spans c.alloc-answer.new.allocations_remains
 
 pub invariant_of-self-in-Ok : goal.invariant_of-self-in-Ok
-invariant_of-self-in-Ok g c = ?
+invariant_of-self-in-Ok g c =
+    let is = served (given g c) _ _ c.in-Ok.ensures.allocates.0 _ c.in-Ok.ensures.allocates.2 c.in-Ok.ensures.objects c.in-Ok.ensures.granted
+    c.add_leaf-key.new.spans c.chunk_size-chunk_size.result c.in-Ok.ensures.sound (size_is g c) (held_is g c) (live_is g c) (places_are g c) in
+    is.consistent
+
+pub returns-in-Ok-clause-tries : goal.returns-in-Ok-clause-tries
+returns-in-Ok-clause-tries g c =
+    let is = served (given g c) _ _ c.in-Ok.ensures.allocates.0 _ c.in-Ok.ensures.allocates.2 c.in-Ok.ensures.objects c.in-Ok.ensures.granted
+    c.add_leaf-key.new.spans c.chunk_size-chunk_size.result c.in-Ok.ensures.sound (size_is g c) (held_is g c) (live_is g c) (places_are g c) in
+    let told = c.in-Ok.ensures.allocates in
+    let sized = subst (λ n. GivesInChunk (before g c) c.args.memory_type n told.0 (span_of_leaf c.in-Ok.block) (after g c) ⊎ GivesInNewChunk (before g c) c.args.memory_type n told.0 (span_of_leaf c.in-Ok.block) (after g c))
+    (rounded_is _ _ _ c.args.memory_type _ (serves_now g c) c.args.request (allocation_bits c.flags-flags.result)) is.gives in
+    rw (← c.self.view_is, block_is g c) (told.0, told.1, (refl, sized))
+
+pub returns-in-Ok-clause-objects : goal.returns-in-Ok-clause-objects
+returns-in-Ok-clause-objects g c =
+    let told = c.in-Ok.ensures.allocates in
+    rw (← c.self.view_is, block_is g c) (objects_served (given g c) _ _ told.0 _ told.2 c.in-Ok.ensures.objects c.in-Ok.ensures.granted)
+
+pub returns-in-Ok-clause-agrees : goal.returns-in-Ok-clause-agrees
+returns-in-Ok-clause-agrees g c =
+    let is = served (given g c) _ _ c.in-Ok.ensures.allocates.0 _ c.in-Ok.ensures.allocates.2 c.in-Ok.ensures.objects c.in-Ok.ensures.granted
+    c.add_leaf-key.new.spans c.chunk_size-chunk_size.result c.in-Ok.ensures.sound (size_is g c) (held_is g c) (live_is g c) (places_are g c) in
+    rw c.in-Ok.ensures.properties is.agreed
+
+pub returns-in-Ok-clause-granted : goal.returns-in-Ok-clause-granted
+returns-in-Ok-clause-granted g c =
+    let is = served (given g c) _ _ c.in-Ok.ensures.allocates.0 _ c.in-Ok.ensures.allocates.2 c.in-Ok.ensures.objects c.in-Ok.ensures.granted
+    c.add_leaf-key.new.spans c.chunk_size-chunk_size.result c.in-Ok.ensures.sound (size_is g c) (held_is g c) (live_is g c) (places_are g c) in
+    rw (← c.self.view_is, block_is g c) is.told
+
+pub returns-in-Ok-clause-total : goal.returns-in-Ok-clause-total
+returns-in-Ok-clause-total g c =
+    let is = served (given g c) _ _ c.in-Ok.ensures.allocates.0 _ c.in-Ok.ensures.allocates.2 c.in-Ok.ensures.objects c.in-Ok.ensures.granted
+    c.add_leaf-key.new.spans c.chunk_size-chunk_size.result c.in-Ok.ensures.sound (size_is g c) (held_is g c) (live_is g c) (places_are g c) in
+    rw (← c.self.view_is) is.whole
+
+-- A refusal.
 
 pub invariant_of-self-in-Err : goal.invariant_of-self-in-Err
 invariant_of-self-in-Err g c =
@@ -168,20 +206,19 @@ invariant_of-self-in-Err g c =
     consistent_refused c.self.inside.limits _ _ _ _ c.args.memory_type c.index_mut.result.now c.self.invariant known c.index_mut.ensures.value c.heap_index-heap.result c.index_mut-2.result.now c.heap_index-heap.ensures
     c.index_mut-2.ensures.value _ _ _ same.0 same.1.0 same.1.1 c.reserve.new.self (consistent-room _ _ _ _ _ _ _ c.reserve.ensures.kept c.self.invariant)
 
-pub returns-in-Ok-clause-tries : goal.returns-in-Ok-clause-tries
-returns-in-Ok-clause-tries g c = ?
-
-pub returns-in-Ok-clause-objects : goal.returns-in-Ok-clause-objects
-returns-in-Ok-clause-objects g c = ?
-
-pub returns-in-Ok-clause-agrees : goal.returns-in-Ok-clause-agrees
-returns-in-Ok-clause-agrees g c = ?
-
-pub returns-in-Ok-clause-granted : goal.returns-in-Ok-clause-granted
-returns-in-Ok-clause-granted g c = ?
-
-pub returns-in-Ok-clause-total : goal.returns-in-Ok-clause-total
-returns-in-Ok-clause-total g c = ?
-
 pub returns-in-Err : goal.returns-in-Err
-returns-in-Err g c = ?
+returns-in-Err g c =
+    let known = rw (← c.self.view_is) at c.requires.known in
+    let agrees = rw (← c.self.view_is) at c.requires.agrees in
+    let serving = serves c.self.inside.limits _ _ _ _ c.args.memory_type c.index_mut.result.now c.self.invariant known c.index_mut.ensures.value in
+    let same = c.in-Err.ensures.refused in
+    let told = c.in-Err.ensures.allocates in
+    let left = state_refused c.self.inside.limits _ _ _ _ c.args.memory_type c.index_mut.result.now c.self.invariant known c.index_mut.ensures.value c.heap_index-heap.result c.index_mut-2.result.now c.heap_index-heap.ensures
+    c.index_mut-2.ensures.value _ _ _ same.0 same.1.0 same.1.1 c.reserve.new.self (ap (λ (t : Table). t.held) c.reserve.ensures.kept) (ap (λ (t : Table). t.live) c.reserve.ensures.kept) in
+    rw (c.passing-in-Err.ensures, ← c.self.view_is, left) (record {
+      tries = (told.0, told.1, refused_tries _ _ _ c.args.memory_type _ serving c.index_mut-2.result.now c.args.request _ told.0 _ c.flags-flags.ensures c.in-Err.refusal told.2);
+      objects = nothing_made _ c.in-Err.refusal _ _ c.in-Err.ensures.objects;
+      agrees = rw (c.in-Err.ensures.properties, c.in-Err.ensures.objects) agrees;
+      granted = nothing_granted _ c.args.request c.in-Err.refusal _ refl;
+      total = ap total left;
+    })
