@@ -37,6 +37,7 @@ pub mod ServedBlocks
 pub mod Serving
 pub mod SharedAnswers
 pub mod SharedGrants
+pub mod SharedReturns
 pub mod SlabViews
 pub mod Tables
 pub mod Trials
