@@ -15,9 +15,9 @@ pub mod HeapLists
 pub mod HeldObjects
 pub mod KeptPieces
 pub mod Ledgers
+pub mod Links
 pub mod ListSets
 pub mod ListViews
-pub mod Links
 pub mod Lists
 pub mod LiveSpans
 pub mod Masks
@@ -38,6 +38,7 @@ pub mod Serving
 pub mod SharedAnswers
 pub mod SharedGrants
 pub mod SharedRefusals
+pub mod SharedReturns
 pub mod SlabViews
 pub mod Tables
 pub mod Trials

@@ -31,7 +31,7 @@ use Rattle.gpu_alloc.proofs.Ledgers.{eq-true, sum_by-small, sum_by-within, len-w
 use Rattle.gpu_alloc.proofs.LiveSpans.{live_before, live_kept, live_other}
 use Rattle.gpu_alloc.proofs.Serving.{table_of, Serves, question_is}
 
-one_of : {X : Type 0} (o : Option X) (c d : X) → o ≡ Some c → o ≡ Some d → c ≡ d
+pub one_of : {X : Type 0} (o : Option X) (c d : X) → o ≡ Some c → o ≡ Some d → c ≡ d
 one_of o c d is also = cc
 
 module _ (s : State) (places : map.FinMap span_cmp Place) (room index : ℕ) (b : Buddy) (serves : Serves s places room index b) where

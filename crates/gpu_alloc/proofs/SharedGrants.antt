@@ -31,7 +31,7 @@ use Rattle.gpu_alloc.proofs.Serving.{Serves, question_is}
 use Rattle.gpu_alloc.proofs.TypeStates.{next_at, types_set, types_kept}
 
 -- a list with its own element put in its place
-same_set : {X : Type 0} (xs : List X) (i : ℕ) (x old : X) → old ≡ get_or xs i old → x ≡ old → set xs i x ≡ xs
+pub same_set : {X : Type 0} (xs : List X) (i : ℕ) (x old : X) → old ≡ get_or xs i old → x ≡ old → set xs i x ≡ xs
 same_set xs i x old at same = ap (set xs i) (same ∙ at) ∙ set-get_or xs i old
 
 module _ {A : Type 0} (l : Limits A) (heaps : List Heap) (buddies : List Buddy) (t : Table) (remaining index : ℕ) (b : Buddy)
@@ -55,7 +55,7 @@ module _ {A : Type 0} (l : Limits A) (heaps : List Heap) (buddies : List Buddy) 
   buddy_of = subst (λ (o : Option Buddy). IfSome o (IsBuddyOf l.config p t index)) there (is.shared.each index)
 
   -- what it was given stays
-  same_for : (after : Buddy) → after.memory_type ≡ b.memory_type → after.props ≡ b.props → after.atom ≡ b.atom → after.minimal ≡ b.minimal → IsForType l.config p index after
+  pub same_for : (after : Buddy) → after.memory_type ≡ b.memory_type → after.props ≡ b.props → after.atom ≡ b.atom → after.minimal ≡ b.minimal → IsForType l.config p index after
   same_for after memory_type props atom minimal =
       let given = buddy_of.for_type in
       record { memory_type = memory_type ∙ given.memory_type; props = props ∙ given.props; atom = atom ∙ given.atom; minimal = minimal ∙ given.minimal }
