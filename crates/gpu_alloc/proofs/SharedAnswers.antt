@@ -1,5 +1,5 @@
 -- What a block that a memory type's buddy allocator gives comes to for the whole allocator.
-use Rattle.std.proofs.Common.{◌≡◌, ◌⊎◌, inl, inr, ℕ, ◌+◌, ◌-◌, ◌*◌, ◌^◌, ◌<◌, ◌≤◌, true, false, Bool, cond, List, length, get_or, Option, Some, None, Ok, is_some, IfSome, IsTrue, refl, sym, ◌∙◌, ap, subst, arith}
+use Rattle.std.proofs.Common.{◌≡◌, ◌⊎◌, inl, inr, ℕ, ◌+◌, ◌-◌, ◌^◌, ◌<◌, true, false, cond, List, length, get_or, Option, Some, None, Ok, is_some, IfSome, IsTrue, refl, sym, ◌∙◌, ap, subst, arith}
 use Rattle.std.proofs.Math.ListN.{set}
 use Rattle.gpu_alloc.proofs.AlignedPowers.{pow-le}
 use Rattle.std.proofs.lemmas.Nat.{pow_pos}
@@ -15,12 +15,11 @@ use Rattle.gpu_alloc.specs.Buddy.{Account, account, wanted, Answers, question, B
 use Rattle.gpu_alloc.specs.Buddy as buddy
 use Rattle.gpu_alloc.specs.BuddySound.{IsSound}
 use Rattle.gpu_alloc.specs.BuddyState.{Chunk, Buddy}
-use Rattle.gpu_alloc.specs.FreeSpace.{IsPowerOfTwo}
 use Rattle.gpu_alloc.specs.Inside.{state_in, properties_in, with_chunk_of, span_of_leaf, place_of_leaf, IsConsistent}
 use Rattle.gpu_alloc.specs.NewChunk.{flags_of, made, HasOneChunkMore}
 use Rattle.gpu_alloc.specs.Sharing.{buddy_question, buddy_block, with_span, with_buddy_chunk, GivesInChunk, GivesInNewChunk}
 use Rattle.gpu_alloc.specs.Spans.{Table}
-use Rattle.gpu_alloc.specs.State.{HeldObject, Span, State, IsLive, IsOwned, AreApart, total}
+use Rattle.gpu_alloc.specs.State.{HeldObject, Span, State, IsLive, AreApart, total}
 use Rattle.gpu_alloc.specs.declared.block.Kind.TheVariants.{BuddyChunk}
 use Rattle.gpu_alloc.specs.declared.buddy.block.Leaf.{Leaf}
 use Rattle.gpu_alloc.specs.declared.heap.Heap.{Heap}

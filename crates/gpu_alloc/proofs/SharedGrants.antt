@@ -1,22 +1,20 @@
 -- A memory type's buddy allocator among the allocator's fields, and what a block of one of its chunks leaves there.
-use Rattle.std.proofs.Common.{◌≡◌, ◌≢◌, ◌⊎◌, inl, inr, ℕ, ◌+◌, ◌-◌, ◌*◌, ◌^◌, ◌<◌, ◌≤◌, true, false, Bool, cond, List, length, get_or, Option, Some, None, is_some, IfSome, IsTrue, refl, sym, ◌∙◌, ap, subst, arith, max}
+use Rattle.std.proofs.Common.{◌≡◌, inr, ℕ, ◌+◌, ◌-◌, ◌^◌, ◌<◌, ◌≤◌, cond, List, length, get_or, Option, Some, None, IfSome, refl, sym, ◌∙◌, ap, subst, arith}
 use Rattle.std.proofs.Math.ListN.{set}
 use Rattle.std.proofs.lemmas.List.{length-map, set-get_or}
 use Rattle.std.proofs.lemmas.Option.{slice_get_read}
 use Rattle.std.specs.Cmp.{nat_cmp_total}
 use Rattle.std.specs.FinMap as finite
-use Rattle.std.specs.FinSet as set_of
 use Rattle.std.specs.List.{slice_get}
 use Rattle.gpu_alloc_types.specs.Properties.{Properties, heap_at}
-use Rattle.gpu_alloc.specs.Buddy.{account, with_leaf, with_chunk, chunk_size, question, IsCounted}
+use Rattle.gpu_alloc.specs.Buddy.{account, with_leaf, with_chunk, chunk_size, IsCounted}
 use Rattle.gpu_alloc.specs.BuddySound.{IsSound}
 use Rattle.gpu_alloc.specs.BuddyState.{Chunk, Buddy}
-use Rattle.gpu_alloc.specs.Inside.{state_in, properties_in, types_in, offer_of, with_chunk_of, chunk_object, span_of_leaf, place_of_leaf, IsConsistent, IsBooked, IsForType, IsBuddyOf}
-use Rattle.gpu_alloc.specs.NewChunk.{flags_of}
+use Rattle.gpu_alloc.specs.Inside.{state_in, properties_in, chunk_object, span_of_leaf, place_of_leaf, IsConsistent, IsForType, IsBuddyOf}
 use Rattle.gpu_alloc.specs.Sharing.{buddy_question, with_span, with_buddy_chunk}
 use Rattle.gpu_alloc.specs.Sizes.{first_types, first_type_state}
 use Rattle.gpu_alloc.specs.Spans.{Table}
-use Rattle.gpu_alloc.specs.State.{HeldObject, Span, State}
+use Rattle.gpu_alloc.specs.State.{HeldObject, State}
 use Rattle.gpu_alloc.specs.declared.block.Kind.TheVariants.{BuddyChunk}
 use Rattle.gpu_alloc.specs.declared.buddy.block.Leaf.{Leaf}
 use Rattle.gpu_alloc.specs.declared.heap.Heap.{Heap}

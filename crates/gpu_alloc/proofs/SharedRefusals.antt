@@ -1,5 +1,5 @@
 -- What a refusal of a memory type's buddy allocator comes to for the whole allocator.
-use Rattle.std.proofs.Common.{◌≡◌, ◌≢◌, ℕ, List, [], Option, Some, None, Err, refl, ap, ◌∙◌, subst}
+use Rattle.std.proofs.Common.{◌≡◌, ℕ, List, [], Option, Some, Err, refl, subst}
 use Rattle.std.specs.FinMap as finite
 use Rattle.gpu_alloc_types.specs.Device.{Event, Object}
 use Rattle.gpu_alloc.specs.Allocation.{passing, TriesBy, ObjectsTried, GrantsTried}

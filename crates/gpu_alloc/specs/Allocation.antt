@@ -4,7 +4,7 @@ use Rattle.std.specs.Prelude.{◌≡◌, ◌⊎◌, ℕ, ◌+◌, ◌-◌, ◌%�
 use Rattle.std.specs.FinMap as map
 use Rattle.std.specs.FinSet as set
 use Rattle.gpu_alloc_types.specs.Flags.{usage_bits, has_bit}
-use Rattle.gpu_alloc_types.specs.Properties.{Properties, heap_size, props_at, atom_of}
+use Rattle.gpu_alloc_types.specs.Properties.{heap_size, props_at, atom_of}
 use Rattle.gpu_alloc_types.specs.Device.{Object, Event, IsFresh, put}
 use Rattle.gpu_alloc_types.specs.Device.Event.{Allocated}
 use Rattle.gpu_alloc_types.specs.declared.types.OutOfMemory.{OutOfMemory}

@@ -12,7 +12,7 @@ use Rattle.gpu_alloc.specs.Buddy.{Fits}
 use Rattle.gpu_alloc.specs.FreeSpace.{IsPlace, IsFreePiece, IsFreeByte}
 use Rattle.gpu_alloc.specs.NewChunk.{ChunkQuestion, flags_of, made, LacksDeviceMemory, LacksHostMemory, IsGivenBack}
 use Rattle.gpu_alloc.specs.Sizes.{next_power_of_two, minimal_size}
-use Rattle.gpu_alloc.specs.State.{HeldObject, Span, Block, span_of, TypeState, State}
+use Rattle.gpu_alloc.specs.State.{Span, Block, span_of, TypeState, State}
 
 -- the size of a block for a request: the least power of two that is not below the request's size and alignment, the atom
 -- and the least buddy block

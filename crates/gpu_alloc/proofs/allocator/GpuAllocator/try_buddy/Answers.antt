@@ -1,16 +1,10 @@
-use Rattle.std.proofs.Common.{◌≡◌, ◌⊎◌, ◌≤◌, ◌<◌, ◌^◌, [], Some, None, Ok, Err, IfSome, refl, sym, ap, ◌∙◌, arith, subst, inl, inr, length, vec_len, get_or}
+use Rattle.std.proofs.Common.{◌≡◌, ◌⊎◌, ◌<◌, [], IfSome, refl, ap, ◌∙◌, arith, subst, length, vec_len}
 use Rattle.std.proofs.lemmas.Grind.{common_steps}
 use Rattle.std.proofs.lemmas.List.{get_or-set_same}
 use Rattle.std.proofs.Math.ListN.{set}
 use Rattle.std.specs.FinMap as finite
 use Rattle.std.specs.FinSet as set_of
 use Rattle.gpu_alloc_types.specs.Flags.{allocation_bits}
-use Rattle.gpu_alloc_types.specs.Properties.{Properties}
-use Rattle.gpu_alloc.specs.Allocation.{TriesBy, ObjectsWith, ObjectsTried, GrantsTried, IsGranted}
-use Rattle.gpu_alloc.specs.Allocation.Strategy.{InBuddyChunk}
-use Rattle.gpu_alloc.specs.Agreement.{Agrees}
-use Rattle.gpu_alloc.specs.Buddy.{account, wanted, rounded}
-use Rattle.gpu_alloc.specs.BuddyState.{Buddy}
 use Rattle.gpu_alloc.specs.Inside.{state_in, with_chunk_of, span_of_leaf, place_of_leaf}
 use Rattle.gpu_alloc.specs.Sharing.{buddy_block, GivesInChunk, GivesInNewChunk}
 use Rattle.gpu_alloc.specs.Spans.{Table}
