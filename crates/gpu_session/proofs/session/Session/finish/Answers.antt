@@ -31,7 +31,7 @@ loop-block-preserved g c =
     let back = from_frees c.loop-block.allocator c.in-Some.block freed.0 c.dealloc.new.self kind freed.2 in
     let r : Returns c.loop-block.allocator (map.from_entries {R = nat_cmp} c.loop-block.blocks.entries) c.in-Some.field-0-0 c.in-Some.block c.dealloc.new.self
     (g.D.MemoryDevice.properties c.dealloc.new.device) (g.D.MemoryDevice.objects c.loop-block.device) (g.D.MemoryDevice.objects c.dealloc.new.device) =
-    record { named = at; state = back.state; objects = from_objects _ _ _ _ kind c.dealloc.ensures.objects; agrees = c.dealloc.ensures.agrees } in
+    record { named = at; state = back.state; objects = from_objects _ c.in-Some.block _ _ kind c.dealloc.ensures.objects; agrees = c.dealloc.ensures.agrees } in
     let asked : Chain g.D.MemoryDevice.step c.loop-block.device (Deallocated c.in-Some.block.object ∷ []) c.dealloc.new.device = rw back.asked at freed.1 in
     rw (removed_by_name c.loop-block.blocks.entries c.pop.new.self.entries c.in-Some.field-0-0 c.in-Some.ensures.updates.0)
     (record {

@@ -22,7 +22,7 @@ invariant_of-self g c =
     (return_is_kept c.self.invariant (record {
       named = at;
       state = (from_frees c.self.inside.allocator c.in-Some.block freed.0 c.dealloc.new.self kind freed.2).state;
-      objects = from_objects _ _ _ _ kind c.dealloc.ensures.objects;
+      objects = from_objects _ c.in-Some.block _ _ kind c.dealloc.ensures.objects;
       agrees = c.dealloc.ensures.agrees;
     }))
 
