@@ -1,6 +1,6 @@
 //! Laws of the definitions that contracts cite, and those definitions computed on samples. The functions do nothing.
 
-ghost use Rattle.std.specs.Prelude.{◌≡◌, ◌-◌, ◌≤◌, ◌^◌, ◌↔◌, ℕ, List, [], ◌∷◌, Some, None, Contains};
+ghost use Rattle.std.specs.Prelude.{◌≡◌, ◌-◌, ◌≤◌, ◌^◌, ◌↔◌, ℕ, List, [], ◌∷◌, Some, None, Contains, true, false};
 ghost use Rattle.gpu_alloc_types.specs.declared.types.MemoryType.{MemoryType};
 ghost use Rattle.gpu_alloc.specs.Allocation.{strategy};
 ghost use Rattle.gpu_alloc.specs.Allocation.Strategy.{OwnObject, InBuddyChunk, InFreeList};
@@ -12,6 +12,7 @@ ghost use Rattle.gpu_alloc.specs.Pieces.{IsCanonical};
 ghost use Rattle.gpu_alloc.specs.Ranking.{IsRanking, IsRankingWithin, ranking, candidates, implied};
 ghost use Rattle.gpu_alloc.specs.Request.{IsAlignMask};
 ghost use Rattle.gpu_alloc.specs.Samples.{one_type, three_types, over, bytes_for, buddy_config};
+ghost use Rattle.gpu_alloc.specs.Sharing.{buddy_size, buddy_question, with_buddy_chunk};
 ghost use Rattle.gpu_alloc.specs.Sizes.{IsNextPowerOfTwo, next_power_of_two, minimal_size, initial_size, starting_size, final_size, first_types};
 ghost use Rattle.gpu_alloc.specs.State.{State};
 ghost use Rattle.gpu_alloc.specs.declared.block.Kind.{Kind};
@@ -73,6 +74,20 @@ pub fn buddy_sizes_of_samples()
     ensures atom { rounded (empty_buddy 1 128 0 2 64) (wanted 20 0 0) ≡ 64 }
     ensures least { rounded (empty_buddy 1024 1 0 1 1) (wanted 1 0 0) ≡ 1024 }
     ensures least_chunk { chunk_size (empty_buddy 1024 1 0 1 1) 1024 ≡ 2048 }
+{}
+
+/// Blocks of shared chunks and the questions for such chunks as an allocator's state tells them: at first, and after a
+/// larger chunk was made.
+#[tactic(auto, unfolding(crate::specs::Sizes::doubled_up, crate::specs::Sharing::with_next_chunk))]
+pub fn shared_chunks_of_samples()
+    ensures small { buddy_size (over 1048576 1 1) (bytes_for 100 0) 0 ≡ 128 }
+    ensures small_chunk { (buddy_question (over 1048576 1 1) 0 128).size ≡ 8192 }
+    ensures large { buddy_size (over 1048576 1 1) (bytes_for 20000 0) 0 ≡ 32768 }
+    ensures large_chunk { (buddy_question (over 1048576 1 1) 0 32768).size ≡ 65536 }
+    ensures grown { (buddy_question (with_buddy_chunk (over 1048576 1 1) 0 1 65536) 0 128).size ≡ 65536 }
+    ensures atom { buddy_size (over 3200 2 64) (bytes_for 20 0) 0 ≡ 64 }
+    ensures seen { (buddy_question (over 3200 2 64) 0 64).visible ≡ true }
+    ensures unseen { (buddy_question (over 1048576 1 1) 0 128).visible ≡ false }
 {}
 
 /// The next power of two is the least one that is not below.
