@@ -55,7 +55,8 @@ impl<M: MemoryObject, A: Allocator> Model for GpuAllocator<M, A> {
 }
 
 impl<M: MemoryObject, A: Allocator + Copy> GpuAllocator<M, A> {
-    /// An allocator that holds nothing, for a device with these properties. The device is not asked.
+    /// An allocator that holds nothing, for a device with these properties, which have to be that device's own. The device
+    /// is not asked. It may hold `max_memory_allocation_count` objects, and `config` decides which requests share one.
     ///
     /// `alloc` gives the memory of its tables. The properties have to be usable (`DeviceProperties::is_usable`). The only
     /// refusal is `OutOfHostMemory`.
@@ -101,22 +102,28 @@ impl<M: MemoryObject, A: Allocator + Copy> GpuAllocator<M, A> {
 }
 
 impl<M: MemoryObject, A: Allocator> GpuAllocator<M, A> {
-    /// Allocates a block as the request asks: an object of its own where it is large, and else a place in a shared object.
+    /// Allocates a block as the request asks: a memory object of its own where it is large, and else a place in a shared one.
     ///
     /// A request of at least the configuration's `dedicated_threshold`, or of the 32nd part of its heap where that is less,
-    /// gets a memory object of its own: the block starts at offset 0 and has exactly the request's size. Any other request
-    /// gets a block of a buddy allocator, one for each memory type: its size is a power of two that is not below the
-    /// request's size and alignment, its offset a multiple of its size. No block is mapped.
+    /// gets an object of its own: the block starts at offset 0 and has exactly the request's size. Any other request gets a
+    /// block of a buddy allocator, of which each memory type has one: its size is the least power of two, in bytes, that is
+    /// not below the request's size and alignment, the type's atom and the least buddy block. It starts at a multiple of its
+    /// size, in the shortest free place that suffices. Where none does, a chunk is asked for: the greater of twice the
+    /// block and the latest chunk of the type, mapped whole where the host sees the type. A chunk may be larger than
+    /// `max_memory_allocation_size`; the device decides. No block is mapped. Each question to the device carries
+    /// `DEVICE_ADDRESS` exactly where the device has the feature (the original crate's rule).
     ///
-    /// The request has to be askable (`Request::is_askable`), and the device has to be the one that this allocator has
-    /// served, so that the two agree. The refusals, in the order in which they are tested (the original crate's):
+    /// The request has to be askable (`Request::is_askable`, for the device's `buffer_device_address`), and the device has
+    /// to be the one that this allocator has served, so that the two agree. The refusals, in the order in which they are
+    /// tested (the original crate's):
     /// `OutOfDeviceMemory` where the size is over the limit given to `new`;
     /// `NoCompatibleMemoryTypes` where no memory type among the request's serves its usage.
-    /// Then the memory types are tried in rank. One is passed where its heap is smaller than the request, where a shared
-    /// object for it would have 2^64 bytes or more, or where the device answers `OutOfDeviceMemory`. The first that is not
-    /// passed gives the block, or `TooManyObjects` where an object is wanted and no more may be held, or `OutOfHostMemory`
-    /// where the host's memory was refused to the allocator or to the device. Where all are passed it is
-    /// `OutOfDeviceMemory`. After a refusal the allocator and the device's objects are as before.
+    /// Then the memory types are tried in rank. One is passed where its heap is smaller than the request, where a chunk for
+    /// it would have 2^64 bytes or more, or where the device answers `OutOfDeviceMemory`. The first that is not passed gives
+    /// the block, or `TooManyObjects` where an object is wanted and no more may be held, or `OutOfHostMemory` where the
+    /// host's memory was refused to the allocator or to the device, or a new chunk could not be mapped. Where all are passed
+    /// it is `OutOfDeviceMemory`. After a refusal the allocator and the device's objects are as before: a chunk that was
+    /// made is given back.
     ///
     /// For now the usage has to lack `TRANSIENT`.
     pub fn alloc<D: MemoryDevice<M>>(
@@ -143,8 +150,8 @@ impl<M: MemoryObject, A: Allocator> GpuAllocator<M, A> {
 
     /// Allocates a block as [`alloc`](GpuAllocator::alloc) does, with a hint that it wants a memory object of its own.
     ///
-    /// With `Required` it gets one: then it is `TooManyObjects` before any memory type is looked at where no more objects
-    /// may be held. With `Preferred` it gets one where its size is at least the configuration's
+    /// With `Required` it gets one: where no more objects may be held it is then `TooManyObjects`, after the test of its
+    /// size and before any memory type is looked at. With `Preferred` it gets one where its size is at least the configuration's
     /// `preferred_dedicated_threshold` or `dedicated_threshold`, and else what `alloc` gives.
     ///
     /// The conditions and the refusals are those of `alloc`. For now the usage has to lack `TRANSIENT` where the hint is
@@ -412,7 +419,8 @@ impl<M: MemoryObject, A: Allocator> GpuAllocator<M, A> {
     }
 
     /// Takes a block back. An object of its own goes back to the device, and so does a shared chunk in which no other block
-    /// is live; then one more object may be held. Any other chunk stays, and joins what is free in it.
+    /// is live; then one more object may be held, and the ledger of its heap is lowered by its size. Any other chunk stays,
+    /// and joins what is free in it.
     ///
     /// The block has to be live here (`owns` tells), and the device has to be the one that this allocator has served, so
     /// that the two agree. It takes no memory and cannot fail.
@@ -517,7 +525,7 @@ impl<M: MemoryObject, A: Allocator> GpuAllocator<M, A> {
     }
 
     /// A heap's ledger: how many bytes the held objects of its memory types count. It may be more than the heap's size,
-    /// which limits nothing. The heap has to be there.
+    /// which does not limit it. The heap has to be there.
     pub fn heap_used(&self, heap: u32) -> u128
         requires { heap < length (self.now.properties).memory_heaps }
         ensures { result ≡ ledger self.now heap }
@@ -525,7 +533,7 @@ impl<M: MemoryObject, A: Allocator> GpuAllocator<M, A> {
         self.heaps[heap as usize].used()
     }
 
-    /// Ends the allocator, which may hold no object.
+    /// Ends the allocator, which may hold no object: `held_objects` tells.
     pub fn close(self)
         requires { map.len self.held ≡ 0 }
     {

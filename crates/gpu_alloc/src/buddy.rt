@@ -73,9 +73,10 @@ impl<M: MemoryObject, A: Allocator> Model for BuddyAllocator<M, A> {
 }
 
 impl<M: MemoryObject, A: Allocator + Copy> BuddyAllocator<M, A> {
-    /// An allocator that holds nothing, for a memory type with these properties. Each size is in bytes and a power of two:
-    /// no block is smaller than `minimal_size`, and the first chunk is no smaller than the greater of `minimal_size` and
-    /// `initial_dedicated_size`. Block sizes are multiples of `atom_mask + 1`, a power of two of at most 2^62.
+    /// An allocator that holds nothing, for a memory type with these properties. Each size is in bytes and a power of two, as
+    /// the original crate asserts: no block is smaller than `minimal_size`, and the first chunk has at least the greater of
+    /// `minimal_size` and `initial_dedicated_size`, and at least twice its first block. Block sizes are multiples of
+    /// `atom_mask + 1`, a power of two of at most 2^62.
     ///
     /// `alloc` gives the memory of its lists. The only refusal is `OutOfHostMemory`.
     pub fn new(
@@ -139,12 +140,14 @@ impl<M: MemoryObject, A: Allocator> BuddyAllocator<M, A> {
     ///
     /// The block's size is the least power of two that is not below the size, the alignment, the atom and the least block.
     /// The block starts at a multiple of its size and lies whole in a held chunk, whose object is its own. A new chunk has
-    /// room for two such blocks, and is no smaller than the one before it. A chunk that the host sees is mapped whole.
+    /// exactly the greater of twice the block and the size of the latest chunk that was made, which counts even where that
+    /// one is held no more. A chunk that the host sees is mapped whole.
     /// `heap` is the ledger of the memory type's heap, to which a chunk is added, and `allocations_remains` how many more
     /// objects may be held, which a chunk lowers.
     ///
     /// The size has to be at least 1, `align_mask + 1` a power of two of at most 2^63, the address flag set only where the
-    /// device has the feature, and the device the one that this allocator has served.
+    /// device has the feature, and the device the one that this allocator has served: it has the memory type with the
+    /// properties given to `new`, and each held chunk.
     ///
     /// Refusals, after which all is as before: `OutOfDeviceMemory` where a chunk would be of 2^64 bytes or more, and where
     /// the device answers so; `TooManyObjects` where a chunk is wanted and no more objects may be held; `OutOfHostMemory`
@@ -216,7 +219,8 @@ impl<M: MemoryObject, A: Allocator> BuddyAllocator<M, A> {
     /// Takes a block back. Free halves are joined, and a chunk in which no other block is live goes back to the device at
     /// once: then `heap` is lowered by its size, and one more object may be held. It takes no memory and cannot fail.
     ///
-    /// The block has to be live here, and the device the one that this allocator has served. `heap` has to count no less than
+    /// The block has to be live here, by its object, chunk, offset, size and index, and the device the one that this
+    /// allocator has served. `heap` has to count no less than
     /// the sum of the held chunks; what remains and the number of held chunks have to fit 32 bits together. Both is so again
     /// after the call.
     pub fn dealloc<D: MemoryDevice<M>>(

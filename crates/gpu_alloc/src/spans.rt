@@ -233,7 +233,7 @@ impl<A: Allocator> Spans<A> {
     }
 
     /// Takes a live span off, from `offset` on and of `size` bytes, and where it is asked for the span's object too,
-    /// which has to be held then. It takes no memory and cannot fail.
+    /// which has to be held then. Other spans of that object stay live. It takes no memory and cannot fail.
     ///
     /// What comes of it is the same whatever the key is. The key that `insert` gave for the span makes it fast.
     pub fn remove(

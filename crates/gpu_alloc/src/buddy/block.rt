@@ -110,7 +110,7 @@ impl<M: MemoryObject> BuddyBlock<M> {
         self.chunk
     }
 
-    /// Its place in its allocator's own store.
+    /// Its place in its allocator's own store: 0, as long as that is a plain list.
     pub fn index(&self) -> usize
         ensures { result ≡ self.now.index }
     {
