@@ -9,6 +9,7 @@ mod config;
 mod ends;
 mod errors;
 mod flags;
+mod grants;
 mod memory;
 mod refusals;
 mod scripts;
