@@ -1,2 +1,5 @@
+mod EmptyMaps
+mod KeptHeaps
+mod LiveLeaves
 mod NumberedEntries
 mod SimNames

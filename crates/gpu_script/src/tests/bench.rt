@@ -114,7 +114,7 @@ pub(super) struct Bench<A: Allocator + Copy = Global> {
 }
 
 impl<A: Allocator + Copy> Model for Bench<A> {
-    ghost use Rattle.std.specs.Prelude.{ℕ, ◌<◌, ◌×◌, length, vec_len};
+    ghost use Rattle.std.specs.Prelude.{ℕ, ◌<◌, length, vec_len};
     ghost use Rattle.gpu_alloc.specs.Agreement.{Agrees};
     ghost use Rattle.gpu_script.specs.Sim.{objects_of};
 
@@ -160,7 +160,9 @@ impl<A: Allocator + Copy> Bench<A> {
         requires { device.properties ≡ properties_of offered }
     {
         assert!(rt; offered.is_usable());
-        assert!(rt; !offered.memory_heaps.is_empty());
+        if offered.memory_heaps.is_empty() {
+            panic!(rt; "no heap");
+        }
         let blocks = Vec::with_capacity(alloc, 8)?;
         match GpuAllocator::new(alloc, Config::i_am_potato(), offered) {
             Ok(allocator) => Ok(Bench {

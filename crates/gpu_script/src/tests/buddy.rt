@@ -1,6 +1,6 @@
 //! The buddy allocator by itself, over the simulated device.
 
-ghost use Rattle.std.specs.Prelude.{◌≤◌, ◌≢◌, ⊥};
+ghost use Rattle.std.specs.Prelude.{◌≤◌, ◌≢◌};
 ghost use Rattle.gpu_alloc.specs.BuddyState.{IsLiveLeaf};
 ghost use Rattle.gpu_alloc.specs.Request.{IsAlignMask};
 ghost use Rattle.gpu_alloc.specs.declared.buddy.block.Leaf.{Leaf};
@@ -152,7 +152,7 @@ struct Chunks {
 }
 
 impl Model for Chunks {
-    ghost use Rattle.std.specs.Prelude.{◌≡◌, ◌×◌};
+    ghost use Rattle.std.specs.Prelude.{◌≡◌};
     ghost use Rattle.gpu_alloc.specs.Buddy.{Agrees, IsCounted, account, chunks_and_remaining};
     ghost use Rattle.gpu_alloc.specs.BuddyState.{Buddy};
     ghost use Rattle.gpu_alloc.specs.Codes.{buddy_code};

@@ -1,8 +1,8 @@
-use Rattle.std.proofs.Common.{◌≡◌, ℕ, List, [], ◌∷◌, length, refl, sym, ◌∙◌, ap, arith}
-use Rattle.std.specs.Prelude.{sum_by}
+use Rattle.std.proofs.Common.{refl, ◌∙◌, ap, arith}
 use Rattle.std.specs.FinMap as map
 use Rattle.std.specs.Ordering.{nat_cmp}
 use Rattle.gpu_alloc.specs.BuddyState.{Buddy, Chunk}
+use Rattle.gpu_script.proofs.EmptyMaps.{nothing_added}
 use Rattle.gpu_script.proofs.tests.buddy.compare_refusal.Goals as goal
 
 pub new-requires-2-clause-minimal : goal.new-requires-2-clause-minimal
@@ -26,15 +26,10 @@ alloc-requires-clause-agrees g c =
       holds = λ key. rw (map.get-empty {K = _} {X = Chunk} nat_cmp key) tt;
     })
 
--- no entries add up to nothing
-no_sum : {X : Type 0} (f : X → ℕ) (xs : List X) → length xs ≡ 0 → sum_by f xs ≡ 0
-no_sum f [] none = refl
-no_sum f (x ∷ xs) none = absurd (omega (arith, none))
-
 pub alloc-requires-clause-counted : goal.alloc-requires-clause-counted
 alloc-requires-clause-counted g c =
     let none = map.len-empty nat_cmp Chunk in
-    let nothing = no_sum (λ e. e.1.size) (map.entries {X = Chunk} {R = nat_cmp} map.empty) (sym (map.len-entries {X = Chunk} {R = nat_cmp} map.empty) ∙ none) in
+    let nothing = nothing_added (λ (chunk : Chunk). chunk.size) in
     rw (c.in_ok-allocator.ensures.opened, c.new-heap.ensures) (record { chunks = omega (arith, nothing); objects = omega (arith, none, c.requires.count) })
 
 pub alloc-requires-clause-bound : goal.alloc-requires-clause-bound
