@@ -243,12 +243,16 @@ module _ (s : State) (places : map.FinMap span_cmp Place) (room index : ℕ) (b 
 
   -- What is told of a granted block.
 
-  pub granted_is : (r : Request) (flags : ℕ) (after : Buddy) (new : State) (leaf : Leaf) → buddy.IsGranted b (wanted r.size r.align_mask flags) after leaf → IsOwned new (buddy_block s index (span_of_leaf leaf))
-      → ((span : Span) → IsLive s span → AreApart span (span_of_leaf leaf)) → IsGranted s r new (buddy_block s index (span_of_leaf leaf))
-  granted_is r flags after new leaf granted owned apart = record {
+  -- the held object of the block's chunk counts the chunk's size
+  pub granted_is : (r : Request) (flags : ℕ) (after : Buddy) (new : State) (leaf : Leaf) (chunk : Chunk) (h : HeldObject) → buddy.IsGranted b (wanted r.size r.align_mask flags) after leaf
+      → map.get after.chunks leaf.chunk ≡ Some chunk → map.get new.held leaf.object ≡ Some h → h.counted ≡ chunk.size
+      → IsOwned new (buddy_block s index (span_of_leaf leaf)) → ((span : Span) → IsLive s span → AreApart span (span_of_leaf leaf)) → IsGranted s r new (buddy_block s index (span_of_leaf leaf))
+  granted_is r flags after new leaf chunk h granted chunk_is held counted owned apart = record {
     enough = granted.enough;
     aligned = granted.aligned;
     whole_atoms = λ _. subst (λ atom. (leaf.offset % atom ≡ 0) × (leaf.size % atom ≡ 0)) serves.of.for_type.atom granted.whole_atoms;
+    buddy = λ _. (granted.power, granted.front);
+    inside = (h, held, omega (arith, granted.inside.2.1, ap (λ (c : Chunk). c.size) (one_of _ granted.inside.0 chunk granted.inside.1 chunk_is), counted));
     unmapped = refl;
     owned = owned;
     was_free = apart;

@@ -106,7 +106,8 @@ impl<M: MemoryObject, A: Allocator> GpuAllocator<M, A> {
     /// A request of at least the configuration's `dedicated_threshold`, or of the 32nd part of its heap where that is less,
     /// gets a memory object of its own: the block starts at offset 0 and has exactly the request's size. Any other request
     /// gets a block of a buddy allocator, one for each memory type: its size is a power of two that is not below the
-    /// request's size and alignment, its offset a multiple of its size. No block is mapped.
+    /// request's size and alignment, and it begins at a multiple of its size. A block lies inside its object, and no block is
+    /// mapped.
     ///
     /// The request has to be askable (`Request::is_askable`), and the device has to be the one that this allocator has
     /// served, so that the two agree. The refusals, in the order in which they are tested (the original crate's):
