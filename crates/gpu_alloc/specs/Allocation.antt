@@ -186,7 +186,7 @@ pub record IsGranted (s : State) (r : Request) (new : State) (b : Block) : Type 
   pub enough : r.size ≤ b.size
   pub aligned : b.offset % (r.align_mask + 1) ≡ 0
   pub whole_atoms : is_shared b.kind ≡ true → (b.offset % atom_of s.properties b.memory_type ≡ 0) × (b.size % atom_of s.properties b.memory_type ≡ 0)
-  -- a block of a shared buddy chunk
+  -- a block of a buddy chunk has a power of two of bytes and begins at a multiple of its size
   pub buddy : b.kind ≡ BuddyChunk → IsPowerOfTwo b.size × IsMultipleOf b.size b.offset
   -- the block lies inside its object
   pub inside : (h : HeldObject) × (map.get new.held b.object ≡ Some h) × (b.offset + b.size ≤ h.counted)

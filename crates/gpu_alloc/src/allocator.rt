@@ -14,6 +14,7 @@ ghost use Rattle.gpu_alloc.specs.Inside.{span_of_leaf, place_of_leaf, leaf_at, w
 ghost use Rattle.gpu_alloc.specs.Opening.{opened, first_buddy, AreFirstBuddies};
 ghost use Rattle.gpu_alloc.specs.Release.{Frees, ObjectsFreed};
 ghost use Rattle.gpu_alloc.specs.Request.{IsAskable};
+ghost use Rattle.gpu_alloc.specs.Sound as Sound;
 ghost use Rattle.gpu_alloc.specs.Spans.{span_in, place_in};
 ghost use Rattle.gpu_alloc.specs.State.{IsOwned, ledger, total};
 
@@ -483,8 +484,12 @@ impl<M: MemoryObject, A: Allocator> GpuAllocator<M, A> {
     }
 
     /// Whether a block is live here: its object, span, memory type and kind are. Which allocator made it is not asked.
+    ///
+    /// Its contract also tells, of every allocator, that live blocks are apart and inside their objects, and that no object
+    /// is held without one.
     pub fn owns(&self, block: &MemoryBlock<M>) -> bool
-        ensures { IsTrue result ↔ IsOwned self.now block.now }
+        ensures owned { IsTrue result ↔ IsOwned self.now block.now }
+        ensures sound { Sound.IsSound self.now }
     {
         let object = block.memory().object();
         match self.spans.held(object) {
