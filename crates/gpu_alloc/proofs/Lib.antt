@@ -40,6 +40,7 @@ pub mod SharedGrants
 pub mod SharedRefusals
 pub mod SharedReturns
 pub mod SlabViews
+pub mod Soundness
 pub mod Tables
 pub mod Trials
 pub mod TypeStates

@@ -34,6 +34,19 @@ use Rattle.gpu_alloc.proofs.Serving.{table_of, Serves, question_is}
 pub one_of : {X : Type 0} (o : Option X) (c d : X) → o ≡ Some c → o ≡ Some d → c ≡ d
 one_of o c d is also = cc
 
+-- two ranges with no byte in both are apart
+pub ranges_apart : (a m b n : ℕ) → 0 < m → 0 < n → ((at : ℕ) → IsIn a m at → IsIn b n at → ⊥) → (a + m ≤ b) ⊎ (b + n ≤ a)
+ranges_apart a m b n some also clash = elim (cases_lt a (b + n)) [
+  | inl before ↦ elim (cases_lt b (a + m)) [
+    | inl after ↦ elim (cases_lt a b) [
+      | inl later ↦ absurd (clash b (record { from = omega (arith, later); to = after }) (record { from = omega arith; to = omega (arith, also) }))
+      | inr earlier ↦ absurd (clash a (record { from = omega arith; to = omega (arith, some) }) (record { from = earlier; to = before }))
+    ]
+    | inr past ↦ inl past
+  ]
+  | inr past ↦ inr past
+]
+
 module _ (s : State) (places : map.FinMap span_cmp Place) (room index : ℕ) (b : Buddy) (serves : Serves s places room index b) where
   -- What both tell.
 
@@ -89,23 +102,9 @@ module _ (s : State) (places : map.FinMap span_cmp Place) (room index : ℕ) (b 
       let size : of.0.size ≡ span.size = ap (λ (x : Span). x.size) of.1 in
       let offset : of.0.offset ≡ span.offset = ap (λ (x : Span). x.offset) of.1 in
       let some : 0 < span.size = omega (arith, size, power.1, pow_pos power.0) in
-      let clash : (at : ℕ) → IsIn leaf.offset leaf.size at → IsIn span.offset span.size at → ⊥ = λ at inside also.
-      (front.piece.place.free at (record { from = inside.from; to = omega (arith, inside.to, front.enough) })).unused of.0 of.2 of.3
-      (record { from = omega (arith, offset, also.from); to = omega (arith, offset, size, also.to) }) in
-      split some clash
-    where
-      split : 0 < span.size → ((at : ℕ) → IsIn leaf.offset leaf.size at → IsIn span.offset span.size at → ⊥)
-          → (span.offset + span.size ≤ leaf.offset) ⊎ (leaf.offset + leaf.size ≤ span.offset)
-      split some clash = elim (cases_lt leaf.offset (span.offset + span.size)) [
-        | inl before ↦ elim (cases_lt span.offset (leaf.offset + leaf.size)) [
-          | inl after ↦ elim (cases_lt leaf.offset span.offset) [
-            | inl later ↦ absurd (clash span.offset (record { from = omega (arith, later); to = after }) (record { from = omega arith; to = omega (arith, some) }))
-            | inr earlier ↦ absurd (clash leaf.offset (record { from = omega arith; to = omega (arith, nonempty) }) (record { from = earlier; to = before }))
-          ]
-          | inr past ↦ inr past
-        ]
-        | inr past ↦ inl past
-      ]
+      ranges_apart span.offset span.size leaf.offset leaf.size some nonempty
+      (λ at also inside. (front.piece.place.free at (record { from = inside.from; to = omega (arith, inside.to, front.enough) })).unused of.0 of.2 of.3
+      (record { from = omega (arith, offset, also.from); to = omega (arith, offset, size, also.to) }))
 
   -- bytes of live blocks of the same object that are not shared are spans that are apart
   pub apart_is : (leaf : Leaf) → ((span : Span) → IsLive s span → IsOfObject (table_of s places room) span) → 0 < leaf.size
@@ -243,12 +242,16 @@ module _ (s : State) (places : map.FinMap span_cmp Place) (room index : ℕ) (b 
 
   -- What is told of a granted block.
 
-  pub granted_is : (r : Request) (flags : ℕ) (after : Buddy) (new : State) (leaf : Leaf) → buddy.IsGranted b (wanted r.size r.align_mask flags) after leaf → IsOwned new (buddy_block s index (span_of_leaf leaf))
-      → ((span : Span) → IsLive s span → AreApart span (span_of_leaf leaf)) → IsGranted s r new (buddy_block s index (span_of_leaf leaf))
-  granted_is r flags after new leaf granted owned apart = record {
+  -- the held object of the block's chunk counts the chunk's size
+  pub granted_is : (r : Request) (flags : ℕ) (after : Buddy) (new : State) (leaf : Leaf) (chunk : Chunk) (h : HeldObject) → buddy.IsGranted b (wanted r.size r.align_mask flags) after leaf
+      → map.get after.chunks leaf.chunk ≡ Some chunk → map.get new.held leaf.object ≡ Some h → h.counted ≡ chunk.size
+      → IsOwned new (buddy_block s index (span_of_leaf leaf)) → ((span : Span) → IsLive s span → AreApart span (span_of_leaf leaf)) → IsGranted s r new (buddy_block s index (span_of_leaf leaf))
+  granted_is r flags after new leaf chunk h granted chunk_is held counted owned apart = record {
     enough = granted.enough;
     aligned = granted.aligned;
     whole_atoms = λ _. subst (λ atom. (leaf.offset % atom ≡ 0) × (leaf.size % atom ≡ 0)) serves.of.for_type.atom granted.whole_atoms;
+    buddy = λ _. (granted.power, granted.front);
+    inside = (h, held, omega (arith, granted.inside.2.1, ap (λ (c : Chunk). c.size) (one_of _ granted.inside.0 chunk granted.inside.1 chunk_is), counted));
     unmapped = refl;
     owned = owned;
     was_free = apart;

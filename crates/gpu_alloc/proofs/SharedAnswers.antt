@@ -120,12 +120,13 @@ module _ {A : Type 0} {l : Limits A} {heaps : List Heap} {buddies : List Buddy} 
         let sound_now = subst IsSound (ap (λ (a : Account). a.buddy) after_is) sound in
         let state = state_with_leaf l heaps buddies t remaining index b given.is given.known given.at i heap given.here given.at_heap leaf front.chunk now front.held front.object sound_now same_held more in
         let found_now = ap (λ (x : Held). finite.get x leaf.object) same_held ∙ there in
+        let chunk_now : finite.get after.buddy.chunks leaf.chunk ≡ Some front.chunk = ap (λ (a : Account). finite.get a.buddy.chunks leaf.chunk) after_is ∙ front.held in
         subst IsServed (sym after_is) (record {
           consistent = consistent_with_leaf l heaps buddies t remaining index b given.is given.known given.at i heap given.here given.at_heap leaf front.chunk now front.held front.object sound_now same_held more;
           gives = inl (subst (GivesInChunk before index size es (span_of_leaf leaf)) (sym state) gives);
           agreed = subst (λ o. agreement.Agrees (state_of (account (with_leaf b leaf) heap remaining)) q o) (sym same_objects)
               (subst (λ x. agreement.Agrees x q old) (sym state) (agrees_with_span before t.places t.room index b serving q old leaf front.chunk front.held front.object given.agrees));
-          told = granted_is before t.places t.room index b serving r flags after.buddy (state_of (account (with_leaf b leaf) heap remaining)) leaf granted
+          told = granted_is before t.places t.room index b serving r flags after.buddy (state_of (account (with_leaf b leaf) heap remaining)) leaf front.chunk _ granted chunk_now found_now refl
               (record { live = subst (λ x. IsTrue (set_of.contains x (span_of_leaf leaf))) (sym live) (live_new t.live (span_of_leaf leaf)); held = (_, found_now, chunk_found.for_type.memory_type, refl) })
               apart;
           whole = ap total state;
@@ -157,7 +158,7 @@ module _ {A : Type 0} {l : Limits A} {heaps : List Heap} {buddies : List Buddy} 
           consistent = consistent_with_chunk l heaps buddies t remaining index b given.is given.known given.at i heap given.here given.at_heap leaf n now changed begins.free_key free some small sound_now held_now more refl;
           gives = inr (subst (GivesInNewChunk before index size es (span_of_leaf leaf)) (sym state_asked) gives);
           agreed = subst (λ x. agreement.Agrees x q new) (sym state_asked) (agrees_with_chunk before t.places t.room index b serving q old new size leaf given.agrees new_chunk);
-          told = granted_is before t.places t.room index b serving r flags after.buddy (state_of (account (with_leaf (with_chunk b leaf n) leaf) changed (remaining - 1))) leaf granted
+          told = granted_is before t.places t.room index b serving r flags after.buddy (state_of (account (with_leaf (with_chunk b leaf n) leaf) changed (remaining - 1))) leaf chunk _ granted chunk_now found_now refl
               (record { live = subst (λ x. IsTrue (set_of.contains x (span_of_leaf leaf))) (sym live) (live_new t.live (span_of_leaf leaf)); held = (_, found_now, refl, refl) })
               apart;
           whole = ap total state ∙ omega (arith, some, len_more t.held leaf.object (record { memory_type = index; counted = n; kind = BuddyChunk }) free);

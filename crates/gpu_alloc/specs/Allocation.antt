@@ -16,6 +16,7 @@ use Rattle.gpu_alloc.specs.declared.error.AllocationError.TheVariants.{OutOfDevi
 use Rattle.gpu_alloc.specs.declared.request.Request.{Request}
 use Rattle.gpu_alloc.specs.declared.request.Dedicated.{Dedicated}
 use Rattle.gpu_alloc.specs.declared.request.Dedicated.TheVariants.{Required, Preferred}
+use Rattle.gpu_alloc.specs.FreeSpace.{IsMultipleOf, IsPowerOfTwo}
 use Rattle.gpu_alloc.specs.NewChunk.{flags_of, HasOneChunkMore}
 use Rattle.gpu_alloc.specs.Ranking.{candidates}
 use Rattle.gpu_alloc.specs.Request.{is_required}
@@ -185,6 +186,10 @@ pub record IsGranted (s : State) (r : Request) (new : State) (b : Block) : Type 
   pub enough : r.size ≤ b.size
   pub aligned : b.offset % (r.align_mask + 1) ≡ 0
   pub whole_atoms : is_shared b.kind ≡ true → (b.offset % atom_of s.properties b.memory_type ≡ 0) × (b.size % atom_of s.properties b.memory_type ≡ 0)
+  -- a block of a buddy chunk has a power of two of bytes and begins at a multiple of its size
+  pub buddy : b.kind ≡ BuddyChunk → IsPowerOfTwo b.size × IsMultipleOf b.size b.offset
+  -- the block lies inside its object
+  pub inside : (h : HeldObject) × (map.get new.held b.object ≡ Some h) × (b.offset + b.size ≤ h.counted)
   pub unmapped : b.mapping ≡ None
   pub owned : IsOwned new b
   pub was_free : (span : Span) → IsLive s span → AreApart span (span_of b)

@@ -23,5 +23,6 @@ pub mod Samples
 pub mod Sharing
 pub mod Sizes
 pub mod SlabViews
+pub mod Sound
 pub mod Spans
 pub mod State

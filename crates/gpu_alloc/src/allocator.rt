@@ -14,6 +14,7 @@ ghost use Rattle.gpu_alloc.specs.Inside.{span_of_leaf, place_of_leaf, leaf_at, w
 ghost use Rattle.gpu_alloc.specs.Opening.{opened, first_buddy, AreFirstBuddies};
 ghost use Rattle.gpu_alloc.specs.Release.{Frees, ObjectsFreed};
 ghost use Rattle.gpu_alloc.specs.Request.{IsAskable};
+ghost use Rattle.gpu_alloc.specs.Sound as Sound;
 ghost use Rattle.gpu_alloc.specs.Spans.{span_in, place_in};
 ghost use Rattle.gpu_alloc.specs.State.{IsOwned, ledger, total};
 
@@ -110,7 +111,7 @@ impl<M: MemoryObject, A: Allocator> GpuAllocator<M, A> {
     /// not below the request's size and alignment, the type's atom and the least buddy block. It starts at a multiple of its
     /// size, in the shortest free place that suffices. Where none does, a chunk is asked for: the greater of twice the
     /// block and the latest chunk of the type, mapped whole where the host sees the type. A chunk may be larger than
-    /// `max_memory_allocation_size`; the device decides. No block is mapped. Each question to the device carries
+    /// `max_memory_allocation_size`; the device decides. A block lies inside its object, and is not mapped. Each question to the device carries
     /// `DEVICE_ADDRESS` exactly where the device has the feature (the original crate's rule).
     ///
     /// The request has to be askable (`Request::is_askable`, for the device's `buffer_device_address`), and the device has
@@ -490,8 +491,12 @@ impl<M: MemoryObject, A: Allocator> GpuAllocator<M, A> {
     }
 
     /// Whether a block is live here: its object, span, memory type and kind are. Which allocator made it is not asked.
+    ///
+    /// Its contract also tells, of every allocator, that live blocks are apart and inside their objects, and that no object
+    /// is held without one.
     pub fn owns(&self, block: &MemoryBlock<M>) -> bool
-        ensures { IsTrue result ↔ IsOwned self.now block.now }
+        ensures owned { IsTrue result ↔ IsOwned self.now block.now }
+        ensures sound { Sound.IsSound self.now }
     {
         let object = block.memory().object();
         match self.spans.held(object) {

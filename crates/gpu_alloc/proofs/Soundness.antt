@@ -1,0 +1,134 @@
+-- What the allocator's fields keep, as its state tells it.
+use Rattle.std.proofs.Common.{◌≡◌, ◌≢◌, ◌⊎◌, inl, inr, ℕ, zero, suc, ◌+◌, ◌<◌, ◌≤◌, List, [], ◌∷◌, length, Option, Some, None, IfSome, slice_get, refl, sym, ◌∙◌, ap, subst, arith}
+use Rattle.std.proofs.lemmas.Bool.{cases_eq}
+use Rattle.std.proofs.lemmas.Nat.{pow_pos}
+use Rattle.std.specs.FinMap as map
+use Rattle.gpu_alloc_types.specs.Properties.{Properties}
+use Rattle.gpu_alloc.specs.BuddyState.{Chunk, Buddy, IsLiveLeaf}
+use Rattle.gpu_alloc.specs.Inside.{state_in, properties_in, span_of_leaf, leaf_at, whole_span, IsLiveIn, IsChunkOf, IsKnown, IsBuddyOf, HasBuddies, IsBooked, IsConsistent}
+use Rattle.gpu_alloc.specs.Sound.{IsSound}
+use Rattle.gpu_alloc.specs.Spans.{Place, Table}
+use Rattle.gpu_alloc.specs.State.{HeldObject, Span, AreApart}
+use Rattle.gpu_alloc.specs.declared.block.Kind.TheVariants.{Dedicated, BuddyChunk}
+use Rattle.gpu_alloc.specs.declared.config.Config.{Config}
+use Rattle.gpu_alloc.specs.declared.heap.Heap.{Heap}
+use Rattle.gpu_alloc.specs.declared.limits.Limits.{Limits}
+use Rattle.gpu_alloc.proofs.ServedBlocks.{one_of, ranges_apart}
+
+-- what holds of each element that is there holds of one
+element : {X : Type 0} (P : X → Type 0) (xs : List X) (i : ℕ) → i < length xs → IfSome (slice_get xs i) P → (x : X) × P x
+element P [] i inside is = absurd (omega (arith, inside))
+element P (x ∷ xs) zero inside is = (x, is)
+element P (x ∷ xs) (suc i) inside is = element P xs i (omega (arith, inside)) is
+
+-- a live span of this table
+abbrev HasSpan : Table → ℕ → Type 0
+HasSpan t object = (span : Span) × IsLiveIn t span × (span.object ≡ object)
+
+-- A buddy chunk.
+
+-- an object that is held as one
+abbrev chunk_at : ℕ → HeldObject → Chunk
+chunk_at object h = record { object = object; size = h.counted }
+
+module _ {c : Config} {p : Properties} {t : Table} {b : Buddy} {object : ℕ} {h : HeldObject} (is : IsBuddyOf c p t h.memory_type b) (held : map.get t.held object ≡ Some h) (kind : h.kind ≡ BuddyChunk) where
+  held_as : IsChunkOf t b.memory_type object h
+  held_as = record { held = held; of_kind = kind; of_type = sym is.for_type.memory_type }
+
+  by_key : (key : ℕ) × (map.get b.chunks key ≡ Some (chunk_at object h))
+  by_key = is.linked.objects object h held_as
+
+  -- a live span is a live block of the chunk
+  leaf_of : (span : Span) → IsLiveIn t span → span.object ≡ object → (place : Place) × IsLiveLeaf b (leaf_at span place)
+  leaf_of span live named =
+      let there = is.linked.spans span h live (subst (λ o. IsChunkOf t b.memory_type o h) (sym named) held_as) in
+      (there.0, there.1.1)
+
+  of_chunk : (span : Span) (place : Place) → IsLiveLeaf b (leaf_at span place) → span.object ≡ object → (place.chunk ≡ by_key.0) × (span.offset + span.size ≤ h.counted) × (0 < span.size)
+  of_chunk span place live named =
+      let lies = is.sound.inside (leaf_at span place) live in
+      let key = is.sound.one_object place.chunk by_key.0 lies.chunk (chunk_at object h) lies.held by_key.1 (sym lies.object ∙ named) in
+      let same : lies.chunk ≡ chunk_at object h = one_of _ lies.chunk (chunk_at object h) lies.held (ap (λ k. map.get b.chunks k) key ∙ by_key.1) in
+      (key, omega (arith, lies.inside, ap (λ (x : Chunk). x.size) same), omega (arith, lies.power.1, pow_pos lies.power.0))
+
+  chunk_inside : (span : Span) → IsLiveIn t span → span.object ≡ object → span.offset + span.size ≤ h.counted
+  chunk_inside span live named =
+      let leaf = leaf_of span live named in
+      (of_chunk span leaf.0 leaf.1 named).1
+
+  chunk_apart : (x y : Span) → IsLiveIn t x → IsLiveIn t y → x.object ≡ object → y.object ≡ object → x ≢ y → (x.offset + x.size ≤ y.offset) ⊎ (y.offset + y.size ≤ x.offset)
+  chunk_apart x y live also named same other =
+      let leaf = leaf_of x live named in
+      let leaf' = leaf_of y also same in
+      let of = of_chunk x leaf.0 leaf.1 named in
+      let of' = of_chunk y leaf'.0 leaf'.1 same in
+      ranges_apart x.offset x.size y.offset y.size of.2 of'.2
+      (λ at i j. other (ap span_of_leaf (is.sound.apart (leaf_at x leaf.0) (leaf_at y leaf'.0) leaf.1 leaf'.1 (of.0 ∙ sym of'.0) at i j)))
+
+  chunk_used : HasSpan t object
+  chunk_used =
+      let leaf = is.sound.used by_key.0 (chunk_at object h) by_key.1 in
+      let lies = is.sound.inside leaf.0 leaf.1.0 in
+      let same : lies.chunk ≡ chunk_at object h = one_of _ lies.chunk (chunk_at object h) lies.held (ap (λ k. map.get b.chunks k) leaf.1.1 ∙ by_key.1) in
+      (span_of_leaf leaf.0, (is.linked.leaves leaf.0 leaf.1.0).0, lies.object ∙ ap (λ (x : Chunk). x.object) same)
+
+-- Each held object.
+
+module _ {c : Config} {p : Properties} {t : Table} {buddies : List Buddy} {heaps : List Heap} {remaining : ℕ} (books : IsBooked p heaps t remaining) (shared : HasBuddies c p t buddies) where
+  known_at : (object : ℕ) (h : HeldObject) → map.get t.held object ≡ Some h → IsKnown t p object h
+  known_at object h held = subst (λ (o : Option HeldObject). IfSome o (IsKnown t p object)) held (books.known object)
+
+  buddy_at : (object : ℕ) (h : HeldObject) → map.get t.held object ≡ Some h → (b : Buddy) × IsBuddyOf c p t h.memory_type b
+  buddy_at object h held = element (IsBuddyOf c p t h.memory_type) buddies h.memory_type (omega (arith, (known_at object h held).of_type, shared.count)) (shared.each h.memory_type)
+
+  -- a live span of an object of one block is the whole of it
+  is_whole : (span : Span) (h : HeldObject) → IsLiveIn t span → map.get t.held span.object ≡ Some h → h.kind ≡ Dedicated → span ≡ whole_span span.object h
+  is_whole span h live held kind =
+      let of = books.spans span live in
+      let same : of.object ≡ h = one_of _ of.object h of.held held in
+      of.whole (ap (λ (x : HeldObject). x.kind) same ∙ kind) ∙ ap (whole_span span.object) same
+
+  lies_inside : (span : Span) → IsLiveIn t span → (h : HeldObject) × (map.get t.held span.object ≡ Some h) × (span.offset + span.size ≤ h.counted)
+  lies_inside span live =
+      let of = books.spans span live in (
+        of.object,
+        of.held,
+        elim ((known_at span.object of.object of.held).of_kind) [
+          | inl own ↦
+              let whole = of.whole own.0 in
+              omega (arith, ap (λ (x : Span). x.offset) whole, ap (λ (x : Span). x.size) whole)
+          | inr kind ↦ chunk_inside (buddy_at span.object of.object of.held).1 of.held kind span live refl
+        ],
+      )
+
+  are_apart : (x y : Span) → IsLiveIn t x → IsLiveIn t y → x ≢ y → AreApart x y
+  are_apart x y live also other = elim (cases_eq x.object y.object) [
+    | inl same ↦
+        let of = books.spans x live in
+        let held : map.get t.held y.object ≡ Some of.object = ap (λ n. map.get t.held n) (sym same) ∙ of.held in
+        elim ((known_at x.object of.object of.held).of_kind) [
+          | inl own ↦ absurd (other (of.whole own.0 ∙ ap (λ n. whole_span n of.object) same ∙ sym (is_whole y of.object also held own.0)))
+          | inr kind ↦ inr (chunk_apart (buddy_at x.object of.object of.held).1 of.held kind x y live also refl (sym same) other)
+        ]
+    | inr apart ↦ inl apart
+  ]
+
+  is_used : (object : ℕ) (h : HeldObject) → map.get t.held object ≡ Some h → HasSpan t object
+  is_used object h held = elim ((known_at object h held).of_kind) [
+    | inl own ↦ (whole_span object h, own.1, refl)
+    | inr kind ↦ chunk_used (buddy_at object h held).1 held kind
+  ]
+
+  each_used : (object : ℕ) (o : Option HeldObject) → map.get t.held object ≡ o → IfSome o (λ h. HasSpan t object)
+  each_used object None none = tt
+  each_used object (Some h) held = is_used object h held
+
+-- The whole state.
+
+pub sound_is : {A : Type 0} (l : Limits A) (heaps : List Heap) (buddies : List Buddy) (t : Table) (remaining : ℕ) → IsConsistent l.config (properties_in l heaps) heaps buddies t remaining
+    → IsSound (state_in l heaps buddies t remaining)
+sound_is l heaps buddies t remaining is = record {
+  inside = lies_inside is.books is.shared;
+  apart = are_apart is.books is.shared;
+  used = λ object. each_used is.books is.shared object (map.get t.held object) refl;
+}
