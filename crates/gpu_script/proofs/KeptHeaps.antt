@@ -13,7 +13,7 @@ chain_keeps_properties old (e ∷ es) new c = chain_keeps_properties c.0 es new 
 
 -- a list that is not empty has an element
 pub not_empty : {X : Type 0} (xs : List X) (b : Bool) → b ≡ (length xs == 0) → b ≡ false → 0 < length xs
-not_empty xs b is no = grind (arith, nat_tests)
+not_empty xs b test is_not = grind (arith, nat_tests)
 
 -- some heap is still there
 pub keeps_heaps : (old new : State) (from to : SimState) (es : List Event) → Agrees old from.properties (objects_of from) → Chain SimStep from es to → Agrees new to.properties (objects_of to) → 0 < length old.properties.memory_heaps → 0 < length new.properties.memory_heaps

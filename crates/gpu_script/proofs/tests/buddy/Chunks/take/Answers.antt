@@ -1,4 +1,6 @@
 use Rattle.std.proofs.Common.{refl, arith}
+use Rattle.gpu_alloc.specs.Buddy.{wanted}
+use Rattle.gpu_alloc_types.specs.Flags.{allocation_bits}
 use Rattle.gpu_script.proofs.LiveLeaves.{was_not_live, live_after_grant}
 use Rattle.gpu_script.proofs.tests.buddy.Chunks.take.Goals as goal
 
@@ -10,4 +12,4 @@ pub returns-clause-new : goal.returns-clause-new
 returns-clause-new g c = rw (← c.self.view_is) (was_not_live _ _ _ _ c.in-Ok.ensures.granted)
 
 pub returns-clause-others : goal.returns-clause-others
-returns-clause-others g c = rw (← c.self.view_is) (λ leaf live. live_after_grant _ _ _ _ c.in-Ok.block leaf c.in-Ok.ensures.allocates.2 live)
+returns-clause-others g c = rw (← c.self.view_is) (λ leaf live. live_after_grant _ _ (wanted c.args.size 0 (allocation_bits c.empty.result)) _ c.in-Ok.block leaf c.in-Ok.ensures.allocates.2 live)
