@@ -1,5 +1,5 @@
 -- Which blocks of a buddy allocator are live after a call.
-use Rattle.std.proofs.Common.{◌≡◌, ◌⊎◌, inl, inr, ◌<◌, List, Ok, refl, sym, ap, subst, arith}
+use Rattle.std.proofs.Common.{◌≡◌, inl, inr, ◌<◌, List, Ok, refl, sym, subst, arith}
 use Rattle.std.proofs.lemmas.Nat.{pow_pos}
 use Rattle.gpu_alloc_types.specs.Device.{Event}
 use Rattle.gpu_alloc.specs.Buddy.{Account, Wanted, Allocates, Frees, IsGranted}

@@ -274,7 +274,7 @@ impl<A: Allocator + Copy> Bench<A> {
     }
 }
 
-/// Asks for as many bytes as each row says, and compares the places.
+/// Asks for as many bytes as each pair says, and compares the places.
 pub(super) fn compare_grants<A: Allocator + Copy>(
     rt: &impl Abort,
     bench: &mut Bench<A>,

@@ -20,9 +20,11 @@ new-requires-2-clause-atom c = refl
 pub invariant_of-result : goal.invariant_of-result
 invariant_of-result c =
     let none = map.len-empty nat_cmp Chunk in
-    rw (c.in_ok-allocator.ensures.opened, c.in_ok-device.ensures, c.new-3.ensures)
-    (record {
-      known = omega arith;
-      props = refl;
-      holds = λ key. rw (map.get-empty {K = _} {X = Chunk} nat_cmp key) tt;
-    }, (record { chunks = omega (arith, nothing_added (λ (chunk : Chunk). chunk.size)); objects = omega (arith, none) }, omega (arith, none)))
+    rw (c.in_ok-allocator.ensures.opened, c.in_ok-device.ensures, c.new-3.ensures) (
+      record {
+        known = omega arith;
+        props = refl;
+        holds = λ key. rw (map.get-empty {K = _} {X = Chunk} nat_cmp key) tt;
+      },
+      (record { chunks = omega (arith, nothing_added (λ (chunk : Chunk). chunk.size)); objects = omega (arith, none) }, omega (arith, none)),
+    )
