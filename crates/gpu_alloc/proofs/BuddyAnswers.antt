@@ -19,7 +19,7 @@ use Rattle.gpu_alloc.specs.Request.{IsAlignMask}
 use Rattle.gpu_alloc.proofs.AlignedPowers.{doubled, pow-le, order-le, pow-from_shorter}
 use Rattle.gpu_alloc.proofs.PowersOfTwo.{is_next_power_of_two, power_of_bit, greater_power}
 use Rattle.gpu_alloc.proofs.Ledgers.{sum_by-insert, len_more}
-use Rattle.gpu_alloc.proofs.BuddyCalls.{one_chunk}
+use Rattle.gpu_alloc.proofs.Maps.{one_value}
 use Rattle.gpu_alloc.proofs.BuddyGrants.{if_some, chunk_cases, now_live, other_objects, power_up_to, sound_with_leaf, sound_with_chunk}
 
 -- Sizes whose chunk fits.
@@ -149,7 +149,7 @@ front_lies b size leaf power at =
     let size_is = at.of_size in
     let some = pow_pos power.0 in
     let last = place.free (leaf.offset + size - 1) (record { from = omega (arith, some, power.1); to = omega (arith, some, power.1, at.enough) }) in
-    let same = one_chunk _ last.held at.chunk last.is at.held in
+    let same = one_value _ last.held at.chunk last.is at.held in
     record {
       chunk = at.chunk;
       held = at.held;

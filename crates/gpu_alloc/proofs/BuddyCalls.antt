@@ -19,7 +19,7 @@ use Rattle.gpu_alloc.specs.Pieces.{InPiece, Without, AreKept, AreKeptBeside}
 use Rattle.gpu_alloc.specs.declared.buddy.block.Leaf.{Leaf}
 use Rattle.gpu_alloc.specs.declared.buddy.pieces.Piece.{Piece}
 use Rattle.gpu_alloc.proofs.AlignedPowers.{order-le}
-use Rattle.gpu_alloc.proofs.Ledgers.{name_test, eq-true, eq-false}
+use Rattle.gpu_alloc.proofs.Maps.{name_test, eq-true, eq-false, one_value, gone, kept_other}
 use Rattle.gpu_alloc.proofs.BuddyLeaves.{in_leaves, leaf_inserted, leaf_removed, leaf_same_or_left}
 use Rattle.gpu_alloc.proofs.ExactPieces.{whole_chunk, piece_for_place, kept_is_free_piece, free_piece_is_kept}
 use Rattle.gpu_alloc.proofs.Lists.{seek, all_contained}
@@ -142,17 +142,8 @@ key_at m key chunk = map.get-insert nat_cmp_total m key chunk key ∙ rw (name_t
 pub other_key : (m : map.FinMap nat_cmp Chunk) (key q : ℕ) (chunk : Chunk) → q ≢ key → map.get (map.insert m key chunk) q ≡ map.get m q
 other_key m key q chunk other = map.get-insert nat_cmp_total m key chunk q ∙ rw (name_test q key, eq-false q key other) refl
 
-pub removed_key : (m : map.FinMap nat_cmp Chunk) (key : ℕ) → map.get (map.remove m key) key ≡ None
-removed_key m key = map.get-remove nat_cmp_total m key key ∙ rw (name_test key key, eq-true key key refl) refl
-
-pub left_key : (m : map.FinMap nat_cmp Chunk) (key q : ℕ) → q ≢ key → map.get (map.remove m key) q ≡ map.get m q
-left_key m key q other = map.get-remove nat_cmp_total m key q ∙ rw (name_test q key, eq-false q key other) refl
-
 pub none_is_held : (o : Option Chunk) (held : Chunk) → o ≡ None → o ≡ Some held → ⊥
 none_is_held o held none some = cc
-
-pub one_chunk : (o : Option Chunk) (c d : Chunk) → o ≡ Some c → o ≡ Some d → c ≡ d
-one_chunk o c d is also = cc
 
 -- Where free pieces lie.
 
@@ -204,7 +195,7 @@ bounded_pieces b pieces bounded k i d lt = bounded_piece b (get_or pieces i d) b
 -- a piece in a chunk is no longer than the chunk
 pub no_longer : (b : Buddy) (p : Piece) (held : Chunk) (order : ℕ) → map.get b.chunks p.chunk ≡ Some held → held.size ≡ 2 ^ order → LiesInChunk b p → p.order ≤ order
 no_longer b p held order is length_is l =
-    let same : l.held ≡ held = one_chunk _ l.held held l.is is in
+    let same : l.held ≡ held = one_value _ l.held held l.is is in
     let sizes : l.held.size ≡ held.size = ap (λ c. c.size) same in
     order-le p.order order (omega (arith, l.inside, sizes, length_is))
 
@@ -212,7 +203,7 @@ no_longer b p held order is length_is l =
 pub whole_starts : (b : Buddy) (p : Piece) (held : Chunk) → map.get b.chunks p.chunk ≡ Some held → held.size ≡ 2 ^ p.order → ((at : ℕ) → InPiece p at → IsFreeAt b p.chunk at) → p.start ≡ 0
 whole_starts b p held is length_is free =
     let l = free_lies b p free in
-    let same : l.held ≡ held = one_chunk _ l.held held l.is is in
+    let same : l.held ≡ held = one_value _ l.held held l.is is in
     let sizes : l.held.size ≡ held.size = ap (λ c. c.size) same in
     omega (arith, l.inside, sizes, length_is)
 
@@ -260,7 +251,7 @@ module _ (b b' : Buddy) (pieces : List Piece) (x : Piece) (chunk : Chunk) (lengt
       in_whole at below = record { from = omega (arith, starts); to = omega (arith, starts, length_is, below) }
 
       here : (key : ℕ) (held : Chunk) → key ≡ x.chunk → map.get b'.chunks key ≡ Some held → chunk ≡ held
-      here key held same is = one_chunk _ chunk held (ap (λ m. map.get m x.chunk) chunks ∙ key_at b.chunks x.chunk chunk) (ap (λ n. map.get b'.chunks n) (sym same) ∙ is)
+      here key held same is = one_value _ chunk held (ap (λ m. map.get m x.chunk) chunks ∙ key_at b.chunks x.chunk chunk) (ap (λ n. map.get b'.chunks n) (sym same) ∙ is)
 
   -- a chunk that is in hand as a whole goes
   pub chunk_goes : map.get b.chunks x.chunk ≡ Some chunk → b'.chunks ≡ map.remove b.chunks x.chunk → AreKeptBeside pieces (IsFreeAt b) x → AreKept pieces (IsFreeAt b')
@@ -270,16 +261,16 @@ module _ (b b' : Buddy) (pieces : List Piece) (x : Piece) (chunk : Chunk) (lengt
           | inl same ↦ absurd (f.1 same (in_whole at (subst (λ c. at < c.size) (sym (here key f.0.held same f.0.is)) f.0.inside)))
           | inr other ↦ record {
             held = f.0.held;
-            is = ap (λ m. map.get m key) chunks ∙ left_key b.chunks x.chunk key other ∙ f.0.is;
+            is = ap (λ m. map.get m key) chunks ∙ kept_other b.chunks x.chunk key other ∙ f.0.is;
             inside = f.0.inside;
             unused = λ leaf t. f.0.unused leaf (ap (λ s. set.contains s leaf) (sym live) ∙ t);
           }
         ])
         (λ key at f.
-        let other : key ≢ x.chunk = λ same. none_is_held _ f.held (removed_key b.chunks x.chunk) (ap (λ m. map.get m x.chunk) (sym chunks) ∙ ap (λ n. map.get b'.chunks n) (sym same) ∙ f.is) in (
+        let other : key ≢ x.chunk = λ same. none_is_held _ f.held (gone b.chunks x.chunk) (ap (λ m. map.get m x.chunk) (sym chunks) ∙ ap (λ n. map.get b'.chunks n) (sym same) ∙ f.is) in (
           record {
             held = f.held;
-            is = sym (left_key b.chunks x.chunk key other) ∙ ap (λ m. map.get m key) (sym chunks) ∙ f.is;
+            is = sym (kept_other b.chunks x.chunk key other) ∙ ap (λ m. map.get m key) (sym chunks) ∙ f.is;
             inside = f.inside;
             unused = λ leaf t. f.unused leaf (ap (λ s. set.contains s leaf) live ∙ t);
           },
@@ -296,7 +287,7 @@ module _ (b b' : Buddy) (pieces : List Piece) (x : Piece) (chunk : Chunk) (lengt
       in_whole at below = record { from = omega (arith, starts); to = omega (arith, starts, length_is, below) }
 
       here : (key : ℕ) (held : Chunk) → key ≡ x.chunk → map.get b.chunks key ≡ Some held → chunk ≡ held
-      here key held same at = one_chunk _ chunk held is (ap (λ n. map.get b.chunks n) (sym same) ∙ at)
+      here key held same at = one_value _ chunk held is (ap (λ n. map.get b.chunks n) (sym same) ∙ at)
 
 -- A chunk with a live block in it.
 
@@ -313,7 +304,7 @@ pub unused_is_kept : (b : Buddy) (pieces : List Piece) (key order : ℕ) (held :
 unused_is_kept b pieces key order held k is length_is unused =
     whole_chunk (Contains pieces) (IsFreeAt b) k.canonical key order
     (λ at i. record { held = held; is = is; inside = omega (arith, i.to, length_is); unused = λ leaf t named j. unused leaf t named })
-    (λ at f. let same : f.held ≡ held = one_chunk _ f.held held f.is is in
+    (λ at f. let same : f.held ≡ held = one_value _ f.held held f.is is in
     let sizes : f.held.size ≡ held.size = ap (λ c. c.size) same in
     omega (arith, f.inside, sizes, length_is))
 

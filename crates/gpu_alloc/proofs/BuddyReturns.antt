@@ -28,7 +28,8 @@ use Rattle.gpu_alloc.specs.declared.buddy.block.Leaf.{Leaf}
 use Rattle.gpu_alloc.specs.declared.buddy.pieces.Piece.{Piece}
 use Rattle.gpu_alloc.specs.declared.heap.Heap.{Heap}
 use Rattle.gpu_alloc.proofs.AlignedPowers.{order-le}
-use Rattle.gpu_alloc.proofs.BuddyCalls.{IsLeafOf, returned, chunk_goes, whole_is_unused, held_is_used, used_is_shorter, one_chunk, none_is_held, removed_key, left_key}
+use Rattle.gpu_alloc.proofs.BuddyCalls.{IsLeafOf, returned, chunk_goes, whole_is_unused, held_is_used, used_is_shorter}
+use Rattle.gpu_alloc.proofs.Maps.{gone, kept_other, kept_key, one_value}
 use Rattle.gpu_alloc.proofs.BuddyLeaves.{leaf_test, in_leaves, leaf_removed, leaves_less}
 use Rattle.gpu_alloc.proofs.Ledgers.{sum_by-remove, len_less}
 use Rattle.gpu_alloc.proofs.Lists.{not_found, less}
@@ -62,12 +63,6 @@ taken_off leaves left leaf x i once at is rest =
     (l.distinct, leaves_less same_leaf leaves left x gone l ∙ ap (λ y. set.remove (leaf_set leaves) y) same)
 
 -- Chunks by key.
-
--- what is held once a key is removed has another key
-kept_key : (m : map.FinMap nat_cmp Chunk) (key k : ℕ) (c : Chunk) → map.get (map.remove m key) k ≡ Some c → (k ≢ key) × (map.get m k ≡ Some c)
-kept_key m key k c is =
-    let other : k ≢ key = λ same. none_is_held _ c (removed_key m key) (subst (λ n. map.get (map.remove m key) n ≡ Some c) same is) in
-    (other, sym (left_key m key k other) ∙ is)
 
 -- A live block and its chunk.
 
@@ -113,13 +108,13 @@ module _ {b : Buddy} {leaf : Leaf} {held : Chunk} (r : IsOfChunk b leaf held) wh
   lies : (q : Leaf) → IsLiveLeaf b q → q.chunk ≡ leaf.chunk → (0 < q.size) × (q.offset + q.size ≤ held.size)
   lies q live named =
       let l = r.sound.inside q live in
-      let same : l.chunk ≡ held = one_chunk _ l.chunk held (ap (λ k. map.get b.chunks k) (sym named) ∙ l.held) r.is in
+      let same : l.chunk ≡ held = one_value _ l.chunk held (ap (λ k. map.get b.chunks k) (sym named) ∙ l.held) r.is in
       let sizes : l.chunk.size ≡ held.size = ap (λ (c : Chunk). c.size) same in
       (omega (arith, l.power.1, pow_pos l.power.0), omega (arith, l.inside, sizes))
 
   -- its object is the chunk's
   object_is : leaf.object ≡ held.object
-  object_is = let l = r.sound.inside leaf r.live in l.object ∙ ap (λ (c : Chunk). c.object) (one_chunk _ l.chunk held l.held r.is)
+  object_is = let l = r.sound.inside leaf r.live in l.object ∙ ap (λ (c : Chunk). c.object) (one_value _ l.chunk held l.held r.is)
 
   -- what is live still was live, and is another block
   was_live : (q : Leaf) → IsLiveLeaf (without_leaf b leaf) q → (q ≡ leaf → ⊥) × IsLiveLeaf b q
@@ -207,7 +202,7 @@ module _ {b : Buddy} {leaf : Leaf} {held : Chunk} (r : IsOfChunk b leaf held) wh
     powers = λ k c at. r.sound.powers k c (kept_key b.chunks leaf.chunk k c at).1;
     used = λ k c at. let h = kept_key b.chunks leaf.chunk k c at in still_used k c h.1 h.0;
     inside = λ q t. let l = r.sound.inside q (was_live q t).1 in
-        record { chunk = l.chunk; held = left_key b.chunks leaf.chunk q.chunk (unused q t) ∙ l.held; object = l.object; power = l.power; aligned = l.aligned; inside = l.inside };
+        record { chunk = l.chunk; held = kept_other b.chunks leaf.chunk q.chunk (unused q t) ∙ l.held; object = l.object; power = l.power; aligned = l.aligned; inside = l.inside };
     apart = λ x y s t. r.sound.apart x y (was_live x s).1 (was_live y t).1;
     next_chunk = r.sound.next_chunk;
     minimal = r.sound.minimal;
@@ -229,8 +224,8 @@ module _ {b : Buddy} {leaf : Leaf} {held : Chunk} (r : IsOfChunk b leaf held) wh
       known = agrees.known;
       props = agrees.props;
       holds = λ key. elim (cases_eq key leaf.chunk) [
-        | inl same ↦ subst (λ o. IfSome o (HasChunk (put objects leaf.object None))) (sym (ap (λ k. map.get (map.remove b.chunks leaf.chunk) k) same ∙ removed_key b.chunks leaf.chunk)) tt
-        | inr other ↦ subst (λ o. IfSome o (HasChunk (put objects leaf.object None))) (sym (left_key b.chunks leaf.chunk key other)) (each key other (map.get b.chunks key) refl (agrees.holds key))
+        | inl same ↦ subst (λ o. IfSome o (HasChunk (put objects leaf.object None))) (sym (ap (λ k. map.get (map.remove b.chunks leaf.chunk) k) same ∙ gone b.chunks leaf.chunk)) tt
+        | inr other ↦ subst (λ o. IfSome o (HasChunk (put objects leaf.object None))) (sym (kept_other b.chunks leaf.chunk key other)) (each key other (map.get b.chunks key) refl (agrees.holds key))
       ];
     }
       where

@@ -8,7 +8,8 @@ use Rattle.gpu_alloc.specs.Inside.{HasBuddies, IsBuddyOf, IsLinked}
 use Rattle.gpu_alloc.specs.Spans.{Table}
 use Rattle.gpu_alloc.specs.declared.config.Config.{Config}
 use Rattle.gpu_alloc_types.specs.Properties.{Properties}
-use Rattle.gpu_alloc.proofs.Ledgers.{Held, name_test, eq-true}
+use Rattle.gpu_alloc.proofs.Ledgers.{Held}
+use Rattle.gpu_alloc.proofs.Maps.{name_test, eq-true}
 
 -- Maps.
 

@@ -2,7 +2,6 @@
 use Rattle.std.proofs.Common.{◌≡◌, ◌≢◌, ℕ, true, false, cond, List, Option, Some, None, IfSome, slice_get, refl, sym, ◌∙◌, ap, subst, inl, inr}
 use Rattle.std.proofs.Math.ListN.{set}
 use Rattle.std.proofs.lemmas.List.{length-set}
-use Rattle.std.specs.Cmp.{nat_cmp_total}
 use Rattle.std.specs.Ordering.{eq_by_cmp}
 use Rattle.std.specs.FinMap as finite
 use Rattle.std.specs.FinSet as set_of
@@ -14,17 +13,10 @@ use Rattle.gpu_alloc.specs.State.{HeldObject, Span, span_cmp}
 use Rattle.gpu_alloc.specs.declared.block.Kind.TheVariants.{BuddyChunk}
 use Rattle.gpu_alloc.specs.declared.config.Config.{Config}
 use Rattle.gpu_alloc.proofs.HeapLists.{each_set}
-use Rattle.gpu_alloc.proofs.Ledgers.{Held, name_test, eq-false}
 use Rattle.gpu_alloc.proofs.Links.{IsBeside, linked_beside}
 use Rattle.gpu_alloc.proofs.LiveSpans.{span_total, span_test, live_still, live_before, live_kept, live_other}
 
 -- What a span makes of the table is of its object.
-
-pub other_inserted : (m : Held) (name : ℕ) (h : HeldObject) (q : ℕ) → q ≢ name → finite.get (finite.insert m name h) q ≡ finite.get m q
-other_inserted m name h q other = finite.get-insert nat_cmp_total m name h q ∙ ap (λ b. cond b (Some h) (finite.get m q)) (name_test q name ∙ eq-false q name other)
-
-pub other_removed : (m : Held) (name q : ℕ) → q ≢ name → finite.get (finite.remove m name) q ≡ finite.get m q
-other_removed m name q other = finite.get-remove nat_cmp_total m name q ∙ ap (λ b. cond b None (finite.get m q)) (name_test q name ∙ eq-false q name other)
 
 module _ (old now : Table) (span : Span) (held : (q : ℕ) → q ≢ span.object → finite.get now.held q ≡ finite.get old.held q) where
   other_span : (other : Span) → other.object ≢ span.object → eq_by_cmp span_cmp other span ≡ false

@@ -10,7 +10,7 @@ use Rattle.std.specs.FinMap as finite
 use Rattle.std.specs.FinMap.{nat_cmp-IsAntisymmetric}
 use Rattle.gpu_alloc.specs.Spans.{held_of, objects_in}
 use Rattle.gpu_alloc.specs.declared.spans.HeldRow.{HeldRow}
-use Rattle.gpu_alloc.proofs.Ledgers.{name_test}
+use Rattle.gpu_alloc.proofs.Maps.{name_test}
 use Rattle.gpu_alloc.proofs.Lists.{head_is_other}
 use Rattle.gpu_alloc.proofs.ListViews.{AreNamedApart, contains_name, named_len}
 

@@ -1,5 +1,5 @@
 -- Ledgers: sums over the entries of a map, as an entry is added or taken off.
-use Rattle.std.proofs.Common.{◌≡◌, ◌≢◌, ℕ, zero, suc, ◌+◌, ◌*◌, ◌^◌, ◌<◌, ◌≤◌, Bool, true, false, cond, ◌==◌, List, [], ◌∷◌, length, Some, None, refl, sym, ◌∙◌, ap, subst, arith, Less, Equal, Greater}
+use Rattle.std.proofs.Common.{◌≡◌, ℕ, zero, suc, ◌+◌, ◌*◌, ◌^◌, ◌<◌, ◌≤◌, Bool, true, false, cond, ◌==◌, List, [], ◌∷◌, length, Some, None, refl, sym, ◌∙◌, ap, subst, arith, Less, Equal, Greater}
 use Rattle.std.proofs.lemmas.Bool.Decides.{nat_tests}
 use Rattle.std.proofs.lemmas.List.Sums.{sum_by-cons}
 use Rattle.std.specs.List.{sum_by}
@@ -11,6 +11,7 @@ use Rattle.std.specs.FinMap.Entries.{by_order}
 use Rattle.gpu_alloc_types.specs.Properties.{Properties, heap_at}
 use Rattle.gpu_alloc.specs.State.{HeldObject, share}
 use Rattle.gpu_alloc.specs.Inside.{AreSmall}
+use Rattle.gpu_alloc.proofs.Maps.{eq-true, name_test, gone, kept_key, kept_other}
 
 abbrev pub Held : Type 0
 Held = finite.FinMap nat_cmp HeldObject
@@ -50,37 +51,12 @@ small-unput k v (e ∷ es) none all = elim (nat_cmp k e.0) as (λ r. cond (is_eq
 
 -- Maps, with a new name inserted or a held one removed.
 
-pub name_test : (q name : ℕ) → eq_by_cmp nat_cmp q name ≡ (q == name)
-name_test q name = grind (arith, nat_tests)
-
-pub eq-true : (a b : ℕ) → a ≡ b → (a == b) ≡ true
-eq-true a b e = grind (arith, nat_tests)
-
-pub eq-false : (a b : ℕ) → a ≢ b → (a == b) ≡ false
-eq-false a b ne = grind (arith, nat_tests)
-
 module _ {X : Type 0} where
   not_found : (m : finite.FinMap nat_cmp X) (k : ℕ) → finite.get m k ≡ None → finite.find nat_cmp k (finite.entries m) ≡ None
   not_found m k none = sym (finite.get-entries m k) ∙ none
 
   pub sum_by-insert : (f : ℕ × X → ℕ) (m : finite.FinMap nat_cmp X) (k : ℕ) (v : X) → finite.get m k ≡ None → sum_by f (finite.entries (finite.insert m k v)) ≡ f (k, v) + sum_by f (finite.entries m)
   sum_by-insert f m k v none = ap (sum_by f) (finite.entries-insert nat_cmp_total m k v) ∙ sum_by-put f k v (finite.entries m) (not_found m k none)
-
-  pub gone : (m : finite.FinMap nat_cmp X) (k : ℕ) → finite.get (finite.remove m k) k ≡ None
-  gone m k = finite.get-remove nat_cmp_total m k k ∙ ap (λ b. cond b None (finite.get m k)) (itself k)
-    where
-      itself : (a : ℕ) → eq_by_cmp nat_cmp a a ≡ true
-      itself a = grind (arith, nat_tests)
-
-  -- another name is held as before
-  pub kept_other : (m : finite.FinMap nat_cmp X) (k q : ℕ) → q ≢ k → finite.get (finite.remove m k) q ≡ finite.get m q
-  kept_other m k q other = finite.get-remove nat_cmp_total m k q ∙ rw (name_test q k, eq-false q k other) refl
-
-  -- what is held once a name is removed has another one
-  pub kept_key : (m : finite.FinMap nat_cmp X) (k q : ℕ) (v : X) → finite.get (finite.remove m k) q ≡ Some v → (q ≢ k) × (finite.get m q ≡ Some v)
-  kept_key m k q v is =
-      let other : q ≢ k = λ same. let none : finite.get (finite.remove m k) q ≡ None = ap (finite.get (finite.remove m k)) same ∙ gone m k in absurd (cc) in
-      (other, sym (kept_other m k q other) ∙ is)
 
   -- what was removed and is inserted again is as it was
   pub back : (m : finite.FinMap nat_cmp X) (k : ℕ) (v : X) → finite.get m k ≡ Some v → finite.insert (finite.remove m k) k v ≡ m

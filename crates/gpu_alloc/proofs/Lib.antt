@@ -20,6 +20,7 @@ pub mod ListSets
 pub mod ListViews
 pub mod Lists
 pub mod LiveSpans
+pub mod Maps
 pub mod Masks
 pub mod NewChunks
 pub mod Opened

@@ -1,5 +1,5 @@
 -- A buddy allocator and the table of spans that say the same, as the table changes.
-use Rattle.std.proofs.Common.{◌≡◌, ◌≢◌, ◌⊎◌, inl, inr, ℕ, Bool, true, false, Option, Some, None, IsTrue, refl, sym, ◌∙◌, ap, subst}
+use Rattle.std.proofs.Common.{◌≡◌, ◌≢◌, ◌⊎◌, inl, inr, ℕ, Bool, true, false, Some, None, IsTrue, refl, sym, ◌∙◌, ap, subst}
 use Rattle.std.specs.Bool.{Decides}
 use Rattle.std.specs.Cmp.{IsTotalOrder, nat_cmp_total}
 use Rattle.std.specs.FinMap as map
@@ -17,7 +17,7 @@ use Rattle.gpu_alloc.specs.State.{HeldObject, Span}
 use Rattle.gpu_alloc.specs.declared.buddy.block.Leaf.{Leaf}
 use Rattle.gpu_alloc.proofs.BuddyGrants.{was_live, still_live, now_live}
 use Rattle.gpu_alloc.proofs.BuddyLeaves.{leaf_removed}
-use Rattle.gpu_alloc.proofs.Ledgers.{name_test}
+use Rattle.gpu_alloc.proofs.Maps.{name_test, one_value}
 use Rattle.gpu_alloc.proofs.LiveSpans.{span_total, span_test, live_new, live_still, live_before, live_kept, live_other}
 
 -- What is found under a key, as a map has one more or one fewer.
@@ -58,10 +58,6 @@ module _ {K X : Type 0} {R : K → K → Ordering} (o : IsTotalOrder R) (test : 
   -- and so has what is left
   differs_by_remove : (m : map.FinMap R X) (k q : K) (v : X) → map.get (map.remove m k) q ≡ Some v → q ≢ k
   differs_by_remove m k q v is same = let there : map.get (map.remove m k) k ≡ Some v = subst (λ n. map.get (map.remove m k) n ≡ Some v) same is in let none = get_gone m k in cc
-
--- one value is found
-one_value : {X : Type 0} (o : Option X) (a b : X) → o ≡ Some a → o ≡ Some b → a ≡ b
-one_value o a b is also = cc
 
 -- What changed in the table is of one object.
 pub record IsBeside (old new : Table) (object : ℕ) : Type 0 where

@@ -13,8 +13,9 @@ use Rattle.gpu_alloc.specs.declared.block.Kind.TheVariants.{Dedicated, BuddyChun
 use Rattle.gpu_alloc.specs.declared.config.Config.{Config}
 use Rattle.gpu_alloc.specs.declared.heap.Heap.{Heap}
 use Rattle.gpu_alloc.proofs.Consistency.{HoldsMore, HoldsFewer, booked-held, booked-gone}
-use Rattle.gpu_alloc.proofs.HasBuddies.{IsNoChunk, other_inserted, other_removed, beside_more, beside_fewer, buddies_beside}
-use Rattle.gpu_alloc.proofs.Ledgers.{Held, gone, name_test, eq-true}
+use Rattle.gpu_alloc.proofs.HasBuddies.{IsNoChunk, beside_more, beside_fewer, buddies_beside}
+use Rattle.gpu_alloc.proofs.Maps.{other_inserted, kept_other, gone, name_test, eq-true}
+use Rattle.gpu_alloc.proofs.Ledgers.{Held}
 
 some_also : {X : Type 0} (P Q : X → Type 0) (o : Option X) → ((x : X) → P x → Q x) → IfSome o P → IfSome o Q
 some_also P Q None also is = is
@@ -101,6 +102,6 @@ module _ (c : Config) (p : Properties) (heaps : List Heap) (buddies : List Buddy
   consistent-gone l places heap changed i here at less = record {
     books = booked-gone p heaps t remaining is.books offers now h span l heap changed i here at less;
     shared = buddies_beside c p t now buddies span.object
-        (beside_fewer t now span (λ q other. ap (λ (x : Held). finite.get x q) l.held ∙ other_removed t.held span.object q other) l.live places)
+        (beside_fewer t now span (λ q other. ap (λ (x : Held). finite.get x q) l.held ∙ kept_other t.held span.object q other) l.live places)
         is.shared (own_object t l.found) (no_object now (ap (λ (x : Held). finite.get x span.object) l.held ∙ gone t.held span.object));
   }

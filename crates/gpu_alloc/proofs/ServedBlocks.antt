@@ -2,7 +2,6 @@
 use Rattle.std.proofs.Common.{◌≡◌, ◌≢◌, ◌⊎◌, inl, inr, ℕ, ◌+◌, ◌%◌, ◌<◌, ◌≤◌, ◌^◌, cond, List, length, get_or, Option, Some, None, Ok, IfSome, IsTrue, refl, sym, ◌∙◌, ap, subst, arith}
 use Rattle.std.proofs.lemmas.Bool.{cases_eq, cases_lt}
 use Rattle.std.proofs.lemmas.Nat.{pow_pos}
-use Rattle.std.proofs.lemmas.Option.{slice_get_read}
 use Rattle.std.specs.Prelude.{MatchOption, sum_by}
 use Rattle.std.specs.FinMap as map
 use Rattle.std.specs.FinSet as set
@@ -27,12 +26,11 @@ use Rattle.gpu_alloc.specs.declared.heap.Heap.{Heap}
 use Rattle.gpu_alloc.specs.declared.request.Request.{Request}
 use Rattle.gpu_alloc.proofs.Agreeing.{not_held, there_kept, agrees_more}
 use Rattle.gpu_alloc.proofs.BuddyLeaves.{leaf_removed}
-use Rattle.gpu_alloc.proofs.Ledgers.{eq-true, sum_by-small, sum_by-within, len-within}
+use Rattle.gpu_alloc.proofs.Ledgers.{sum_by-small, sum_by-within, len-within}
+use Rattle.gpu_alloc.proofs.Maps.{eq-true, one_value}
 use Rattle.gpu_alloc.proofs.LiveSpans.{live_before, live_kept, live_other}
 use Rattle.gpu_alloc.proofs.Serving.{table_of, Serves, question_is}
-
-pub one_of : {X : Type 0} (o : Option X) (c d : X) → o ≡ Some c → o ≡ Some d → c ≡ d
-one_of o c d is also = cc
+use Rattle.gpu_alloc.proofs.HeapLists.{ledger_at}
 
 -- two ranges with no byte in both are apart
 pub ranges_apart : (a m b n : ℕ) → 0 < m → 0 < n → ((at : ℕ) → IsIn a m at → IsIn b n at → ⊥) → (a + m ≤ b) ⊎ (b + n ≤ a)
@@ -67,7 +65,7 @@ module _ (s : State) (places : map.FinMap span_cmp Place) (room index : ℕ) (b 
   one_place : (x y : Leaf) → IsLiveLeaf b x → IsLiveLeaf b y → span_of_leaf x ≡ span_of_leaf y → x ≡ y
   one_place x y live also same =
       let at = ap (λ (span : Span). map.get places span) same in
-      let place : place_of_leaf x ≡ place_of_leaf y = one_of _ _ _ (serves.of.linked.leaves x live).1 (at ∙ (serves.of.linked.leaves y also).1) in
+      let place : place_of_leaf x ≡ place_of_leaf y = one_value _ _ _ (serves.of.linked.leaves x live).1 (at ∙ (serves.of.linked.leaves y also).1) in
       λ i. leaf_at (same i) (place i)
 
   -- Returns.
@@ -87,7 +85,7 @@ module _ (s : State) (places : map.FinMap span_cmp Place) (room index : ℕ) (b 
       let of = serves.of.linked.leaves other was.1 in
       let lies = serves.of.sound.inside other was.1 in
       let own = serves.of.sound.inside leaf live in
-      let chunk : lies.chunk ≡ own.chunk = one_of _ lies.chunk own.chunk lies.held (ap (λ k. map.get b.chunks k) named ∙ own.held) in
+      let chunk : lies.chunk ≡ own.chunk = one_value _ lies.chunk own.chunk lies.held (ap (λ k. map.get b.chunks k) named ∙ own.held) in
       unused (span_of_leaf other) (live_kept s.live (span_of block) (span_of_leaf other) (λ same. was.0 (one_place other leaf was.1 live (same ∙ is))) of.0)
       (lies.object ∙ ap (λ (c : Chunk). c.object) chunk ∙ sym own.object)
 
@@ -181,7 +179,7 @@ module _ (s : State) (places : map.FinMap span_cmp Place) (room index : ℕ) (b 
       there : (name : ℕ) (h : HeldObject) (o : Object) → map.get s.held name ≡ Some h → agreement.IsThere s name h o → agreement.IsThere (with_span s (span_of_leaf leaf)) name h o
       there name h o is_held was = elim (cases_eq name leaf.object) [
         | inl here ↦
-            let same : h ≡ chunk_object b chunk = one_of _ h _ is_held (ap (λ n. map.get s.held n) (here ∙ object) ∙ serves.of.linked.chunks leaf.chunk chunk is) in
+            let same : h ≡ chunk_object b chunk = one_value _ h _ is_held (ap (λ n. map.get s.held n) (here ∙ object) ∙ serves.of.linked.chunks leaf.chunk chunk is) in
             subst (λ x. agreement.IsThere s name x o → agreement.IsThere (with_span s (span_of_leaf leaf)) name x o) (sym same) (λ t. record { of_type = t.of_type; of_size = t.of_size }) was
         | inr other ↦ there_kept s (with_span s (span_of_leaf leaf)) name h o refl (older_but s.live leaf name other) was
       ]
@@ -211,16 +209,10 @@ module _ (s : State) (places : map.FinMap span_cmp Place) (room index : ℕ) (b 
 
   -- The ledger and the count.
 
-  -- the heap's ledger is the sum over the held objects
-  used_is : (heaps : List Heap) (i : ℕ) (heap : Heap) → IsBooked s.properties heaps (table_of s places room) s.remaining → i < length heaps → heap ≡ get_or heaps i heap
-      → heap.used ≡ sum_by (share s.properties i) (map.entries s.held)
-  used_is heaps i heap booked inside at =
-      subst (λ (o : Option Heap). IfSome o (λ h. h.used ≡ sum_by (share s.properties i) (map.entries s.held))) (slice_get_read heaps (length heaps) i heap refl inside at) (booked.ledgers i)
-
   pub buddy_counted : (heaps : List Heap) (i : ℕ) (heap : Heap) → IsBooked s.properties heaps (table_of s places room) s.remaining → i ≡ heap_at s.properties index → i < length heaps → heap ≡ get_or heaps i heap
       → buddy.IsCounted (account b heap s.remaining)
   buddy_counted heaps i heap booked here inside at = record {
-    chunks = subst (λ n. chunk_bytes b ≤ n) (sym (used_is heaps i heap booked inside at)) bytes;
+    chunks = subst (λ n. chunk_bytes b ≤ n) (sym (ledger_at s.properties heaps i heap (map.entries s.held) booked.ledgers inside at)) bytes;
     objects = omega (arith, booked.count, count);
   }
     where
@@ -238,7 +230,7 @@ module _ (s : State) (places : map.FinMap span_cmp Place) (room index : ℕ) (b 
 
   pub ledger_bounded : (heaps : List Heap) (i : ℕ) (heap : Heap) → IsBooked s.properties heaps (table_of s places room) s.remaining → i < length heaps → heap ≡ get_or heaps i heap → heap.used ≤ 2 ^ 127
   ledger_bounded heaps i heap booked inside at =
-      omega (arith, used_is heaps i heap booked inside at, sum_by-small s.properties i (map.entries s.held) booked.small, map.len-entries s.held, booked.count)
+      omega (arith, ledger_at s.properties heaps i heap (map.entries s.held) booked.ledgers inside at, sum_by-small s.properties i (map.entries s.held) booked.small, map.len-entries s.held, booked.count)
 
   -- What is told of a granted block.
 
@@ -251,7 +243,7 @@ module _ (s : State) (places : map.FinMap span_cmp Place) (room index : ℕ) (b 
     aligned = granted.aligned;
     whole_atoms = λ _. subst (λ atom. (leaf.offset % atom ≡ 0) × (leaf.size % atom ≡ 0)) serves.of.for_type.atom granted.whole_atoms;
     buddy = λ _. (granted.power, granted.front);
-    inside = (h, held, omega (arith, granted.inside.2.1, ap (λ (c : Chunk). c.size) (one_of _ granted.inside.0 chunk granted.inside.1 chunk_is), counted));
+    inside = (h, held, omega (arith, granted.inside.2.1, ap (λ (c : Chunk). c.size) (one_value _ granted.inside.0 chunk granted.inside.1 chunk_is), counted));
     unmapped = refl;
     owned = owned;
     was_free = apart;

@@ -3,10 +3,8 @@ use Rattle.std.proofs.Common.{◌≡◌, ◌⊎◌, inl, inr, ℕ, ◌+◌, ◌-
 use Rattle.std.proofs.Math.ListN.{set}
 use Rattle.gpu_alloc.proofs.AlignedPowers.{pow-le}
 use Rattle.std.proofs.lemmas.Nat.{pow_pos}
-use Rattle.std.specs.Cmp.{nat_cmp_total}
 use Rattle.std.specs.FinMap as finite
 use Rattle.std.specs.FinSet as set_of
-use Rattle.std.specs.Ordering.{nat_cmp}
 use Rattle.gpu_alloc_types.specs.Device.{Event, Object}
 use Rattle.gpu_alloc_types.specs.Properties.{Properties, heap_at}
 use Rattle.gpu_alloc.specs.Agreement as agreement
@@ -26,7 +24,8 @@ use Rattle.gpu_alloc.specs.declared.heap.Heap.{Heap}
 use Rattle.gpu_alloc.specs.declared.limits.Limits.{Limits}
 use Rattle.gpu_alloc.specs.declared.request.Request.{Request}
 use Rattle.gpu_alloc.proofs.Agreeing.{not_held}
-use Rattle.gpu_alloc.proofs.Ledgers.{Held, name_test, eq-true, len_more}
+use Rattle.gpu_alloc.proofs.Ledgers.{Held, len_more}
+use Rattle.gpu_alloc.proofs.Maps.{own_inserted}
 use Rattle.gpu_alloc.proofs.Links.{HasLeafMore}
 use Rattle.gpu_alloc.proofs.LiveSpans.{live_new}
 use Rattle.gpu_alloc.proofs.ServedBlocks.{apart_is, objects_are, agrees_with_span, agrees_with_chunk, granted_is}
@@ -38,9 +37,6 @@ apart_itself : (span : Span) → 0 < span.size → AreApart span span → ⊥
 apart_itself span some (inl other) = other refl
 apart_itself span some (inr (inl before)) = absurd (omega (arith, before, some))
 apart_itself span some (inr (inr after)) = absurd (omega (arith, after, some))
-
-get_own : {X : Type 0} (m : finite.FinMap nat_cmp X) (k : ℕ) (v : X) → finite.get (finite.insert m k v) k ≡ Some v
-get_own m k v = finite.get-insert nat_cmp_total m k v k ∙ ap (λ b. cond b (Some v) (finite.get m k)) (name_test k k ∙ eq-true k k refl)
 
 -- a request to a buddy allocator among the fields, and the block that it gave
 pub record Given {A : Type 0} (l : Limits A) (heaps : List Heap) (buddies : List Buddy) (t : Table) (remaining index i : ℕ) (b : Buddy) (heap : Heap) (r : Request) (flags : ℕ) (leaf : Leaf) (q : Properties) (old : ℕ → Option Object) : Type 0 where
@@ -142,7 +138,7 @@ module _ {A : Type 0} {l : Limits A} {heaps : List Heap} {buddies : List Buddy} 
         let n = chunk_size b size in
         let chunk : Chunk = record { object = leaf.object; size = n } in
         let after_buddy = ap (λ (a : Account). a.buddy) after_is in
-        let chunk_now : finite.get after.buddy.chunks leaf.chunk ≡ Some chunk = ap (λ (x : Buddy). finite.get x.chunks leaf.chunk) after_buddy ∙ get_own b.chunks leaf.chunk chunk in
+        let chunk_now : finite.get after.buddy.chunks leaf.chunk ≡ Some chunk = ap (λ (x : Buddy). finite.get x.chunks leaf.chunk) after_buddy ∙ own_inserted b.chunks leaf.chunk chunk in
         let is_counted : n ≡ counted = subst (λ (o : Option Chunk). IfSome o (λ c. c.size ≡ counted)) chunk_now size_is in
         let row_is : chunk_row ≡ record { memory_type = index; counted = n; kind = BuddyChunk } = λ k. record chunk_row { counted = sym is_counted k } in
         let held_now = held ∙ ap (λ (o : Option HeldObject). cond (is_some o) t.held (finite.insert t.held leaf.object chunk_row)) free ∙ ap (finite.insert t.held leaf.object) row_is in
@@ -153,7 +149,7 @@ module _ {A : Type 0} {l : Limits A} {heaps : List Heap} {buddies : List Buddy} 
         let state = state_with_chunk l heaps buddies t remaining index b given.is given.known given.at i heap given.here given.at_heap leaf n now changed begins.free_key free some small sound_now held_now more refl in
         let asked = asked_size l heaps buddies t remaining index b given.is given.known given.at i heap given.here given.at_heap size in
         let state_asked = state ∙ ap (λ m. with_span (with_buddy_chunk before index leaf.object m) (span_of_leaf leaf)) asked in
-        let found_now = ap (λ (x : Held). finite.get x leaf.object) held_now ∙ get_own t.held leaf.object (record { memory_type = index; counted = n; kind = BuddyChunk }) in
+        let found_now = ap (λ (x : Held). finite.get x leaf.object) held_now ∙ own_inserted t.held leaf.object (record { memory_type = index; counted = n; kind = BuddyChunk }) in
         subst IsServed (sym after_is) (record {
           consistent = consistent_with_chunk l heaps buddies t remaining index b given.is given.known given.at i heap given.here given.at_heap leaf n now changed begins.free_key free some small sound_now held_now more refl;
           gives = inr (subst (GivesInNewChunk before index size es (span_of_leaf leaf)) (sym state_asked) gives);

@@ -20,9 +20,10 @@ use Rattle.gpu_alloc.specs.declared.buddy.block.Leaf.{Leaf}
 use Rattle.gpu_alloc.specs.declared.heap.Heap.{Heap}
 use Rattle.gpu_alloc.specs.declared.limits.Limits.{Limits}
 use Rattle.gpu_alloc.proofs.Consistency.{heap_there, booked-held, booked-span}
-use Rattle.gpu_alloc.proofs.HasBuddies.{beside_more, buddies_set, other_inserted}
+use Rattle.gpu_alloc.proofs.HasBuddies.{beside_more, buddies_set}
+use Rattle.gpu_alloc.proofs.Maps.{other_inserted, name_test, eq-true}
 use Rattle.gpu_alloc.proofs.HeapLists.{properties_kept, state_kept}
-use Rattle.gpu_alloc.proofs.Ledgers.{Held, name_test, eq-true}
+use Rattle.gpu_alloc.proofs.Ledgers.{Held}
 use Rattle.gpu_alloc.proofs.Links.{HasLeafMore, linked_with_leaf, linked_with_chunk}
 use Rattle.gpu_alloc.proofs.ServedBlocks.{buddy_counted, ledger_bounded}
 use Rattle.gpu_alloc.proofs.Serving.{Serves, question_is}

@@ -25,13 +25,14 @@ use Rattle.gpu_alloc.specs.declared.limits.Limits.{Limits}
 use Rattle.gpu_alloc.specs.declared.spans.LiveSpan.{LiveSpan}
 use Rattle.gpu_alloc.proofs.Agreeing.{there_kept, agrees_returned}
 use Rattle.gpu_alloc.proofs.Consistency.{HoldsFewer, known_object, booked-gone, booked-span_gone}
-use Rattle.gpu_alloc.proofs.HasBuddies.{beside_fewer, buddies_set, other_removed}
+use Rattle.gpu_alloc.proofs.HasBuddies.{beside_fewer, buddies_set}
+use Rattle.gpu_alloc.proofs.Maps.{kept_other, gone, eq-true, eq-false, one_value}
 use Rattle.gpu_alloc.proofs.HeapLists.{properties_kept, state_kept}
-use Rattle.gpu_alloc.proofs.Ledgers.{Held, gone, eq-true, eq-false}
+use Rattle.gpu_alloc.proofs.Ledgers.{Held}
 use Rattle.gpu_alloc.proofs.Links.{HasLeafLess, linked_without_leaf, linked_without_chunk}
 use Rattle.gpu_alloc.proofs.LiveSpans.{span_test, live_kept, live_other}
 use Rattle.gpu_alloc.proofs.Returns.{returned, total_returned}
-use Rattle.gpu_alloc.proofs.ServedBlocks.{one_of, buddy_agrees, unused_is, unused_was}
+use Rattle.gpu_alloc.proofs.ServedBlocks.{buddy_agrees, unused_is, unused_was}
 use Rattle.gpu_alloc.proofs.Serving.{Serves}
 use Rattle.gpu_alloc.proofs.SharedGrants.{same_set, serves, buddy_of, same_for, counted_before}
 use Rattle.gpu_alloc.proofs.TypeStates.{types_kept}
@@ -86,7 +87,7 @@ module _ {A : Type 0} (l : Limits A) (heaps : List Heap) (buddies : List Buddy) 
   given_back here at_heap span place leaf_is =
       let of = buddy_of l heaps buddies t remaining index b is known_type at in
       let there = of.linked.spans (span_of block) owned.held.0 owned.live (record { held = owned.held.1; of_kind = owned.held.3 ∙ shared; of_type = owned.held.2 ∙ sym typed ∙ sym of.for_type.memory_type }) in
-      let one : place_in row ≡ there.0 = one_of _ (place_in row) there.0 (sym place) there.1.0 in
+      let one : place_in row ≡ there.0 = one_value _ (place_in row) there.0 (sym place) there.1.0 in
       let leaf_there : leaf ≡ leaf_at (span_of block) there.0 = leaf_is ∙ (λ k. leaf_at (span k) (one k)) in
       record {
         is = is;
@@ -209,7 +210,7 @@ module _ {A : Type 0} {l : Limits A} {heaps : List Heap} {buddies : List Buddy} 
             books = booked-gone p heaps t remaining given.is.books refl now chunk_row (span_of_leaf leaf) fewer
                 heap changed i (given.here ∙ ap (heap_at p) (sym own.for_type.memory_type)) given.at_heap (ap (λ (h : Heap). h.used) counts);
             shared = buddies_set l.config p t now buddies leaf.object
-                (beside_fewer t now (span_of_leaf leaf) (λ q other. ap (λ (x : Held). finite.get x q) held ∙ other_removed t.held leaf.object q other) less.live less.places) given.is.shared index buddy_after
+                (beside_fewer t now (span_of_leaf leaf) (λ q other. ap (λ (x : Held). finite.get x q) held ∙ kept_other t.held leaf.object q other) less.live less.places) given.is.shared index buddy_after
                 of_type (subst (λ (o : Option HeldObject). IfSome o (λ h. h.memory_type ≡ index)) (sym (ap (λ (x : Held). finite.get x leaf.object) held ∙ gone t.held leaf.object)) tt) buddy_goes;
           })
 
@@ -276,7 +277,7 @@ module _ {A : Type 0} {l : Limits A} {heaps : List Heap} {buddies : List Buddy} 
       goes : IsUnusedChunk (without_leaf b leaf) leaf.chunk → (chunk : Chunk) → finite.get b.chunks leaf.chunk ≡ Some chunk → es ≡ Deallocated leaf.object ∷ []
           → after ≡ account (record (without_leaf b leaf) { chunks = finite.remove b.chunks leaf.chunk }) (record heap { used = heap.used - chunk.size }) (remaining + 1) → new ≡ put old leaf.object None → IsReturned after
       goes unused chunk chunk_is told after_is gone_object =
-          let one : chunk ≡ lies.chunk = one_of _ chunk lies.chunk chunk_is lies.held in
+          let one : chunk ≡ lies.chunk = one_value _ chunk lies.chunk chunk_is lies.held in
           let changed : Heap = record heap { used = heap.used - chunk.size } in
           let counts : ◌≡◌ {A = Heap} changed (record heap { used = heap.used - lies.chunk.size }) = λ k. record heap { used = heap.used - (one k).size } in
           let after_buddy : Buddy = record (without_leaf b leaf) { chunks = finite.remove b.chunks leaf.chunk } in

@@ -13,7 +13,8 @@ use Rattle.gpu_alloc.specs.declared.block.Kind.TheVariants.{Dedicated, BuddyChun
 use Rattle.gpu_alloc.specs.declared.config.Config.{Config}
 use Rattle.gpu_alloc.specs.declared.heap.Heap.{Heap}
 use Rattle.gpu_alloc.specs.declared.limits.Limits.{Limits}
-use Rattle.gpu_alloc.proofs.ServedBlocks.{one_of, ranges_apart}
+use Rattle.gpu_alloc.proofs.ServedBlocks.{ranges_apart}
+use Rattle.gpu_alloc.proofs.Maps.{one_value}
 
 -- what holds of each element that is there holds of one
 element : {X : Type 0} (P : X → Type 0) (xs : List X) (i : ℕ) → i < length xs → IfSome (slice_get xs i) P → (x : X) × P x
@@ -48,7 +49,7 @@ module _ {c : Config} {p : Properties} {t : Table} {b : Buddy} {object : ℕ} {h
   of_chunk span place live named =
       let lies = is.sound.inside (leaf_at span place) live in
       let key = is.sound.one_object place.chunk by_key.0 lies.chunk (chunk_at object h) lies.held by_key.1 (sym lies.object ∙ named) in
-      let same : lies.chunk ≡ chunk_at object h = one_of _ lies.chunk (chunk_at object h) lies.held (ap (λ k. map.get b.chunks k) key ∙ by_key.1) in
+      let same : lies.chunk ≡ chunk_at object h = one_value _ lies.chunk (chunk_at object h) lies.held (ap (λ k. map.get b.chunks k) key ∙ by_key.1) in
       (key, omega (arith, lies.inside, ap (λ (x : Chunk). x.size) same), omega (arith, lies.power.1, pow_pos lies.power.0))
 
   chunk_inside : (span : Span) → IsLiveIn t span → span.object ≡ object → span.offset + span.size ≤ h.counted
@@ -69,7 +70,7 @@ module _ {c : Config} {p : Properties} {t : Table} {b : Buddy} {object : ℕ} {h
   chunk_used =
       let leaf = is.sound.used by_key.0 (chunk_at object h) by_key.1 in
       let lies = is.sound.inside leaf.0 leaf.1.0 in
-      let same : lies.chunk ≡ chunk_at object h = one_of _ lies.chunk (chunk_at object h) lies.held (ap (λ k. map.get b.chunks k) leaf.1.1 ∙ by_key.1) in
+      let same : lies.chunk ≡ chunk_at object h = one_value _ lies.chunk (chunk_at object h) lies.held (ap (λ k. map.get b.chunks k) leaf.1.1 ∙ by_key.1) in
       (span_of_leaf leaf.0, (is.linked.leaves leaf.0 leaf.1.0).0, lies.object ∙ ap (λ (x : Chunk). x.object) same)
 
 -- Each held object.
@@ -85,7 +86,7 @@ module _ {c : Config} {p : Properties} {t : Table} {buddies : List Buddy} {heaps
   is_whole : (span : Span) (h : HeldObject) → IsLiveIn t span → map.get t.held span.object ≡ Some h → h.kind ≡ Dedicated → span ≡ whole_span span.object h
   is_whole span h live held kind =
       let of = books.spans span live in
-      let same : of.object ≡ h = one_of _ of.object h of.held held in
+      let same : of.object ≡ h = one_value _ of.object h of.held held in
       of.whole (ap (λ (x : HeldObject). x.kind) same ∙ kind) ∙ ap (whole_span span.object) same
 
   lies_inside : (span : Span) → IsLiveIn t span → (h : HeldObject) × (map.get t.held span.object ≡ Some h) × (span.offset + span.size ≤ h.counted)
