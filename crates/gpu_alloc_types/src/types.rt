@@ -45,6 +45,19 @@ pub struct MemoryHeap {
     pub size: u64,
 }
 
+/// A free range of a memory object, in bytes.
+#[derive(Clone, Copy, Debug, PartialEq, Eq, Hash)]
+pub struct FreeRange {
+    /// The name of the object.
+    pub object: u64,
+
+    /// Where it starts in the object, in bytes.
+    pub start: u64,
+
+    /// Where it ends, in bytes.
+    pub end: u64,
+}
+
 /// What a device offers.
 #[derive(Clone, Debug, Drop)]
 pub struct DeviceProperties<'a> {
