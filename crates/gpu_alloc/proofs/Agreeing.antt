@@ -1,4 +1,4 @@
--- An allocator and its device that agree, as both hold one object more, or one fewer.
+-- An allocator and its device that agree, as both hold one object more or one fewer, and as a block goes.
 use Rattle.std.proofs.Common.{◌≡◌, ◌≢◌, inl, inr, ℕ, ◌==◌, Bool, true, false, cond, Option, Some, None, IfSome, refl, sym, ◌∙◌, ap, subst, arith}
 use Rattle.std.proofs.lemmas.Bool.Decides.{nat_tests}
 use Rattle.std.specs.Cmp.{nat_cmp_total}
@@ -7,12 +7,13 @@ use Rattle.gpu_alloc_types.specs.Properties.{Properties}
 use Rattle.gpu_alloc_types.specs.Device.{Object, HeldWith, put}
 use Rattle.gpu_alloc_types.specs.Objects.{put-same, put-other}
 use Rattle.gpu_alloc.specs.State.{State, HeldObject, Span, Block, IsLive, span_of}
+use Rattle.gpu_alloc.specs.Release.{without_span}
 use Rattle.gpu_alloc.specs.Agreement.{Agrees, IsThere, IsCounted, IsInside, IsMappedWhole}
 use Rattle.gpu_alloc.specs.Allocation.{HasOneMore, holding}
 use Rattle.gpu_alloc.specs.declared.block.Kind.{Kind}
 use Rattle.gpu_alloc.specs.declared.block.Kind.TheVariants.{Dedicated, Imported, BuddyChunk, FreeListChunk}
 use Rattle.gpu_alloc.proofs.Maps.{name_test}
-use Rattle.gpu_alloc.proofs.LiveSpans.{live_before}
+use Rattle.gpu_alloc.proofs.LiveSpans.{live_before, live_other}
 
 -- the spans of an object that are live were live
 abbrev pub IsOlder : State → State → ℕ → Type 0
@@ -93,3 +94,15 @@ agrees_returned s now p q f g b a same_p gone same held older =
           subst (λ (v : Option HeldObject). IfSome v (λ x. HeldWith (put f b.object None) name (IsThere now name x))) (sym e)
           (there_fewer s now f b.object name (finite.get s.held name) (name == b.object) refl same (λ span live of_it. older span live) (a.holds name));
     })
+
+-- One live span fewer.
+
+pub agrees_without_span : (s : State) (p q : Properties) (objects : ℕ → Option Object) (block : Block) → Agrees s p objects → q ≡ p → Agrees (without_span s block) q objects
+agrees_without_span s p q objects block agrees same = record {
+  properties = same ∙ agrees.properties;
+  holds = λ name. held name (finite.get s.held name) (agrees.holds name);
+}
+  where
+    held : (name : ℕ) (v : Option HeldObject) → IfSome v (λ h. HeldWith objects name (IsThere s name h)) → IfSome v (λ h. HeldWith objects name (IsThere (without_span s block) name h))
+    held name None was = tt
+    held name (Some h) was = (was.0, was.1, there_kept s (without_span s block) name h was.0 refl (λ span live of_it. (live_other s.live (span_of block) span live).1) was.2)

@@ -1,6 +1,6 @@
--- What follows from the answer to a request: agreement with the device, the totals, and what is known of the block.
+-- What follows from a buddy allocator's answer to a request: agreement with the device, the totals, and what is known of the block.
 use Rattle.std.proofs.Common.{◌≡◌, ◌≢◌, ◌⊎◌, inl, inr, ℕ, ◌+◌, ◌*◌, ◌-◌, ◌%◌, ◌^◌, ◌<◌, ◌≤◌, List, [], Option, Some, None, Result, Ok, Err, refl, sym, ◌∙◌, ap, subst, arith}
-use Rattle.std.specs.Prelude.{IfSome, IfOk, OnErr, max}
+use Rattle.std.specs.Prelude.{IfSome, IfOk, max}
 use Rattle.std.specs.FinMap as map
 use Rattle.gpu_alloc_types.specs.Device.{Object, Event, HeldWith}
 use Rattle.gpu_alloc_types.specs.Objects.{put-same, put-other}
@@ -14,13 +14,14 @@ use Rattle.gpu_alloc.specs.declared.buddy.block.Leaf.{Leaf}
 use Rattle.gpu_alloc.specs.declared.error.AllocationError.{AllocationError}
 use Rattle.gpu_alloc.specs.declared.error.AllocationError.TheVariants.{OutOfDeviceMemory, OutOfHostMemory, NoCompatibleMemoryTypes, TooManyObjects}
 use Rattle.std.proofs.lemmas.Nat.{pow_pos}
-use Rattle.std.proofs.Math.Nat.{mul_assoc, mul-mod_left, zero-mul, one-mul}
+use Rattle.std.proofs.Math.Nat.{zero-mul, one-mul}
 use Rattle.gpu_alloc.specs.Request.{IsAlignMask}
-use Rattle.gpu_alloc.proofs.AlignedPowers.{doubled, pow-le, order-le, pow-from_shorter}
+use Rattle.gpu_alloc.proofs.AlignedPowers.{doubled, pow-le}
 use Rattle.gpu_alloc.proofs.PowersOfTwo.{is_next_power_of_two, power_of_bit, greater_power}
 use Rattle.gpu_alloc.proofs.Ledgers.{sum_by-insert, len_more}
-use Rattle.gpu_alloc.proofs.Maps.{one_value}
-use Rattle.gpu_alloc.proofs.BuddyGrants.{if_some, chunk_cases, now_live, other_objects, power_up_to, sound_with_leaf, sound_with_chunk}
+use Rattle.gpu_alloc.proofs.Maps.{one_value, inserted_cases}
+use Rattle.gpu_alloc.proofs.BuddyGrants.{if_some, now_live, other_objects, power_up_to, sound_with_leaf, sound_with_chunk}
+use Rattle.gpu_alloc.proofs.Multiples.{multiple_of_lower, mod_from_multiple}
 
 -- Sizes whose chunk fits.
 
@@ -42,12 +43,13 @@ pub agrees_with_leaf : (b : Buddy) (leaf : Leaf) (p : Properties) (f : ℕ → O
 agrees_with_leaf b leaf p f a = record { known = a.known; props = a.props; holds = a.holds }
 
 -- each held chunk is there still, once the device holds one object more
-still_held : (q : ChunkQuestion) (object : ℕ) (f g : ℕ → Option Object) (P : Object → Type 0) (name : ℕ) → HasOneChunkMore q object f g → HeldWith f name P → HeldWith g name P
+pub still_held : (q : ChunkQuestion) (object : ℕ) (f g : ℕ → Option Object) (P : Object → Type 0) (name : ℕ) → HasOneChunkMore q object f g → HeldWith f name P → HeldWith g name P
 still_held q object f g P name more held =
     let other : name ≢ object = λ same. let none : f name ≡ None = ap f same ∙ more.0 in let both = held.1 in cc in
     (held.0, ap (λ h. h name) more.1.2 ∙ put-other f object (Some more.1.0) name other ∙ held.1, held.2)
 
-new_is_there : (q : ChunkQuestion) (chunk : Chunk) (f g : ℕ → Option Object) → HasOneChunkMore q chunk.object f g → chunk.size ≡ q.size → HeldWith g chunk.object (IsThere q.memory_type q.visible chunk)
+-- and the new one is
+pub new_is_there : (q : ChunkQuestion) (chunk : Chunk) (f g : ℕ → Option Object) → HasOneChunkMore q chunk.object f g → chunk.size ≡ q.size → HeldWith g chunk.object (IsThere q.memory_type q.visible chunk)
 new_is_there q chunk f g more size =
     let o : Object = more.1.0 in (
       o,
@@ -73,7 +75,7 @@ agrees_with_chunk b leaf size flags p f g a more = record {
   where
     all_held : (key : ℕ) (found : Option Chunk) → map.get (map.insert b.chunks leaf.chunk (record { object = leaf.object; size = chunk_size b size })) key ≡ found → IfSome found (IsHeldChunk b g)
     all_held key None e = tt
-    all_held key (Some chunk) e = elim (chunk_cases b.chunks leaf.chunk (record { object = leaf.object; size = chunk_size b size }) key chunk e) [
+    all_held key (Some chunk) e = elim (inserted_cases b.chunks leaf.chunk (record { object = leaf.object; size = chunk_size b size }) key chunk e) [
       | inl new ↦ subst (IsHeldChunk b g) new.1 (new_is_there (question b size flags) (record { object = leaf.object; size = chunk_size b size }) f g more refl)
       | inr old ↦ still_held (question b size flags) leaf.object f g (IsThere b.memory_type (sees_chunks b) chunk) chunk.object more
           (if_some (λ c. HeldWith f c.object (IsThere b.memory_type (sees_chunks b) c)) (map.get b.chunks key) chunk old (a.holds key))
@@ -130,17 +132,9 @@ answers_counted a new size flags es answer counted answers = record {
 
 -- What is sound stays so.
 
--- a multiple of a power of two is one of each lower power
-of_lower_power : (x n m j k : ℕ) → n ≡ 2 ^ j → m ≡ 2 ^ k → n ≤ m → IsMultipleOf m x → IsMultipleOf n x
-of_lower_power x n m j k n_is m_is le (q, is) =
-    let le' : j ≤ k = order-le j k (omega (arith, n_is, m_is, le)) in
-    let e = pow-from_shorter j k le' in
-    (q * 2 ^ (k - j), is ∙ ap (λ z. q * z) (m_is ∙ e) ∙ sym (mul_assoc q (2 ^ (k - j)) (2 ^ j)) ∙ ap (λ z. q * 2 ^ (k - j) * z) (sym n_is))
-
-lower_multiple : (x n m j k : ℕ) → n ≡ 2 ^ j → m ≡ 2 ^ k → n ≤ m → IsMultipleOf m x → x % n ≡ 0
-lower_multiple x n m j k n_is m_is le multiple =
-    let (q, is) = of_lower_power x n m j k n_is m_is le multiple in
-    ap (λ z. z % n) is ∙ mul-mod_left q n
+-- a multiple of a power of two leaves no rest by a lower one
+lower_multiple : (x n m : ℕ) → IsPowerOfTwo n → IsPowerOfTwo m → n ≤ m → IsMultipleOf m x → x % n ≡ 0
+lower_multiple x n m of_n of_m le multiple = mod_from_multiple n x (multiple_of_lower n m x of_n of_m le multiple)
 
 -- the front of a free piece lies in its chunk
 front_lies : (b : Buddy) (size : ℕ) (leaf : Leaf) → IsPowerOfTwo size → IsFront b size leaf → LiesInChunk b leaf
@@ -155,7 +149,7 @@ front_lies b size leaf power at =
       held = at.held;
       object = at.object;
       power = (power.0, size_is ∙ power.1);
-      aligned = of_lower_power leaf.offset leaf.size at.length power.0 place.power.0 (size_is ∙ power.1) place.power.1 (omega (arith, size_is, at.enough)) place.aligned;
+      aligned = multiple_of_lower leaf.size at.length leaf.offset (power.0, size_is ∙ power.1) place.power (omega (arith, size_is, at.enough)) place.aligned;
       inside = omega (arith, size_is, some, power.1, last.inside, ap (λ (c : Chunk). c.size) same);
     }
 
@@ -208,10 +202,10 @@ answers_granted a new w size flags es leaf p f g s agrees r (inl front) (inr kep
     let there = lies_now (with_leaf a.buddy leaf) new leaf (ap (λ (x : Account). x.buddy) front.1.1.1) (answers_sound a new size flags es (Ok leaf) p f g s agrees r.power (inl front) (inr kept)) (now_live a.buddy leaf) in
     rw (front.1.1.1) (record {
       enough = omega (arith, size_is, r.enough);
-      aligned = lower_multiple leaf.offset (w.align_mask + 1) at.length r.alignment.0 place.power.0 r.alignment.1 place.power.1 (omega (arith, r.aligned, at.enough)) place.aligned;
+      aligned = lower_multiple leaf.offset (w.align_mask + 1) at.length r.alignment place.power (omega (arith, r.aligned, at.enough)) place.aligned;
       whole_atoms = (
-        lower_multiple leaf.offset a.buddy.atom at.length r.atom.0 place.power.0 r.atom.1 place.power.1 (omega (arith, r.whole_atoms, at.enough)) place.aligned,
-        lower_multiple leaf.size a.buddy.atom size r.atom.0 r.power.0 r.atom.1 r.power.1 r.whole_atoms (1, size_is ∙ sym (one-mul size)),
+        lower_multiple leaf.offset a.buddy.atom at.length r.atom place.power (omega (arith, r.whole_atoms, at.enough)) place.aligned,
+        lower_multiple leaf.size a.buddy.atom size r.atom r.power r.whole_atoms (1, size_is ∙ sym (one-mul size)),
       );
       power = there.power;
       front = there.aligned;
@@ -229,10 +223,10 @@ answers_granted a new w size flags es leaf p f g s agrees r (inr begins) (inl ma
     let there = lies_now (with_leaf chunk leaf) new leaf (ap (λ (x : Account). x.buddy) begins.1.1.1) (answers_sound a new size flags es (Ok leaf) p f g s agrees r.power (inr begins) (inl made)) (now_live chunk leaf) in
     rw (begins.1.1.1) (record {
       enough = omega (arith, size_is, r.enough);
-      aligned = lower_multiple leaf.offset (w.align_mask + 1) (w.align_mask + 1) r.alignment.0 r.alignment.0 r.alignment.1 r.alignment.1 (omega arith) (0, at.start ∙ sym (zero-mul (w.align_mask + 1)));
+      aligned = lower_multiple leaf.offset (w.align_mask + 1) (w.align_mask + 1) r.alignment r.alignment (omega arith) (0, at.start ∙ sym (zero-mul (w.align_mask + 1)));
       whole_atoms = (
-        lower_multiple leaf.offset a.buddy.atom a.buddy.atom r.atom.0 r.atom.0 r.atom.1 r.atom.1 (omega arith) (0, at.start ∙ sym (zero-mul a.buddy.atom)),
-        lower_multiple leaf.size a.buddy.atom size r.atom.0 r.power.0 r.atom.1 r.power.1 r.whole_atoms (1, size_is ∙ sym (one-mul size)),
+        lower_multiple leaf.offset a.buddy.atom a.buddy.atom r.atom r.atom (omega arith) (0, at.start ∙ sym (zero-mul a.buddy.atom)),
+        lower_multiple leaf.size a.buddy.atom size r.atom r.power r.whole_atoms (1, size_is ∙ sym (one-mul size)),
       );
       power = there.power;
       front = there.aligned;
@@ -256,13 +250,6 @@ rounds b w s small mask =
       atom = (s.atom.0, s.atom.1.1);
       whole_atoms = omega (arith, n.enough);
     }
-
-pub answers_refused : (a new : Account) (size flags : ℕ) (es : List Event) (answer : Result Leaf AllocationError) → Answers a size flags es answer new
-    → OnErr answer ((new.buddy ≡ a.buddy) × ((new.heap ≡ a.heap) × (new.remaining ≡ a.remaining)))
-answers_refused a new size flags es (Ok leaf) answers = tt
-answers_refused a new size flags es (Err e) answers =
-    let same = refused_keeps a new size flags es e answers in
-    (ap (λ (x : Account). x.buddy) same, (ap (λ (x : Account). x.heap) same, ap (λ (x : Account). x.remaining) same))
 
 pub answers_all_granted : (a new : Account) (w : Wanted) (size flags : ℕ) (es : List Event) (answer : Result Leaf AllocationError) (p : Properties) (f g : ℕ → Option Object) → IsSound a.buddy → Agrees a.buddy p f
     → IsRoundedTo a.buddy w size → Answers a size flags es answer new → ObjectsAfter a.buddy size flags answer f g → IfOk answer (IsGranted a.buddy w new.buddy)

@@ -1,17 +1,14 @@
 -- The free bytes of a buddy allocator, as a block is given out and comes back, and as a chunk comes and goes. The records
 -- before and after may differ in other fields too.
 use Rattle.std.proofs.Common.{◌≡◌, ℕ, ◌+◌, ◌-◌, ◌^◌, ◌<◌, ◌≤◌, ◌≢◌, ◌==◌, inl, inr, List, get_or, Option, Some, None, refl, sym, ◌∙◌, ap, subst, arith}
-use Rattle.std.specs.Cmp.{nat_cmp_total}
 use Rattle.std.specs.FinMap as map
 use Rattle.std.specs.FinSet as set
 use Rattle.std.specs.List.{All, Contains}
-use Rattle.std.specs.Ordering.{nat_cmp}
 use Rattle.std.proofs.lemmas.Bool.{cases_lt, cases_eq}
 use Rattle.std.proofs.lemmas.Bool.Decides.{Decides-eqb}
 use Rattle.std.proofs.lemmas.List.Elements.{Contains-get_or}
 use Rattle.std.proofs.lemmas.Nat.{pow_pos}
 use Rattle.std.proofs.Math.Nat.{zero-mul}
-use Rattle.std.proofs.Math.Pow.{pow_mono}
 use mathlib.Core.Bool.{true≢false}
 use Rattle.gpu_alloc.specs.BuddyState.{Chunk, Buddy, IsLiveLeaf, IsFreeAt}
 use Rattle.gpu_alloc.specs.FreeSpace.{IsIn, IsMultipleOf, IsPlace, IsFreePiece}
@@ -19,40 +16,11 @@ use Rattle.gpu_alloc.specs.Pieces.{InPiece, Without, AreKept, AreKeptBeside}
 use Rattle.gpu_alloc.specs.declared.buddy.block.Leaf.{Leaf}
 use Rattle.gpu_alloc.specs.declared.buddy.pieces.Piece.{Piece}
 use Rattle.gpu_alloc.proofs.AlignedPowers.{order-le}
-use Rattle.gpu_alloc.proofs.Maps.{name_test, eq-true, eq-false, one_value, gone, kept_other}
+use Rattle.gpu_alloc.proofs.Maps.{one_value, gone, kept_other, own_inserted, other_inserted}
 use Rattle.gpu_alloc.proofs.BuddyLeaves.{in_leaves, leaf_inserted, leaf_removed, leaf_same_or_left}
-use Rattle.gpu_alloc.proofs.ExactPieces.{whole_chunk, piece_for_place, kept_is_free_piece, free_piece_is_kept}
+use Rattle.gpu_alloc.proofs.ExactPieces.{whole_chunk, piece_for_place}
 use Rattle.gpu_alloc.proofs.Lists.{seek, all_contained}
 use Rattle.gpu_alloc.proofs.PieceSteps.{same_bytes}
-
--- Free bytes depend on the chunks and the live blocks alone.
-
-pub free_by : (b b' : Buddy) → b'.chunks ≡ b.chunks → b'.live ≡ b.live → (chunk at : ℕ) → IsFreeAt b chunk at → IsFreeAt b' chunk at
-free_by b b' chunks live chunk at f = record {
-  held = f.held;
-  is = ap (λ m. map.get m chunk) chunks ∙ f.is;
-  inside = f.inside;
-  unused = λ leaf is. f.unused leaf (ap (λ s. set.contains s leaf) (sym live) ∙ is);
-}
-
-pub kept_by : (b b' : Buddy) (pieces : List Piece) → b'.chunks ≡ b.chunks → b'.live ≡ b.live → AreKept pieces (IsFreeAt b) → AreKept pieces (IsFreeAt b')
-kept_by b b' pieces chunks live k = record {
-  canonical = same_bytes (Contains pieces) (IsFreeAt b) (IsFreeAt b') (free_by b b' chunks live) (free_by b' b (sym chunks) (sym live)) k.canonical;
-  distinct = k.distinct;
-}
-
-pub beside_by : (b b' : Buddy) (pieces : List Piece) (x : Piece) → b'.chunks ≡ b.chunks → b'.live ≡ b.live → AreKeptBeside pieces (IsFreeAt b) x → AreKeptBeside pieces (IsFreeAt b') x
-beside_by b b' pieces x chunks live k = record {
-  beside = record {
-    canonical = same_bytes (Contains pieces) (Without (IsFreeAt b) x) (Without (IsFreeAt b') x)
-        (λ chunk at f. (free_by b b' chunks live chunk at f.0, f.1))
-        (λ chunk at f. (free_by b' b (sym chunks) (sym live) chunk at f.0, f.1))
-        k.beside.canonical;
-    aligned = k.beside.aligned;
-    inside = λ at i. free_by b b' chunks live x.chunk at (k.beside.inside at i);
-  };
-  distinct = k.distinct;
-}
 
 -- A leaf and the piece that it is.
 
@@ -136,12 +104,6 @@ module _ (leaf : Leaf) (x : Piece) (of : IsLeafOf leaf x) where
 
 -- Chunks by key.
 
-pub key_at : (m : map.FinMap nat_cmp Chunk) (key : ℕ) (chunk : Chunk) → map.get (map.insert m key chunk) key ≡ Some chunk
-key_at m key chunk = map.get-insert nat_cmp_total m key chunk key ∙ rw (name_test key key, eq-true key key refl) refl
-
-pub other_key : (m : map.FinMap nat_cmp Chunk) (key q : ℕ) (chunk : Chunk) → q ≢ key → map.get (map.insert m key chunk) q ≡ map.get m q
-other_key m key q chunk other = map.get-insert nat_cmp_total m key chunk q ∙ rw (name_test q key, eq-false q key other) refl
-
 pub none_is_held : (o : Option Chunk) (held : Chunk) → o ≡ None → o ≡ Some held → ⊥
 none_is_held o held none some = cc
 
@@ -164,21 +126,6 @@ kept_lies b pieces p k has = free_lies b p (λ at i. k.canonical.free p has at i
 
 pub in_hand_lies : (b : Buddy) (pieces : List Piece) (x : Piece) → AreKeptBeside pieces (IsFreeAt b) x → LiesInChunk b x
 in_hand_lies b pieces x k = free_lies b x (λ at i. k.beside.inside at i)
-
-pub beside_lies : (b : Buddy) (pieces : List Piece) (x p : Piece) → AreKeptBeside pieces (IsFreeAt b) x → Contains pieces p → LiesInChunk b p
-beside_lies b pieces x p k has = free_lies b p (λ at i. (k.beside.canonical.free p has at i).0)
-
--- the bytes of the piece in hand are apart from each live block
-pub hand_is_apart : (b : Buddy) (pieces : List Piece) (x : Piece) → AreKeptBeside pieces (IsFreeAt b) x → (leaf : Leaf) → IsLiveLeaf b leaf → leaf.chunk ≡ x.chunk
-    → (at : ℕ) → IsIn leaf.offset leaf.size at → InPiece x at → ⊥
-hand_is_apart b pieces x k leaf t named at in_leaf in_x = (k.beside.inside at in_x).unused leaf t named in_leaf
-
--- so its leaf is not yet live
-pub hand_is_new : (b : Buddy) (pieces : List Piece) (x : Piece) (leaf : Leaf) → IsLeafOf leaf x → AreKeptBeside pieces (IsFreeAt b) x → IsLiveLeaf b leaf → ⊥
-hand_is_new b pieces x leaf of k t =
-    let some = pow_pos x.order in
-    let here : InPiece x x.start = record { from = omega arith; to = omega (arith, some) } in
-    hand_is_apart b pieces x k leaf t of.chunk x.start (in_leaf leaf x of x.start here) here
 
 -- in chunks of at most 2^63 bytes
 abbrev pub AreBounded : Buddy → Type 0
@@ -220,7 +167,7 @@ module _ (b b' : Buddy) (pieces : List Piece) (x : Piece) (chunk : Chunk) (lengt
           let other : key ≢ x.chunk = λ same. none_is_held _ f.held new (ap (λ n. map.get b.chunks n) (sym same) ∙ f.is) in (
             record {
               held = f.held;
-              is = ap (λ m. map.get m key) chunks ∙ other_key b.chunks x.chunk key chunk other ∙ f.is;
+              is = ap (λ m. map.get m key) chunks ∙ other_inserted b.chunks x.chunk chunk key other ∙ f.is;
               inside = f.inside;
               unused = λ leaf t. f.unused leaf (ap (λ s. set.contains s leaf) (sym live) ∙ t);
             },
@@ -230,7 +177,7 @@ module _ (b b' : Buddy) (pieces : List Piece) (x : Piece) (chunk : Chunk) (lengt
             | inl same ↦ absurd (f.1 same (in_whole at (subst (λ c. at < c.size) (sym (here key f.0.held same f.0.is)) f.0.inside)))
             | inr other ↦ record {
               held = f.0.held;
-              is = sym (other_key b.chunks x.chunk key chunk other) ∙ ap (λ m. map.get m key) (sym chunks) ∙ f.0.is;
+              is = sym (other_inserted b.chunks x.chunk chunk key other) ∙ ap (λ m. map.get m key) (sym chunks) ∙ f.0.is;
               inside = f.0.inside;
               unused = λ leaf t. f.0.unused leaf (ap (λ s. set.contains s leaf) live ∙ t);
             }
@@ -239,7 +186,7 @@ module _ (b b' : Buddy) (pieces : List Piece) (x : Piece) (chunk : Chunk) (lengt
       aligned = (0, omega (arith, starts, zero-mul (2 ^ x.order)));
       inside = λ at i. record {
         held = chunk;
-        is = ap (λ m. map.get m x.chunk) chunks ∙ key_at b.chunks x.chunk chunk;
+        is = ap (λ m. map.get m x.chunk) chunks ∙ own_inserted b.chunks x.chunk chunk;
         inside = omega (arith, i.to, starts, length_is);
         unused = λ leaf t named j. unused leaf (ap (λ s. set.contains s leaf) (sym live) ∙ t) named;
       };
@@ -251,7 +198,7 @@ module _ (b b' : Buddy) (pieces : List Piece) (x : Piece) (chunk : Chunk) (lengt
       in_whole at below = record { from = omega (arith, starts); to = omega (arith, starts, length_is, below) }
 
       here : (key : ℕ) (held : Chunk) → key ≡ x.chunk → map.get b'.chunks key ≡ Some held → chunk ≡ held
-      here key held same is = one_value _ chunk held (ap (λ m. map.get m x.chunk) chunks ∙ key_at b.chunks x.chunk chunk) (ap (λ n. map.get b'.chunks n) (sym same) ∙ is)
+      here key held same is = one_value _ chunk held (ap (λ m. map.get m x.chunk) chunks ∙ own_inserted b.chunks x.chunk chunk) (ap (λ n. map.get b'.chunks n) (sym same) ∙ is)
 
   -- a chunk that is in hand as a whole goes
   pub chunk_goes : map.get b.chunks x.chunk ≡ Some chunk → b'.chunks ≡ map.remove b.chunks x.chunk → AreKeptBeside pieces (IsFreeAt b) x → AreKept pieces (IsFreeAt b')
@@ -332,33 +279,3 @@ used_is_shorter b pieces p order held k has is length_is leaf t named some insid
           let same : order ≡ p.order = omega arith in
           absurd (whole_is_unused b p held is (length_is ∙ ap (λ n. 2 ^ n) same) (λ at i. k.canonical.free p has at i) leaf t named some inside)
     ]
-
--- Which piece is given.
-
--- where each piece is shorter, there is no place
-pub no_place : (b : Buddy) (pieces : List Piece) (order : ℕ) → AreKept pieces (IsFreeAt b) → All (λ p. p.order < order) pieces → (chunk start : ℕ) → IsPlace (IsFreeAt b) chunk start (2 ^ order) → ⊥
-no_place b pieces order k shorter chunk start place =
-    let p = piece_for_place (Contains pieces) (IsFreeAt b) k.canonical chunk order start place.aligned place.free in
-    let less = all_contained (λ q. q.order < order) pieces p.0 shorter p.1 in
-    omega (arith, less, p.2)
-
--- a shortest of the pieces that are long enough is a shortest of the free pieces that are
-pub record IsShortestPiece (b : Buddy) (order : ℕ) (p : Piece) : Type 0 where
-  pub piece : IsFreePiece (IsFreeAt b) p.chunk p.start (2 ^ p.order)
-  pub enough : order ≤ p.order
-  pub shortest : (chunk start length : ℕ) → IsFreePiece (IsFreeAt b) chunk start length → 2 ^ order ≤ length → 2 ^ p.order ≤ length
-
-pub shortest_piece : (b : Buddy) (pieces : List Piece) (order : ℕ) (p : Piece) → AreKept pieces (IsFreeAt b) → Contains pieces p → order ≤ p.order
-    → All (λ q. order ≤ q.order → p.order ≤ q.order) pieces → IsShortestPiece b order p
-shortest_piece b pieces order p k has enough least = record {
-  piece = kept_is_free_piece (Contains pieces) (IsFreeAt b) k.canonical p has;
-  enough = enough;
-  shortest = λ chunk start length free le.
-      let j : ℕ = free.place.power.0 in
-      let e : length ≡ 2 ^ j = free.place.power.1 in
-      let q : Piece = record { chunk = chunk; start = start; order = j } in
-      let kept : Contains pieces q = free_piece_is_kept (Contains pieces) (IsFreeAt b) k.canonical q (subst (IsFreePiece (IsFreeAt b) chunk start) e free) in
-      let longer : order ≤ j = order-le order j (omega (arith, le, e)) in
-      let more : p.order ≤ j = all_contained (λ r. order ≤ r.order → p.order ≤ r.order) pieces q least kept longer in
-      omega (arith, e, pow_mono {i = p.order} {j = j} more);
-}

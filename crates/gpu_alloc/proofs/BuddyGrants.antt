@@ -1,15 +1,14 @@
 -- A block that is granted: what it is, and what the allocator keeps with it.
-use Rattle.std.proofs.Common.{◌≡◌, ◌≢◌, ◌⊎◌, inl, inr, ℕ, ◌+◌, ◌*◌, ◌-◌, ◌^◌, ◌<◌, ◌≤◌, ◌==◌, Bool, true, false, cond, IsTrue, List, [], ◌∷◌, ◌++◌, length, get_or, Option, Some, None, Result, Ok, Err, refl, sym, ◌∙◌, ap, subst, arith, Contains}
+use Rattle.std.proofs.Common.{◌≡◌, ◌⊎◌, inl, inr, ℕ, ◌+◌, ◌*◌, ◌-◌, ◌^◌, ◌<◌, ◌≤◌, Bool, true, false, IsTrue, List, [], ◌∷◌, ◌++◌, length, get_or, Option, Some, None, Result, Ok, Err, refl, sym, ◌∙◌, ap, subst, arith, Contains}
 use Rattle.std.proofs.lemmas.Bool.{cases_lt}
-use Rattle.std.proofs.lemmas.Bool.Decides.{nat_tests, same_from_decides}
+use Rattle.std.proofs.lemmas.Bool.Decides.{same_from_decides}
 use Rattle.std.proofs.lemmas.List.Elements.{Contains-get_or}
 use Rattle.std.proofs.Math.Nat.{zero-mul}
 use Rattle.std.proofs.lemmas.Nat.{pow_pos}
 use Rattle.std.specs.Prelude.{OnOk, IfSome, IfNone, is_some, max, ◌↔◌}
 use Rattle.std.specs.Result.{is_err}
-use Rattle.std.specs.Cmp.{nat_cmp_total}
 use Rattle.std.specs.List.{All, IsDistinct}
-use Rattle.std.specs.Ordering.{nat_cmp, eq_by_cmp}
+use Rattle.std.specs.Ordering.{nat_cmp}
 use Rattle.std.specs.FinMap as map
 use Rattle.std.specs.FinSet as set
 use Rattle.gpu_alloc.specs.FreeSpace.{IsIn, IsMultipleOf, IsFreePiece}
@@ -31,6 +30,7 @@ use Rattle.gpu_alloc.proofs.BuddyCalls.{IsLeafOf, AreBounded, granted, chunk_com
 use Rattle.gpu_alloc.proofs.BuddyLeaves.{leaf_test, leaf_inserted, in_leaves, leaves_push}
 use Rattle.gpu_alloc.proofs.ExactPieces.{kept_is_free_piece, free_piece_is_kept, piece_for_place}
 use Rattle.gpu_alloc.proofs.Lists.{contains_none, distinct_push}
+use Rattle.gpu_alloc.proofs.Maps.{inserted_cases, inserted_kept, own_inserted}
 
 -- Free pieces and places.
 
@@ -128,31 +128,6 @@ sound_with_leaf b leaf s lies free = record {
 
 -- A chunk more.
 
-pub chunk_cases : (m : map.FinMap nat_cmp Chunk) (key : ℕ) (v : Chunk) (k : ℕ) (c : Chunk) → map.get (map.insert m key v) k ≡ Some c → ((k ≡ key) × (v ≡ c)) ⊎ (map.get m k ≡ Some c)
-chunk_cases m key v k c e = split (k == key) refl (sym (map.get-insert nat_cmp_total m key v k ∙ rw (key_test k key) refl) ∙ e)
-  where
-    key_test : (q n : ℕ) → eq_by_cmp nat_cmp q n ≡ (q == n)
-    key_test q n = grind (arith, nat_tests)
-
-    split : (t : Bool) → (k == key) ≡ t → cond (k == key) (Some v) (map.get m k) ≡ Some c → ((k ≡ key) × (v ≡ c)) ⊎ (map.get m k ≡ Some c)
-    split true t h = let same : k ≡ key = grind (arith, nat_tests) in inl (same, (let h' : Some v ≡ Some c = rw t at h in cc))
-    split false t h = inr (rw t at h)
-
-pub chunk_kept : (m : map.FinMap nat_cmp Chunk) (key : ℕ) (v : Chunk) (k : ℕ) (c : Chunk) → map.get m key ≡ None → map.get m k ≡ Some c → map.get (map.insert m key v) k ≡ Some c
-chunk_kept m key v k c none is = map.get-insert nat_cmp_total m key v k ∙ rw (test) is
-  where
-    differs : k ≢ key
-    differs e = let both : map.get m key ≡ Some c = subst (λ n. map.get m n ≡ Some c) e is in cc
-
-    test : eq_by_cmp nat_cmp k key ≡ false
-    test = let ne : k ≢ key = differs in grind (arith, nat_tests)
-
-pub chunk_new : (m : map.FinMap nat_cmp Chunk) (key : ℕ) (v : Chunk) → map.get (map.insert m key v) key ≡ Some v
-chunk_new m key v = map.get-insert nat_cmp_total m key v key ∙ rw (test key) refl
-  where
-    test : (n : ℕ) → eq_by_cmp nat_cmp n n ≡ true
-    test n = grind (arith, nat_tests)
-
 -- no live block names a key that has no chunk
 pub no_leaf_at : (b : Buddy) (key : ℕ) → IsSound b → map.get b.chunks key ≡ None → (q : Leaf) → IsLiveLeaf b q → q.chunk ≡ key → ⊥
 no_leaf_at b key s none q live same =
@@ -169,25 +144,25 @@ sound_with_chunk b leaf size s power none other of_power aligned inside =
     let v : Chunk = record { object = leaf.object; size = size } in
     let mid : Buddy = with_chunk b leaf size in
     record {
-      one_object = λ k l c d is_c is_d same. elim (chunk_cases m leaf.chunk v k c is_c) [
-        | inl new_c ↦ elim (chunk_cases m leaf.chunk v l d is_d) [
+      one_object = λ k l c d is_c is_d same. elim (inserted_cases m leaf.chunk v k c is_c) [
+        | inl new_c ↦ elim (inserted_cases m leaf.chunk v l d is_d) [
           | inl new_d ↦ new_c.0 ∙ sym new_d.0
           | inr old_d ↦ absurd (other l d old_d (sym same ∙ ap (λ (x : Chunk). x.object) (sym new_c.1)))
         ]
-        | inr old_c ↦ elim (chunk_cases m leaf.chunk v l d is_d) [
+        | inr old_c ↦ elim (inserted_cases m leaf.chunk v l d is_d) [
           | inl new_d ↦ absurd (other k c old_c (same ∙ ap (λ (x : Chunk). x.object) (sym new_d.1)))
           | inr old_d ↦ s.one_object k l c d old_c old_d same
         ]
       ];
-      powers = λ k c is. elim (chunk_cases m leaf.chunk v k c is) [ inl new ↦ subst (λ (x : Chunk). IsPowerUpTo 63 x.size) new.1 power | inr old ↦ s.powers k c old ];
-      used = λ k c is. elim (chunk_cases m leaf.chunk v k c is) [
+      powers = λ k c is. elim (inserted_cases m leaf.chunk v k c is) [ inl new ↦ subst (λ (x : Chunk). IsPowerUpTo 63 x.size) new.1 power | inr old ↦ s.powers k c old ];
+      used = λ k c is. elim (inserted_cases m leaf.chunk v k c is) [
         | inl new ↦ (leaf, (now_live mid leaf, sym new.0))
         | inr old ↦ let u = s.used k c old in (u.0, (still_live mid leaf u.0 u.1.0, u.1.1))
       ];
       inside = λ q live. elim (was_live mid leaf q live) [
-        | inl is ↦ subst (LiesInChunk (with_leaf mid leaf)) (sym is) (record { chunk = v; held = chunk_new m leaf.chunk v; object = refl; power = of_power; aligned = aligned; inside = inside })
+        | inl is ↦ subst (LiesInChunk (with_leaf mid leaf)) (sym is) (record { chunk = v; held = own_inserted m leaf.chunk v; object = refl; power = of_power; aligned = aligned; inside = inside })
         | inr was ↦ let l = s.inside q was in
-            record { chunk = l.chunk; held = chunk_kept m leaf.chunk v q.chunk l.chunk none l.held; object = l.object; power = l.power; aligned = l.aligned; inside = l.inside }
+            record { chunk = l.chunk; held = inserted_kept m leaf.chunk v q.chunk l.chunk none l.held; object = l.object; power = l.power; aligned = l.aligned; inside = l.inside }
       ];
       apart = apart_with mid leaf s.apart (λ q live same at in_q in_leaf. no_leaf_at b leaf.chunk s none q live same);
       next_chunk = power;

@@ -62,8 +62,6 @@ taken_off leaves left leaf x i once at is rest =
     let gone : Contains left x → ⊥ = λ has. true≢false (sym ((leaf_test x x).1 refl) ∙ l.other x has) in
     (l.distinct, leaves_less same_leaf leaves left x gone l ∙ ap (λ y. set.remove (leaf_set leaves) y) same)
 
--- Chunks by key.
-
 -- A live block and its chunk.
 
 -- the piece may be put back, up to this order

@@ -8,10 +8,11 @@ use Rattle.std.specs.Cmp.{nat_cmp_total}
 use Rattle.std.specs.FinMap as finite
 use Rattle.std.specs.FinSet as set_of
 use Rattle.gpu_alloc_types.specs.Properties.{Properties, heap_at}
-use Rattle.gpu_alloc.specs.State.{HeldObject, Span, share}
+use Rattle.gpu_alloc.specs.State.{HeldObject, Span, share, is_shared}
 use Rattle.gpu_alloc.specs.Spans.{Table}
 use Rattle.gpu_alloc.specs.Inside.{IsBooked, IsKnown, IsOfObject, IsLiveIn, AreSmall, AreLedgers, offer_of, whole_span}
-use Rattle.gpu_alloc.specs.declared.block.Kind.TheVariants.{Dedicated, BuddyChunk}
+use Rattle.gpu_alloc.specs.declared.block.Kind.{Kind}
+use Rattle.gpu_alloc.specs.declared.block.Kind.TheVariants.{Dedicated, Imported, BuddyChunk, FreeListChunk}
 use Rattle.gpu_alloc.specs.declared.heap.Heap.{Heap}
 use Rattle.gpu_alloc.proofs.Ledgers.{ledger-bound, Held, sum_by-insert, sum_by-remove, small-insert, small-remove, len_more, len_less}
 use Rattle.gpu_alloc.proofs.Maps.{name_test, eq-true, eq-false}
@@ -24,11 +25,22 @@ test-same a b n e = grind (arith, nat_tests)
 test-other : (a b n : ℕ) → a ≢ b → cond (a == b) n 0 ≡ 0
 test-other a b n e = grind (arith, nat_tests)
 
--- a held object with a span in it: an object of its own with its whole, or a buddy chunk with any span
+-- a chunk is one of a buddy allocator, or has its number in a free list
+pub chunk_kinds : (kind : Kind) → is_shared kind ≡ true → (kind ≡ BuddyChunk) ⊎ ((number : ℕ) × (kind ≡ FreeListChunk number))
+chunk_kinds Dedicated chunk = absurd (cc)
+chunk_kinds Imported chunk = absurd (cc)
+chunk_kinds BuddyChunk chunk = inl refl
+chunk_kinds (FreeListChunk number) chunk = inr (number, refl)
+
+-- a chunk is no object of its own
+own_is_no_chunk : (kind : Kind) → kind ≡ Dedicated → is_shared kind ≡ true → ⊥
+own_is_no_chunk kind own chunk = let both = ap is_shared (sym own) ∙ chunk in absurd (cc)
+
+-- a held object with a span in it: an object of its own with its whole, or a chunk with any span
 pub record IsHeldWith (p : Properties) (h : HeldObject) (span : Span) : Type 0 where
   pub small : h.counted < 2 ^ 64
   pub known : h.memory_type < length p.memory_types
-  pub kind : ((h.kind ≡ Dedicated) × (span ≡ whole_span span.object h)) ⊎ (h.kind ≡ BuddyChunk)
+  pub kind : ((h.kind ≡ Dedicated) × (span ≡ whole_span span.object h)) ⊎ (is_shared h.kind ≡ true)
 
 -- what is known of an object stays so as long as its whole is live, where it is an object of its own
 known_still : (p : Properties) (t now : Table) (q : ℕ) (h : HeldObject) → (IsLiveIn t (whole_span q h) → IsLiveIn now (whole_span q h)) → IsKnown t p q h → IsKnown now p q h
@@ -99,7 +111,7 @@ module _ (p : Properties) (heaps : List Heap) (t : Table) (remaining : ℕ) (is 
       | inl new ↦ subst (IsOfObject now) (sym new) (record {
         object = h;
         held = get_more span.object ∙ ap (λ b. cond b (Some h) (finite.get t.held span.object)) (eq-true span.object span.object refl);
-        whole = λ own. elim (m.with.kind) [ inl is_own ↦ is_own.1 | inr chunk ↦ let both = sym own ∙ chunk in absurd (cc) ];
+        whole = λ own. elim (m.with.kind) [ inl is_own ↦ is_own.1 | inr chunk ↦ absurd (own_is_no_chunk h.kind own chunk) ];
       })
       | inr was ↦
           let o = is.spans other was in
@@ -127,13 +139,7 @@ module _ (p : Properties) (heaps : List Heap) (t : Table) (remaining : ℕ) (is 
       ledgers = ledgers_more heap changed i here at more;
     }
 
-  -- One object fewer is held, and its last span is live no more.
-
-  pub record HoldsFewer (now : Table) (h : HeldObject) (span : Span) : Type 0 where
-    pub found : finite.get t.held span.object ≡ Some h
-    pub last : (other : Span) → IsLiveIn t other → other.object ≡ span.object → other ≡ span
-    pub held : now.held ≡ finite.remove t.held span.object
-    pub live : now.live ≡ set_of.remove t.live span
+  -- One object fewer is held, of which no span is live any more.
 
   module _ (name : ℕ) (h : HeldObject) (found : finite.get t.held name ≡ Some h) where
     -- its heap's ledger counts it
@@ -146,46 +152,84 @@ module _ (p : Properties) (heaps : List Heap) (t : Table) (remaining : ℕ) (is 
     pub fits_again : remaining + 1 < 2 ^ 32
     fits_again = omega (arith, is.count, len_less t.held name h found)
 
-  module _ (now : Table) (h : HeldObject) (span : Span) (l : HoldsFewer now h span) where
-    get_less : (q : ℕ) → finite.get now.held q ≡ cond (q == span.object) None (finite.get t.held q)
-    get_less q = ap (λ (x : Held). finite.get x q) l.held ∙ finite.get-remove nat_cmp_total t.held span.object q ∙ ap (λ b. cond b None (finite.get t.held q)) (name_test q span.object)
+  record HoldsLess (now : Table) (h : HeldObject) (name : ℕ) : Type 0 where
+    found : finite.get t.held name ≡ Some h
+    held : now.held ≡ finite.remove t.held name
+    live_was : (other : Span) → IsLiveIn now other → IsLiveIn t other × (other.object ≢ name)
+    live_is : (other : Span) → other.object ≢ name → IsLiveIn t other → IsLiveIn now other
+
+  module _ (now : Table) (h : HeldObject) (name : ℕ) (l : HoldsLess now h name) where
+    get_less : (q : ℕ) → finite.get now.held q ≡ cond (q == name) None (finite.get t.held q)
+    get_less q = ap (λ (x : Held). finite.get x q) l.held ∙ finite.get-remove nat_cmp_total t.held name q ∙ ap (λ b. cond b None (finite.get t.held q)) (name_test q name)
 
     known_fewer : (q : ℕ) → IfSome (finite.get now.held q) (IsKnown now p q)
     known_fewer q = subst (λ (o : Option HeldObject). IfSome o (IsKnown now p q)) (sym (get_less q)) (cases _ refl)
       where
-        old : q ≢ span.object → (o : Option HeldObject) → IfSome o (IsKnown t p q) → IfSome o (IsKnown now p q)
+        old : q ≢ name → (o : Option HeldObject) → IfSome o (IsKnown t p q) → IfSome o (IsKnown now p q)
         old other None k = k
-        old other (Some x) k = known_still p t now q x
-            (λ was. subst (λ s. IsTrue (set_of.contains s (whole_span q x))) (sym l.live) (live_kept t.live span _ (λ same. other (ap (λ (s : Span). s.object) same)) was)) k
+        old other (Some x) k = known_still p t now q x (l.live_is (whole_span q x) other) k
 
-        cases : (b : Bool) → (q == span.object) ≡ b → IfSome (cond b None (finite.get t.held q)) (IsKnown now p q)
+        cases : (b : Bool) → (q == name) ≡ b → IfSome (cond b None (finite.get t.held q)) (IsKnown now p q)
         cases true e = tt
         cases false e = old (grind (arith, nat_tests)) (finite.get t.held q) (is.known q)
 
     spans_fewer : (other : Span) → IsLiveIn now other → IsOfObject now other
     spans_fewer other is_now =
-        let was = live_other t.live span other (subst (λ s. IsTrue (set_of.contains s other)) l.live is_now) in
-        let apart : other.object ≢ span.object = λ same. was.0 (l.last other was.1 same) in
-        of_object_still t now other (get_less other.object ∙ ap (λ b. cond b None (finite.get t.held other.object)) (eq-false other.object span.object apart)) (is.spans other was.1)
+        let was = l.live_was other is_now in
+        of_object_still t now other (get_less other.object ∙ ap (λ b. cond b None (finite.get t.held other.object)) (eq-false other.object name was.1)) (is.spans other was.0)
 
     ledgers_fewer : (heap changed : Heap) (i : ℕ) → i ≡ heap_at p h.memory_type → heap ≡ get_or heaps i heap → changed.used ≡ heap.used - h.counted → AreLedgers p (set heaps i changed) (finite.entries now.held)
     ledgers_fewer heap changed i here at less =
-        let inside : i < length heaps = omega (arith, heap_there h.memory_type (known_object span.object h l.found).of_type) in
-        let all : (q : ℕ) → share p q (span.object, h) + sum_by (share p q) (finite.entries now.held) ≡ sum_by (share p q) (finite.entries t.held) =
-        λ q. ap (λ (x : Held). share p q (span.object, h) + sum_by (share p q) (finite.entries x)) l.held ∙ sum_by-remove (share p q) t.held span.object h l.found in
+        let inside : i < length heaps = omega (arith, heap_there h.memory_type (known_object name h l.found).of_type) in
+        let all : (q : ℕ) → share p q (name, h) + sum_by (share p q) (finite.entries now.held) ≡ sum_by (share p q) (finite.entries t.held) =
+        λ q. ap (λ (x : Held). share p q (name, h) + sum_by (share p q) (finite.entries x)) l.held ∙ sum_by-remove (share p q) t.held name h l.found in
         ledgers_set p heaps i changed (finite.entries t.held) (finite.entries now.held) is.ledgers
         (omega (arith, ledger_at p heaps i heap (finite.entries t.held) is.ledgers inside at, all i, test-same (heap_at p h.memory_type) i h.counted (sym here)))
         (λ q other. omega (arith, all q, test-other (heap_at p h.memory_type) q h.counted (λ e. other (sym (here ∙ e)))))
 
-    pub booked-gone : (heap changed : Heap) (i : ℕ) → i ≡ heap_at p h.memory_type → heap ≡ get_or heaps i heap → changed.used ≡ heap.used - h.counted → IsBooked p (set heaps i changed) now (remaining + 1)
-    booked-gone heap changed i here at less = record {
+    booked-less : (heap changed : Heap) (i : ℕ) → i ≡ heap_at p h.memory_type → heap ≡ get_or heaps i heap → changed.used ≡ heap.used - h.counted → IsBooked p (set heaps i changed) now (remaining + 1)
+    booked-less heap changed i here at less = record {
       usable = is.usable;
-      count = omega (arith, is.count, ap (λ (x : Held). finite.len x) l.held, len_less t.held span.object h l.found);
+      count = omega (arith, is.count, ap (λ (x : Held). finite.len x) l.held, len_less t.held name h l.found);
       known = known_fewer;
       spans = spans_fewer;
-      small = subst (λ (x : Held). AreSmall (finite.entries x)) (sym l.held) (small-remove t.held span.object h l.found is.small);
+      small = subst (λ (x : Held). AreSmall (finite.entries x)) (sym l.held) (small-remove t.held name h l.found is.small);
       ledgers = ledgers_fewer heap changed i here at less;
     }
+
+  -- its last span goes with it
+  pub record HoldsFewer (now : Table) (h : HeldObject) (span : Span) : Type 0 where
+    pub found : finite.get t.held span.object ≡ Some h
+    pub last : (other : Span) → IsLiveIn t other → other.object ≡ span.object → other ≡ span
+    pub held : now.held ≡ finite.remove t.held span.object
+    pub live : now.live ≡ set_of.remove t.live span
+
+  pub booked-gone : (now : Table) (h : HeldObject) (span : Span) → HoldsFewer now h span
+      → (heap changed : Heap) (i : ℕ) → i ≡ heap_at p h.memory_type → heap ≡ get_or heaps i heap → changed.used ≡ heap.used - h.counted → IsBooked p (set heaps i changed) now (remaining + 1)
+  booked-gone now h span l = booked-less now h span.object (record {
+    found = l.found;
+    held = l.held;
+    live_was = λ other is_now.
+        let was = live_other t.live span other (subst (λ s. IsTrue (set_of.contains s other)) l.live is_now) in
+        (was.1, λ same. was.0 (l.last other was.1 same));
+    live_is = λ other apart was. subst (λ s. IsTrue (set_of.contains s other)) (sym l.live) (live_kept t.live span other (λ same. apart (ap (λ (s : Span). s.object) same)) was);
+  })
+
+  -- no span of it was live
+  pub record HoldsFewerUnused (now : Table) (h : HeldObject) (name : ℕ) : Type 0 where
+    pub found : finite.get t.held name ≡ Some h
+    pub unused : (span : Span) → IsLiveIn t span → span.object ≢ name
+    pub held : now.held ≡ finite.remove t.held name
+    pub live : now.live ≡ t.live
+
+  pub booked-let_go : (now : Table) (h : HeldObject) (name : ℕ) → HoldsFewerUnused now h name
+      → (heap changed : Heap) (i : ℕ) → i ≡ heap_at p h.memory_type → heap ≡ get_or heaps i heap → changed.used ≡ heap.used - h.counted → IsBooked p (set heaps i changed) now (remaining + 1)
+  booked-let_go now h name l = booked-less now h name (record {
+    found = l.found;
+    held = l.held;
+    live_was = λ other is_now. let was = subst (λ s. IsTrue (set_of.contains s other)) l.live is_now in (was, l.unused other was);
+    live_is = λ other apart was. subst (λ s. IsTrue (set_of.contains s other)) (sym l.live) was;
+  })
 
   -- A span comes or goes in a chunk that is held before and after.
 
@@ -205,12 +249,12 @@ module _ (p : Properties) (heaps : List Heap) (t : Table) (remaining : ℕ) (is 
       kept q None found k = k
       kept q (Some h) found k = record { of_type = k.of_type; of_kind = elim (k.of_kind) [ inl own ↦ inl (own.0, still q h found own.0 own.1) | inr chunk ↦ inr chunk ] }
 
-  module _ (now : Table) (h : HeldObject) (span : Span) (found : finite.get t.held span.object ≡ Some h) (chunk : h.kind ≡ BuddyChunk) (held : now.held ≡ t.held) where
+  module _ (now : Table) (h : HeldObject) (span : Span) (found : finite.get t.held span.object ≡ Some h) (chunk : is_shared h.kind ≡ true) (held : now.held ≡ t.held) where
     pub booked-span : now.live ≡ set_of.insert t.live span → IsBooked p heaps now remaining
     booked-span live = same_held now held
         (λ q x there own was. subst (λ s. IsTrue (set_of.contains s (whole_span q x))) (sym live) (live_still t.live span _ was))
         (λ other is_now. elim (live_before t.live span other (subst (λ s. IsTrue (set_of.contains s other)) live is_now)) [
-          | inl new ↦ subst (IsOfObject t) (sym new) (record { object = h; held = found; whole = λ own. let both = sym own ∙ chunk in absurd (cc) })
+          | inl new ↦ subst (IsOfObject t) (sym new) (record { object = h; held = found; whole = λ own. absurd (own_is_no_chunk h.kind own chunk) })
           | inr was ↦ is.spans other was
         ])
 
@@ -223,5 +267,4 @@ module _ (p : Properties) (heaps : List Heap) (t : Table) (remaining : ℕ) (is 
         apart q x there own same =
             let both : Some x ≡ Some h = sym there ∙ ap (finite.get t.held) same ∙ found in
             let one : x ≡ h = cc in
-            let kinds = sym own ∙ ap (λ (y : HeldObject). y.kind) one ∙ chunk in
-            absurd (cc)
+            absurd (own_is_no_chunk x.kind own (ap (λ (y : HeldObject). is_shared y.kind) one ∙ chunk))

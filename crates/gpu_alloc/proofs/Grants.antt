@@ -8,8 +8,9 @@ use Rattle.std.specs.Ordering.{nat_cmp, eq_by_cmp}
 use Rattle.std.specs.FinMap as finite
 use Rattle.std.specs.FinSet as set_of
 use Rattle.gpu_alloc.specs.Allocation.{DecidesBy, IsGranted, asked, holding, whole_block}
-use Rattle.gpu_alloc.specs.Allocation.Strategy.{OwnObject}
+use Rattle.gpu_alloc.specs.declared.allocator.Strategy.TheVariants.{OwnObject}
 use Rattle.gpu_alloc.specs.BuddyState.{Buddy}
+use Rattle.gpu_alloc.specs.FreeListState.{Listing}
 use Rattle.gpu_alloc.specs.Inside.{state_in}
 use Rattle.gpu_alloc.specs.Spans.{Table}
 use Rattle.gpu_alloc.specs.State.{State, HeldObject, Span, Block, IsLive, span_of, total}
@@ -26,12 +27,12 @@ abbrev pub own_object : ℕ → ℕ → HeldObject
 own_object size memory_type = record { memory_type = memory_type; counted = size; kind = DedicatedObject }
 
 -- what the fields stand for then
-pub state_held : {A : Type 0} (l : Limits A) (heaps : List Heap) (buddies : List Buddy) (i : ℕ) (h old : Heap) (t now : Table) (remaining object size memory_type : ℕ) → old ≡ get_or heaps i old → h.size ≡ old.size
+pub state_held : {A : Type 0} (l : Limits A) (heaps : List Heap) (buddies : List Buddy) (lists : List Listing) (i : ℕ) (h old : Heap) (t now : Table) (remaining object size memory_type : ℕ) → old ≡ get_or heaps i old → h.size ≡ old.size
     → now.held ≡ finite.insert t.held object (own_object size memory_type) → now.live ≡ set_of.insert t.live (record { object = object; offset = 0; size = size })
-    → state_in l (set heaps i h) buddies now (remaining - 1) ≡ holding (state_in l heaps buddies t remaining) (own_object size memory_type) (whole_block (state_in l heaps buddies t remaining) object size memory_type)
-state_held l heaps buddies i h old t now remaining object size memory_type at same held live =
-    state_kept l heaps buddies i h old now (remaining - 1) at same
-    ∙ (λ k. record (state_in l heaps buddies t remaining) { held = held k; live = live k; remaining = remaining - 1 })
+    → state_in l (set heaps i h) buddies lists now (remaining - 1) ≡ holding (state_in l heaps buddies lists t remaining) (own_object size memory_type) (whole_block (state_in l heaps buddies lists t remaining) object size memory_type)
+state_held l heaps buddies lists i h old t now remaining object size memory_type at same held live =
+    state_kept l heaps buddies lists i h old now (remaining - 1) at same
+    ∙ (λ k. record (state_in l heaps buddies lists t remaining) { held = held k; live = live k; remaining = remaining - 1 })
 
 -- the candidate decides
 pub decides_granted : (s now : State) (r : Request) (memory_type object : ℕ) (b : Block) → b ≡ whole_block s object r.size memory_type → 0 < s.remaining

@@ -9,7 +9,8 @@ use Rattle.gpu_alloc_types.specs.declared.types.MemoryType.{MemoryType}
 use Rattle.gpu_alloc.specs.State.{share}
 use Rattle.gpu_alloc.specs.Spans.{Table}
 use Rattle.gpu_alloc.specs.BuddyState.{Buddy}
-use Rattle.gpu_alloc.specs.Inside.{properties_in, state_in, types_in, AreLedgers, offer_of}
+use Rattle.gpu_alloc.specs.FreeListState.{Listing}
+use Rattle.gpu_alloc.specs.Inside.{properties_in, state_in, types_in, lists_in, AreLedgers, offer_of}
 use Rattle.gpu_alloc.specs.Heap.{unused}
 use Rattle.gpu_alloc.specs.Sizes.{first_types}
 use Rattle.gpu_alloc.specs.declared.limits.Limits.{Limits}
@@ -58,10 +59,10 @@ ledgers_set p heaps i h old new are is others =
 pub properties_kept : {A : Type 0} (l : Limits A) (heaps : List Heap) (i : ℕ) (h old : Heap) → old ≡ get_or heaps i old → h.size ≡ old.size → properties_in l (set heaps i h) ≡ properties_in l heaps
 properties_kept l heaps i h old at same = ap (λ (offers : List MemoryHeap). record (properties_in l heaps) { memory_heaps = offers }) (offers_kept heaps i h old at same)
 
-pub state_kept : {A : Type 0} (l : Limits A) (heaps : List Heap) (buddies : List Buddy) (i : ℕ) (h old : Heap) (t : Table) (remaining : ℕ) → old ≡ get_or heaps i old → h.size ≡ old.size
-    → state_in l (set heaps i h) buddies t remaining ≡ state_in l heaps buddies t remaining
-state_kept l heaps buddies i h old t remaining at same =
-    ap (λ (p : Properties). record (state_in l heaps buddies t remaining) { types = types_in (first_types l.config p) buddies; properties = p }) (properties_kept l heaps i h old at same)
+pub state_kept : {A : Type 0} (l : Limits A) (heaps : List Heap) (buddies : List Buddy) (lists : List Listing) (i : ℕ) (h old : Heap) (t : Table) (remaining : ℕ) → old ≡ get_or heaps i old → h.size ≡ old.size
+    → state_in l (set heaps i h) buddies lists t remaining ≡ state_in l heaps buddies lists t remaining
+state_kept l heaps buddies lists i h old t remaining at same =
+    ap (λ (p : Properties). record (state_in l heaps buddies lists t remaining) { types = lists_in (types_in (first_types l.config p) buddies) lists; properties = p }) (properties_kept l heaps i h old at same)
 
 -- heaps of which nothing is held are those that are offered
 pub unused-offers : (hs : List MemoryHeap) → map offer_of (map (λ h. unused h.size) hs) ≡ hs

@@ -17,47 +17,8 @@ use Rattle.gpu_alloc.specs.State.{HeldObject, Span}
 use Rattle.gpu_alloc.specs.declared.buddy.block.Leaf.{Leaf}
 use Rattle.gpu_alloc.proofs.BuddyGrants.{was_live, still_live, now_live}
 use Rattle.gpu_alloc.proofs.BuddyLeaves.{leaf_removed}
-use Rattle.gpu_alloc.proofs.Maps.{name_test, one_value}
+use Rattle.gpu_alloc.proofs.Maps.{name_test, one_value, get_put, get_beside, get_left, own_inserted, other_inserted, another_key, kept_other, kept_key}
 use Rattle.gpu_alloc.proofs.LiveSpans.{span_total, span_test, live_new, live_still, live_before, live_kept, live_other}
-
--- What is found under a key, as a map has one more or one fewer.
-
-name_decides : (a b : ℕ) → Decides (eq_by_cmp nat_cmp a b) (a ≡ b)
-name_decides a b = subst (λ t. Decides t (a ≡ b)) (sym (name_test a b)) (Decides-eqb a b)
-
-module _ {K : Type 0} (R : K → K → Ordering) (test : (a b : K) → Decides (eq_by_cmp R a b) (a ≡ b)) where
-  same_key : (a : K) → eq_by_cmp R a a ≡ true
-  same_key a = (test a a).1 refl
-
-  other_key : (a b : K) → a ≢ b → eq_by_cmp R a b ≡ false
-  other_key a b other = split (eq_by_cmp R a b) refl
-    where
-      split : (t : Bool) → eq_by_cmp R a b ≡ t → t ≡ false
-      split true e = absurd (other ((test a b).0 e))
-      split false e = refl
-
-module _ {K X : Type 0} {R : K → K → Ordering} (o : IsTotalOrder R) (test : (a b : K) → Decides (eq_by_cmp R a b) (a ≡ b)) where
-  -- one more
-  get_put : (m : map.FinMap R X) (k : K) (v : X) → map.get (map.insert m k v) k ≡ Some v
-  get_put m k v = map.get-insert o m k v k ∙ rw (same_key R test k) refl
-
-  get_beside : (m : map.FinMap R X) (k : K) (v : X) (q : K) → q ≢ k → map.get (map.insert m k v) q ≡ map.get m q
-  get_beside m k v q other = map.get-insert o m k v q ∙ rw (other_key R test q k other) refl
-
-  -- one fewer
-  get_gone : (m : map.FinMap R X) (k : K) → map.get (map.remove m k) k ≡ None
-  get_gone m k = map.get-remove o m k k ∙ rw (same_key R test k) refl
-
-  get_left : (m : map.FinMap R X) (k q : K) → q ≢ k → map.get (map.remove m k) q ≡ map.get m q
-  get_left m k q other = map.get-remove o m k q ∙ rw (other_key R test q k other) refl
-
-  -- what is there has another key than what is not
-  differs_by_none : (m : map.FinMap R X) (k q : K) (v : X) → map.get m k ≡ None → map.get m q ≡ Some v → q ≢ k
-  differs_by_none m k q v none is same = let there : map.get m k ≡ Some v = subst (λ n. map.get m n ≡ Some v) same is in cc
-
-  -- and so has what is left
-  differs_by_remove : (m : map.FinMap R X) (k q : K) (v : X) → map.get (map.remove m k) q ≡ Some v → q ≢ k
-  differs_by_remove m k q v is same = let there : map.get (map.remove m k) k ≡ Some v = subst (λ n. map.get (map.remove m k) n ≡ Some v) same is in let none = get_gone m k in cc
 
 -- What changed in the table is of one object.
 pub record IsBeside (old new : Table) (object : ℕ) : Type 0 where
@@ -195,38 +156,38 @@ module _ (old new : Table) (b : Buddy) (leaf : Leaf) (sound : IsSound b) (linked
     leaves = more_stands old new b leaf more linked.leaves;
     spans = λ span h live of. more_has old new b leaf more span (λ was.
         let o = spans span was in
-        linked.spans span h was (was_chunk span.object h of (differs_by_none nat_cmp_total name_decides old.held leaf.object span.object o.object free o.held))) live;
+        linked.spans span h was (was_chunk span.object h of (another_key old.held leaf.object span.object o.object free o.held))) live;
   }
     where
       chunk : Chunk
       chunk = record { object = leaf.object; size = size }
 
       held_other : (name : ℕ) → name ≢ leaf.object → map.get new.held name ≡ map.get old.held name
-      held_other name other = ap (λ m. map.get m name) held ∙ get_beside nat_cmp_total name_decides old.held leaf.object (chunk_object b chunk) name other
+      held_other name other = ap (λ m. map.get m name) held ∙ other_inserted old.held leaf.object (chunk_object b chunk) name other
 
       held_own : map.get new.held leaf.object ≡ Some (chunk_object b chunk)
-      held_own = ap (λ m. map.get m leaf.object) held ∙ get_put nat_cmp_total name_decides old.held leaf.object (chunk_object b chunk)
+      held_own = ap (λ m. map.get m leaf.object) held ∙ own_inserted old.held leaf.object (chunk_object b chunk)
 
       was_chunk : (name : ℕ) (h : HeldObject) → IsChunkOf new b.memory_type name h → name ≢ leaf.object → IsChunkOf old b.memory_type name h
       was_chunk name h of other = record { held = sym (held_other name other) ∙ of.held; of_kind = of.of_kind; of_type = of.of_type }
 
       chunks_now : (key : ℕ) (c : Chunk) → map.get (map.insert b.chunks leaf.chunk chunk) key ≡ Some c → (key ≡ leaf.chunk) ⊎ (key ≢ leaf.chunk) → map.get new.held c.object ≡ Some (chunk_object b c)
       chunks_now key c is (inl same) =
-          let own : chunk ≡ c = one_value _ chunk c (get_put nat_cmp_total name_decides b.chunks leaf.chunk chunk) (subst (λ n. map.get (map.insert b.chunks leaf.chunk chunk) n ≡ Some c) same is) in
+          let own : chunk ≡ c = one_value _ chunk c (own_inserted b.chunks leaf.chunk chunk) (subst (λ n. map.get (map.insert b.chunks leaf.chunk chunk) n ≡ Some c) same is) in
           subst (λ (x : Chunk). map.get new.held x.object ≡ Some (chunk_object b x)) own held_own
       chunks_now key c is (inr other) =
-          let was = linked.chunks key c (sym (get_beside nat_cmp_total name_decides b.chunks leaf.chunk chunk key other) ∙ is) in
-          held_other c.object (differs_by_none nat_cmp_total name_decides old.held leaf.object c.object (chunk_object b c) free was) ∙ was
+          let was = linked.chunks key c (sym (other_inserted b.chunks leaf.chunk chunk key other) ∙ is) in
+          held_other c.object (another_key old.held leaf.object c.object (chunk_object b c) free was) ∙ was
 
       objects_now : (name : ℕ) (h : HeldObject) → IsChunkOf new b.memory_type name h → (name ≡ leaf.object) ⊎ (name ≢ leaf.object)
           → (key : ℕ) × (map.get (map.insert b.chunks leaf.chunk chunk) key ≡ Some (record { object = name; size = h.counted }))
       objects_now name h of (inl same) =
           let own : chunk_object b chunk ≡ h = one_value _ (chunk_object b chunk) h held_own (subst (λ n. map.get new.held n ≡ Some h) same of.held) in
-          (leaf.chunk, get_put nat_cmp_total name_decides b.chunks leaf.chunk chunk ∙ λ i. Some (record { object = sym same i; size = (own i).counted }))
+          (leaf.chunk, own_inserted b.chunks leaf.chunk chunk ∙ λ i. Some (record { object = sym same i; size = (own i).counted }))
       objects_now name h of (inr other) =
           let o = linked.objects name h (was_chunk name h of other) in
-          let another = differs_by_none nat_cmp_total name_decides b.chunks leaf.chunk o.0 (record { object = name; size = h.counted }) none o.1 in
-          (o.0, get_beside nat_cmp_total name_decides b.chunks leaf.chunk chunk o.0 another ∙ o.1)
+          let another = another_key b.chunks leaf.chunk o.0 (record { object = name; size = h.counted }) none o.1 in
+          (o.0, other_inserted b.chunks leaf.chunk chunk o.0 another ∙ o.1)
 
   -- a block less, whose chunk stays
   pub linked_without_leaf : IsLiveLeaf b leaf → new.held ≡ old.held → HasLeafLess old new leaf → IsLinked new (without_leaf b leaf)
@@ -242,12 +203,12 @@ module _ (old new : Table) (b : Buddy) (leaf : Leaf) (sound : IsSound b) (linked
       → IsLinked new (record (without_leaf b leaf) { chunks = map.remove b.chunks leaf.chunk })
   linked_without_chunk live unused held less = record {
     chunks = λ key c is.
-        let other = differs_by_remove nat_cmp_total name_decides b.chunks leaf.chunk key c is in
+        let other = (kept_key b.chunks leaf.chunk key c is).0 in
         let was = left_chunk key c is in
         held_left c.object (λ same. other (sound.one_object key leaf.chunk c own.chunk was own.held (same ∙ own.object))) ∙ linked.chunks key c was;
     objects = λ name h of.
         let o = linked.objects name h (was_chunk name h of) in
-        (o.0, get_left nat_cmp_total name_decides b.chunks leaf.chunk o.0 (λ same. name_left name h of (same_object name h o.0 o.1 same)) ∙ o.1);
+        (o.0, kept_other b.chunks leaf.chunk o.0 (λ same. name_left name h of (same_object name h o.0 o.1 same)) ∙ o.1);
     leaves = less_stands old new b leaf linked live less;
     spans = λ span h now of. less_has old new b leaf linked live less span (λ was. linked.spans span h was (was_chunk span.object h of)) now;
   }
@@ -256,13 +217,13 @@ module _ (old new : Table) (b : Buddy) (leaf : Leaf) (sound : IsSound b) (linked
       own = sound.inside leaf live
 
       held_left : (name : ℕ) → name ≢ leaf.object → map.get new.held name ≡ map.get old.held name
-      held_left name other = ap (λ m. map.get m name) held ∙ get_left nat_cmp_total name_decides old.held leaf.object name other
+      held_left name other = ap (λ m. map.get m name) held ∙ kept_other old.held leaf.object name other
 
       left_chunk : (key : ℕ) (c : Chunk) → map.get (map.remove b.chunks leaf.chunk) key ≡ Some c → map.get b.chunks key ≡ Some c
-      left_chunk key c is = sym (get_left nat_cmp_total name_decides b.chunks leaf.chunk key (differs_by_remove nat_cmp_total name_decides b.chunks leaf.chunk key c is)) ∙ is
+      left_chunk key c is = sym (kept_other b.chunks leaf.chunk key (kept_key b.chunks leaf.chunk key c is).0) ∙ is
 
       name_left : (name : ℕ) (h : HeldObject) → IsChunkOf new b.memory_type name h → name ≢ leaf.object
-      name_left name h of = differs_by_remove nat_cmp_total name_decides old.held leaf.object name h (ap (λ m. map.get m name) (sym held) ∙ of.held)
+      name_left name h of = (kept_key old.held leaf.object name h (ap (λ m. map.get m name) (sym held) ∙ of.held)).0
 
       was_chunk : (name : ℕ) (h : HeldObject) → IsChunkOf new b.memory_type name h → IsChunkOf old b.memory_type name h
       was_chunk name h of = record { held = sym (held_left name (name_left name h of)) ∙ of.held; of_kind = of.of_kind; of_type = of.of_type }

@@ -12,6 +12,7 @@ use Rattle.std.specs.FinMap as finite
 use Rattle.std.specs.FinMap.{IsAntisymmetric}
 use Rattle.std.specs.FinSet as set
 use Rattle.gpu_alloc.proofs.Lists.{contains_head, contains_later, contains_cases, contains_none, seek}
+use Rattle.gpu_alloc.proofs.ListSets.{key_test}
 
 module _ {E : Type 0} where
   -- ys has one entry more than xs
@@ -50,14 +51,11 @@ module _ {E : Type 0} where
   ]
 
 module _ {K : Type 0} {R : K → K → Ordering} (total : IsTotalOrder R) (exact : IsAntisymmetric R) where
-  pub key_test : (q k : K) → Decides (eq_by_cmp R q k) (q ≡ k)
-  key_test q k = (λ h. exact q k ((Equal-is (R q k)).0 h), λ h. subst (λ y. eq_by_cmp R q y ≡ true) h ((eq_by_cmp_equiv total).refl q))
-
   differs : (q k : K) → q ≢ k → eq_by_cmp R q k ≡ false
   differs q k ne = cases (eq_by_cmp R q k) refl
     where
       cases : (b : Bool) → eq_by_cmp R q k ≡ b → b ≡ false
-      cases true e = absurd (ne ((key_test q k).0 e))
+      cases true e = absurd (ne ((key_test R total exact q k).0 e))
       cases false e = refl
 
   -- whether two are the same
@@ -65,8 +63,8 @@ module _ {K : Type 0} {R : K → K → Ordering} (total : IsTotalOrder R) (exact
   same_or_other q k = cases (eq_by_cmp R q k) refl
     where
       cases : (b : Bool) → eq_by_cmp R q k ≡ b → (q ≡ k) ⊎ (q ≢ k)
-      cases true e = inl ((key_test q k).0 e)
-      cases false e = inr (λ same. let yes = (key_test q k).1 same in absurd (cc))
+      cases true e = inl ((key_test R total exact q k).0 e)
+      cases false e = inr (λ same. let yes = (key_test R total exact q k).1 same in absurd (cc))
 
   module _ {E X : Type 0} (f : E → K) (g : E → X) where
     -- a finite map from what an entry is called to what it says
@@ -76,7 +74,7 @@ module _ {K : Type 0} {R : K → K → Ordering} (total : IsTotalOrder R) (exact
     found : (es : List E) (e : E) → IsOneToOne f es → Contains es e → finite.find R (f e) (map (λ a. (f a, g a)) es) ≡ Some (g e)
     found [] e one has = absurd (contains_none e has)
     found (x ∷ xs) e one has = elim (same_or_other (f e) (f x)) [
-      | inl same ↦ rw ((key_test (f e) (f x)).1 same) (ap (λ a. Some (g a)) (one x e (contains_head x xs) has (sym same)))
+      | inl same ↦ rw ((key_test R total exact (f e) (f x)).1 same) (ap (λ a. Some (g a)) (one x e (contains_head x xs) has (sym same)))
       | inr other ↦ rw (differs (f e) (f x) other) (elim (contains_cases x e xs has) [
         | inl is ↦ absurd (other (ap f is))
         | inr later ↦ found xs e (λ a b has_a has_b. one a b (contains_later x a xs has_a) (contains_later x b xs has_b)) later
@@ -98,8 +96,8 @@ module _ {K : Type 0} {R : K → K → Ordering} (total : IsTotalOrder R) (exact
     -- an entry that is called so, or none is
     pub seek_name : (es : List E) (q : K) → ((a : E) × Contains es a × (f a ≡ q)) ⊎ ((a : E) → Contains es a → f a ≢ q)
     seek_name es q = elim (seek (λ e. eq_by_cmp R q (f e)) es) [
-      | inl h ↦ inl (h.0, h.1, sym ((key_test q (f h.0)).0 h.2))
-      | inr none ↦ inr (λ a has same. let no = none a has in let yes = (key_test q (f a)).1 (sym same) in absurd (cc))
+      | inl h ↦ inl (h.0, h.1, sym ((key_test R total exact q (f h.0)).0 h.2))
+      | inr none ↦ inr (λ a has same. let no = none a has in let yes = (key_test R total exact q (f a)).1 (sym same) in absurd (cc))
     ]
 
     one_of_fewer : (xs ys : List E) → ((a : E) → Contains xs a → Contains ys a) → IsOneToOne f ys → IsOneToOne f xs
@@ -115,7 +113,7 @@ module _ {K : Type 0} {R : K → K → Ordering} (total : IsTotalOrder R) (exact
       where
         there : (a : E) → Contains ys a → finite.get (named ys) (f a) ≡ finite.get (finite.insert (named xs) (f x) (g x)) (f a)
         there a has = named_there ys a one has ∙ sym (finite.get-insert total (named xs) (f x) (g x) (f a) ∙ elim (same_or_other (f a) (f x)) [
-          | inl same ↦ ap (λ b. cond b (Some (g x)) (finite.get (named xs) (f a))) ((key_test (f a) (f x)).1 same) ∙ ap (λ e. Some (g e)) (one x a m.has has (sym same))
+          | inl same ↦ ap (λ b. cond b (Some (g x)) (finite.get (named xs) (f a))) ((key_test R total exact (f a) (f x)).1 same) ∙ ap (λ e. Some (g e)) (one x a m.has has (sym same))
           | inr other ↦ ap (λ b. cond b (Some (g x)) (finite.get (named xs) (f a))) (differs (f a) (f x) other) ∙ elim (m.cases a has) [
             | inl is ↦ absurd (other (ap f is))
             | inr was ↦ named_there xs a (one_of_fewer xs ys m.kept one) was
@@ -126,7 +124,7 @@ module _ {K : Type 0} {R : K → K → Ordering} (total : IsTotalOrder R) (exact
     named_less xs ys x one l = finite.same_map total exact _ _ (λ q. elim (seek_name ys q) [
       | inl h ↦ subst (λ k. finite.get (named ys) k ≡ finite.get (finite.remove (named xs) (f x)) k) h.2 (there h.0 h.1)
       | inr none ↦ named_absent ys q none ∙ sym (finite.get-remove total (named xs) (f x) q ∙ elim (same_or_other q (f x)) [
-        | inl same ↦ ap (λ b. cond b None (finite.get (named xs) q)) ((key_test q (f x)).1 same)
+        | inl same ↦ ap (λ b. cond b None (finite.get (named xs) q)) ((key_test R total exact q (f x)).1 same)
         | inr other ↦ ap (λ b. cond b None (finite.get (named xs) q)) (differs q (f x) other) ∙ named_absent xs q (λ a has. elim (l.cases a has) [
           | inl is ↦ λ same. other (sym same ∙ ap f is)
           | inr still ↦ none a still
@@ -155,7 +153,7 @@ module _ {K : Type 0} {R : K → K → Ordering} (total : IsTotalOrder R) (exact
     pub in_names : (es : List E) (q : K) → Decides (set.contains (set.from_list {R = R} (map f es)) q) ((a : E) × Contains es a × (f a ≡ q))
     in_names es q =
         let e = set.contains-from_list total (map f es) q in (
-          λ t. name_contains f es q (Contains-from_any (λ x y h. (key_test x y).0 h) q (map f es) (sym e ∙ t)),
+          λ t. name_contains f es q (Contains-from_any (λ x y h. (key_test R total exact x y).0 h) q (map f es) (sym e ∙ t)),
           λ h. e ∙ list_any-from_Contains (eq_by_cmp_equiv total) q (map f es) (subst (Contains (map f es)) h.2 (contains_name f es h.0 h.1)),
         )
 
@@ -167,7 +165,7 @@ module _ {K : Type 0} {R : K → K → Ordering} (total : IsTotalOrder R) (exact
             let e = set.contains-insert total (set.from_list {R = R} (map f xs)) (f x) q in (
               λ t. split (eq_by_cmp R q (f x)) refl (sym e ∙ t),
               λ h. e ∙ elim (m.cases h.0 h.1) [
-                | inl is ↦ front _ _ ((key_test q (f x)).1 (sym h.2 ∙ ap f is))
+                | inl is ↦ front _ _ ((key_test R total exact q (f x)).1 (sym h.2 ∙ ap f is))
                 | inr was ↦ later _ _ ((in_names xs q).1 (h.0, was, h.2))
               ],
             )
@@ -181,7 +179,7 @@ module _ {K : Type 0} {R : K → K → Ordering} (total : IsTotalOrder R) (exact
             later false b h = h
 
             split : (b : Bool) → eq_by_cmp R q (f x) ≡ b → (b || set.contains (set.from_list {R = R} (map f xs)) q) ≡ true → (a : E) × Contains ys a × (f a ≡ q)
-            split true is h = (x, m.has, sym ((key_test q (f x)).0 is))
+            split true is h = (x, m.has, sym ((key_test R total exact q (f x)).0 is))
             split false is h = let was = (in_names xs q).0 h in (was.0, m.kept was.0 was.1, was.2)
 
     pub names_less : (xs ys : List E) (x : E) → IsOneToOne f xs → IsLess xs ys x → set.from_list {R = R} (map f ys) ≡ set.remove (set.from_list (map f xs)) (f x)
@@ -202,7 +200,7 @@ module _ {K : Type 0} {R : K → K → Ordering} (total : IsTotalOrder R) (exact
             split : (b : Bool) → eq_by_cmp R q (f x) ≡ b → (not b && set.contains (set.from_list {R = R} (map f xs)) q) ≡ true → (a : E) × Contains ys a × (f a ≡ q)
             split true is h = absurd (cc)
             split false is h = let was = (in_names xs q).0 h in elim (l.cases was.0 was.1) [
-              | inl same ↦ absurd (let yes = (key_test q (f x)).1 (sym was.2 ∙ ap f same) in cc)
+              | inl same ↦ absurd (let yes = (key_test R total exact q (f x)).1 (sym was.2 ∙ ap f same) in cc)
               | inr still ↦ (was.0, still, was.2)
             ]
 

@@ -41,11 +41,9 @@ module _ {X : Type 0} where
     pub had : Contains xs x
     pub cases : (y : X) → Contains xs y → (y ≡ x) ⊎ Contains ys y
 
-  -- what `swap_remove` leaves
-  pub less : (e : X → X → Bool) → ((x y : X) → e x y ≡ e y x) → (xs ys : List X) (i : ℕ) (x : X) → IsDistinct e xs → i < length xs
-      → x ≡ get_or xs i x → ys ≡ swap_remove xs i x → IsLess e xs ys x
-  less e flips xs ys i x d lt is left =
-      let perm : IsPermutation xs (x ∷ ys) = subst (λ zs. IsPermutation xs (x ∷ zs)) (sym left) (IsPermutation-swap_remove xs i x lt is) in
+  -- xs has one element more than ys, in any order
+  pub less_permuted : (e : X → X → Bool) → ((x y : X) → e x y ≡ e y x) → (xs ys : List X) (x : X) → IsDistinct e xs → IsPermutation xs (x ∷ ys) → IsLess e xs ys x
+  less_permuted e flips xs ys x d perm =
       let back : IsPermutation (x ∷ ys) xs = IsPermutation-sym xs (x ∷ ys) perm in
       let d' : IsDistinct e (x ∷ ys) = IsDistinct-IsPermutation e flips xs (x ∷ ys) perm d in
       record {
@@ -55,6 +53,11 @@ module _ {X : Type 0} where
         had = Contains-permutation (x ∷ ys) xs x back (contains_head x ys);
         cases = λ y h. contains_cases x y ys (Contains-permutation xs (x ∷ ys) y perm h);
       }
+
+  -- what `swap_remove` leaves
+  pub less : (e : X → X → Bool) → ((x y : X) → e x y ≡ e y x) → (xs ys : List X) (i : ℕ) (x : X) → IsDistinct e xs → i < length xs
+      → x ≡ get_or xs i x → ys ≡ swap_remove xs i x → IsLess e xs ys x
+  less e flips xs ys i x d lt is left = less_permuted e flips xs ys x d (subst (λ zs. IsPermutation xs (x ∷ zs)) (sym left) (IsPermutation-swap_remove xs i x lt is))
 
   -- what `swap_remove` leaves was there
   pub swap_removed : (xs ys : List X) (i : ℕ) (x : X) → i < length xs → x ≡ get_or xs i x → ys ≡ swap_remove xs i x → (y : X) → Contains ys y → Contains xs y

@@ -7,7 +7,7 @@ use Rattle.std.specs.FinMap.{nat_cmp-IsAntisymmetric, slice_cmp-IsAntisymmetric}
 use Rattle.std.specs.Ordering.{eq_by_cmp}
 use Rattle.std.specs.FinSet.{FinSet, contains, insert, remove, contains-insert, contains-remove}
 use Rattle.gpu_alloc.specs.State.{Span, span_cmp, span_numbers}
-use Rattle.gpu_alloc.proofs.ListViews.{key_test}
+use Rattle.gpu_alloc.proofs.ListSets.{key_test}
 
 -- Spans in their order.
 
@@ -23,7 +23,7 @@ span_exact a b e =
     λ i. record { object = object i; offset = offset i; size = size i }
 
 pub span_test : (a b : Span) → Decides (eq_by_cmp span_cmp a b) (a ≡ b)
-span_test a b = key_test span_total span_exact a b
+span_test a b = key_test span_cmp span_total span_exact a b
 
 -- Sets of them.
 

@@ -1,5 +1,5 @@
 -- A new object that is mapped, or given back.
-use Rattle.std.proofs.Common.{◌≡◌, inl, inr, ℕ, ◌<◌, true, false, [], ◌∷◌, Option, Some, None, Ok, Err, refl, ◌∙◌, ap, arith}
+use Rattle.std.proofs.Common.{◌≡◌, inl, inr, ℕ, ◌<◌, true, [], ◌∷◌, Option, Some, None, Ok, Err, refl, ◌∙◌, ap, arith}
 use Rattle.gpu_alloc_types.specs.Properties.{Properties, is_host_visible}
 use Rattle.gpu_alloc_types.specs.Device.{Object, Row, HeldWith, IsHeld, IsMappable, put}
 use Rattle.gpu_alloc_types.specs.Device.Event.{Allocated, Mapped}
@@ -41,10 +41,6 @@ module _ (q : ChunkQuestion) (f g : ℕ → Option Object) (flags name : ℕ) (p
           maps.2.2 ∙ ap (λ x. put g name (Some x)) (maps.2.1 ∙ ap whole same) ∙ ap (λ x. put x name (Some (whole o))) row.1.2 ∙ put-put f name (Some o) (Some (whole o)),
         ),
       )
-
-  -- one that the host does not see is not mapped
-  pub unmapped_after : q.visible ≡ false → Row p f (Allocated q.size q.memory_type flags (Ok name)) g → HasOneChunkMore q name f g
-  unmapped_after hidden row = (row.0, (row.1.0, record { of_type = row.1.1.of_type; of_size = row.1.1.of_size; mapped = rw hidden row.1.1.unmapped }, row.1.2))
 
   -- it is still there where its mapping was refused
   pub still_there : (h : ℕ → Option Object) → Row p f (Allocated q.size q.memory_type flags (Ok name)) g → h ≡ g → IsHeld h name

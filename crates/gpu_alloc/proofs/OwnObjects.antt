@@ -1,11 +1,13 @@
 -- What an allocator's fields keep, as room is made in its table, and as an object of its own comes or goes.
-use Rattle.std.proofs.Common.{◌≡◌, ◌≢◌, ℕ, ◌+◌, ◌-◌, ◌<◌, cond, List, get_or, map, Option, Some, None, IfSome, refl, sym, ◌∙◌, ap, subst}
+use Rattle.std.proofs.Common.{◌≡◌, ◌≢◌, ℕ, ◌+◌, ◌-◌, ◌<◌, cond, List, get_or, map, Option, Some, None, IfSome, false, refl, sym, ◌∙◌, ap, subst}
 use Rattle.std.proofs.Math.ListN.{set}
 use Rattle.std.specs.Cmp.{nat_cmp_total}
 use Rattle.std.specs.FinMap as finite
 use Rattle.gpu_alloc_types.specs.Properties.{Properties, heap_at}
 use Rattle.gpu_alloc.specs.BuddyState.{Buddy}
-use Rattle.gpu_alloc.specs.Inside.{IsKnown, IsOfObject, IsChunkOf, IsLinked, IsBuddyOf, IsConsistent, offer_of}
+use Rattle.gpu_alloc.specs.FreeListState.{Listing}
+use Rattle.gpu_alloc.specs.Inside.{IsKnown, IsOfObject, IsChunkOf, IsLinked, IsBuddyOf, IsNumberedChunk, IsListLinked, IsListOf, IsConsistent, offer_of}
+use Rattle.gpu_alloc.specs.Sound.{is_list_chunk}
 use Rattle.gpu_alloc.specs.Spans.{Place, Table}
 use Rattle.gpu_alloc.specs.State.{HeldObject, Span}
 use Rattle.gpu_alloc.specs.declared.block.Kind.{Kind}
@@ -14,6 +16,8 @@ use Rattle.gpu_alloc.specs.declared.config.Config.{Config}
 use Rattle.gpu_alloc.specs.declared.heap.Heap.{Heap}
 use Rattle.gpu_alloc.proofs.Consistency.{HoldsMore, HoldsFewer, booked-held, booked-gone}
 use Rattle.gpu_alloc.proofs.HasBuddies.{IsNoChunk, beside_more, beside_fewer, buddies_beside}
+use Rattle.gpu_alloc.proofs.HasLists.{IsNoListChunk, lists_beside}
+use Rattle.gpu_alloc.proofs.Links.{IsBeside}
 use Rattle.gpu_alloc.proofs.Maps.{other_inserted, kept_other, gone, name_test, eq-true}
 use Rattle.gpu_alloc.proofs.Ledgers.{Held}
 
@@ -47,8 +51,22 @@ module _ (c : Config) (p : Properties) (t : Table) (room : ℕ) where
   buddy_wider : (index : ℕ) (b : Buddy) → IsBuddyOf c p t index b → IsBuddyOf c p wider index b
   buddy_wider index b is = record { for_type = is.for_type; sound = is.sound; linked = linked_wider b is.linked }
 
-  consistent_wider : (heaps : List Heap) (buddies : List Buddy) (remaining : ℕ) → IsConsistent c p heaps buddies t remaining → IsConsistent c p heaps buddies wider remaining
-  consistent_wider heaps buddies remaining is = record {
+  numbered_before : (memory_type number object : ℕ) (h : HeldObject) → IsNumberedChunk wider memory_type number object h → IsNumberedChunk t memory_type number object h
+  numbered_before memory_type number object h chunk = record { held = chunk.held; of_kind = chunk.of_kind; of_type = chunk.of_type }
+
+  list_linked_wider : (l : Listing) → IsListLinked t l → IsListLinked wider l
+  list_linked_wider l is = record {
+    chunks = is.chunks;
+    objects = λ number object h chunk. is.objects number object h (numbered_before l.memory_type number object h chunk);
+    slots = is.slots;
+    spans = λ span number h live chunk. is.spans span number h live (numbered_before l.memory_type number span.object h chunk);
+  }
+
+  list_wider : (index : ℕ) (l : Listing) → IsListOf c p t index l → IsListOf c p wider index l
+  list_wider index l is = record { for_type = is.for_type; sound = is.sound; linked = list_linked_wider l is.linked }
+
+  consistent_wider : (heaps : List Heap) (buddies : List Buddy) (lists : List Listing) (remaining : ℕ) → IsConsistent c p heaps buddies lists t remaining → IsConsistent c p heaps buddies lists wider remaining
+  consistent_wider heaps buddies lists remaining is = record {
     books = record {
       usable = is.books.usable;
       count = is.books.count;
@@ -61,36 +79,48 @@ module _ (c : Config) (p : Properties) (t : Table) (room : ℕ) where
       count = is.shared.count;
       each = λ q. some_also (IsBuddyOf c p t q) (IsBuddyOf c p wider q) _ (buddy_wider q) (is.shared.each q);
     };
+    listed = record {
+      count = is.listed.count;
+      each = λ q. some_also (IsListOf c p t q) (IsListOf c p wider q) _ (list_wider q) (is.listed.each q);
+    };
   }
 
-pub consistent-room : (c : Config) (p : Properties) (heaps : List Heap) (buddies : List Buddy) (t now : Table) (remaining : ℕ) → now ≡ record t { room = now.room }
-    → IsConsistent c p heaps buddies t remaining → IsConsistent c p heaps buddies now remaining
-consistent-room c p heaps buddies t now remaining kept is =
-    subst (λ (x : Table). IsConsistent c p heaps buddies x remaining) (sym kept) (consistent_wider c p t now.room heaps buddies remaining is)
+pub consistent-room : (c : Config) (p : Properties) (heaps : List Heap) (buddies : List Buddy) (lists : List Listing) (t now : Table) (remaining : ℕ) → now ≡ record t { room = now.room }
+    → IsConsistent c p heaps buddies lists t remaining → IsConsistent c p heaps buddies lists now remaining
+consistent-room c p heaps buddies lists t now remaining kept is =
+    subst (λ (x : Table). IsConsistent c p heaps buddies lists x remaining) (sym kept) (consistent_wider c p t now.room heaps buddies lists remaining is)
 
 -- An object of its own comes or goes.
 
 own_is_no_chunk : (kind : Kind) → kind ≡ Dedicated → kind ≢ BuddyChunk
 own_is_no_chunk kind own chunk = let both = sym own ∙ chunk in absurd (cc)
 
-module _ (c : Config) (p : Properties) (heaps : List Heap) (buddies : List Buddy) (t : Table) (remaining : ℕ) (is : IsConsistent c p heaps buddies t remaining) (offers : p.memory_heaps ≡ map offer_of heaps)
+module _ (c : Config) (p : Properties) (heaps : List Heap) (buddies : List Buddy) (lists : List Listing) (t : Table) (remaining : ℕ) (is : IsConsistent c p heaps buddies lists t remaining) (offers : p.memory_heaps ≡ map offer_of heaps)
     (now : Table) (h : HeldObject) (span : Span) (own : h.kind ≡ Dedicated) where
-  own_object : (m : Table) → finite.get m.held span.object ≡ Some h → IsNoChunk m span.object
-  own_object m found = subst (λ (o : Option HeldObject). IfSome o (λ x. x.kind ≢ BuddyChunk)) (sym found) (own_is_no_chunk h.kind own)
+  own_object : (m : Table) → finite.get m.held span.object ≡ Some h → IsNoChunk m span.object × IsNoListChunk m span.object
+  own_object m found = (
+    subst (λ (o : Option HeldObject). IfSome o (λ x. x.kind ≢ BuddyChunk)) (sym found) (own_is_no_chunk h.kind own),
+    subst (λ (o : Option HeldObject). IfSome o (λ x. is_list_chunk x.kind ≡ false)) (sym found) (ap is_list_chunk own),
+  )
 
-  no_object : (m : Table) → finite.get m.held span.object ≡ None → IsNoChunk m span.object
-  no_object m none = subst (λ (o : Option HeldObject). IfSome o (λ x. x.kind ≢ BuddyChunk)) (sym none) tt
+  no_object : (m : Table) → finite.get m.held span.object ≡ None → IsNoChunk m span.object × IsNoListChunk m span.object
+  no_object m none = (
+    subst (λ (o : Option HeldObject). IfSome o (λ x. x.kind ≢ BuddyChunk)) (sym none) tt,
+    subst (λ (o : Option HeldObject). IfSome o (λ x. is_list_chunk x.kind ≡ false)) (sym none) tt,
+  )
 
   pub consistent-held : HoldsMore p heaps t remaining is.books offers now h span → (place : Place) → now.places ≡ finite.insert t.places span place
       → (heap changed : Heap) (i : ℕ) → 0 < remaining → i ≡ heap_at p h.memory_type → heap ≡ get_or heaps i heap → changed.used ≡ heap.used + h.counted
-      → IsConsistent c p (set heaps i changed) buddies now (remaining - 1)
+      → IsConsistent c p (set heaps i changed) buddies lists now (remaining - 1)
   consistent-held m place places heap changed i some here at more = record {
     books = booked-held p heaps t remaining is.books offers now h span m heap changed i some here at more;
-    shared = buddies_beside c p t now buddies span.object
-        (beside_more t now span (λ q other. ap (λ (x : Held). finite.get x q) m.held ∙ other_inserted t.held span.object h q other) place m.live places)
-        is.shared (no_object t m.free) (own_object now found);
+    shared = buddies_beside c p t now buddies span.object beside is.shared (no_object t m.free).0 (own_object now found).0;
+    listed = lists_beside c p t now lists span.object beside is.listed (no_object t m.free).1 (own_object now found).1;
   }
     where
+      beside : IsBeside t now span.object
+      beside = beside_more t now span (λ q other. ap (λ (x : Held). finite.get x q) m.held ∙ other_inserted t.held span.object h q other) place m.live places
+
       found : finite.get now.held span.object ≡ Some h
       found =
           ap (λ (x : Held). finite.get x span.object) m.held ∙ finite.get-insert nat_cmp_total t.held span.object h span.object
@@ -98,10 +128,15 @@ module _ (c : Config) (p : Properties) (heaps : List Heap) (buddies : List Buddy
 
   pub consistent-gone : HoldsFewer p heaps t remaining is.books offers now h span → now.places ≡ finite.remove t.places span
       → (heap changed : Heap) (i : ℕ) → i ≡ heap_at p h.memory_type → heap ≡ get_or heaps i heap → changed.used ≡ heap.used - h.counted
-      → IsConsistent c p (set heaps i changed) buddies now (remaining + 1)
+      → IsConsistent c p (set heaps i changed) buddies lists now (remaining + 1)
   consistent-gone l places heap changed i here at less = record {
     books = booked-gone p heaps t remaining is.books offers now h span l heap changed i here at less;
-    shared = buddies_beside c p t now buddies span.object
-        (beside_fewer t now span (λ q other. ap (λ (x : Held). finite.get x q) l.held ∙ kept_other t.held span.object q other) l.live places)
-        is.shared (own_object t l.found) (no_object now (ap (λ (x : Held). finite.get x span.object) l.held ∙ gone t.held span.object));
+    shared = buddies_beside c p t now buddies span.object beside is.shared (own_object t l.found).0 (no_object now none).0;
+    listed = lists_beside c p t now lists span.object beside is.listed (own_object t l.found).1 (no_object now none).1;
   }
+    where
+      beside : IsBeside t now span.object
+      beside = beside_fewer t now span (λ q other. ap (λ (x : Held). finite.get x q) l.held ∙ kept_other t.held span.object q other) l.live places
+
+      none : finite.get now.held span.object ≡ None
+      none = ap (λ (x : Held). finite.get x span.object) l.held ∙ gone t.held span.object

@@ -1,5 +1,5 @@
 -- A memory type's buddy allocator in the whole allocator's state: both tell the same of chunks, free bytes and blocks.
-use Rattle.std.proofs.Common.{◌≡◌, ◌≢◌, ◌⊎◌, inl, inr, ℕ, ◌*◌, ◌^◌, ◌<◌, List, [], Some, None, Ok, Err, slice_get, refl, sym, ◌∙◌, ap, subst, arith}
+use Rattle.std.proofs.Common.{◌≡◌, ◌≢◌, inl, inr, ℕ, ◌*◌, ◌^◌, ◌<◌, List, [], Some, None, Err, slice_get, refl, sym, ◌∙◌, ap, subst, arith}
 use Rattle.std.proofs.lemmas.Nat.{pow_pos}
 use Rattle.std.specs.Prelude.{max}
 use Rattle.std.specs.FinMap as map
@@ -10,8 +10,8 @@ use Rattle.gpu_alloc.specs.Buddy.{Account, account, wanted, rounded, question, F
 use Rattle.gpu_alloc.specs.BuddyState.{Chunk, Buddy, IsFreeAt}
 use Rattle.gpu_alloc.specs.FreeSpace.{IsPlace, IsFreePiece, IsFreeByte}
 use Rattle.gpu_alloc.specs.Inside.{IsBuddyOf, chunk_object, span_of_leaf, leaf_at}
-use Rattle.gpu_alloc.specs.NewChunk.{flags_of, made, LacksDeviceMemory, LacksHostMemory, IsGivenBack}
-use Rattle.gpu_alloc.specs.Sharing.{buddy_size, buddy_question, front_of, next_chunk_of, HasBuddyPlace, IsPieceFront, AsksForBuddyChunk, IsPassedByBuddy, DecidesInBuddyChunk, GivesInChunk, GivesInNewChunk, with_span, with_buddy_chunk}
+use Rattle.gpu_alloc.specs.NewChunk.{flags_of, LacksDeviceMemory, LacksHostMemory, IsGivenBack}
+use Rattle.gpu_alloc.specs.Sharing.{buddy_size, buddy_question, next_chunk_of, HasBuddyPlace, IsPieceFront, AsksForBuddyChunk, IsPassedByBuddy, DecidesInBuddyChunk}
 use Rattle.gpu_alloc.specs.Spans.{Place, Table}
 use Rattle.gpu_alloc.specs.State.{HeldObject, span_cmp, State}
 use Rattle.gpu_alloc.specs.declared.block.Kind.TheVariants.{BuddyChunk}
@@ -163,15 +163,6 @@ module _ (s : State) (places : map.FinMap span_cmp Place) (room index : ℕ) (b 
     answered_refused OutOfHostMemory other (same, inl (fits, (none_asked, inr asks))) = (refl, inl (none_asked, (fits, inr asks.1.1)))
     answered_refused OutOfHostMemory other (same, inr (asks, inl lacks)) = (refl, inr (asks_is size heap asks, inl (subst (λ q. LacksHostMemory q es) (question_is size) lacks)))
     answered_refused OutOfHostMemory other (same, inr (asks, inr back)) = (refl, inr (asks_is size heap asks, inr (subst (λ q. IsGivenBack q es) (question_is size) back)))
-
-    -- what is given
-    pub answered_given : (leaf : Leaf) → Answers (account b heap s.remaining) size (flags_of s.properties) es (Ok leaf) after
-        → GivesInChunk s index size es (span_of_leaf leaf) (with_span s (span_of_leaf leaf))
-        ⊎ GivesInNewChunk s index size es (span_of_leaf leaf) (with_span (with_buddy_chunk s index leaf.object (buddy_question s index size).size) (span_of_leaf leaf))
-    answered_given leaf (inl (fits, (front, (none_asked, same)))) = inl (fits, (front_is size leaf front, (none_asked, refl)))
-    answered_given leaf (inr (asks, (begins, (asked, same)))) =
-        let span_is : span_of_leaf leaf ≡ front_of leaf.object size = λ i. record { object = leaf.object; offset = begins.start i; size = begins.of_size i } in
-        inr (asks_is size heap asks, (span_is, (subst (λ q. es ≡ made q leaf.object) (question_is size) asked, refl)))
 
   -- before anything is asked
   module _ (heap : Heap) (r : Request) (flags : ℕ) where

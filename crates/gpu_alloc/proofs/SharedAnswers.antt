@@ -13,6 +13,7 @@ use Rattle.gpu_alloc.specs.Buddy.{Account, account, wanted, Answers, question, B
 use Rattle.gpu_alloc.specs.Buddy as buddy
 use Rattle.gpu_alloc.specs.BuddySound.{IsSound}
 use Rattle.gpu_alloc.specs.BuddyState.{Chunk, Buddy}
+use Rattle.gpu_alloc.specs.FreeListState.{Listing}
 use Rattle.gpu_alloc.specs.Inside.{state_in, properties_in, with_chunk_of, span_of_leaf, place_of_leaf, IsConsistent}
 use Rattle.gpu_alloc.specs.NewChunk.{flags_of, made, HasOneChunkMore}
 use Rattle.gpu_alloc.specs.Sharing.{buddy_question, buddy_block, with_span, with_buddy_chunk, GivesInChunk, GivesInNewChunk}
@@ -39,23 +40,23 @@ apart_itself span some (inr (inl before)) = absurd (omega (arith, before, some))
 apart_itself span some (inr (inr after)) = absurd (omega (arith, after, some))
 
 -- a request to a buddy allocator among the fields, and the block that it gave
-pub record Given {A : Type 0} (l : Limits A) (heaps : List Heap) (buddies : List Buddy) (t : Table) (remaining index i : ℕ) (b : Buddy) (heap : Heap) (r : Request) (flags : ℕ) (leaf : Leaf) (q : Properties) (old : ℕ → Option Object) : Type 0 where
-  pub is : IsConsistent l.config (properties_in l heaps) heaps buddies t remaining
+pub record Given {A : Type 0} (l : Limits A) (heaps : List Heap) (buddies : List Buddy) (lists : List Listing) (t : Table) (remaining index i : ℕ) (b : Buddy) (heap : Heap) (r : Request) (flags : ℕ) (leaf : Leaf) (q : Properties) (old : ℕ → Option Object) : Type 0 where
+  pub is : IsConsistent l.config (properties_in l heaps) heaps buddies lists t remaining
   pub known : index < length (properties_in l heaps).memory_types
   pub at : b ≡ get_or buddies index b
   pub here : i ≡ heap_at (properties_in l heaps) index
   pub at_heap : heap ≡ get_or heaps i heap
   pub flags_are : flags ≡ flags_of (properties_in l heaps)
-  pub agrees : agreement.Agrees (state_in l heaps buddies t remaining) q old
+  pub agrees : agreement.Agrees (state_in l heaps buddies lists t remaining) q old
 
-module _ {A : Type 0} {l : Limits A} {heaps : List Heap} {buddies : List Buddy} {t : Table} {remaining index i : ℕ} {b : Buddy} {heap : Heap} {r : Request} {flags : ℕ} {leaf : Leaf} {q : Properties} {old : ℕ → Option Object}
-    (given : Given l heaps buddies t remaining index i b heap r flags leaf q old) (new : ℕ → Option Object) (size : ℕ) (es : List Event) (after : Account)
+module _ {A : Type 0} {l : Limits A} {heaps : List Heap} {buddies : List Buddy} {lists : List Listing} {t : Table} {remaining index i : ℕ} {b : Buddy} {heap : Heap} {r : Request} {flags : ℕ} {leaf : Leaf} {q : Properties} {old : ℕ → Option Object}
+    (given : Given l heaps buddies lists t remaining index i b heap r flags leaf q old) (new : ℕ → Option Object) (size : ℕ) (es : List Event) (after : Account)
     (answers : Answers (account b heap remaining) size flags es (Ok leaf) after) (objects : ObjectsAfter b size flags (Ok leaf) old new) (granted : buddy.IsGranted b (wanted r.size r.align_mask flags) after.buddy leaf) where
   abbrev before : State
-  before = state_in l heaps buddies t remaining
+  before = state_in l heaps buddies lists t remaining
 
   serving : Serves before t.places t.room index b
-  serving = serves l heaps buddies t remaining index b given.is given.known given.at
+  serving = serves l heaps buddies lists t remaining index b given.is given.known given.at
 
   -- the object of a new chunk is not held
   not_held_yet : old leaf.object ≡ None → finite.get t.held leaf.object ≡ None
@@ -96,11 +97,11 @@ module _ {A : Type 0} {l : Limits A} {heaps : List Heap} {buddies : List Buddy} 
     more = record { free = span_is_free; live = live; places = places }
 
     abbrev state_of : Account → State
-    state_of a = state_in l (set heaps i a.heap) (set buddies index a.buddy) now a.remaining
+    state_of a = state_in l (set heaps i a.heap) (set buddies index a.buddy) lists now a.remaining
 
     -- what is left of it
     pub record IsServed (a : Account) : Type 0 where
-      pub consistent : IsConsistent l.config (properties_in l (set heaps i a.heap)) (set heaps i a.heap) (set buddies index a.buddy) now a.remaining
+      pub consistent : IsConsistent l.config (properties_in l (set heaps i a.heap)) (set heaps i a.heap) (set buddies index a.buddy) lists now a.remaining
       pub gives : GivesInChunk before index size es (span_of_leaf leaf) (state_of a) ⊎ GivesInNewChunk before index size es (span_of_leaf leaf) (state_of a)
       pub agreed : agreement.Agrees (state_of a) q new
       pub told : IsGranted before r (state_of a) (buddy_block before index (span_of_leaf leaf))
@@ -110,15 +111,15 @@ module _ {A : Type 0} {l : Limits A} {heaps : List Heap} {buddies : List Buddy} 
     in_chunk : (front : IsFront b size leaf) → new ≡ old → after ≡ account (with_leaf b leaf) heap remaining
         → GivesInChunk before index size es (span_of_leaf leaf) (with_span before (span_of_leaf leaf)) → IsServed after
     in_chunk front same_objects after_is gives =
-        let chunk_found = buddy_of l heaps buddies t remaining index b given.is given.known given.at in
+        let chunk_found = buddy_of l heaps buddies lists t remaining index b given.is given.known given.at in
         let there = ap (finite.get t.held) front.object ∙ chunk_found.linked.chunks leaf.chunk front.chunk front.held in
         let same_held : now.held ≡ t.held = held ∙ ap (λ (o : Option HeldObject). cond (is_some o) t.held (finite.insert t.held leaf.object chunk_row)) there in
         let sound_now = subst IsSound (ap (λ (a : Account). a.buddy) after_is) sound in
-        let state = state_with_leaf l heaps buddies t remaining index b given.is given.known given.at i heap given.here given.at_heap leaf front.chunk now front.held front.object sound_now same_held more in
+        let state = state_with_leaf l heaps buddies lists t remaining index b given.is given.known given.at i heap given.here given.at_heap leaf front.chunk now front.held front.object sound_now same_held more in
         let found_now = ap (λ (x : Held). finite.get x leaf.object) same_held ∙ there in
         let chunk_now : finite.get after.buddy.chunks leaf.chunk ≡ Some front.chunk = ap (λ (a : Account). finite.get a.buddy.chunks leaf.chunk) after_is ∙ front.held in
         subst IsServed (sym after_is) (record {
-          consistent = consistent_with_leaf l heaps buddies t remaining index b given.is given.known given.at i heap given.here given.at_heap leaf front.chunk now front.held front.object sound_now same_held more;
+          consistent = consistent_with_leaf l heaps buddies lists t remaining index b given.is given.known given.at i heap given.here given.at_heap leaf front.chunk now front.held front.object sound_now same_held more;
           gives = inl (subst (GivesInChunk before index size es (span_of_leaf leaf)) (sym state) gives);
           agreed = subst (λ o. agreement.Agrees (state_of (account (with_leaf b leaf) heap remaining)) q o) (sym same_objects)
               (subst (λ x. agreement.Agrees x q old) (sym state) (agrees_with_span before t.places t.room index b serving q old leaf front.chunk front.held front.object given.agrees));
@@ -146,12 +147,12 @@ module _ {A : Type 0} {l : Limits A} {heaps : List Heap} {buddies : List Buddy} 
         let power = sound.powers leaf.chunk chunk chunk_now in
         let small : n < 2 ^ 64 = omega (arith, power.1.1, pow-le power.0 63 power.1.0) in
         let changed : Heap = record heap { used = heap.used + n } in
-        let state = state_with_chunk l heaps buddies t remaining index b given.is given.known given.at i heap given.here given.at_heap leaf n now changed begins.free_key free some small sound_now held_now more refl in
-        let asked = asked_size l heaps buddies t remaining index b given.is given.known given.at i heap given.here given.at_heap size in
+        let state = state_with_chunk l heaps buddies lists t remaining index b given.is given.known given.at i heap given.here given.at_heap leaf n now changed begins.free_key free some small sound_now held_now more refl in
+        let asked = asked_size l heaps buddies lists t remaining index b given.is given.known given.at i heap given.here given.at_heap size in
         let state_asked = state ∙ ap (λ m. with_span (with_buddy_chunk before index leaf.object m) (span_of_leaf leaf)) asked in
         let found_now = ap (λ (x : Held). finite.get x leaf.object) held_now ∙ own_inserted t.held leaf.object (record { memory_type = index; counted = n; kind = BuddyChunk }) in
         subst IsServed (sym after_is) (record {
-          consistent = consistent_with_chunk l heaps buddies t remaining index b given.is given.known given.at i heap given.here given.at_heap leaf n now changed begins.free_key free some small sound_now held_now more refl;
+          consistent = consistent_with_chunk l heaps buddies lists t remaining index b given.is given.known given.at i heap given.here given.at_heap leaf n now changed begins.free_key free some small sound_now held_now more refl;
           gives = inr (subst (GivesInNewChunk before index size es (span_of_leaf leaf)) (sym state_asked) gives);
           agreed = subst (λ x. agreement.Agrees x q new) (sym state_asked) (agrees_with_chunk before t.places t.room index b serving q old new size leaf given.agrees new_chunk);
           told = granted_is before t.places t.room index b serving r flags after.buddy (state_of (account (with_leaf (with_chunk b leaf n) leaf) changed (remaining - 1))) leaf chunk _ granted chunk_now found_now refl

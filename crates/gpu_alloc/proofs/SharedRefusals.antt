@@ -3,7 +3,7 @@ use Rattle.std.proofs.Common.{◌≡◌, ℕ, List, [], Option, Some, Err, refl,
 use Rattle.std.specs.FinMap as finite
 use Rattle.gpu_alloc_types.specs.Device.{Event, Object}
 use Rattle.gpu_alloc.specs.Allocation.{passing, TriesBy, ObjectsTried, GrantsTried}
-use Rattle.gpu_alloc.specs.Allocation.Strategy.{InBuddyChunk}
+use Rattle.gpu_alloc.specs.declared.allocator.Strategy.TheVariants.{InBuddyChunk}
 use Rattle.gpu_alloc.specs.Buddy.{Account, account, wanted, rounded, Answers, RefusesFirst}
 use Rattle.gpu_alloc.specs.BuddyState.{Buddy}
 use Rattle.gpu_alloc.specs.NewChunk.{flags_of}

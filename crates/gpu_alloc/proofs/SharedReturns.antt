@@ -4,7 +4,7 @@ use Rattle.std.proofs.Math.ListN.{set}
 use Rattle.std.specs.Ordering.{eq_by_cmp}
 use Rattle.std.specs.FinMap as finite
 use Rattle.std.specs.FinSet as set_of
-use Rattle.gpu_alloc_types.specs.Device.{Event, Object, HeldWith, put}
+use Rattle.gpu_alloc_types.specs.Device.{Event, Object, put}
 use Rattle.gpu_alloc_types.specs.Device.Event.{Deallocated}
 use Rattle.gpu_alloc_types.specs.Properties.{Properties, heap_at}
 use Rattle.gpu_alloc.specs.Agreement as agreement
@@ -12,9 +12,11 @@ use Rattle.gpu_alloc.specs.Buddy.{Account, account, without_leaf, IsUnusedChunk}
 use Rattle.gpu_alloc.specs.Buddy as buddy
 use Rattle.gpu_alloc.specs.BuddySound.{LiesInChunk, IsSound}
 use Rattle.gpu_alloc.specs.BuddyState.{Chunk, Buddy, IsLiveLeaf}
-use Rattle.gpu_alloc.specs.Inside.{state_in, properties_in, chunk_object, span_of_leaf, leaf_at, IsConsistent, IsBuddyOf}
+use Rattle.gpu_alloc.specs.FreeListState.{Listing}
+use Rattle.gpu_alloc.specs.Inside.{state_in, properties_in, lists_in, chunk_object, span_of_leaf, leaf_at, IsConsistent, IsBuddyOf}
 use Rattle.gpu_alloc.specs.Release.{Frees, ObjectsFreed, GoesWith, IsUnused, without_span}
 use Rattle.gpu_alloc.specs.Sizes.{first_types}
+use Rattle.gpu_alloc.specs.Sound.{is_list_chunk}
 use Rattle.gpu_alloc.specs.Spans.{Table, span_in, place_in, without_old}
 use Rattle.gpu_alloc.specs.State.{HeldObject, Span, span_cmp, span_of, Block, IsOwned, State, total}
 use Rattle.gpu_alloc.specs.declared.block.Kind.{Kind}
@@ -23,13 +25,14 @@ use Rattle.gpu_alloc.specs.declared.buddy.block.Leaf.{Leaf}
 use Rattle.gpu_alloc.specs.declared.heap.Heap.{Heap}
 use Rattle.gpu_alloc.specs.declared.limits.Limits.{Limits}
 use Rattle.gpu_alloc.specs.declared.spans.LiveSpan.{LiveSpan}
-use Rattle.gpu_alloc.proofs.Agreeing.{there_kept, agrees_returned}
+use Rattle.gpu_alloc.proofs.Agreeing.{agrees_returned, agrees_without_span}
 use Rattle.gpu_alloc.proofs.Consistency.{HoldsFewer, known_object, booked-gone, booked-span_gone}
 use Rattle.gpu_alloc.proofs.HasBuddies.{beside_fewer, buddies_set}
+use Rattle.gpu_alloc.proofs.HasLists.{lists_beside}
 use Rattle.gpu_alloc.proofs.Maps.{kept_other, gone, eq-true, eq-false, one_value}
 use Rattle.gpu_alloc.proofs.HeapLists.{properties_kept, state_kept}
 use Rattle.gpu_alloc.proofs.Ledgers.{Held}
-use Rattle.gpu_alloc.proofs.Links.{HasLeafLess, linked_without_leaf, linked_without_chunk}
+use Rattle.gpu_alloc.proofs.Links.{IsBeside, HasLeafLess, linked_without_leaf, linked_without_chunk}
 use Rattle.gpu_alloc.proofs.LiveSpans.{span_test, live_kept, live_other}
 use Rattle.gpu_alloc.proofs.Returns.{returned, total_returned}
 use Rattle.gpu_alloc.proofs.ServedBlocks.{buddy_agrees, unused_is, unused_was}
@@ -38,23 +41,12 @@ use Rattle.gpu_alloc.proofs.SharedGrants.{same_set, serves, buddy_of, same_for, 
 use Rattle.gpu_alloc.proofs.TypeStates.{types_kept}
 
 -- the only span of an object is live no more where no span of it is left
-only_span : (live : set_of.FinSet span_cmp) (span other : Span) → ((left : Span) → IsTrue (set_of.contains (set_of.remove live span) left) → left.object ≢ span.object)
+pub only_span : (live : set_of.FinSet span_cmp) (span other : Span) → ((left : Span) → IsTrue (set_of.contains (set_of.remove live span) left) → left.object ≢ span.object)
     → IsTrue (set_of.contains live other) → other.object ≡ span.object → other ≡ span
 only_span live span other none was of_it = elim (eq_by_cmp span_cmp other span) as (λ x. eq_by_cmp span_cmp other span ≡ x → other ≡ span) [
   | true ↦ λ e. (span_test other span).0 e
   | false ↦ λ e. absurd (none other (live_kept live span other (λ same. let yes = (span_test other span).1 same in absurd (cc)) was) of_it)
 ] refl
-
--- with a span fewer the two agree as before
-agrees_without_span : (s : State) (p q : Properties) (objects : ℕ → Option Object) (block : Block) → agreement.Agrees s p objects → q ≡ p → agreement.Agrees (without_span s block) q objects
-agrees_without_span s p q objects block agrees same = record {
-  properties = same ∙ agrees.properties;
-  holds = λ name. held name (finite.get s.held name) (agrees.holds name);
-}
-  where
-    held : (name : ℕ) (v : Option HeldObject) → IfSome v (λ h. HeldWith objects name (agreement.IsThere s name h)) → IfSome v (λ h. HeldWith objects name (agreement.IsThere (without_span s block) name h))
-    held name None was = tt
-    held name (Some h) was = (was.0, was.1, there_kept s (without_span s block) name h was.0 refl (λ span live of_it. (live_other s.live (span_of block) span live).1) was.2)
 
 -- what goes with a block of a buddy chunk: nothing where another block is left, and else the chunk
 chunk_stays : (kind : Kind) (s : State) (object : ℕ) → kind ≡ BuddyChunk → (IsUnused s object → ⊥) → GoesWith kind s object []
@@ -64,8 +56,8 @@ chunk_goes : (kind : Kind) (s : State) (object : ℕ) → kind ≡ BuddyChunk �
 chunk_goes kind s object is unused = subst (λ k. GoesWith k s object (object ∷ [])) (sym is) (inl (unused, refl))
 
 -- a block of a buddy allocator among the fields, as it comes back
-pub record Given {A : Type 0} (l : Limits A) (heaps : List Heap) (buddies : List Buddy) (t : Table) (remaining index i : ℕ) (b : Buddy) (heap : Heap) (leaf : Leaf) (block : Block) : Type 0 where
-  pub is : IsConsistent l.config (properties_in l heaps) heaps buddies t remaining
+pub record Given {A : Type 0} (l : Limits A) (heaps : List Heap) (buddies : List Buddy) (lists : List Listing) (t : Table) (remaining index i : ℕ) (b : Buddy) (heap : Heap) (leaf : Leaf) (block : Block) : Type 0 where
+  pub is : IsConsistent l.config (properties_in l heaps) heaps buddies lists t remaining
   pub known : index < length (properties_in l heaps).memory_types
   pub at : b ≡ get_or buddies index b
   pub here : i ≡ heap_at (properties_in l heaps) index
@@ -76,16 +68,16 @@ pub record Given {A : Type 0} (l : Limits A) (heaps : List Heap) (buddies : List
 
 -- A live block of the whole allocator is one of its memory type's buddy allocator, where the table says.
 
-module _ {A : Type 0} (l : Limits A) (heaps : List Heap) (buddies : List Buddy) (t : Table) (remaining index i : ℕ) (b : Buddy) (heap : Heap) (leaf : Leaf) (block : Block) (row : LiveSpan)
-    (is : IsConsistent l.config (properties_in l heaps) heaps buddies t remaining) (owned : IsOwned (state_in l heaps buddies t remaining) block) (shared : block.kind ≡ BuddyChunk)
+module _ {A : Type 0} (l : Limits A) (heaps : List Heap) (buddies : List Buddy) (lists : List Listing) (t : Table) (remaining index i : ℕ) (b : Buddy) (heap : Heap) (leaf : Leaf) (block : Block) (row : LiveSpan)
+    (is : IsConsistent l.config (properties_in l heaps) heaps buddies lists t remaining) (owned : IsOwned (state_in l heaps buddies lists t remaining) block) (shared : block.kind ≡ BuddyChunk)
     (typed : index ≡ block.memory_type) (at : b ≡ get_or buddies index b) where
   known_type : index < length (properties_in l heaps).memory_types
   known_type = omega (arith, typed, owned.held.2, (known_object (properties_in l heaps) heaps t remaining is.books refl block.object owned.held.0 owned.held.1).of_type)
 
   pub given_back : (here : i ≡ heap_at (properties_in l heaps) index) → heap ≡ get_or heaps i heap → ◌≡◌ {A = Span} (span_in row) (span_of block) → Some (place_in row) ≡ finite.get t.places (span_of block)
-      → leaf ≡ leaf_at (span_in row) (place_in row) → Given l heaps buddies t remaining index i b heap leaf block
+      → leaf ≡ leaf_at (span_in row) (place_in row) → Given l heaps buddies lists t remaining index i b heap leaf block
   given_back here at_heap span place leaf_is =
-      let of = buddy_of l heaps buddies t remaining index b is known_type at in
+      let of = buddy_of l heaps buddies lists t remaining index b is known_type at in
       let there = of.linked.spans (span_of block) owned.held.0 owned.live (record { held = owned.held.1; of_kind = owned.held.3 ∙ shared; of_type = owned.held.2 ∙ sym typed ∙ sym of.for_type.memory_type }) in
       let one : place_in row ≡ there.0 = one_value _ (place_in row) there.0 (sym place) there.1.0 in
       let leaf_there : leaf ≡ leaf_at (span_of block) there.0 = leaf_is ∙ (λ k. leaf_at (span k) (one k)) in
@@ -100,19 +92,19 @@ module _ {A : Type 0} (l : Limits A) (heaps : List Heap) (buddies : List Buddy) 
         shared = shared;
       }
 
-module _ {A : Type 0} {l : Limits A} {heaps : List Heap} {buddies : List Buddy} {t : Table} {remaining index i : ℕ} {b : Buddy} {heap : Heap} {leaf : Leaf} {block : Block}
-    (given : Given l heaps buddies t remaining index i b heap leaf block) where
+module _ {A : Type 0} {l : Limits A} {heaps : List Heap} {buddies : List Buddy} {lists : List Listing} {t : Table} {remaining index i : ℕ} {b : Buddy} {heap : Heap} {leaf : Leaf} {block : Block}
+    (given : Given l heaps buddies lists t remaining index i b heap leaf block) where
   abbrev p : Properties
   p = properties_in l heaps
 
   abbrev before : State
-  before = state_in l heaps buddies t remaining
+  before = state_in l heaps buddies lists t remaining
 
   serving : Serves before t.places t.room index b
-  serving = serves l heaps buddies t remaining index b given.is given.known given.at
+  serving = serves l heaps buddies lists t remaining index b given.is given.known given.at
 
   own : IsBuddyOf l.config p t index b
-  own = buddy_of l heaps buddies t remaining index b given.is given.known given.at
+  own = buddy_of l heaps buddies lists t remaining index b given.is given.known given.at
 
   lies : LiesInChunk b leaf
   lies = own.sound.inside leaf given.live
@@ -123,7 +115,7 @@ module _ {A : Type 0} {l : Limits A} {heaps : List Heap} {buddies : List Buddy} 
   agrees_before q objects agrees = buddy_agrees before t.places t.room index b serving q objects given.known agrees
 
   pub counted_first : buddy.IsCounted (account b heap remaining)
-  counted_first = counted_before l heaps buddies t remaining index b given.is given.known given.at i heap given.here given.at_heap
+  counted_first = counted_before l heaps buddies lists t remaining index b given.is given.known given.at i heap given.here given.at_heap
 
   -- Its chunk.
 
@@ -139,6 +131,9 @@ module _ {A : Type 0} {l : Limits A} {heaps : List Heap} {buddies : List Buddy} 
   of_type : IfSome (finite.get t.held leaf.object) (λ h. h.memory_type ≡ index)
   of_type = subst (λ (o : Option HeldObject). IfSome o (λ h. h.memory_type ≡ index)) (sym found) own.for_type.memory_type
 
+  no_list_chunk : IfSome (finite.get t.held leaf.object) (λ h. is_list_chunk h.kind ≡ false)
+  no_list_chunk = subst (λ (o : Option HeldObject). IfSome o (λ h. is_list_chunk h.kind ≡ false)) (sym found) refl
+
   -- its object is left unused exactly where its chunk is
   unused_now : IsUnusedChunk (without_leaf b leaf) leaf.chunk → IsUnused (without_span before block) block.object
   unused_now unused = subst (IsUnused (without_span before block)) (sym object_is) (unused_is before t.places t.room index b serving leaf block given.live given.span unused)
@@ -147,10 +142,10 @@ module _ {A : Type 0} {l : Limits A} {heaps : List Heap} {buddies : List Buddy} 
   used_now used unused = used (unused_was before t.places t.room index b serving leaf block given.live given.span (subst (IsUnused (without_span before block)) object_is unused))
 
   abbrev state_with : Buddy → Heap → Table → ℕ → State
-  state_with after changed now left = state_in l (set heaps i changed) (set buddies index after) now left
+  state_with after changed now left = state_in l (set heaps i changed) (set buddies index after) lists now left
 
   abbrev IsConsistentWith : Buddy → Heap → Table → ℕ → Type 0
-  IsConsistentWith after changed now left = IsConsistent l.config (properties_in l (set heaps i changed)) (set heaps i changed) (set buddies index after) now left
+  IsConsistentWith after changed now left = IsConsistent l.config (properties_in l (set heaps i changed)) (set heaps i changed) (set buddies index after) lists now left
 
   module _ (now : Table) (live : now.live ≡ set_of.remove t.live (span_of block)) (places : now.places ≡ finite.remove t.places (span_of block)) where
     less : HasLeafLess t now leaf
@@ -161,24 +156,28 @@ module _ {A : Type 0} {l : Limits A} {heaps : List Heap} {buddies : List Buddy} 
     module _ (sound : IsSound (without_leaf b leaf)) (held : now.held ≡ t.held) where
       buddy_stays : IsBuddyOf l.config p now index (without_leaf b leaf)
       buddy_stays = record {
-        for_type = same_for l heaps buddies t remaining index b given.is given.known given.at (without_leaf b leaf) refl refl refl refl;
+        for_type = same_for l heaps buddies lists t remaining index b given.is given.known given.at (without_leaf b leaf) refl refl refl refl;
         sound = sound;
         linked = linked_without_leaf t now b leaf own.sound own.linked given.live held less;
       }
 
+      stays_beside : IsBeside t now leaf.object
+      stays_beside = beside_fewer t now (span_of_leaf leaf) (λ q other. ap (λ (x : Held). finite.get x q) held) less.live less.places
+
       consistent_stays : IsConsistentWith (without_leaf b leaf) heap now remaining
       consistent_stays =
-          subst (λ (hs : List Heap). IsConsistent l.config (properties_in l hs) hs (set buddies index (without_leaf b leaf)) now remaining) (sym (same_set heaps i heap heap given.at_heap refl)) (record {
+          subst (λ (hs : List Heap). IsConsistent l.config (properties_in l hs) hs (set buddies index (without_leaf b leaf)) lists now remaining) (sym (same_set heaps i heap heap given.at_heap refl)) (record {
             books = booked-span_gone p heaps t remaining given.is.books refl now chunk_row (span_of_leaf leaf) found refl held less.live;
-            shared = buddies_set l.config p t now buddies leaf.object
-                (beside_fewer t now (span_of_leaf leaf) (λ q other. ap (λ (x : Held). finite.get x q) held) less.live less.places) given.is.shared index (without_leaf b leaf)
+            shared = buddies_set l.config p t now buddies leaf.object stays_beside given.is.shared index (without_leaf b leaf)
                 of_type (subst (λ (x : Held). IfSome (finite.get x leaf.object) (λ h. h.memory_type ≡ index)) (sym held) of_type) buddy_stays;
+            listed = lists_beside l.config p t now lists leaf.object stays_beside given.is.listed no_list_chunk
+                (subst (λ (x : Held). IfSome (finite.get x leaf.object) (λ h. is_list_chunk h.kind ≡ false)) (sym held) no_list_chunk);
           })
 
       state_stays : state_with (without_leaf b leaf) heap now remaining ≡ without_span before block
       state_stays =
-          ap (λ (hs : List Heap). state_in l hs (set buddies index (without_leaf b leaf)) now remaining) (same_set heaps i heap heap given.at_heap refl)
-          ∙ (λ k. record before { held = held k; live = live k; types = types_kept (first_types l.config p) buddies index (without_leaf b leaf) b given.at refl k })
+          ap (λ (hs : List Heap). state_in l hs (set buddies index (without_leaf b leaf)) lists now remaining) (same_set heaps i heap heap given.at_heap refl)
+          ∙ (λ k. record before { held = held k; live = live k; types = lists_in (types_kept (first_types l.config p) buddies index (without_leaf b leaf) b given.at refl k) lists })
 
     -- A chunk fewer, which goes with its last block.
 
@@ -198,37 +197,44 @@ module _ {A : Type 0} {l : Limits A} {heaps : List Heap} {buddies : List Buddy} 
 
       buddy_goes : IsBuddyOf l.config p now index buddy_after
       buddy_goes = record {
-        for_type = same_for l heaps buddies t remaining index b given.is given.known given.at buddy_after refl refl refl refl;
+        for_type = same_for l heaps buddies lists t remaining index b given.is given.known given.at buddy_after refl refl refl refl;
         sound = sound;
         linked = linked_without_chunk t now b leaf own.sound own.linked given.live unused held less;
       }
 
+      goes_beside : IsBeside t now leaf.object
+      goes_beside = beside_fewer t now (span_of_leaf leaf) (λ q other. ap (λ (x : Held). finite.get x q) held ∙ kept_other t.held leaf.object q other) less.live less.places
+
+      none_left : finite.get now.held leaf.object ≡ None
+      none_left = ap (λ (x : Held). finite.get x leaf.object) held ∙ gone t.held leaf.object
+
       consistent_goes : IsConsistentWith buddy_after changed now (remaining + 1)
       consistent_goes =
-          subst (λ (q : Properties). IsConsistent l.config q (set heaps i changed) (set buddies index buddy_after) now (remaining + 1))
+          subst (λ (q : Properties). IsConsistent l.config q (set heaps i changed) (set buddies index buddy_after) lists now (remaining + 1))
           (sym (properties_kept l heaps i changed heap given.at_heap (ap (λ (h : Heap). h.size) counts))) (record {
             books = booked-gone p heaps t remaining given.is.books refl now chunk_row (span_of_leaf leaf) fewer
                 heap changed i (given.here ∙ ap (heap_at p) (sym own.for_type.memory_type)) given.at_heap (ap (λ (h : Heap). h.used) counts);
-            shared = buddies_set l.config p t now buddies leaf.object
-                (beside_fewer t now (span_of_leaf leaf) (λ q other. ap (λ (x : Held). finite.get x q) held ∙ kept_other t.held leaf.object q other) less.live less.places) given.is.shared index buddy_after
-                of_type (subst (λ (o : Option HeldObject). IfSome o (λ h. h.memory_type ≡ index)) (sym (ap (λ (x : Held). finite.get x leaf.object) held ∙ gone t.held leaf.object)) tt) buddy_goes;
+            shared = buddies_set l.config p t now buddies leaf.object goes_beside given.is.shared index buddy_after
+                of_type (subst (λ (o : Option HeldObject). IfSome o (λ h. h.memory_type ≡ index)) (sym none_left) tt) buddy_goes;
+            listed = lists_beside l.config p t now lists leaf.object goes_beside given.is.listed
+                no_list_chunk (subst (λ (o : Option HeldObject). IfSome o (λ h. is_list_chunk h.kind ≡ false)) (sym none_left) tt);
           })
 
       state_goes : state_with buddy_after changed now (remaining + 1) ≡ returned before block
       state_goes =
-          state_kept l heaps (set buddies index buddy_after) i changed heap now (remaining + 1) given.at_heap (ap (λ (h : Heap). h.size) counts)
+          state_kept l heaps (set buddies index buddy_after) lists i changed heap now (remaining + 1) given.at_heap (ap (λ (h : Heap). h.size) counts)
           ∙ (λ k. record before {
             held = (held ∙ ap (finite.remove t.held) (sym object_is)) k;
             live = live k;
             remaining = remaining + 1;
-            types = types_kept (first_types l.config p) buddies index buddy_after b given.at refl k;
+            types = lists_in (types_kept (first_types l.config p) buddies index buddy_after b given.at refl k) lists;
           })
 
   -- What the return comes to for the whole allocator.
 
   module _ (after : Account) (now : Table) (q r : Properties) (old new : ℕ → Option Object) (es : List Event) (with_chunk : Bool) where
     abbrev state_of : Account → State
-    state_of a = state_in l (set heaps i a.heap) (set buddies index a.buddy) now a.remaining
+    state_of a = state_in l (set heaps i a.heap) (set buddies index a.buddy) lists now a.remaining
 
     -- what the calls of the buddy allocator and of the table did
     pub record Came : Type 0 where

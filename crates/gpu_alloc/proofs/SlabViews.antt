@@ -12,7 +12,8 @@ use Rattle.slab.specs.Slab.{Slab, get, entries, entries_from, slab_len, Updates}
 use Rattle.slab.proofs.SlabLemmas.{Contains-entries, length-entries}
 use Rattle.gpu_alloc.specs.SlabViews.{map_by, set_by, by_key, HasOneKeyEach}
 use Rattle.gpu_alloc.proofs.Lists.{contains_cases, contains_none, contains_head, contains_later}
-use Rattle.gpu_alloc.proofs.ListViews.{IsMore, IsLess, IsOneToOne, AreNamedApart, named_there, named_absent, named_more, named_less, named_len, in_names, names_more, names_less, names_len, same_or_other, key_test}
+use Rattle.gpu_alloc.proofs.ListViews.{IsMore, IsLess, IsOneToOne, AreNamedApart, named_there, named_absent, named_more, named_less, in_names, names_more, names_less, names_len, same_or_other}
+use Rattle.gpu_alloc.proofs.ListSets.{key_test}
 
 one_value : {X : Type 0} (a b : X) → Some a ≡ Some b → a ≡ b
 one_value a b e = cc
@@ -139,9 +140,6 @@ module _ {T : Type 0} where
     pub set_removed : (old new : Slab T) (key : ℕ) (row : T) → HasOneKeyEach name old → IsRemoved old new key row → set_by {R = R} name new ≡ set.remove (set_by name old) (name row)
     set_removed old new key row once h = names_less total exact (λ (e : ℕ × T). name e.1) (entries old) (entries new) (key, row) (once_entries name old once) (entries_less old new key row h)
 
-    pub set_len : (s : Slab T) → HasOneKeyEach name s → set.len (set_by {R = R} name s) ≡ slab_len s
-    set_len s once = names_len total exact (λ (e : ℕ × T). name e.1) (entries s) (apart (λ (e : ℕ × T). name e.1) 0 s.slots (once_entries name s once)) ∙ length-entries s
-
     module _ {X : Type 0} (value : T → X) where
       -- what the row of a name says
       pub map_there : (s : Slab T) (key : ℕ) (row : T) → HasOneKeyEach name s → get s key ≡ Some row → finite.get (map_by {R = R} name value s) (name row) ≡ Some (value row)
@@ -159,10 +157,6 @@ module _ {T : Type 0} where
           → map_by {R = R} name value new ≡ finite.remove (map_by name value old) (name row)
       map_removed old new key row once h =
           named_less total exact (λ (e : ℕ × T). name e.1) (λ e. value e.1) (entries old) (entries new) (key, row) (once_entries name old once) (entries_less old new key row h)
-
-      pub map_len : (s : Slab T) → HasOneKeyEach name s → finite.len (map_by {R = R} name value s) ≡ slab_len s
-      map_len s once =
-          named_len total exact (λ (e : ℕ × T). name e.1) (λ e. value e.1) (entries s) (apart (λ (e : ℕ × T). name e.1) 0 s.slots (once_entries name s once)) ∙ length-entries s
 
   -- By key.
 
@@ -190,9 +184,9 @@ module _ {T : Type 0} where
         get_by_key new q ∙ cases q (eq_by_cmp nat_cmp q key) refl ∙ sym (finite.get-insert nat_cmp_total (by_key value old) key (value row) q))
       where
         cases : (q : ℕ) (b : Bool) → eq_by_cmp nat_cmp q key ≡ b → option_map value (get new q) ≡ cond b (Some (value row)) (finite.get (by_key value old) q)
-        cases q true e = ap (option_map value) (ap (get new) ((key_test nat_cmp_total nat_cmp-IsAntisymmetric q key).0 e) ∙ u.changed)
+        cases q true e = ap (option_map value) (ap (get new) ((key_test nat_cmp nat_cmp_total nat_cmp-IsAntisymmetric q key).0 e) ∙ u.changed)
         cases q false e =
-            let other : q ≢ key = λ same. let yes = (key_test nat_cmp_total nat_cmp-IsAntisymmetric q key).1 same in absurd (cc) in
+            let other : q ≢ key = λ same. let yes = (key_test nat_cmp nat_cmp_total nat_cmp-IsAntisymmetric q key).1 same in absurd (cc) in
             ap (option_map value) (u.others q other) ∙ sym (get_by_key old q)
 
     pub by_key_removed : (old new : Slab T) (key : ℕ) → Updates old new key None → by_key value new ≡ finite.remove (by_key value old) key
@@ -200,11 +194,7 @@ module _ {T : Type 0} where
         get_by_key new q ∙ cases q (eq_by_cmp nat_cmp q key) refl ∙ sym (finite.get-remove nat_cmp_total (by_key value old) key q))
       where
         cases : (q : ℕ) (b : Bool) → eq_by_cmp nat_cmp q key ≡ b → option_map value (get new q) ≡ cond b None (finite.get (by_key value old) q)
-        cases q true e = ap (option_map value) (ap (get new) ((key_test nat_cmp_total nat_cmp-IsAntisymmetric q key).0 e) ∙ u.changed)
+        cases q true e = ap (option_map value) (ap (get new) ((key_test nat_cmp nat_cmp_total nat_cmp-IsAntisymmetric q key).0 e) ∙ u.changed)
         cases q false e =
-            let other : q ≢ key = λ same. let yes = (key_test nat_cmp_total nat_cmp-IsAntisymmetric q key).1 same in absurd (cc) in
+            let other : q ≢ key = λ same. let yes = (key_test nat_cmp nat_cmp_total nat_cmp-IsAntisymmetric q key).1 same in absurd (cc) in
             ap (option_map value) (u.others q other) ∙ sym (get_by_key old q)
-
-    pub by_key_len : (s : Slab T) → finite.len (by_key value s) ≡ slab_len s
-    by_key_len s =
-        named_len nat_cmp_total nat_cmp-IsAntisymmetric (λ (e : ℕ × T). e.0) (λ e. value e.1) (entries s) (apart (λ (e : ℕ × T). e.0) 0 s.slots (keys_once s)) ∙ length-entries s

@@ -1,18 +1,20 @@
 -- What the allocator's fields keep, as its state tells it.
-use Rattle.std.proofs.Common.{◌≡◌, ◌≢◌, ◌⊎◌, inl, inr, ℕ, zero, suc, ◌+◌, ◌<◌, ◌≤◌, List, [], ◌∷◌, length, Option, Some, None, IfSome, slice_get, refl, sym, ◌∙◌, ap, subst, arith}
+use Rattle.std.proofs.Common.{◌≡◌, ◌≢◌, ◌⊎◌, inl, inr, ℕ, zero, suc, ◌+◌, ◌<◌, ◌≤◌, true, false, List, [], ◌∷◌, length, Option, Some, None, IfSome, slice_get, refl, sym, ◌∙◌, ap, subst, arith}
 use Rattle.std.proofs.lemmas.Bool.{cases_eq}
 use Rattle.std.proofs.lemmas.Nat.{pow_pos}
 use Rattle.std.specs.FinMap as map
 use Rattle.gpu_alloc_types.specs.Properties.{Properties}
 use Rattle.gpu_alloc.specs.BuddyState.{Chunk, Buddy, IsLiveLeaf}
-use Rattle.gpu_alloc.specs.Inside.{state_in, properties_in, span_of_leaf, leaf_at, whole_span, IsLiveIn, IsChunkOf, IsKnown, IsBuddyOf, HasBuddies, IsBooked, IsConsistent}
-use Rattle.gpu_alloc.specs.Sound.{IsSound}
+use Rattle.gpu_alloc.specs.FreeListState.{Listing, IsLiveSlot}
+use Rattle.gpu_alloc.specs.Inside.{state_in, properties_in, span_of_leaf, leaf_at, span_of_slot, slot_at, whole_span, IsLiveIn, IsChunkOf, IsNumberedChunk, IsKnown, IsBuddyOf, IsListOf, IsConsistent}
+use Rattle.gpu_alloc.specs.Sound.{IsSound, is_list_chunk}
 use Rattle.gpu_alloc.specs.Spans.{Place, Table}
-use Rattle.gpu_alloc.specs.State.{HeldObject, Span, AreApart}
-use Rattle.gpu_alloc.specs.declared.block.Kind.TheVariants.{Dedicated, BuddyChunk}
+use Rattle.gpu_alloc.specs.State.{HeldObject, Span, AreApart, is_shared}
+use Rattle.gpu_alloc.specs.declared.block.Kind.TheVariants.{Dedicated, BuddyChunk, FreeListChunk}
 use Rattle.gpu_alloc.specs.declared.config.Config.{Config}
 use Rattle.gpu_alloc.specs.declared.heap.Heap.{Heap}
 use Rattle.gpu_alloc.specs.declared.limits.Limits.{Limits}
+use Rattle.gpu_alloc.proofs.Consistency.{chunk_kinds}
 use Rattle.gpu_alloc.proofs.ServedBlocks.{ranges_apart}
 use Rattle.gpu_alloc.proofs.Maps.{one_value}
 
@@ -52,13 +54,13 @@ module _ {c : Config} {p : Properties} {t : Table} {b : Buddy} {object : ℕ} {h
       let same : lies.chunk ≡ chunk_at object h = one_value _ lies.chunk (chunk_at object h) lies.held (ap (λ k. map.get b.chunks k) key ∙ by_key.1) in
       (key, omega (arith, lies.inside, ap (λ (x : Chunk). x.size) same), omega (arith, lies.power.1, pow_pos lies.power.0))
 
-  chunk_inside : (span : Span) → IsLiveIn t span → span.object ≡ object → span.offset + span.size ≤ h.counted
-  chunk_inside span live named =
+  buddy_inside : (span : Span) → IsLiveIn t span → span.object ≡ object → span.offset + span.size ≤ h.counted
+  buddy_inside span live named =
       let leaf = leaf_of span live named in
       (of_chunk span leaf.0 leaf.1 named).1
 
-  chunk_apart : (x y : Span) → IsLiveIn t x → IsLiveIn t y → x.object ≡ object → y.object ≡ object → x ≢ y → (x.offset + x.size ≤ y.offset) ⊎ (y.offset + y.size ≤ x.offset)
-  chunk_apart x y live also named same other =
+  buddy_apart : (x y : Span) → IsLiveIn t x → IsLiveIn t y → x.object ≡ object → y.object ≡ object → x ≢ y → (x.offset + x.size ≤ y.offset) ⊎ (y.offset + y.size ≤ x.offset)
+  buddy_apart x y live also named same other =
       let leaf = leaf_of x live named in
       let leaf' = leaf_of y also same in
       let of = of_chunk x leaf.0 leaf.1 named in
@@ -73,63 +75,110 @@ module _ {c : Config} {p : Properties} {t : Table} {b : Buddy} {object : ℕ} {h
       let same : lies.chunk ≡ chunk_at object h = one_value _ lies.chunk (chunk_at object h) lies.held (ap (λ k. map.get b.chunks k) leaf.1.1 ∙ by_key.1) in
       (span_of_leaf leaf.0, (is.linked.leaves leaf.0 leaf.1.0).0, lies.object ∙ ap (λ (x : Chunk). x.object) same)
 
+-- A chunk of a free list.
+
+module _ {c : Config} {p : Properties} {t : Table} {l : Listing} {object number : ℕ} {h : HeldObject} (is : IsListOf c p t h.memory_type l) (held : map.get t.held object ≡ Some h) (kind : h.kind ≡ FreeListChunk number) where
+  numbered : IsNumberedChunk t l.memory_type number object h
+  numbered = record { held = held; of_kind = kind; of_type = sym is.for_type.memory_type }
+
+  -- a live span is a live block of the chunk
+  slot_of : (span : Span) → IsLiveIn t span → span.object ≡ object → IsLiveSlot l.space (slot_at span number)
+  slot_of span live named = is.linked.spans span number h live (subst (λ o. IsNumberedChunk t l.memory_type number o h) (sym named) numbered)
+
+  of_slot : (span : Span) → span.object ≡ object → IsLiveSlot l.space (slot_at span number) → (span.offset + span.size ≤ h.counted) × (0 < span.size)
+  of_slot span named live =
+      let lies = is.sound.space.inside (slot_at span number) live in
+      let same : lies.chunk ≡ chunk_at object h = one_value _ lies.chunk (chunk_at object h) lies.held (is.linked.objects number object h numbered) in
+      (omega (arith, lies.inside, ap (λ (x : Chunk). x.size) same), lies.nonempty)
+
+  list_inside : (span : Span) → IsLiveIn t span → span.object ≡ object → span.offset + span.size ≤ h.counted
+  list_inside span live named = (of_slot span named (slot_of span live named)).0
+
+  list_apart : (x y : Span) → IsLiveIn t x → IsLiveIn t y → x.object ≡ object → y.object ≡ object → x ≢ y → (x.offset + x.size ≤ y.offset) ⊎ (y.offset + y.size ≤ x.offset)
+  list_apart x y live also named same other =
+      let slot = slot_of x live named in
+      let slot' = slot_of y also same in
+      ranges_apart x.offset x.size y.offset y.size (of_slot x named slot).1 (of_slot y same slot').1
+      (λ at i j. other (ap span_of_slot (is.sound.space.apart (slot_at x number) (slot_at y number) slot slot' refl at i j)))
+
 -- Each held object.
 
-module _ {c : Config} {p : Properties} {t : Table} {buddies : List Buddy} {heaps : List Heap} {remaining : ℕ} (books : IsBooked p heaps t remaining) (shared : HasBuddies c p t buddies) where
+module _ {c : Config} {p : Properties} {t : Table} {buddies : List Buddy} {lists : List Listing} {heaps : List Heap} {remaining : ℕ} (is : IsConsistent c p heaps buddies lists t remaining) where
   known_at : (object : ℕ) (h : HeldObject) → map.get t.held object ≡ Some h → IsKnown t p object h
-  known_at object h held = subst (λ (o : Option HeldObject). IfSome o (IsKnown t p object)) held (books.known object)
+  known_at object h held = subst (λ (o : Option HeldObject). IfSome o (IsKnown t p object)) held (is.books.known object)
 
   buddy_at : (object : ℕ) (h : HeldObject) → map.get t.held object ≡ Some h → (b : Buddy) × IsBuddyOf c p t h.memory_type b
-  buddy_at object h held = element (IsBuddyOf c p t h.memory_type) buddies h.memory_type (omega (arith, (known_at object h held).of_type, shared.count)) (shared.each h.memory_type)
+  buddy_at object h held = element (IsBuddyOf c p t h.memory_type) buddies h.memory_type (omega (arith, (known_at object h held).of_type, is.shared.count)) (is.shared.each h.memory_type)
+
+  list_at : (object : ℕ) (h : HeldObject) → map.get t.held object ≡ Some h → (l : Listing) × IsListOf c p t h.memory_type l
+  list_at object h held = element (IsListOf c p t h.memory_type) lists h.memory_type (omega (arith, (known_at object h held).of_type, is.listed.count)) (is.listed.each h.memory_type)
+
+  -- the live spans of a chunk are inside and apart
+  chunk_inside : (object : ℕ) (h : HeldObject) → map.get t.held object ≡ Some h → is_shared h.kind ≡ true → (span : Span) → IsLiveIn t span → span.object ≡ object → span.offset + span.size ≤ h.counted
+  chunk_inside object h held kind = elim (chunk_kinds h.kind kind) [
+    | inl of_buddy ↦ buddy_inside (buddy_at object h held).1 held of_buddy
+    | inr of_list ↦ list_inside (list_at object h held).1 held of_list.1
+  ]
+
+  chunk_apart : (object : ℕ) (h : HeldObject) → map.get t.held object ≡ Some h → is_shared h.kind ≡ true
+      → (x y : Span) → IsLiveIn t x → IsLiveIn t y → x.object ≡ object → y.object ≡ object → x ≢ y → (x.offset + x.size ≤ y.offset) ⊎ (y.offset + y.size ≤ x.offset)
+  chunk_apart object h held kind = elim (chunk_kinds h.kind kind) [
+    | inl of_buddy ↦ buddy_apart (buddy_at object h held).1 held of_buddy
+    | inr of_list ↦ list_apart (list_at object h held).1 held of_list.1
+  ]
 
   -- a live span of an object of one block is the whole of it
   is_whole : (span : Span) (h : HeldObject) → IsLiveIn t span → map.get t.held span.object ≡ Some h → h.kind ≡ Dedicated → span ≡ whole_span span.object h
   is_whole span h live held kind =
-      let of = books.spans span live in
+      let of = is.books.spans span live in
       let same : of.object ≡ h = one_value _ of.object h of.held held in
       of.whole (ap (λ (x : HeldObject). x.kind) same ∙ kind) ∙ ap (whole_span span.object) same
 
   lies_inside : (span : Span) → IsLiveIn t span → (h : HeldObject) × (map.get t.held span.object ≡ Some h) × (span.offset + span.size ≤ h.counted)
   lies_inside span live =
-      let of = books.spans span live in (
+      let of = is.books.spans span live in (
         of.object,
         of.held,
         elim ((known_at span.object of.object of.held).of_kind) [
           | inl own ↦
               let whole = of.whole own.0 in
               omega (arith, ap (λ (x : Span). x.offset) whole, ap (λ (x : Span). x.size) whole)
-          | inr kind ↦ chunk_inside (buddy_at span.object of.object of.held).1 of.held kind span live refl
+          | inr kind ↦ chunk_inside span.object of.object of.held kind span live refl
         ],
       )
 
   are_apart : (x y : Span) → IsLiveIn t x → IsLiveIn t y → x ≢ y → AreApart x y
   are_apart x y live also other = elim (cases_eq x.object y.object) [
     | inl same ↦
-        let of = books.spans x live in
+        let of = is.books.spans x live in
         let held : map.get t.held y.object ≡ Some of.object = ap (λ n. map.get t.held n) (sym same) ∙ of.held in
         elim ((known_at x.object of.object of.held).of_kind) [
           | inl own ↦ absurd (other (of.whole own.0 ∙ ap (λ n. whole_span n of.object) same ∙ sym (is_whole y of.object also held own.0)))
-          | inr kind ↦ inr (chunk_apart (buddy_at x.object of.object of.held).1 of.held kind x y live also refl (sym same) other)
+          | inr kind ↦ inr (chunk_apart x.object of.object of.held kind x y live also refl (sym same) other)
         ]
     | inr apart ↦ inl apart
   ]
 
-  is_used : (object : ℕ) (h : HeldObject) → map.get t.held object ≡ Some h → HasSpan t object
-  is_used object h held = elim ((known_at object h held).of_kind) [
+  -- a free list may keep a chunk in which nothing is live, and nothing else is held so
+  is_used : (object : ℕ) (h : HeldObject) → map.get t.held object ≡ Some h → is_list_chunk h.kind ≡ false → HasSpan t object
+  is_used object h held no_list = elim ((known_at object h held).of_kind) [
     | inl own ↦ (whole_span object h, own.1, refl)
-    | inr kind ↦ chunk_used (buddy_at object h held).1 held kind
+    | inr kind ↦ elim (chunk_kinds h.kind kind) [
+      | inl of_buddy ↦ chunk_used (buddy_at object h held).1 held of_buddy
+      | inr of_list ↦ absurd (let both = ap is_list_chunk (sym of_list.1) ∙ no_list in cc)
+    ]
   ]
 
-  each_used : (object : ℕ) (o : Option HeldObject) → map.get t.held object ≡ o → IfSome o (λ h. HasSpan t object)
+  each_used : (object : ℕ) (o : Option HeldObject) → map.get t.held object ≡ o → IfSome o (λ h. is_list_chunk h.kind ≡ false → HasSpan t object)
   each_used object None none = tt
   each_used object (Some h) held = is_used object h held
 
 -- The whole state.
 
-pub sound_is : {A : Type 0} (l : Limits A) (heaps : List Heap) (buddies : List Buddy) (t : Table) (remaining : ℕ) → IsConsistent l.config (properties_in l heaps) heaps buddies t remaining
-    → IsSound (state_in l heaps buddies t remaining)
-sound_is l heaps buddies t remaining is = record {
-  inside = lies_inside is.books is.shared;
-  apart = are_apart is.books is.shared;
-  used = λ object. each_used is.books is.shared object (map.get t.held object) refl;
+pub sound_is : {A : Type 0} (l : Limits A) (heaps : List Heap) (buddies : List Buddy) (lists : List Listing) (t : Table) (remaining : ℕ) → IsConsistent l.config (properties_in l heaps) heaps buddies lists t remaining
+    → IsSound (state_in l heaps buddies lists t remaining)
+sound_is l heaps buddies lists t remaining is = record {
+  inside = lies_inside is;
+  apart = are_apart is;
+  used = λ object. each_used is object (map.get t.held object) refl;
 }

@@ -2,7 +2,8 @@
 use Rattle.std.proofs.Common.{◌≡◌, ℕ, zero, suc, ◌<◌, List, [], ◌∷◌, length, get_or, Some, slice_get, refl, ◌∙◌, ap, arith}
 use Rattle.std.proofs.Math.ListN.{set}
 use Rattle.gpu_alloc.specs.BuddyState.{Buddy}
-use Rattle.gpu_alloc.specs.Inside.{types_in}
+use Rattle.gpu_alloc.specs.FreeListState.{Listing}
+use Rattle.gpu_alloc.specs.Inside.{types_in, lists_in}
 use Rattle.gpu_alloc.specs.Sharing.{next_chunk_of, with_next_chunk}
 use Rattle.gpu_alloc.specs.State.{TypeState}
 
@@ -29,3 +30,20 @@ next_at [] buddies i b at within = absurd (omega (arith, within))
 next_at (type ∷ types) [] i b at within = absurd (cc)
 next_at (type ∷ types) (y ∷ buddies) zero b at within = let same : y ≡ b = cc in ap (λ (x : Buddy). x.next_chunk) same
 next_at (type ∷ types) (y ∷ buddies) (suc i) b at within = next_at types buddies i b at (omega (arith, within))
+
+-- The free lists' part of it, beside the buddy allocators'.
+
+-- the next buddy chunk is the same with it
+pub lists_next : (types : List TypeState) (lists : List Listing) (i size : ℕ) → lists_in (with_next_chunk types i size) lists ≡ with_next_chunk (lists_in types lists) i size
+unfolding with_next_chunk
+lists_next [] lists i size = refl
+lists_next (type ∷ types) [] zero size = refl
+lists_next (type ∷ types) [] (suc i) size = refl
+lists_next (type ∷ types) (l ∷ lists) zero size = refl
+lists_next (type ∷ types) (l ∷ lists) (suc i) size = ap (λ ts. record type { list_chunk = l.next_chunk; number = l.space.latest } ∷ ts) (lists_next types lists i size)
+
+pub lists_next_at : (types : List TypeState) (lists : List Listing) (i : ℕ) → i < length lists → next_chunk_of (slice_get (lists_in types lists) i) ≡ next_chunk_of (slice_get types i)
+lists_next_at [] lists i inside = refl
+lists_next_at (type ∷ types) [] i inside = absurd (omega (arith, inside))
+lists_next_at (type ∷ types) (l ∷ lists) zero inside = refl
+lists_next_at (type ∷ types) (l ∷ lists) (suc i) inside = lists_next_at types lists i (omega (arith, inside))

@@ -1,6 +1,6 @@
 -- How an allocation is decided: what is asked of the device for each candidate, and what the first one that is not
 -- passed answers.
-use Rattle.std.specs.Prelude.{◌≡◌, ◌⊎◌, ℕ, ◌+◌, ◌-◌, ◌%◌, ◌/◌, ◌<◌, ◌≤◌, ◌==◌, Bool, true, false, ◌&&◌, List, [], ◌∷◌, ◌++◌, length, Option, Some, None, Result, Ok, Err, cond, min, nat_lt, nat_le, nat_eq, MatchBool, MatchOption}
+use Rattle.std.specs.Prelude.{◌≡◌, ◌⊎◌, ℕ, ◌+◌, ◌-◌, ◌%◌, ◌/◌, ◌<◌, ◌≤◌, ◌==◌, Bool, true, ◌&&◌, List, [], ◌∷◌, ◌++◌, length, Option, Some, None, Result, Ok, Err, cond, min, nat_lt, nat_le, nat_eq, MatchBool, MatchOption}
 use Rattle.std.specs.FinMap as map
 use Rattle.std.specs.FinSet as set
 use Rattle.gpu_alloc_types.specs.Flags.{usage_bits, has_bit}
@@ -9,6 +9,8 @@ use Rattle.gpu_alloc_types.specs.Device.{Object, Event, IsFresh, put}
 use Rattle.gpu_alloc_types.specs.Device.Event.{Allocated}
 use Rattle.gpu_alloc_types.specs.declared.types.OutOfMemory.{OutOfMemory}
 use Rattle.gpu_alloc_types.specs.declared.types.OutOfMemory.TheVariants.{OutOfDeviceMemory as DeviceFull, OutOfHostMemory as HostFull}
+use Rattle.gpu_alloc.specs.declared.allocator.Strategy.{Strategy}
+use Rattle.gpu_alloc.specs.declared.allocator.Strategy.TheVariants.{OwnObject, InBuddyChunk, InFreeList}
 use Rattle.gpu_alloc.specs.declared.block.Kind.{Kind}
 use Rattle.gpu_alloc.specs.declared.block.Kind.TheVariants.{Dedicated as DedicatedObject, Imported, BuddyChunk, FreeListChunk}
 use Rattle.gpu_alloc.specs.declared.error.AllocationError.{AllocationError}
@@ -18,6 +20,7 @@ use Rattle.gpu_alloc.specs.declared.request.Dedicated.{Dedicated}
 use Rattle.gpu_alloc.specs.declared.request.Dedicated.TheVariants.{Required, Preferred}
 use Rattle.gpu_alloc.specs.FreeSpace.{IsMultipleOf, IsPowerOfTwo}
 use Rattle.gpu_alloc.specs.NewChunk.{flags_of, HasOneChunkMore}
+use Rattle.gpu_alloc.specs.ListSharing.{list_size, list_alignment, list_question, IsPassedByFreeList, DecidesInFreeList}
 use Rattle.gpu_alloc.specs.Ranking.{candidates}
 use Rattle.gpu_alloc.specs.Request.{is_required}
 use Rattle.gpu_alloc.specs.Sharing.{buddy_size, buddy_question, IsPassedByBuddy, DecidesInBuddyChunk}
@@ -25,11 +28,6 @@ use Rattle.gpu_alloc.specs.Sizes.{up, preferred_threshold, transient_threshold, 
 use Rattle.gpu_alloc.specs.State.{HeldObject, Span, Block, span_of, State, IsLive, IsOwned, AreApart, is_shared}
 
 -- Which way a candidate is served.
-
-pub data Strategy : Type 0 where
-  OwnObject : Strategy
-  InBuddyChunk : Strategy
-  InFreeList : Strategy
 
 -- the request is small against a threshold, and against the candidate's heap
 abbrev pub is_small : State → Request → ℕ → ℕ → Bool
@@ -52,10 +50,6 @@ strategy s r (Some Required) t = OwnObject
 strategy s r (Some Preferred) t = cond (nat_le (preferred_threshold s.config) r.size) OwnObject (unhinted s r t)
 strategy s r None t = unhinted s r t
 
--- for now: the request needs no free list
-abbrev pub NeedsNoFreeList : Request → Option Dedicated → Type 0
-NeedsNoFreeList r hint = is_required hint ≡ false → has_bit (usage_bits r.usage) 16 ≡ false
-
 -- What is asked of the device.
 
 -- a question to allocate, with its answer
@@ -67,7 +61,7 @@ asked s size t answer = Allocated size t (flags_of s.properties) answer
 abbrev pub IsPassedBy : Strategy → State → Request → ℕ → List Event → Type 0
 IsPassedBy OwnObject s r t es = (0 < s.remaining) × (es ≡ asked s r.size t (Err DeviceFull) ∷ [])
 IsPassedBy InBuddyChunk s r t es = IsPassedByBuddy s t (buddy_size s r t) es
-IsPassedBy InFreeList s r t es = ⊥
+IsPassedBy InFreeList s r t es = IsPassedByFreeList s t (list_size s r t) (list_alignment s r t) es
 
 -- A candidate is passed: its heap is smaller than the request, or its way of being served passes it.
 abbrev pub IsPassed : State → Request → Option Dedicated → ℕ → List Event → Type 0
@@ -110,7 +104,7 @@ DecidesBy OwnObject s r t es (Ok b) new =
     × (b ≡ whole_block s b.object r.size t)
     × (new ≡ holding s (record { memory_type = t; counted = r.size; kind = DedicatedObject }) b)
 DecidesBy InBuddyChunk s r t es answer new = DecidesInBuddyChunk s t (buddy_size s r t) es answer new
-DecidesBy InFreeList s r t es answer new = ⊥
+DecidesBy InFreeList s r t es answer new = DecidesInFreeList s t (list_size s r t) (list_alignment s r t) es answer new
 
 abbrev pub Decides : State → Request → Option Dedicated → ℕ → List Event → Result Block AllocationError → State → Type 0
 Decides s r hint t es answer new = (r.size ≤ heap_size s.properties t) × DecidesBy (strategy s r hint t) s r t es answer new
@@ -168,7 +162,9 @@ ObjectsWith DedicatedObject s b old new = HasOneMore b old new
 ObjectsWith BuddyChunk s b old new =
     MatchOption (map.get s.held b.object) (HasOneChunkMore (buddy_question s b.memory_type b.size) b.object old new) (λ _. new ≡ old)
 ObjectsWith Imported s b old new = ⊥
-ObjectsWith (FreeListChunk number) s b old new = ⊥
+-- the block is the tail of a new chunk, so the chunk ends where it does
+ObjectsWith (FreeListChunk number) s b old new =
+    MatchOption (map.get s.held b.object) (HasOneChunkMore (list_question s b.memory_type (b.offset + b.size)) b.object old new) (λ _. new ≡ old)
 
 -- what an allocation makes of them: nothing where it is refused
 abbrev pub ObjectsAfter : State → Result Block AllocationError → (ℕ → Option Object) → (ℕ → Option Object) → Type 0

@@ -8,12 +8,14 @@ use Rattle.gpu_alloc_types.specs.Codes.{properties_code}
 use Rattle.gpu_alloc_types.specs.Properties.{Properties}
 use Rattle.gpu_alloc.specs.State.{HeldObject, Span, span_cmp, Block, span_of, TypeState, State}
 use Rattle.gpu_alloc.specs.BuddyState.{Chunk, Buddy, leaf_cmp}
+use Rattle.gpu_alloc.specs.FreeListState.{Space, Store, Listing, slot_cmp}
 use Rattle.gpu_alloc.specs.Spans.{Place, Table}
 use Rattle.gpu_alloc.specs.declared.block.Kind.{Kind}
 use Rattle.gpu_alloc.specs.declared.block.Kind.TheVariants.{Dedicated, Imported, BuddyChunk, FreeListChunk}
 use Rattle.gpu_alloc.specs.declared.block.Mapping.{Mapping}
 use Rattle.gpu_alloc.specs.declared.buddy.block.Leaf.{Leaf}
 use Rattle.gpu_alloc.specs.declared.config.Config.{Config}
+use Rattle.gpu_alloc.specs.declared.freelist.block.Slot.{Slot}
 
 -- a kind as a number and the number of its chunk
 abbrev pub kind_numbers : Kind → ℕ × ℕ
@@ -123,5 +125,36 @@ buddy_code =
       memory_type = c.1.1.1.0;
       props = c.1.1.1.1.0;
       atom = c.1.1.1.1.1;
+    })
+    (λ _. refl)
+
+-- of the free list
+
+abbrev pub slot_code : Coded Slot
+slot_code =
+    code_by (ℕ × (ℕ × (ℕ × ℕ))) (coded× coded_ℕ (coded× coded_ℕ (coded× coded_ℕ coded_ℕ)))
+    (λ b. (b.object, (b.chunk, (b.offset, b.size))))
+    (λ c. record { object = c.0; chunk = c.1.0; offset = c.1.1.0; size = c.1.1.1 }) (λ _. refl)
+
+abbrev pub space_code : Coded Space
+space_code =
+    code_by (map.FinMap nat_cmp Chunk × (set.FinSet slot_cmp × ℕ)) (coded× (map.code coded_ℕ chunk_code) (coded× (set.code slot_code) coded_ℕ))
+    (λ s. (s.chunks, (s.live, s.latest)))
+    (λ c. record { chunks = c.0; live = c.1.0; latest = c.1.1 }) (λ _. refl)
+
+abbrev pub store_code : Coded Store
+store_code = code_by (Space × ℕ) (coded× space_code coded_ℕ) (λ s. (s.space, s.room)) (λ c. record { space = c.0; room = c.1 }) (λ _. refl)
+
+abbrev pub listing_code : Coded Listing
+listing_code =
+    code_by (Space × ((ℕ × ℕ) × (ℕ × (ℕ × ℕ)))) (coded× space_code (coded× (coded× coded_ℕ coded_ℕ) (coded× coded_ℕ (coded× coded_ℕ coded_ℕ))))
+    (λ l. (l.space, ((l.next_chunk, l.final_chunk), (l.memory_type, (l.props, l.atom)))))
+    (λ c. record {
+      space = c.0;
+      next_chunk = c.1.0.0;
+      final_chunk = c.1.0.1;
+      memory_type = c.1.1.0;
+      props = c.1.1.1.0;
+      atom = c.1.1.1.1;
     })
     (λ _. refl)

@@ -1,20 +1,23 @@
 -- What an allocator's fields stand for, and what they keep.
-use Rattle.std.specs.Prelude.{◌≡◌, ◌⊎◌, ℕ, ◌+◌, ◌<◌, ◌^◌, List, [], ◌∷◌, map, length, slice_get, sum_by, Some, is_some, IfSome, IsTrue, cond}
+use Rattle.std.specs.Prelude.{◌≡◌, ◌⊎◌, ℕ, ◌+◌, ◌<◌, ◌^◌, true, List, [], ◌∷◌, map, length, slice_get, sum_by, Some, is_some, IfSome, IsTrue, cond}
 use Rattle.std.specs.FinMap as map_of
 use Rattle.std.specs.FinSet as set
 use Rattle.std.specs.Ordering.{nat_cmp}
 use Rattle.gpu_alloc_types.specs.Properties.{Properties, IsUsable, heap_size, props_at, atom_of}
 use Rattle.gpu_alloc_types.specs.declared.types.MemoryHeap.{MemoryHeap}
 use Rattle.gpu_alloc.specs.declared.limits.Limits.{Limits}
-use Rattle.gpu_alloc.specs.declared.block.Kind.TheVariants.{Dedicated, BuddyChunk}
+use Rattle.gpu_alloc.specs.declared.block.Kind.TheVariants.{Dedicated, BuddyChunk, FreeListChunk}
 use Rattle.gpu_alloc.specs.declared.buddy.block.Leaf.{Leaf}
 use Rattle.gpu_alloc.specs.declared.config.Config.{Config}
+use Rattle.gpu_alloc.specs.declared.freelist.block.Slot.{Slot}
 use Rattle.gpu_alloc.specs.declared.heap.Heap.{Heap}
 use Rattle.gpu_alloc.specs.BuddySound.{IsSound}
 use Rattle.gpu_alloc.specs.BuddyState.{Chunk, Buddy, IsLiveLeaf}
-use Rattle.gpu_alloc.specs.Sizes.{first_types, minimal_size}
+use Rattle.gpu_alloc.specs.FreeListSound as list
+use Rattle.gpu_alloc.specs.FreeListState.{Listing, IsLiveSlot}
+use Rattle.gpu_alloc.specs.Sizes.{first_types, minimal_size, final_size}
 use Rattle.gpu_alloc.specs.Spans.{Place, Table}
-use Rattle.gpu_alloc.specs.State.{HeldObject, Span, TypeState, State, share}
+use Rattle.gpu_alloc.specs.State.{HeldObject, Span, TypeState, State, share, is_shared}
 
 -- a heap as the device offers it
 abbrev pub offer_of : Heap → MemoryHeap
@@ -36,13 +39,18 @@ types_in [] buddies = []
 types_in (type ∷ types) [] = []
 types_in (type ∷ types) (b ∷ buddies) = record type { next_chunk = b.next_chunk } ∷ types_in types buddies
 
--- no free list has made a chunk yet, so the chunk sizes of free lists are the first ones
-abbrev pub state_in : {A : Type 0} → Limits A → List Heap → List Buddy → Table → ℕ → State
-state_in l heaps buddies t remaining = record {
+-- with the next free-list chunk and the latest number as its free list has them
+abbrev pub lists_in : List TypeState → List Listing → List TypeState
+lists_in [] lists = []
+lists_in (type ∷ types) [] = []
+lists_in (type ∷ types) (l ∷ lists) = record type { list_chunk = l.next_chunk; number = l.space.latest } ∷ lists_in types lists
+
+abbrev pub state_in : {A : Type 0} → Limits A → List Heap → List Buddy → List Listing → Table → ℕ → State
+state_in l heaps buddies lists t remaining = record {
   held = t.held;
   live = t.live;
   remaining = remaining;
-  types = types_in (first_types l.config (properties_in l heaps)) buddies;
+  types = lists_in (types_in (first_types l.config (properties_in l heaps)) buddies) lists;
   config = l.config;
   properties = properties_in l heaps;
 }
@@ -55,10 +63,10 @@ whole_span object h = record { object = object; offset = 0; size = h.counted }
 abbrev pub IsLiveIn : Table → Span → Type 0
 IsLiveIn t span = IsTrue (set.contains t.live span)
 
--- an object is held of a known memory type, either as one live block or as a buddy chunk
+-- an object is held of a known memory type: as one live block, as a buddy chunk, or as a chunk of a free list
 pub record IsKnown (t : Table) (p : Properties) (object : ℕ) (h : HeldObject) : Type 0 where
   pub of_type : h.memory_type < length p.memory_types
-  pub of_kind : ((h.kind ≡ Dedicated) × IsLiveIn t (whole_span object h)) ⊎ (h.kind ≡ BuddyChunk)
+  pub of_kind : ((h.kind ≡ Dedicated) × IsLiveIn t (whole_span object h)) ⊎ (is_shared h.kind ≡ true)
 
 -- a live span is of a held object, and the whole of one that is held for it alone
 pub record IsOfObject (t : Table) (span : Span) : Type 0 where
@@ -124,6 +132,56 @@ pub record HasBuddies (c : Config) (p : Properties) (t : Table) (buddies : List 
   pub count : length buddies ≡ length p.memory_types
   pub each : (index : ℕ) → IfSome (slice_get buddies index) (IsBuddyOf c p t index)
 
+-- The table and a free list.
+
+-- a held chunk as an object
+abbrev pub list_object : Listing → ℕ → Chunk → HeldObject
+list_object l number c = record { memory_type = l.memory_type; counted = c.size; kind = FreeListChunk number }
+
+-- the object is held as the chunk of this number of this memory type
+pub record IsNumberedChunk (t : Table) (memory_type number object : ℕ) (h : HeldObject) : Type 0 where
+  pub held : map_of.get t.held object ≡ Some h
+  pub of_kind : h.kind ≡ FreeListChunk number
+  pub of_type : h.memory_type ≡ memory_type
+
+abbrev pub span_of_slot : Slot → Span
+span_of_slot slot = record { object = slot.object; offset = slot.offset; size = slot.size }
+
+abbrev pub slot_at : Span → ℕ → Slot
+slot_at span number = record { object = span.object; chunk = number; offset = span.offset; size = span.size }
+
+-- a block of a free list has no place in a store of its own
+abbrev pub no_place : Place
+no_place = record { chunk = 0; index = 0 }
+
+-- the held objects with the block's chunk, where it was not among them
+abbrev pub with_chunk_of_slot : map_of.FinMap nat_cmp HeldObject → Slot → HeldObject → map_of.FinMap nat_cmp HeldObject
+with_chunk_of_slot held slot chunk = cond (is_some (map_of.get held slot.object)) held (map_of.insert held slot.object chunk)
+
+-- Both have the same chunks under the same numbers, and the same blocks in them.
+pub record IsListLinked (t : Table) (l : Listing) : Type 0 where
+  pub chunks : (number : ℕ) (c : Chunk) → map_of.get l.space.chunks number ≡ Some c → map_of.get t.held c.object ≡ Some (list_object l number c)
+  pub objects : (number object : ℕ) (h : HeldObject) → IsNumberedChunk t l.memory_type number object h → map_of.get l.space.chunks number ≡ Some (record { object = object; size = h.counted })
+  pub slots : (slot : Slot) → IsLiveSlot l.space slot → IsLiveIn t (span_of_slot slot)
+  pub spans : (span : Span) (number : ℕ) (h : HeldObject) → IsLiveIn t span → IsNumberedChunk t l.memory_type number span.object h → IsLiveSlot l.space (slot_at span number)
+
+-- what a memory type's free list was given
+pub record IsListForType (c : Config) (p : Properties) (index : ℕ) (l : Listing) : Type 0 where
+  pub memory_type : l.memory_type ≡ index
+  pub props : l.props ≡ props_at p index
+  pub atom : l.atom ≡ atom_of p index
+  pub final_chunk : l.final_chunk ≡ final_size c (heap_size p index) (atom_of p index)
+
+pub record IsListOf (c : Config) (p : Properties) (t : Table) (index : ℕ) (l : Listing) : Type 0 where
+  pub for_type : IsListForType c p index l
+  pub sound : list.IsSound l
+  pub linked : IsListLinked t l
+
+-- each memory type has a free list
+pub record HasLists (c : Config) (p : Properties) (t : Table) (lists : List Listing) : Type 0 where
+  pub count : length lists ≡ length p.memory_types
+  pub each : (index : ℕ) → IfSome (slice_get lists index) (IsListOf c p t index)
+
 -- The table, the heaps and the count.
 pub record IsBooked (p : Properties) (heaps : List Heap) (t : Table) (remaining : ℕ) : Type 0 where
   pub usable : IsUsable p
@@ -133,6 +191,7 @@ pub record IsBooked (p : Properties) (heaps : List Heap) (t : Table) (remaining 
   pub small : AreSmall (map_of.entries t.held)
   pub ledgers : AreLedgers p heaps (map_of.entries t.held)
 
-pub record IsConsistent (c : Config) (p : Properties) (heaps : List Heap) (buddies : List Buddy) (t : Table) (remaining : ℕ) : Type 0 where
+pub record IsConsistent (c : Config) (p : Properties) (heaps : List Heap) (buddies : List Buddy) (lists : List Listing) (t : Table) (remaining : ℕ) : Type 0 where
   pub books : IsBooked p heaps t remaining
   pub shared : HasBuddies c p t buddies
+  pub listed : HasLists c p t lists

@@ -7,10 +7,17 @@ pub mod BuddyState
 pub mod Codes
 pub mod Config
 pub mod Errors
+pub mod FreeList
+pub mod FreeListAllocator
+pub mod FreeListInside
+pub mod FreeListSound
+pub mod FreeListState
+pub mod FreeRuns
 pub mod FreeSpace
 pub mod Heap
 pub mod Inside
 pub mod KeyByKey
+pub mod ListSharing
 pub mod Masks
 pub mod NewChunk
 pub mod Opening

@@ -6,8 +6,11 @@ use Rattle.gpu_alloc_types.specs.Properties.{Properties, heap_size, props_at, at
 use Rattle.gpu_alloc.specs.Buddy as buddy
 use Rattle.gpu_alloc.specs.BuddySound.{IsSound}
 use Rattle.gpu_alloc.specs.BuddyState.{Buddy}
+use Rattle.gpu_alloc.specs.FreeListAllocator as list
+use Rattle.gpu_alloc.specs.FreeListSound as list_sound
+use Rattle.gpu_alloc.specs.FreeListState.{Listing}
 use Rattle.gpu_alloc.specs.State.{State}
-use Rattle.gpu_alloc.specs.Sizes.{first_types, minimal_size, initial_size}
+use Rattle.gpu_alloc.specs.Sizes.{first_types, minimal_size, initial_size, starting_size, final_size}
 use Rattle.gpu_alloc.specs.declared.config.Config.{Config}
 
 -- nothing is held or live, as many objects may be held as the device allows, and the chunk sizes are the first ones
@@ -29,3 +32,13 @@ first_buddy c p t =
 
 abbrev pub AreFirstBuddies : Config → Properties → List Buddy → Type 0
 AreFirstBuddies c p buddies = (t : ℕ) → IfSome (slice_get buddies t) (λ b. (b ≡ first_buddy c p t) × IsSound b)
+
+-- a memory type's free list, with no chunk
+abbrev pub first_listing : Config → Properties → ℕ → Listing
+first_listing c p t =
+    let heap = heap_size p t in
+    let atom = atom_of p t in
+    list.opened (starting_size c heap atom) (final_size c heap atom) t (props_at p t) atom
+
+abbrev pub AreFirstListings : Config → Properties → List Listing → Type 0
+AreFirstListings c p lists = (t : ℕ) → IfSome (slice_get lists t) (λ l. (l ≡ first_listing c p t) × list_sound.IsSound l)

@@ -1,5 +1,6 @@
 -- How a block comes back.
-use Rattle.std.specs.Prelude.{◌≡◌, ◌≢◌, ◌⊎◌, ℕ, ◌+◌, List, [], ◌∷◌, length, map, Option, None}
+use Rattle.std.specs.Prelude.{◌≡◌, ◌≢◌, ◌⊎◌, ◌↔◌, ℕ, zero, suc, ◌+◌, Bool, true, false, List, [], ◌∷◌, ◌++◌, length, map, Option, Some, None}
+use Rattle.std.specs.List.{Contains}
 use Rattle.std.specs.FinMap as finite
 use Rattle.std.specs.FinSet as set
 use Rattle.std.specs.Ordering.{nat_cmp}
@@ -7,6 +8,10 @@ use Rattle.gpu_alloc_types.specs.Device.{Object, Event, put}
 use Rattle.gpu_alloc_types.specs.Device.Event.{Deallocated}
 use Rattle.gpu_alloc.specs.declared.block.Kind.{Kind}
 use Rattle.gpu_alloc.specs.declared.block.Kind.TheVariants.{Dedicated, Imported, BuddyChunk, FreeListChunk}
+use Rattle.gpu_alloc.specs.declared.freelist.region.FreeListRegion.{FreeListRegion}
+use Rattle.gpu_alloc.specs.FreeListAllocator.{AreRisingNumbers}
+use Rattle.gpu_alloc.specs.FreeRuns.{IsLastRun}
+use Rattle.gpu_alloc.specs.ListSharing.{IsListChunk, IsFreeInChunk}
 use Rattle.gpu_alloc.specs.State.{HeldObject, Span, span_of, Block, State, IsLive}
 
 -- no span of the object is live
@@ -30,18 +35,55 @@ without_objects objects (name ∷ names) = without_objects (put objects name Non
 abbrev pub LetsGo : State → List ℕ → List Event → State → Type 0
 LetsGo s gone es new = (es ≡ map Deallocated gone) × (new ≡ record s { held = without_all s.held gone; remaining = s.remaining + length gone })
 
+-- Free-list chunks of a memory type.
+
+-- the chunk of this number is held, and no block in it is live
+abbrev pub IsUnusedChunk : State → ℕ → ℕ → Type 0
+IsUnusedChunk s t number = (object : ℕ) × (IsListChunk s t number object × IsUnused s object)
+
+-- the last run lies in this chunk
+abbrev pub HasLastRun : State → ℕ → ℕ → Type 0
+HasLastRun s t number = (r : FreeListRegion) × (IsLastRun (IsFreeInChunk s t) r × (r.chunk ≡ number))
+
+-- the chunk may go: it is wholly free, and not that of the last run where this one is kept
+abbrev pub MayGo : State → ℕ → Bool → ℕ → Type 0
+MayGo s t keep_last number = IsUnusedChunk s t number × (keep_last ≡ true → HasLastRun s t number → ⊥)
+
+-- these are the objects of the chunks of these numbers
+abbrev pub AreObjectsOf : State → ℕ → List ℕ → List ℕ → Type 0
+AreObjectsOf s t [] [] = Unit {0}
+AreObjectsOf s t (number ∷ numbers) (object ∷ objects) = IsListChunk s t number object × AreObjectsOf s t numbers objects
+AreObjectsOf s t [] (object ∷ objects) = ⊥
+AreObjectsOf s t (number ∷ numbers) [] = ⊥
+
+-- the objects of all chunks that may go, in rising number
+abbrev pub AreChunksGone : State → ℕ → Bool → List ℕ → Type 0
+AreChunksGone s t keep_last gone =
+    (numbers : List ℕ) × (AreRisingNumbers numbers × (((number : ℕ) → Contains numbers number ↔ MayGo s t keep_last number) × AreObjectsOf s t numbers gone))
+
 -- What goes with a block whose span was taken off, by what its object is held for: an object of its own, or a buddy
 -- chunk without a live block.
 abbrev pub GoesWith : Kind → State → ℕ → List ℕ → Type 0
 GoesWith Dedicated s object gone = gone ≡ object ∷ []
 GoesWith Imported s object gone = gone ≡ object ∷ []
 GoesWith BuddyChunk s object gone = (IsUnused s object × (gone ≡ object ∷ [])) ⊎ ((IsUnused s object → ⊥) × (gone ≡ []))
-GoesWith (FreeListChunk number) s object gone = ⊥
+GoesWith (FreeListChunk number) s object gone = (chunk : HeldObject) × (finite.get s.held object ≡ Some chunk) × AreChunksGone s chunk.memory_type true gone
 
 abbrev pub Frees : State → Block → List Event → State → Type 0
 Frees s b es new = (gone : List ℕ) × GoesWith b.kind (without_span s b) b.object gone × LetsGo (without_span s b) gone es new
 
--- What a return makes of the device's objects, by what the block's object is held for: its own object goes, and a chunk goes
--- with its last block.
+-- What a return makes of the device's objects: what goes with the block goes.
 abbrev pub ObjectsFreed : State → Block → (ℕ → Option Object) → (ℕ → Option Object) → Type 0
 ObjectsFreed s b old new = (gone : List ℕ) × GoesWith b.kind (without_span s b) b.object gone × (new ≡ without_objects old gone)
+
+-- What a cleanup gives back: each memory type's chunks without a live block, the types in their order.
+
+abbrev pub AreAllGone : State → ℕ → List ℕ → Type 0
+AreAllGone s zero gone = gone ≡ []
+AreAllGone s (suc t) gone = (earlier own : List ℕ) × (gone ≡ earlier ++ own) × AreAllGone s t earlier × AreChunksGone s t false own
+
+abbrev pub Cleans : State → List Event → State → Type 0
+Cleans s es new = (gone : List ℕ) × AreAllGone s (length s.properties.memory_types) gone × LetsGo s gone es new
+
+abbrev pub ObjectsCleaned : State → (ℕ → Option Object) → (ℕ → Option Object) → Type 0
+ObjectsCleaned s old new = (gone : List ℕ) × AreAllGone s (length s.properties.memory_types) gone × (new ≡ without_objects old gone)

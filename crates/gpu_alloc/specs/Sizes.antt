@@ -1,7 +1,7 @@
 -- Sizes that follow from a configuration and from what a device offers. All are bytes.
 use Rattle.std.specs.Prelude.{◌≡◌, ◌≤◌, ◌^◌, ℕ, zero, suc, ◌+◌, ◌-◌, ◌*◌, ◌/◌, ◌==◌, min, max, nat_le, List, map, cond, if◌then◌else◌, slice_get}
 use Rattle.gpu_alloc_types.specs.Flags.{property_bits}
-use Rattle.gpu_alloc_types.specs.Properties.{Properties, size_of, atom_for}
+use Rattle.gpu_alloc_types.specs.Properties.{Properties, size_of, atom_for, are_non_coherent}
 use Rattle.gpu_alloc_types.specs.declared.types.MemoryType.{MemoryType}
 use Rattle.gpu_alloc.specs.State.{TypeState}
 use Rattle.gpu_alloc.specs.declared.config.Config.{Config}
@@ -28,6 +28,10 @@ down x a = x / a * a
 abbrev pub up : ℕ → ℕ → ℕ
 up x a = (x + (a - 1)) / a * a
 
+-- the atom of memory with these property bits, on a device whose atom has this size
+abbrev pub atom_where : ℕ → ℕ → ℕ
+atom_where size bits = cond (are_non_coherent bits) size 1
+
 -- Thresholds. A preferred object of its own begins no later than any other, a transient one no earlier.
 
 abbrev pub preferred_threshold : Config → ℕ
@@ -53,13 +57,22 @@ at_least_an_atom atom size = cond (size == 0) atom size
 abbrev pub cut : ℕ → ℕ → ℕ → ℕ
 cut heap atom size = at_least_an_atom atom (down (min size (heap / 32)) atom)
 
--- the first free-list chunk
+-- the first free-list chunk's least size
 abbrev pub starting_size : Config → ℕ → ℕ → ℕ
 starting_size c heap atom = cut heap atom c.starting_free_list_chunk
 
 -- the largest free-list chunk
 abbrev pub final_size : Config → ℕ → ℕ → ℕ
 final_size c heap atom = cut heap atom (max (max c.final_free_list_chunk c.starting_free_list_chunk) (transient_threshold c))
+
+-- a chunk for a block of this size, where the next one would have `next` bytes and none has more than `final`: the next one,
+-- or where that is too small, its least product with a power of two that suffices, cut at the largest
+abbrev pub grown_chunk : ℕ → ℕ → ℕ → ℕ
+grown_chunk next final size = cond (nat_le size next) next (min (next * next_power_of_two ((size + (next - 1)) / next)) final)
+
+-- the next one's size once a chunk of this size was made: twice as much, cut at the largest
+abbrev pub doubled_chunk : ℕ → ℕ → ℕ
+doubled_chunk final size = min (2 * size) final
 
 -- a memory type's chunk sizes at first: no free-list chunk has a number yet
 abbrev pub first_type_state : Config → Properties → MemoryType → TypeState

@@ -1,41 +1,56 @@
 //! The allocator.
 
-ghost use Rattle.std.specs.Prelude.{◌≡◌, ◌≢◌, ◌↔◌, ℕ, ◌<◌, length, List, All, IsTrue, IfOk, IfErr, OnErr, Some, None, cond, false};
+ghost use Rattle.std.specs.Prelude.{◌≡◌, ◌↔◌, ℕ, ◌+◌, ◌/◌, ◌^◌, ◌<◌, true, length, List, All, IsTrue, IfOk, IfErr, OnErr, Some, None, cond, false};
 ghost use Rattle.std.specs.FinMap as map;
 ghost use Rattle.std.specs.FinSet as set;
 ghost use Rattle.gpu_alloc_types.specs.Properties.{IsUsable, properties_of, heap_size};
 ghost use Rattle.gpu_alloc_types.specs.Flags.{has_bit, usage_bits};
 ghost use Rattle.gpu_alloc_types.specs.Device.{Event, Chain};
 ghost use Rattle.gpu_alloc.specs.Agreement.{Agrees};
-ghost use Rattle.gpu_alloc.specs.Allocation.{NeedsNoFreeList, passing, strategy, Tries, TriesBy, TriesAll, Allocates, ObjectsAfter, ObjectsTried, IsGranted, GrantsTried};
-ghost use Rattle.gpu_alloc.specs.Allocation.Strategy.{OwnObject, InBuddyChunk};
-ghost use Rattle.gpu_alloc.specs.BuddySound.{IsSound};
-ghost use Rattle.gpu_alloc.specs.Inside.{span_of_leaf, place_of_leaf, leaf_at, with_chunk_of};
-ghost use Rattle.gpu_alloc.specs.Opening.{opened, first_buddy, AreFirstBuddies};
-ghost use Rattle.gpu_alloc.specs.Release.{Frees, ObjectsFreed};
+ghost use Rattle.gpu_alloc.specs.Allocation.{passing, strategy, unhinted, fits_a_chunk, Tries, TriesBy, TriesAll, Allocates, ObjectsAfter, ObjectsTried, IsGranted, GrantsTried};
+ghost use Rattle.gpu_alloc.specs.declared.allocator.Strategy.TheVariants.{OwnObject, InBuddyChunk, InFreeList};
+ghost use Rattle.gpu_alloc.specs.Opening.{opened};
+ghost use Rattle.gpu_alloc.specs.Release.{Frees, ObjectsFreed, LetsGo, Cleans, ObjectsCleaned, AreChunksGone, without_span, without_objects};
 ghost use Rattle.gpu_alloc.specs.Request.{IsAskable};
 ghost use Rattle.gpu_alloc.specs.Sound as Sound;
-ghost use Rattle.gpu_alloc.specs.Spans.{span_in, place_in};
-ghost use Rattle.gpu_alloc.specs.State.{IsOwned, ledger, total};
+ghost use Rattle.gpu_alloc.specs.State.{Span, IsLive, IsOwned, is_shared, ledger, total};
+
+mod by_type;
+mod rows;
 
 use crate::block::Kind;
-use crate::buddy::{BuddyAllocator, BuddyBlock, Leaf};
+use crate::buddy::{BuddyAllocator, BuddyBlock};
+use crate::freelist::{FreeListAllocator, FreeListBlock, Slot};
 use crate::heap::{Heap, unused_heaps};
 use crate::limits::Limits;
 use crate::request::is_required;
 use crate::spans::{HeldRow, LiveSpan, Spans};
 use crate::{AllocationError, Config, Dedicated, MemoryBlock, MemoryForUsage, Request};
-use gpu_alloc_types::{
-    DeviceProperties, MemoryDevice, MemoryObject, MemoryPropertyFlags, OutOfMemory,
-};
+use by_type::{close_buddies, close_free_lists, empty_buddies, empty_free_lists};
+use gpu_alloc_types::{DeviceProperties, MemoryDevice, MemoryObject, OutOfMemory, UsageFlags};
+use rows::{add_leaf, add_slot, leaf_in};
 use std::alloc::{AllocError, Allocator, Global};
 use std::marker::Model;
+
+/// Which way a memory type serves a request.
+#[derive(Clone, Copy, Debug, PartialEq, Eq)]
+enum Strategy {
+    /// By an object of the block's own.
+    OwnObject,
+
+    /// By a block of its buddy allocator.
+    InBuddyChunk,
+
+    /// By a block of its free list.
+    InFreeList,
+}
 
 /// Gives out blocks of a device's memory. It cannot be let go: [`close`](GpuAllocator::close) ends it.
 pub struct GpuAllocator<M: MemoryObject, A: Allocator = Global> {
     limits: Limits<A>,
     heaps: Vec<Heap, A>,
     buddies: Vec<BuddyAllocator<M, A>, A>,
+    free_lists: Vec<FreeListAllocator<M, A>, A>,
     spans: Spans<A>,
     allocations_remains: u32,
 }
@@ -50,9 +65,9 @@ impl<M: MemoryObject, A: Allocator> Model for GpuAllocator<M, A> {
 
     ghost use Rattle.gpu_alloc.specs.Inside.{state_in, properties_in, IsConsistent};
 
-    ghost view = { λ a. state_in a.limits a.heaps.items a.buddies.items a.spans a.allocations_remains };
+    ghost view = { λ a. state_in a.limits a.heaps.items a.buddies.items a.free_lists.items a.spans a.allocations_remains };
 
-    ghost invariant = { λ a. IsConsistent a.limits.config (properties_in a.limits a.heaps.items) a.heaps.items a.buddies.items a.spans a.allocations_remains };
+    ghost invariant = { λ a. IsConsistent a.limits.config (properties_in a.limits a.heaps.items) a.heaps.items a.buddies.items a.free_lists.items a.spans a.allocations_remains };
 }
 
 impl<M: MemoryObject, A: Allocator + Copy> GpuAllocator<M, A> {
@@ -84,6 +99,13 @@ impl<M: MemoryObject, A: Allocator + Copy> GpuAllocator<M, A> {
         let heaps = unused_heaps(alloc, props.memory_heaps)?;
         let memory_for_usage = MemoryForUsage::new(props.memory_types);
         let buddies = empty_buddies(alloc, config, &props)?;
+        let free_lists = match empty_free_lists(alloc, config, &props) {
+            Ok(free_lists) => free_lists,
+            Err(refusal) => {
+                close_buddies(buddies);
+                return Err(refusal);
+            }
+        };
         Ok(GpuAllocator {
             limits: Limits {
                 config,
@@ -96,6 +118,7 @@ impl<M: MemoryObject, A: Allocator + Copy> GpuAllocator<M, A> {
             },
             heaps,
             buddies,
+            free_lists,
             spans: Spans::new(alloc),
             allocations_remains: props.max_memory_allocation_count,
         })
@@ -106,13 +129,23 @@ impl<M: MemoryObject, A: Allocator> GpuAllocator<M, A> {
     /// Allocates a block as the request asks: a memory object of its own where it is large, and else a place in a shared one.
     ///
     /// A request of at least the configuration's `dedicated_threshold`, or of the 32nd part of its heap where that is less,
-    /// gets an object of its own: the block starts at offset 0 and has exactly the request's size. Any other request gets a
-    /// block of a buddy allocator, of which each memory type has one: its size is the least power of two, in bytes, that is
-    /// not below the request's size and alignment, the type's atom and the least buddy block. It starts at a multiple of its
-    /// size, in the shortest free place that suffices. Where none does, a chunk is asked for: the greater of twice the
-    /// block and the latest chunk of the type, mapped whole where the host sees the type. A chunk may be larger than
-    /// `max_memory_allocation_size`; the device decides. A block lies inside its object, and is not mapped. Each question to the device carries
-    /// `DEVICE_ADDRESS` exactly where the device has the feature (the original crate's rule).
+    /// gets an object of its own: the block starts at offset 0 and has exactly the request's size. With the usage
+    /// `TRANSIENT` it is the transient threshold in place of that one, and a request that is too large for a largest
+    /// free-list chunk in whole atoms gets an object of its own too. (The thresholds are the original crate's rule.)
+    ///
+    /// Any other request gets a block of a shared chunk. Each memory type has a buddy allocator and a free list.
+    /// Without `TRANSIENT` it is a buddy chunk: the block's size is the least power of two, in bytes, that is not below the
+    /// request's size and alignment, the type's atom and the least buddy block. It starts at a multiple of its size, in the
+    /// shortest free place that suffices. Where none does, a chunk is asked for: the greater of twice the block and the latest
+    /// buddy chunk of the type.
+    /// With `TRANSIENT` it is a free list's chunk: the block is the tail of the last free run with room, all from the last
+    /// byte that is aligned (to the request's alignment and the atom) and leaves the size in whole atoms. Where no run
+    /// has room, a chunk is asked for that is twice as large as the latest one of the free list, or larger where the
+    /// request wants it, cut at the largest (`FreeListAllocator::alloc` tells more).
+    ///
+    /// A chunk is mapped whole where the host sees the type. It may be larger than `max_memory_allocation_size`; the device
+    /// decides. A block lies inside its object, and is not mapped. Each question to the device carries `DEVICE_ADDRESS`
+    /// exactly where the device has the feature (the original crate's rule).
     ///
     /// The request has to be askable (`Request::is_askable`, for the device's `buffer_device_address`), and the device has
     /// to be the one that this allocator has served, so that the two agree. The refusals, in the order in which they are
@@ -121,18 +154,16 @@ impl<M: MemoryObject, A: Allocator> GpuAllocator<M, A> {
     /// `NoCompatibleMemoryTypes` where no memory type among the request's serves its usage.
     /// Then the memory types are tried in rank. One is passed where its heap is smaller than the request, where a chunk for
     /// it would have 2^64 bytes or more, or where the device answers `OutOfDeviceMemory`. The first that is not passed gives
-    /// the block, or `TooManyObjects` where an object is wanted and no more may be held, or `OutOfHostMemory` where the
-    /// host's memory was refused to the allocator or to the device, or a new chunk could not be mapped. Where all are passed
+    /// the block, or `TooManyObjects` where an object is wanted and no more may be held (or the numbers of free-list chunks
+    /// are spent, after 2^64 - 1 of them), or `OutOfHostMemory` where the host's memory was refused to the allocator or to
+    /// the device, or a new chunk could not be mapped. Where all are passed
     /// it is `OutOfDeviceMemory`. After a refusal the allocator and the device's objects are as before: a chunk that was
     /// made is given back.
-    ///
-    /// For now the usage has to lack `TRANSIENT`.
     pub fn alloc<D: MemoryDevice<M>>(
         &mut self,
         device: &mut D,
         request: Request,
     ) -> Result<MemoryBlock<M>, AllocationError>
-        requires lasting { has_bit (usage_bits request.usage) 16 ≡ false }
         requires askable { IsAskable (self.old.properties).buffer_device_address request }
         requires agrees { Agrees self.old (D.properties device.old) (D.objects device.old) }
 
@@ -155,15 +186,13 @@ impl<M: MemoryObject, A: Allocator> GpuAllocator<M, A> {
     /// size and before any memory type is looked at. With `Preferred` it gets one where its size is at least the configuration's
     /// `preferred_dedicated_threshold` or `dedicated_threshold`, and else what `alloc` gives.
     ///
-    /// The conditions and the refusals are those of `alloc`. For now the usage has to lack `TRANSIENT` where the hint is
-    /// not `Required`.
+    /// The conditions and the refusals are those of `alloc`.
     pub fn alloc_with_dedicated<D: MemoryDevice<M>>(
         &mut self,
         device: &mut D,
         request: Request,
         dedicated: Dedicated,
     ) -> Result<MemoryBlock<M>, AllocationError>
-        requires lasting { NeedsNoFreeList request (Some dedicated) }
         requires askable { IsAskable (self.old.properties).buffer_device_address request }
         requires agrees { Agrees self.old (D.properties device.old) (D.objects device.old) }
 
@@ -187,7 +216,6 @@ impl<M: MemoryObject, A: Allocator> GpuAllocator<M, A> {
         request: Request,
         hint: Option<Dedicated>,
     ) -> Result<MemoryBlock<M>, AllocationError>
-        requires lasting { NeedsNoFreeList request hint }
         requires askable { IsAskable (self.old.properties).buffer_device_address request }
         requires agrees { Agrees self.old (D.properties device.old) (D.objects device.old) }
 
@@ -221,7 +249,6 @@ impl<M: MemoryObject, A: Allocator> GpuAllocator<M, A> {
         hint: Option<Dedicated>,
         candidates: &[u32],
     ) -> Result<MemoryBlock<M>, AllocationError>
-        requires lasting { NeedsNoFreeList request hint }
         requires askable { IsAskable (self.old.properties).buffer_device_address request }
         requires known { All (λ t. t < length (self.old.properties).memory_types) candidates.now }
         requires agrees { Agrees self.old (D.properties device.old) (D.objects device.old) }
@@ -251,7 +278,6 @@ impl<M: MemoryObject, A: Allocator> GpuAllocator<M, A> {
         hint: Option<Dedicated>,
         memory_type: u32,
     ) -> Result<Option<MemoryBlock<M>>, AllocationError>
-        requires lasting { NeedsNoFreeList request hint }
         requires askable { IsAskable (self.old.properties).buffer_device_address request }
         requires known { memory_type < length (self.old.properties).memory_types }
         requires agrees { Agrees self.old (D.properties device.old) (D.objects device.old) }
@@ -266,28 +292,60 @@ impl<M: MemoryObject, A: Allocator> GpuAllocator<M, A> {
         if self.heap_size(memory_type) < request.size {
             return Ok(None);
         }
-        if self.is_dedicated(request, hint, memory_type) {
-            self.try_object(device, request, memory_type)
-        } else {
-            self.try_buddy(device, request, memory_type)
+        match self.strategy(request, hint, memory_type) {
+            Strategy::OwnObject => self.try_object(device, request, memory_type),
+            Strategy::InBuddyChunk => self.try_buddy(device, request, memory_type),
+            Strategy::InFreeList => self.try_free_list(device, request, memory_type),
         }
     }
 
-    /// Whether a memory type serves a request by an object of its own, and not by a block of a shared chunk.
-    fn is_dedicated(&self, request: Request, hint: Option<Dedicated>, memory_type: u32) -> bool
-        requires lasting { NeedsNoFreeList request hint }
+    /// Which way a memory type serves a request.
+    fn strategy(&self, request: Request, hint: Option<Dedicated>, memory_type: u32) -> Strategy
         requires known { memory_type < length (self.now.properties).memory_types }
-        ensures { strategy self.now request hint memory_type ≡ cond result OwnObject InBuddyChunk }
+        ensures { result ≡ strategy self.now request hint memory_type }
+    {
+        match hint {
+            Some(Dedicated::Required) => Strategy::OwnObject,
+            Some(Dedicated::Preferred)
+                if request.size >= self.limits.config.preferred_threshold() => {
+                Strategy::OwnObject
+            }
+            _ => self.unhinted(request, memory_type),
+        }
+    }
+
+    /// Which way a memory type serves a request by its size and its usage.
+    fn unhinted(&self, request: Request, memory_type: u32) -> Strategy
+        requires known { memory_type < length (self.now.properties).memory_types }
+        ensures { result ≡ unhinted self.now request memory_type }
     {
         let config = &self.limits.config;
-        let threshold = config
-            .dedicated_threshold
-            .min(self.heap_size(memory_type) / 32);
-        match hint {
-            Some(Dedicated::Required) => true,
-            Some(Dedicated::Preferred) if request.size >= config.preferred_threshold() => true,
-            _ => request.size >= threshold,
+        let part = self.heap_size(memory_type) / 32;
+        if request.usage.contains(UsageFlags::TRANSIENT) {
+            if request.size < config.transient_threshold().min(part)
+                && self.fits_a_chunk(request, memory_type)
+            {
+                Strategy::InFreeList
+            } else {
+                Strategy::OwnObject
+            }
+        } else if request.size < config.dedicated_threshold.min(part) {
+            Strategy::InBuddyChunk
+        } else {
+            Strategy::OwnObject
         }
+    }
+
+    /// Whether a request in whole atoms fits a largest free-list chunk. Its size is below a 32nd part of a heap.
+    fn fits_a_chunk(&self, request: Request, memory_type: u32) -> bool
+        requires known { memory_type < length (self.now.properties).memory_types }
+        requires small { request.size < heap_size self.now.properties memory_type / 32 }
+        ensures { result ≡ fits_a_chunk self.now request memory_type }
+    {
+        let atom = self.limits.atom(memory_type);
+        let heap = self.heap_size(memory_type);
+        let size = (request.size + (atom - 1)) / atom * atom;
+        size <= self.limits.config.final_size(heap, atom)
     }
 
     /// Tries one memory type for an object of its own: none where the type is passed.
@@ -350,7 +408,7 @@ impl<M: MemoryObject, A: Allocator> GpuAllocator<M, A> {
         }
     }
 
-    /// Tries one memory type for a block of a shared chunk: none where the type is passed.
+    /// Tries one memory type for a block of a buddy chunk: none where the type is passed.
     fn try_buddy<D: MemoryDevice<M>>(
         &mut self,
         device: &mut D,
@@ -411,6 +469,67 @@ impl<M: MemoryObject, A: Allocator> GpuAllocator<M, A> {
         }
     }
 
+    /// Tries one memory type for a block of its free list: none where the type is passed.
+    fn try_free_list<D: MemoryDevice<M>>(
+        &mut self,
+        device: &mut D,
+        request: Request,
+        memory_type: u32,
+    ) -> Result<Option<MemoryBlock<M>>, AllocationError>
+        requires askable { IsAskable (self.old.properties).buffer_device_address request }
+        requires known { memory_type < length (self.old.properties).memory_types }
+        requires fits { fits_a_chunk self.old request memory_type ≡ true }
+        requires agrees { Agrees self.old (D.properties device.old) (D.objects device.old) }
+
+        ensures tries { (es : List Event) × Chain D.step device.old es device.new × TriesBy InFreeList self.old request memory_type es result self.new }
+        ensures objects { ObjectsTried self.old result (D.objects device.old) (D.objects device.new) }
+        ensures agrees { Agrees self.new (D.properties device.new) (D.objects device.new) }
+
+        ensures granted { GrantsTried self.old request result self.new }
+        ensures total { total self.new ≡ total self.old }
+    {
+        let own = memory_type as usize;
+        let heap = self.limits.heap_index(memory_type);
+        let first = self.free_lists[own].refuses(
+            request.size,
+            request.align_mask,
+            &self.heaps[heap],
+            self.allocations_remains,
+        );
+        if let Some(refusal) = first {
+            return passing(refusal);
+        }
+        if self.spans.reserve().is_err() {
+            return Err(AllocationError::OutOfHostMemory);
+        }
+        let flags = self.limits.flags();
+        let answer = self.free_lists[own].alloc(
+            device,
+            request.size,
+            request.align_mask,
+            flags,
+            &mut self.heaps[heap],
+            &mut self.allocations_remains,
+        );
+        match answer {
+            Ok(block) => {
+                let props = self.limits.props(memory_type);
+                let (memory, slot) = block.into_parts();
+                let key = add_slot(&mut self.spans, slot, memory_type);
+                Ok(Some(MemoryBlock::new(
+                    memory,
+                    slot.offset,
+                    slot.size,
+                    memory_type,
+                    props,
+                    Kind::FreeListChunk(slot.chunk),
+                    key,
+                )))
+            }
+            Err(refusal) => passing(refusal),
+        }
+    }
+
     /// The size of a memory type's heap, in bytes.
     fn heap_size(&self, memory_type: u32) -> u64
         requires { memory_type < length (self.now.properties).memory_types }
@@ -419,9 +538,11 @@ impl<M: MemoryObject, A: Allocator> GpuAllocator<M, A> {
         self.heaps[self.limits.heap_index(memory_type)].size()
     }
 
-    /// Takes a block back. An object of its own goes back to the device, and so does a shared chunk in which no other block
-    /// is live; then one more object may be held, and the ledger of its heap is lowered by its size. Any other chunk stays,
-    /// and joins what is free in it.
+    /// Takes a block back. An object of its own goes back to the device, and so does a buddy chunk in which no other block
+    /// is live. With a block of a free list each chunk of that list goes in which no block is live, the oldest first, but not
+    /// the one in which the list's last free run lies (the original crate's rule); [`cleanup`](GpuAllocator::cleanup) gives
+    /// that one back. For each object that goes, one more may be held, and the ledger of its heap is lowered by its size. Any
+    /// other chunk stays, and joins what is free in it.
     ///
     /// The block has to be live here (`owns` tells), and the device has to be the one that this allocator has served, so
     /// that the two agree. It takes no memory and cannot fail.
@@ -434,16 +555,16 @@ impl<M: MemoryObject, A: Allocator> GpuAllocator<M, A> {
         ensures agrees { Agrees self.new (D.properties device.new) (D.objects device.new) }
         ensures total { total self.new ≡ total self.old }
     {
-        if block.kind() == Kind::BuddyChunk {
-            self.dealloc_in_chunk(device, block);
-        } else {
-            self.dealloc_object(device, block);
+        match block.kind() {
+            Kind::Dedicated | Kind::Imported => self.dealloc_object(device, block),
+            Kind::BuddyChunk => self.dealloc_in_chunk(device, block),
+            Kind::FreeListChunk(number) => self.dealloc_in_list(device, block, number),
         }
     }
 
     /// Takes back a block that is an object of its own.
     fn dealloc_object<D: MemoryDevice<M>>(&mut self, device: &mut D, block: MemoryBlock<M>)
-        requires own { block.kind ≢ Kind.BuddyChunk }
+        requires own { is_shared block.kind ≡ false }
         requires owned { IsOwned self.old block }
         requires agrees { Agrees self.old (D.properties device.old) (D.objects device.old) }
 
@@ -462,7 +583,7 @@ impl<M: MemoryObject, A: Allocator> GpuAllocator<M, A> {
         self.allocations_remains += 1;
     }
 
-    /// Takes back a block of a shared chunk. Where it stands there is what the table of spans says.
+    /// Takes back a block of a buddy chunk. Where it stands there is what the table of spans says.
     fn dealloc_in_chunk<D: MemoryDevice<M>>(&mut self, device: &mut D, block: MemoryBlock<M>)
         requires shared { block.kind ≡ Kind.BuddyChunk }
         requires owned { IsOwned self.old block }
@@ -490,10 +611,92 @@ impl<M: MemoryObject, A: Allocator> GpuAllocator<M, A> {
         self.spans.remove(key, object, offset, size, gone);
     }
 
+    /// Takes back a block of a free list's chunk of this number.
+    fn dealloc_in_list<D: MemoryDevice<M>>(
+        &mut self,
+        device: &mut D,
+        block: MemoryBlock<M>,
+        number: u64,
+    )
+        requires listed { block.kind ≡ Kind.FreeListChunk number }
+        requires owned { IsOwned self.old block }
+        requires agrees { Agrees self.old (D.properties device.old) (D.objects device.old) }
+
+        ensures freed { (es : List Event) × Chain D.step device.old es device.new × Frees self.old block es self.new }
+        ensures objects { ObjectsFreed self.old block (D.objects device.old) (D.objects device.new) }
+        ensures agrees { Agrees self.new (D.properties device.new) (D.objects device.new) }
+        ensures total { total self.new ≡ total self.old }
+    {
+        let memory_type = block.memory_type();
+        self.free_block(block, number);
+        self.give_back(device, memory_type, true);
+    }
+
+    /// Takes a block's span off the table, and its bytes back into its memory type's free list.
+    fn free_block(&mut self, block: MemoryBlock<M>, number: u64)
+        requires listed { block.kind ≡ Kind.FreeListChunk number }
+        requires owned { IsOwned self.old block }
+        ensures freed { self.new ≡ without_span self.old block }
+        ensures known { block.memory_type < length (self.new.properties).memory_types }
+    {
+        let (key, memory_type) = (block.key(), block.memory_type());
+        let (offset, size) = (block.offset(), block.size());
+        let memory = block.into_memory();
+        let slot = Slot {
+            object: memory.object(),
+            chunk: number,
+            offset,
+            size,
+        };
+        self.spans.remove(key, slot.object, offset, size, false);
+        self.free_lists[memory_type as usize].free(FreeListBlock::new(memory, slot));
+    }
+
+    /// Gives a memory type's free-list chunks in which no block is live back to the device, the oldest first, but not the
+    /// one in which the last run lies where this one is kept.
+    fn give_back<D: MemoryDevice<M>>(&mut self, device: &mut D, memory_type: u32, keep_last: bool)
+        requires known { memory_type < length (self.old.properties).memory_types }
+        requires agrees { Agrees self.old (D.properties device.old) (D.objects device.old) }
+
+        ensures gives { (gone : List ℕ) × (es : List Event) × Chain D.step device.old es device.new × AreChunksGone self.old memory_type keep_last gone × LetsGo self.old gone es self.new × (D.objects device.new ≡ without_objects (D.objects device.old) gone) }
+        ensures agrees { Agrees self.new (D.properties device.new) (D.objects device.new) }
+        ensures total { total self.new ≡ total self.old }
+    {
+        let heap = self.limits.heap_index(memory_type);
+        while let Some(object) = self.free_lists[memory_type as usize].give_back_first(
+            device,
+            keep_last,
+            &mut self.heaps[heap],
+            &mut self.allocations_remains,
+        ) {
+            self.spans.let_go(object);
+        }
+    }
+
+    /// Gives every free-list chunk in which no block is live back to the device: by memory type, and then the oldest first.
+    /// For each, one more object may be held, and the ledger of its heap is lowered by its size.
+    ///
+    /// Where no block is live, nothing is held afterwards, and every ledger is 0. The device has to be the one that this
+    /// allocator has served, so that the two agree. It takes no memory and cannot fail.
+    pub fn cleanup<D: MemoryDevice<M>>(&mut self, device: &mut D)
+        requires agrees { Agrees self.old (D.properties device.old) (D.objects device.old) }
+
+        ensures cleaned { (es : List Event) × Chain D.step device.old es device.new × Cleans self.old es self.new }
+        ensures objects { ObjectsCleaned self.old (D.objects device.old) (D.objects device.new) }
+        ensures agrees { Agrees self.new (D.properties device.new) (D.objects device.new) }
+        ensures total { total self.new ≡ total self.old }
+        ensures ends { ((span : Span) → IsLive self.old span → ⊥) → (self.new.held ≡ map.empty) × ((heap : ℕ) → ledger self.new heap ≡ 0) }
+    {
+        let count = self.limits.memory_types.len() as u32;
+        for memory_type in 0..count {
+            self.give_back(device, memory_type, false);
+        }
+    }
+
     /// Whether a block is live here: its object, span, memory type and kind are. Which allocator made it is not asked.
     ///
     /// Its contract also tells, of every allocator, that live blocks are apart and inside their objects, and that no object
-    /// is held without one.
+    /// but a chunk of a free list is held without one.
     pub fn owns(&self, block: &MemoryBlock<M>) -> bool
         ensures owned { IsTrue result ↔ IsOwned self.now block.now }
         ensures sound { Sound.IsSound self.now }
@@ -538,21 +741,21 @@ impl<M: MemoryObject, A: Allocator> GpuAllocator<M, A> {
         self.heaps[heap as usize].used()
     }
 
-    /// Ends the allocator, which may hold no object: `held_objects` tells.
+    /// Ends the allocator, which may hold no object: `held_objects` tells. After all returns
+    /// [`cleanup`](GpuAllocator::cleanup) gives back what free lists keep.
     pub fn close(self)
         requires { map.len self.held ≡ 0 }
     {
         let GpuAllocator {
             limits: _,
             heaps: _,
-            mut buddies,
+            buddies,
+            free_lists,
             spans: _,
             allocations_remains: _,
         } = self;
-        while let Some(buddy) = buddies.pop() {
-            buddy.close();
-        }
-        buddies.destroy_empty();
+        close_buddies(buddies);
+        close_free_lists(free_lists);
     }
 }
 
@@ -563,98 +766,5 @@ fn passing<T>(refusal: AllocationError) -> Result<Option<T>, AllocationError>
     match refusal {
         AllocationError::OutOfDeviceMemory => Ok(None),
         refusal => Err(refusal),
-    }
-}
-
-/// A buddy allocator for each memory type, with no chunk.
-fn empty_buddies<M: MemoryObject, A: Allocator + Copy>(
-    alloc: A,
-    config: Config,
-    props: &DeviceProperties<'_>,
-) -> Result<Vec<BuddyAllocator<M, A>, A>, AllocError>
-    requires { IsUsable (properties_of props.now) }
-    ensures count { IfOk result (λ buddies. length buddies.items ≡ length (properties_of props.now).memory_types) }
-    ensures each { IfOk result (λ buddies. AreFirstBuddies config (properties_of props.now) buddies.items) }
-{
-    let count = props.memory_types.len();
-    let mut buddies = Vec::with_capacity(alloc, count)?;
-    for memory_type in 0..count {
-        buddies.push_reserved(empty_buddy(alloc, config, props, memory_type));
-    }
-    Ok(buddies)
-}
-
-/// A memory type's buddy allocator, with no chunk.
-fn empty_buddy<M: MemoryObject, A: Allocator + Copy>(
-    alloc: A,
-    config: Config,
-    props: &DeviceProperties<'_>,
-    memory_type: usize,
-) -> BuddyAllocator<M, A>
-    requires usable { IsUsable (properties_of props.now) }
-    requires known { memory_type < length (properties_of props.now).memory_types }
-    ensures first { result ≡ first_buddy config (properties_of props.now) memory_type }
-    ensures sound { IsSound result }
-{
-    let own = props.memory_types[memory_type];
-    let heap = props.memory_heaps[own.heap as usize].size;
-    let by_host = own.props.contains(MemoryPropertyFlags::HOST_VISIBLE);
-    let coherent = own.props.contains(MemoryPropertyFlags::HOST_COHERENT);
-    let atom = if by_host && !coherent {
-        props.non_coherent_atom_size
-    } else {
-        1
-    };
-    BuddyAllocator::empty(
-        alloc,
-        config.minimal_size(heap),
-        config.initial_size(heap),
-        memory_type as u32,
-        own.props,
-        atom - 1,
-    )
-}
-
-/// Adds the span of a buddy allocator's block, and its chunk where it was not held yet, into room that was made.
-fn add_leaf<A: Allocator>(
-    spans: &mut Spans<A>,
-    leaf: Leaf,
-    memory_type: u32,
-    chunk_size: u64,
-) -> usize
-    requires room { 0 < spans.old.room }
-    requires free { set.contains spans.old.live (span_of_leaf leaf) ≡ false }
-    ensures held { spans.new.held ≡ with_chunk_of spans.old.held leaf (record { memory_type = memory_type; counted = chunk_size; kind = Kind.BuddyChunk }) }
-    ensures live { spans.new.live ≡ set.insert spans.old.live (span_of_leaf leaf) }
-    ensures places { spans.new.places ≡ map.insert spans.old.places (span_of_leaf leaf) (place_of_leaf leaf) }
-{
-    let chunk = match spans.held(leaf.object) {
-        Some(_) => None,
-        None => Some(HeldRow {
-            memory_type,
-            counted: chunk_size,
-            kind: Kind::BuddyChunk,
-        }),
-    };
-    let span = LiveSpan {
-        object: leaf.object,
-        offset: leaf.offset,
-        size: leaf.size,
-        chunk: leaf.chunk,
-        index: leaf.index,
-    };
-    spans.insert(span, chunk)
-}
-
-/// A live span's block in its buddy allocator.
-fn leaf_in(span: LiveSpan) -> Leaf
-    ensures { result ≡ leaf_at (span_in span) (place_in span) }
-{
-    Leaf {
-        object: span.object,
-        chunk: span.chunk,
-        offset: span.offset,
-        size: span.size,
-        index: span.index,
     }
 }

@@ -1,9 +1,9 @@
 //! The sizes by which an allocator decides.
 
-ghost use Rattle.std.specs.Prelude.{◌≡◌, IsTrue};
+ghost use Rattle.std.specs.Prelude.{◌≡◌, IsTrue, ◌<◌};
 ghost use Rattle.std.specs.Int.{is_power_of_two};
 ghost use Rattle.gpu_alloc.specs.Config.{potato, prototyping};
-ghost use Rattle.gpu_alloc.specs.Sizes.{preferred_threshold, minimal_size, initial_size};
+ghost use Rattle.gpu_alloc.specs.Sizes.{preferred_threshold, minimal_size, initial_size, transient_threshold, starting_size, final_size, cut};
 
 use crate::sizes::next_power_of_two;
 use serde::{Deserialize, Serialize};
@@ -29,11 +29,12 @@ pub struct Config {
     /// [`Config::dedicated_threshold`] counts as that one.
     pub preferred_dedicated_threshold: u64,
 
-    /// [`Config::dedicated_threshold`] for a transient request. A value below that one counts as that one.
+    /// [`Config::dedicated_threshold`] for a transient request. A value below that one counts as that one. A transient
+    /// request that in whole atoms is larger than the largest shared object gets one of its own too.
     pub transient_dedicated_threshold: u64,
 
-    /// The size of the first object that transient requests share, at most the 32nd part of its heap, in whole atoms, one
-    /// atom at least.
+    /// The least size of the first object that transient requests share, at most the 32nd part of its heap, in whole atoms,
+    /// one atom at least.
     pub starting_free_list_chunk: u64,
 
     /// The size up to which such objects grow. A value below [`Config::starting_free_list_chunk`] or the threshold of
@@ -106,4 +107,41 @@ impl Config {
     {
         next_power_of_two(self.initial_buddy_dedicated_size.min(heap / 32))
     }
+
+    /// From which size on a transient request gets an object of its own, in bytes.
+    pub(crate) fn transient_threshold(&self) -> u64
+        ensures { result ≡ transient_threshold self.now }
+    {
+        self.transient_dedicated_threshold
+            .max(self.dedicated_threshold)
+    }
+
+    /// The least size of a first free-list chunk, in bytes, for a memory type with this atom in a heap of this size.
+    pub(crate) fn starting_size(&self, heap: u64, atom: u64) -> u64
+        requires { 0 < atom }
+        ensures { result ≡ starting_size self.now heap atom }
+    {
+        cut(heap, atom, self.starting_free_list_chunk)
+    }
+
+    /// The size of a largest free-list chunk, in bytes, for a memory type with this atom in a heap of this size.
+    pub(crate) fn final_size(&self, heap: u64, atom: u64) -> u64
+        requires { 0 < atom }
+        ensures { result ≡ final_size self.now heap atom }
+    {
+        let largest = self
+            .final_free_list_chunk
+            .max(self.starting_free_list_chunk)
+            .max(self.transient_threshold());
+        cut(heap, atom, largest)
+    }
+}
+
+/// A size cut at a 32nd part of the heap, in whole atoms, and one atom at least.
+fn cut(heap: u64, atom: u64, size: u64) -> u64
+    requires { 0 < atom }
+    ensures { result ≡ cut heap atom size }
+{
+    let whole = size.min(heap / 32) / atom * atom;
+    if whole == 0 { atom } else { whole }
 }

@@ -23,7 +23,8 @@ pub enum AllocationError {
     NoCompatibleMemoryTypes,
 
     /// As many memory objects are held as the device allows. To give objects back may help, those of dedicated blocks
-    /// first. Where the heaps are far from exhausted, a [`Config`](crate::Config) with larger shared objects helps.
+    /// first. Where the heaps are far from exhausted, a [`Config`](crate::Config) with larger shared objects helps. (A free
+    /// list that made 2^64 - 1 chunks answers so too.)
     TooManyObjects,
 }
 

@@ -1,19 +1,24 @@
 //! Laws of the definitions that contracts cite, and those definitions computed on samples. The functions do nothing.
 
-ghost use Rattle.std.specs.Prelude.{◌≡◌, ◌-◌, ◌≤◌, ◌^◌, ◌↔◌, ℕ, List, [], ◌∷◌, Some, None, Contains, true, false};
+ghost use Rattle.std.specs.Prelude.{◌≡◌, ◌-◌, ◌<◌, ◌≤◌, ◌^◌, ◌↔◌, ℕ, List, [], ◌∷◌, Some, None, Contains, true, false};
 ghost use Rattle.gpu_alloc_types.specs.declared.types.MemoryType.{MemoryType};
 ghost use Rattle.gpu_alloc.specs.Allocation.{strategy};
-ghost use Rattle.gpu_alloc.specs.Allocation.Strategy.{OwnObject, InBuddyChunk, InFreeList};
+ghost use Rattle.gpu_alloc.specs.declared.allocator.Strategy.TheVariants.{OwnObject, InBuddyChunk, InFreeList};
 ghost use Rattle.gpu_alloc.specs.Buddy.{opened as empty_buddy, wanted, rounded, chunk_size};
 ghost use Rattle.gpu_alloc.specs.BuddyState.{Buddy, IsFreeAt};
 ghost use Rattle.gpu_alloc.specs.Config.{potato, prototyping};
 ghost use Rattle.gpu_alloc.specs.FreeSpace.{IsIn, IsPlace, IsFreePiece, IsFreeByte};
+ghost use Rattle.gpu_alloc.specs.FreeList.{HasPlace};
+ghost use Rattle.gpu_alloc.specs.FreeListState.{Space, IsFreeIn};
+ghost use Rattle.gpu_alloc.specs.FreeRuns.{IsFreeRun, IsSpaced, HasRoom, tail_start};
+ghost use Rattle.gpu_alloc.specs.ListSharing.{IsFreeInChunk, HasListPlace, list_size, list_alignment, list_question};
+ghost use Rattle.gpu_alloc.specs.declared.freelist.region.FreeListRegion.{FreeListRegion};
 ghost use Rattle.gpu_alloc.specs.Pieces.{IsCanonical};
 ghost use Rattle.gpu_alloc.specs.Ranking.{IsRanking, IsRankingWithin, ranking, candidates, implied};
 ghost use Rattle.gpu_alloc.specs.Request.{IsAlignMask};
 ghost use Rattle.gpu_alloc.specs.Samples.{one_type, three_types, over, bytes_for, buddy_config};
 ghost use Rattle.gpu_alloc.specs.Sharing.{buddy_size, buddy_question, with_buddy_chunk};
-ghost use Rattle.gpu_alloc.specs.Sizes.{IsNextPowerOfTwo, next_power_of_two, minimal_size, initial_size, starting_size, final_size, first_types};
+ghost use Rattle.gpu_alloc.specs.Sizes.{IsNextPowerOfTwo, next_power_of_two, minimal_size, initial_size, starting_size, final_size, first_types, grown_chunk, doubled_chunk};
 ghost use Rattle.gpu_alloc.specs.State.{State};
 ghost use Rattle.gpu_alloc.specs.declared.block.Kind.{Kind};
 ghost use Rattle.gpu_alloc.specs.declared.buddy.pieces.Piece.{Piece};
@@ -59,6 +64,35 @@ pub fn kept_pieces_are_the_free_pieces()
 pub fn free_pieces_are_apart()
     ensures in_chunks { (b : Buddy) (chunk a n c m at : ℕ) → IsFreePiece (IsFreeAt b) chunk a n → IsFreePiece (IsFreeAt b) chunk c m → IsIn a n at → IsIn c m at → (a ≡ c) × (n ≡ m) }
     ensures in_objects { (s : State) (memory_type : ℕ) (kind : Kind) (object a n b m at : ℕ) → IsFreePiece (IsFreeByte s memory_type kind) object a n → IsFreePiece (IsFreeByte s memory_type kind) object b m → IsIn a n at → IsIn b m at → (a ≡ b) × (n ≡ m) }
+{}
+
+/// Regions that are not empty, of which no two overlap or touch, and which together are the free bytes, are exactly the free
+/// runs: of a free list's chunks, and of a memory type's chunks in the whole allocator. There is a place for a block exactly
+/// where some region has room for it.
+pub fn regions_are_the_free_runs()
+    ensures exact { (s : Space) (regions : List FreeListRegion) → IsSpaced (IsFreeIn s) (Contains regions) → (r : FreeListRegion) → Contains regions r ↔ IsFreeRun (IsFreeIn s) r.chunk r.start r.end }
+    ensures place { (s : Space) (regions : List FreeListRegion) → IsSpaced (IsFreeIn s) (Contains regions) → (size order : ℕ) → 0 < size → HasPlace s size (2 ^ order) ↔ ((r : FreeListRegion) × Contains regions r × HasRoom size (2 ^ order) r.start r.end) }
+    ensures exact_in_state { (s : State) (memory_type : ℕ) (regions : List FreeListRegion) → IsSpaced (IsFreeInChunk s memory_type) (Contains regions) → (r : FreeListRegion) → Contains regions r ↔ IsFreeRun (IsFreeInChunk s memory_type) r.chunk r.start r.end }
+    ensures place_in_state { (s : State) (memory_type : ℕ) (regions : List FreeListRegion) → IsSpaced (IsFreeInChunk s memory_type) (Contains regions) → (size order : ℕ) → 0 < size → HasListPlace s memory_type size (2 ^ order) ↔ ((r : FreeListRegion) × Contains regions r × HasRoom size (2 ^ order) r.start r.end) }
+{}
+
+/// Chunks of free lists and the tails that blocks are, for a first chunk of 8192 bytes: the next chunk, one that has to be
+/// larger, one that is cut at the largest; a tail, and one at a multiple of 256.
+#[tactic(auto, unfolding(crate::specs::Sizes::doubled_up))]
+pub fn free_list_chunks_of_samples()
+    ensures first { grown_chunk 8192 32768 100 ≡ 8192 }
+    ensures as_large { grown_chunk 8192 32768 8192 ≡ 8192 }
+    ensures larger { grown_chunk 8192 32768 20000 ≡ 32768 }
+    ensures twice { grown_chunk 8192 32768 16384 ≡ 16384 }
+    ensures largest { grown_chunk 8192 20000 17000 ≡ 20000 }
+    ensures next { doubled_chunk 32768 8192 ≡ 16384 }
+    ensures last { doubled_chunk 32768 32768 ≡ 32768 }
+    ensures tail { tail_start 100 1 8192 ≡ 8092 }
+    ensures aligned_tail { tail_start 100 256 8092 ≡ 7936 }
+    ensures atoms { list_size (over 3200 2 64) (bytes_for 60 16) 0 ≡ 64 }
+    ensures atom_aligned { list_alignment (over 3200 2 64) (bytes_for 60 16) 0 ≡ 64 }
+    ensures question { (list_question (over 1048576 1 1) 0 20000).size ≡ 32768 }
+    ensures seen { (list_question (over 3200 2 64) 0 64).visible ≡ true }
 {}
 
 /// Sizes of buddy blocks and of the chunks for them, over a least block of 1 and a first chunk of 8192, with an atom, and

@@ -6,6 +6,7 @@ mod block;
 pub mod buddy;
 mod config;
 mod error;
+pub mod freelist;
 pub mod heap;
 pub mod laws;
 mod limits;
@@ -13,6 +14,7 @@ mod new_chunk;
 mod request;
 mod sizes;
 pub mod spans;
+pub mod steps;
 mod usage;
 
 pub use allocator::GpuAllocator;
@@ -20,8 +22,8 @@ pub use block::{Mapping, MemoryBlock};
 pub use config::Config;
 pub use error::{AllocationError, MapError};
 pub use gpu_alloc_types::{
-    AllocationFlags, DeviceMapError, DeviceProperties, MemoryDevice, MemoryHeap, MemoryObject,
-    MemoryPropertyFlags, MemoryType, OutOfMemory, UsageFlags,
+    AllocationFlags, DeviceMapError, DeviceProperties, FreeRange, MemoryDevice, MemoryHeap,
+    MemoryObject, MemoryPropertyFlags, MemoryType, OutOfMemory, UsageFlags,
 };
 pub use request::{Dedicated, Request};
 pub use usage::MemoryForUsage;

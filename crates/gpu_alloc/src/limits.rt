@@ -3,6 +3,7 @@
 ghost use Rattle.std.specs.Prelude.{◌≡◌, ◌<◌, length, cond, slice_get};
 ghost use Rattle.gpu_alloc_types.specs.Flags.{allocation_bits, property_bits, usage_bits};
 ghost use Rattle.gpu_alloc_types.specs.Properties.{heap_of, bits_of};
+ghost use Rattle.gpu_alloc.specs.Sizes.{atom_where};
 ghost use Rattle.gpu_alloc.specs.Ranked.{ranked_types};
 ghost use Rattle.gpu_alloc.specs.Ranking.{candidates, IsTable};
 
@@ -58,5 +59,27 @@ impl<A: Allocator> Limits<A> {
         } else {
             AllocationFlags::empty()
         }
+    }
+
+    /// The atom of a memory type, in bytes.
+    pub(crate) fn atom(&self, memory_type: u32) -> u64
+        requires { memory_type < length self.now.memory_types.items }
+        ensures { result ≡ atom_where self.now.non_coherent_atom_size (bits_of (slice_get self.now.memory_types.items memory_type)) }
+    {
+        atom_of(self.props(memory_type), self.non_coherent_atom_size)
+    }
+}
+
+/// The atom of a memory type with these properties, in bytes: of the device where what the host writes has to be flushed,
+/// and else one byte.
+pub(crate) fn atom_of(props: MemoryPropertyFlags, non_coherent_atom_size: u64) -> u64
+    ensures { result ≡ atom_where non_coherent_atom_size (property_bits props) }
+{
+    let by_host = props.contains(MemoryPropertyFlags::HOST_VISIBLE);
+    let coherent = props.contains(MemoryPropertyFlags::HOST_COHERENT);
+    if by_host && !coherent {
+        non_coherent_atom_size
+    } else {
+        1
     }
 }

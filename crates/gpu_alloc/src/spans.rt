@@ -26,10 +26,10 @@ pub struct LiveSpan {
     /// The span's size, in bytes.
     pub size: u64,
 
-    /// The block's chunk among those of its allocator, or 0 where the block is an object of its own.
+    /// The block's chunk among those of its buddy allocator, or 0 where the block is none of a buddy allocator.
     pub chunk: usize,
 
-    /// The block's place in its allocator's own store, or 0 where the block is an object of its own.
+    /// The block's place in its buddy allocator's own store, or 0 where the block is none of a buddy allocator.
     pub index: usize,
 }
 
@@ -262,5 +262,15 @@ impl<A: Allocator> Spans<A> {
             }
             None => unreachable!(),
         }
+    }
+
+    /// Takes an object off those that are held, where it is one. Spans stay as they are. It takes no memory and cannot fail.
+    pub(crate) fn let_go(&mut self, object: u64)
+        ensures held { self.new.held ≡ map.remove self.old.held object }
+        ensures live { self.new.live ≡ self.old.live }
+        ensures places { self.new.places ≡ self.old.places }
+        ensures room { self.old.room ≤ self.new.room }
+    {
+        let _ = let_go(&mut self.objects, object, true);
     }
 }

@@ -17,13 +17,13 @@ asked_span g c =
     λ k. record { object = name k; offset = c.offset-offset.ensures k; size = c.size-size.ensures k }
 
 given : (g : Over) (c : goal.After-dealloc-arg-2-1 g)
-    → Given c.self.inside.limits c.self.inside.heaps.items c.self.inside.buddies.items c.self.inside.spans c.self.inside.allocations_remains c.memory_type-memory_type.result c.heap_index-heap.result
+    → Given c.self.inside.limits c.self.inside.heaps.items c.self.inside.buddies.items c.self.inside.free_lists.items c.self.inside.spans c.self.inside.allocations_remains c.memory_type-memory_type.result c.heap_index-heap.result
     c.index_mut.result.now c.index_mut-2.result.now c.new.result c.args.block
 given g c =
     let owned = rw (← c.self.view_is) at c.requires.owned in
     let span = subst (λ o. IfSome o (λ (row : LiveSpan). span_in row ≡ span_at c.object-object.result c.offset-offset.result c.size-size.result)) c.unwrap-span.ensures c.find.ensures.span in
     let place = sym (ap (option_map place_in) c.unwrap-span.ensures) ∙ c.find.ensures.place ∙ ap (finite.get c.self.inside.spans.places) (asked_span g c) in
-    given_back _ _ _ _ _ _ _ _ _ _ c.args.block c.unwrap-span.result c.self.invariant owned c.requires.shared c.memory_type-memory_type.ensures c.index_mut.ensures.value
+    given_back _ _ _ _ _ _ _ _ _ _ _ c.args.block c.unwrap-span.result c.self.invariant owned c.requires.shared c.memory_type-memory_type.ensures c.index_mut.ensures.value
     c.heap_index-heap.ensures c.index_mut-2.ensures.value (span ∙ asked_span g c) place (c.new.ensures ∙ c.leaf_in.ensures)
 
 pub dealloc-requires-clause-live : goal.dealloc-requires-clause-live
@@ -43,13 +43,13 @@ removed_span g c =
     λ k. record { object = name k; offset = c.offset-offset.ensures k; size = c.size-size.ensures k }
 
 given_after : (g : Over) (c : goal.After-remove g)
-    → Given c.self.inside.limits c.self.inside.heaps.items c.self.inside.buddies.items c.self.inside.spans c.self.inside.allocations_remains c.memory_type-memory_type.result c.heap_index-heap.result
+    → Given c.self.inside.limits c.self.inside.heaps.items c.self.inside.buddies.items c.self.inside.free_lists.items c.self.inside.spans c.self.inside.allocations_remains c.memory_type-memory_type.result c.heap_index-heap.result
     c.index_mut.result.now c.index_mut-2.result.now c.new.result c.args.block
 given_after g c =
     let owned = rw (← c.self.view_is) at c.requires.owned in
     let span = subst (λ o. IfSome o (λ (row : LiveSpan). span_in row ≡ span_at c.object-object.result c.offset-offset.result c.size-size.result)) c.unwrap-span.ensures c.find.ensures.span in
     let place = sym (ap (option_map place_in) c.unwrap-span.ensures) ∙ c.find.ensures.place ∙ ap (finite.get c.self.inside.spans.places) (removed_span g c) in
-    given_back _ _ _ _ _ _ _ _ _ _ c.args.block c.unwrap-span.result c.self.invariant owned c.requires.shared c.memory_type-memory_type.ensures c.index_mut.ensures.value
+    given_back _ _ _ _ _ _ _ _ _ _ _ c.args.block c.unwrap-span.result c.self.invariant owned c.requires.shared c.memory_type-memory_type.ensures c.index_mut.ensures.value
     c.heap_index-heap.ensures c.index_mut-2.ensures.value (span ∙ removed_span g c) place (c.new.ensures ∙ c.leaf_in.ensures)
 
 returned_by : (g : Over) (c : goal.After-remove g) → IsReturned (given_after g c) (account c.dealloc.new.self c.dealloc.new.heap c.dealloc.new.allocations_remains) c.remove.new.self

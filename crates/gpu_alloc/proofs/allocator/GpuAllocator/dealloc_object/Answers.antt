@@ -35,31 +35,31 @@ invariant_of-self g c =
     let name = c.object.ensures ∙ c.into_memory-memory.ensures in
     let span : ◌≡◌ {A = Span} (span_at c.object.result c.offset-offset.result c.size-size.result) (span_of c.args.block) =
     λ k. record { object = name k; offset = c.offset-offset.ensures k; size = c.size-size.ensures k } in
-    let fewer = let_go c.self.inside.limits _ _ _ c.remove-removed.new.self _ c.args.block _ _ _ c.unwrap-object.result c.self.invariant.books owned c.requires.own name
+    let fewer = let_go c.self.inside.limits _ _ _ _ c.remove-removed.new.self _ c.args.block _ _ _ c.unwrap-object.result c.self.invariant.books owned c.requires.own name
     c.offset-offset.ensures c.size-size.ensures found c.remove-removed.ensures.held c.remove-removed.ensures.live in
     rw (properties_kept c.self.inside.limits c.self.inside.heaps.items c.heap_index-heap.result c.dealloc.new.self c.index_mut.result.now at (ap (λ (h : Heap). h.size) c.dealloc.ensures))
-    (consistent-gone _ _ _ _ c.self.inside.spans _ c.self.invariant refl c.remove-removed.new.self (held_of c.unwrap-object.result) (span_of c.args.block) fewer.0 fewer.1
+    (consistent-gone _ _ _ _ _ c.self.inside.spans _ c.self.invariant refl c.remove-removed.new.self (held_of c.unwrap-object.result) (span_of c.args.block) fewer.0 fewer.1
     (c.remove-removed.ensures.places ∙ ap (finite.remove c.self.inside.spans.places) span) c.index_mut.result.now _ _ c.heap_index-heap.ensures at (ap (λ (h : Heap). h.used) c.dealloc.ensures))
 
 -- What is known at the end: the state before, what the block was, and the state that is left.
 
 abbrev before : (g : Over) → goal.After-drop-memory g → State
-before g c = state_in c.self.inside.limits c.self.inside.heaps.items c.self.inside.buddies.items c.self.inside.spans c.self.inside.allocations_remains
+before g c = state_in c.self.inside.limits c.self.inside.heaps.items c.self.inside.buddies.items c.self.inside.free_lists.items c.self.inside.spans c.self.inside.allocations_remains
 
 owned : (g : Over) (c : goal.After-drop-memory g) → IsOwned (before g c) c.args.block
 owned g c = rw (← c.self.view_is) at c.requires.owned
 
 whole : (g : Over) (c : goal.After-drop-memory g) → (h : HeldObject) × IsWholeBlock c.self.inside.spans c.args.block h
-whole g c = owned_whole c.self.inside.limits _ c.self.inside.buddies.items _ _ c.args.block c.self.invariant.books (owned g c) c.requires.own
+whole g c = owned_whole c.self.inside.limits _ c.self.inside.buddies.items c.self.inside.free_lists.items _ _ c.args.block c.self.invariant.books (owned g c) c.requires.own
 
 left : (g : Over) (c : goal.After-drop-memory g)
-    → state_in c.self.inside.limits (set c.self.inside.heaps.items c.heap_index-heap.result c.dealloc.new.self) c.self.inside.buddies.items c.remove-removed.new.self (c.self.inside.allocations_remains + 1)
+    → state_in c.self.inside.limits (set c.self.inside.heaps.items c.heap_index-heap.result c.dealloc.new.self) c.self.inside.buddies.items c.self.inside.free_lists.items c.remove-removed.new.self (c.self.inside.allocations_remains + 1)
     ≡ returned (before g c) c.args.block
 left g c =
     let name = c.object.ensures ∙ c.into_memory-memory.ensures in
     let span : ◌≡◌ {A = Span} (span_at c.object.result c.offset-offset.result c.size-size.result) (span_of c.args.block) =
     λ k. record { object = name k; offset = c.offset-offset.ensures k; size = c.size-size.ensures k } in
-    state_returned c.self.inside.limits _ c.self.inside.buddies.items _ _ c.index_mut.result.now c.self.inside.spans c.remove-removed.new.self _ c.args.block c.index_mut.ensures.value (ap (λ (h : Heap). h.size) c.dealloc.ensures)
+    state_returned c.self.inside.limits _ c.self.inside.buddies.items c.self.inside.free_lists.items _ _ c.index_mut.result.now c.self.inside.spans c.remove-removed.new.self _ c.args.block c.index_mut.ensures.value (ap (λ (h : Heap). h.size) c.dealloc.ensures)
     (c.remove-removed.ensures.held ∙ ap (finite.remove c.self.inside.spans.held) name) (c.remove-removed.ensures.live ∙ ap (set_of.remove c.self.inside.spans.live) span)
 
 pub returns-clause-freed : goal.returns-clause-freed

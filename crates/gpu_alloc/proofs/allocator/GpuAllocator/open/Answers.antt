@@ -3,12 +3,13 @@ use Rattle.gpu_alloc_types.specs.Properties.{Properties, properties_of}
 use Rattle.gpu_alloc_types.specs.declared.types.MemoryType.{MemoryType}
 use Rattle.gpu_alloc.specs.declared.heap.Heap.{Heap}
 use Rattle.gpu_alloc.specs.Heap.{unused}
-use Rattle.gpu_alloc.specs.Inside.{offer_of, types_in, IsConsistent}
+use Rattle.gpu_alloc.specs.Inside.{offer_of, types_in, lists_in, IsConsistent}
 use Rattle.gpu_alloc.specs.Opening.{opened}
 use Rattle.gpu_alloc.specs.Ranking.{IsTable}
 use Rattle.gpu_alloc.specs.Sizes.{first_types}
+use Rattle.gpu_alloc.proofs.Closing.{first_chunkless}
 use Rattle.gpu_alloc.proofs.HeapLists.{unused-offers}
-use Rattle.gpu_alloc.proofs.Opened.{consistent-opened, first_types_kept}
+use Rattle.gpu_alloc.proofs.Opened.{consistent-opened, first_types_kept, first_lists_kept}
 use Rattle.gpu_alloc.proofs.allocator.GpuAllocator.open.Goals as goal
 
 -- the properties that the fields stand for are those that were given
@@ -20,18 +21,25 @@ properties_is p types heaps same_types same_heaps =
 pub invariant_of-result : goal.invariant_of-result
 invariant_of-result g c = record { ranked = subst (λ types. IsTable types c.new-memory_for_usage.result) (sym c.in_ok-memory_types.ensures.items) c.new-memory_for_usage.ensures }
 
+pub close_buddies-requires : goal.close_buddies-requires
+close_buddies-requires g c = first_chunkless c.args.config (properties_of c.args.props) _ c.in_ok-buddies.ensures.each
+
 pub invariant_of-result-2 : goal.invariant_of-result-2
 invariant_of-result-2 g c =
     let few : c.args.props.max_memory_allocation_count < 2 ^ 32 = omega arith in
     let given = properties_is (properties_of c.args.props) _ _ c.in_ok-memory_types.ensures.items c.in_ok-heaps.ensures in
-    subst (λ p. IsConsistent c.args.config p c.in_ok-heaps.heaps.items c.in_ok-buddies.buddies.items c.new.result c.args.props.max_memory_allocation_count) (sym given)
-    (consistent-opened _ c.new.ensures.held c.new.ensures.live c.args.config (properties_of c.args.props) _ _ _ c.requires few c.in_ok-heaps.ensures c.in_ok-buddies.ensures.count c.in_ok-buddies.ensures.each)
+    subst (λ p. IsConsistent c.args.config p c.in_ok-heaps.heaps.items c.in_ok-buddies.buddies.items c.in-Ok.free_lists.items c.new.result c.args.props.max_memory_allocation_count) (sym given)
+    (consistent-opened _ c.new.ensures.held c.new.ensures.live c.args.config (properties_of c.args.props) _ _ _ _ c.requires few c.in_ok-heaps.ensures c.in_ok-buddies.ensures.count c.in_ok-buddies.ensures.each c.in-Ok.ensures.count c.in-Ok.ensures.each)
 
 pub returns : goal.returns
 returns g c =
-    let given = properties_is (properties_of c.args.props) _ _ c.in_ok-memory_types.ensures.items c.in_ok-heaps.ensures in
-    let types = ap (λ p. types_in (first_types c.args.config p) c.in_ok-buddies.buddies.items) given ∙ first_types_kept c.args.config (properties_of c.args.props) _ c.in_ok-buddies.ensures.count c.in_ok-buddies.ensures.each in
-    λ k. record (opened c.args.config (properties_of c.args.props)) {
+    let p = properties_of c.args.props in
+    let given = properties_is p _ _ c.in_ok-memory_types.ensures.items c.in_ok-heaps.ensures in
+    let types =
+    ap (λ q. lists_in (types_in (first_types c.args.config q) c.in_ok-buddies.buddies.items) c.in-Ok.free_lists.items) given
+    ∙ ap (λ ts. lists_in ts c.in-Ok.free_lists.items) (first_types_kept c.args.config p _ c.in_ok-buddies.ensures.count c.in_ok-buddies.ensures.each)
+    ∙ first_lists_kept c.args.config p _ c.in-Ok.ensures.count c.in-Ok.ensures.each in
+    λ k. record (opened c.args.config p) {
       held = c.new.ensures.held k;
       live = c.new.ensures.live k;
       types = types k;

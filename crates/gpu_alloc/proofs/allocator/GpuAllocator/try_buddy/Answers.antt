@@ -25,7 +25,7 @@ use Rattle.gpu_alloc.proofs.allocator.GpuAllocator.try_buddy.Goals as goal
 pub returns-in-Some : goal.returns-in-Some
 returns-in-Some g c =
     let known = rw (← c.self.view_is) at c.requires.known in
-    let serving = serves c.self.inside.limits _ _ _ _ c.args.memory_type c.index.result.now c.self.invariant known c.index.ensures in
+    let serving = serves c.self.inside.limits _ _ _ _ _ c.args.memory_type c.index.result.now c.self.invariant known c.index.ensures in
     let first = rw c.in-Some.is at (c.refuses-first.ensures 0) in
     rw (c.passing.ensures, ← c.self.view_is) (record {
       tries = ([], refl, first_tries _ _ _ c.args.memory_type _ serving c.index-2.result.now c.args.request 0 c.in-Some.refusal first);
@@ -36,15 +36,15 @@ returns-in-Some g c =
     })
 
 pub invariant_of-self : goal.invariant_of-self
-invariant_of-self g c = consistent-room _ _ _ _ _ _ _ c.reserve.ensures.kept c.self.invariant
+invariant_of-self g c = consistent-room _ _ _ _ _ _ _ _ c.reserve.ensures.kept c.self.invariant
 
 pub returns-then-is_err-clause-tries : goal.returns-then-is_err-clause-tries
 returns-then-is_err-clause-tries g c =
     let known = rw (← c.self.view_is) at c.requires.known in
-    let serving = serves c.self.inside.limits _ _ _ _ c.args.memory_type c.index.result.now c.self.invariant known c.index.ensures in
+    let serving = serves c.self.inside.limits _ _ _ _ _ c.args.memory_type c.index.result.now c.self.invariant known c.index.ensures in
     let first = c.in_default.ensures 0 in
     let refused = first_open _ _ _ c.args.memory_type _ serving c.index-2.result.now c.args.request 0 first in
-    let same = ap (λ t. state_in c.self.inside.limits c.self.inside.heaps.items c.self.inside.buddies.items t c.self.inside.allocations_remains) c.reserve.ensures.kept in
+    let same = ap (λ t. state_in c.self.inside.limits c.self.inside.heaps.items c.self.inside.buddies.items c.self.inside.free_lists.items t c.self.inside.allocations_remains) c.reserve.ensures.kept in
     rw (← c.self.view_is) ([], refl, (same, refused.1))
 
 -- The call of the buddy allocator.
@@ -59,25 +59,25 @@ pub alloc-answer-requires-clause-agrees : goal.alloc-answer-requires-clause-agre
 alloc-answer-requires-clause-agrees g c =
     let known = rw (← c.self.view_is) at c.requires.known in
     let agrees = rw (← c.self.view_is) at c.requires.agrees in
-    let serving = serves c.self.inside.limits _ _ _ _ c.args.memory_type c.index_mut.result.now c.self.invariant known c.index_mut.ensures.value in
+    let serving = serves c.self.inside.limits _ _ _ _ _ c.args.memory_type c.index_mut.result.now c.self.invariant known c.index_mut.ensures.value in
     buddy_agrees _ _ _ c.args.memory_type _ serving _ _ known agrees
 
 pub alloc-answer-requires-clause-counted : goal.alloc-answer-requires-clause-counted
 alloc-answer-requires-clause-counted g c =
     let known = rw (← c.self.view_is) at c.requires.known in
-    counted_before c.self.inside.limits _ _ _ _ c.args.memory_type _ c.self.invariant known c.index_mut.ensures.value _ c.index_mut-2.result.now c.heap_index-heap.ensures c.index_mut-2.ensures.value
+    counted_before c.self.inside.limits _ _ _ _ _ c.args.memory_type _ c.self.invariant known c.index_mut.ensures.value _ c.index_mut-2.result.now c.heap_index-heap.ensures c.index_mut-2.ensures.value
 
 pub alloc-answer-requires-clause-bound : goal.alloc-answer-requires-clause-bound
 alloc-answer-requires-clause-bound g c =
     let known = rw (← c.self.view_is) at c.requires.known in
-    bounded_before c.self.inside.limits _ _ _ _ c.args.memory_type _ c.self.invariant known c.index_mut.ensures.value _ c.index_mut-2.result.now c.heap_index-heap.ensures c.index_mut-2.ensures.value
+    bounded_before c.self.inside.limits _ _ _ _ _ c.args.memory_type _ c.self.invariant known c.index_mut.ensures.value _ c.index_mut-2.result.now c.heap_index-heap.ensures c.index_mut-2.ensures.value
 
 -- A grant.
 
 pub add_leaf-key-requires-clause-free : goal.add_leaf-key-requires-clause-free
 add_leaf-key-requires-clause-free g c =
     let told = c.in-Ok.ensures.allocates in
-    let given : Given c.self.inside.limits c.self.inside.heaps.items c.self.inside.buddies.items c.self.inside.spans c.self.inside.allocations_remains c.args.memory_type c.heap_index-heap.result
+    let given : Given c.self.inside.limits c.self.inside.heaps.items c.self.inside.buddies.items c.self.inside.free_lists.items c.self.inside.spans c.self.inside.allocations_remains c.args.memory_type c.heap_index-heap.result
     c.index_mut.result.now c.index_mut-2.result.now c.args.request (allocation_bits c.flags-flags.result) c.in-Ok.block (g.D.MemoryDevice.properties c.args.device.now) (g.D.MemoryDevice.objects c.args.device.now) =
     record {
       is = c.self.invariant;
@@ -93,7 +93,7 @@ add_leaf-key-requires-clause-free g c =
     ∙ span_is_free given _ _ told.0 _ told.2 c.in-Ok.ensures.objects c.in-Ok.ensures.granted
 
 given : (g : Over) (c : goal.After-new g)
-    → Given c.self.inside.limits c.self.inside.heaps.items c.self.inside.buddies.items c.self.inside.spans c.self.inside.allocations_remains c.args.memory_type c.heap_index-heap.result
+    → Given c.self.inside.limits c.self.inside.heaps.items c.self.inside.buddies.items c.self.inside.free_lists.items c.self.inside.spans c.self.inside.allocations_remains c.args.memory_type c.heap_index-heap.result
     c.index_mut.result.now c.index_mut-2.result.now c.args.request (allocation_bits c.flags-flags.result) c.in-Ok.block (g.D.MemoryDevice.properties c.args.device.now) (g.D.MemoryDevice.objects c.args.device.now)
 given g c = record {
   is = c.self.invariant;
@@ -134,7 +134,7 @@ places_are g c =
     ∙ ap (λ leaf. finite.insert c.self.inside.spans.places (span_of_leaf leaf) (place_of_leaf leaf)) c.into_parts-memory.ensures.leaf
 
 abbrev before : (g : Over) → goal.After-new g → State
-before g c = state_in c.self.inside.limits c.self.inside.heaps.items c.self.inside.buddies.items c.self.inside.spans c.self.inside.allocations_remains
+before g c = state_in c.self.inside.limits c.self.inside.heaps.items c.self.inside.buddies.items c.self.inside.free_lists.items c.self.inside.spans c.self.inside.allocations_remains
 
 abbrev block : (g : Over) → goal.After-new g → Block
 block g c = buddy_block (before g c) c.args.memory_type (span_of_leaf c.in-Ok.block)
@@ -146,11 +146,11 @@ block_is g c =
     c.new.ensures ∙ (λ k. record (block g c) { object = object k; offset = (leaf k).offset; size = (leaf k).size; props = c.props-props.ensures k })
 
 serves_now : (g : Over) (c : goal.After-new g) → Serves (before g c) c.self.inside.spans.places c.self.inside.spans.room c.args.memory_type c.index_mut.result.now
-serves_now g c = serves c.self.inside.limits _ _ _ _ c.args.memory_type c.index_mut.result.now c.self.invariant (given g c).known c.index_mut.ensures.value
+serves_now g c = serves c.self.inside.limits _ _ _ _ _ c.args.memory_type c.index_mut.result.now c.self.invariant (given g c).known c.index_mut.ensures.value
 
 abbrev after : (g : Over) → goal.After-new g → State
 after g c =
-    state_in c.self.inside.limits (set c.self.inside.heaps.items c.heap_index-heap.result c.alloc-answer.new.heap) (set c.self.inside.buddies.items c.args.memory_type c.alloc-answer.new.self)
+    state_in c.self.inside.limits (set c.self.inside.heaps.items c.heap_index-heap.result c.alloc-answer.new.heap) (set c.self.inside.buddies.items c.args.memory_type c.alloc-answer.new.self) c.self.inside.free_lists.items
     c.add_leaf-key.new.spans c.alloc-answer.new.allocations_remains
 
 pub invariant_of-self-in-Ok : goal.invariant_of-self-in-Ok
@@ -197,17 +197,17 @@ pub invariant_of-self-in-Err : goal.invariant_of-self-in-Err
 invariant_of-self-in-Err g c =
     let known = rw (← c.self.view_is) at c.requires.known in
     let same = c.in-Err.ensures.refused in
-    consistent_refused c.self.inside.limits _ _ _ _ c.args.memory_type c.index_mut.result.now c.self.invariant known c.index_mut.ensures.value c.heap_index-heap.result c.index_mut-2.result.now c.heap_index-heap.ensures
-    c.index_mut-2.ensures.value _ _ _ same.0 same.1.0 same.1.1 c.reserve.new.self (consistent-room _ _ _ _ _ _ _ c.reserve.ensures.kept c.self.invariant)
+    consistent_refused c.self.inside.limits _ _ _ _ _ c.args.memory_type c.index_mut.result.now c.self.invariant known c.index_mut.ensures.value c.heap_index-heap.result c.index_mut-2.result.now c.heap_index-heap.ensures
+    c.index_mut-2.ensures.value _ _ _ same.0 same.1.0 same.1.1 c.reserve.new.self (consistent-room _ _ _ _ _ _ _ _ c.reserve.ensures.kept c.self.invariant)
 
 pub returns-in-Err : goal.returns-in-Err
 returns-in-Err g c =
     let known = rw (← c.self.view_is) at c.requires.known in
     let agrees = rw (← c.self.view_is) at c.requires.agrees in
-    let serving = serves c.self.inside.limits _ _ _ _ c.args.memory_type c.index_mut.result.now c.self.invariant known c.index_mut.ensures.value in
+    let serving = serves c.self.inside.limits _ _ _ _ _ c.args.memory_type c.index_mut.result.now c.self.invariant known c.index_mut.ensures.value in
     let same = c.in-Err.ensures.refused in
     let told = c.in-Err.ensures.allocates in
-    let left = state_refused c.self.inside.limits _ _ _ _ c.args.memory_type c.index_mut.result.now c.self.invariant known c.index_mut.ensures.value c.heap_index-heap.result c.index_mut-2.result.now c.heap_index-heap.ensures
+    let left = state_refused c.self.inside.limits _ _ _ _ _ c.args.memory_type c.index_mut.result.now c.self.invariant known c.index_mut.ensures.value c.heap_index-heap.result c.index_mut-2.result.now c.heap_index-heap.ensures
     c.index_mut-2.ensures.value _ _ _ same.0 same.1.0 same.1.1 c.reserve.new.self (ap (λ (t : Table). t.held) c.reserve.ensures.kept) (ap (λ (t : Table). t.live) c.reserve.ensures.kept) in
     rw (c.passing-in-Err.ensures, ← c.self.view_is, left) (record {
       tries = (told.0, told.1, refused_tries _ _ _ c.args.memory_type _ serving c.index_mut-2.result.now c.args.request _ told.0 _ c.flags-flags.ensures c.in-Err.refusal told.2);

@@ -22,13 +22,13 @@ use Rattle.gpu_alloc.proofs.allocator.GpuAllocator.try_object.Goals as goal
 -- Room is made, and nothing else changes.
 
 pub invariant_of-self : goal.invariant_of-self
-invariant_of-self g c = consistent-room _ _ _ _ _ _ _ c.reserve.ensures.kept c.self.invariant
+invariant_of-self g c = consistent-room _ _ _ _ _ _ _ _ c.reserve.ensures.kept c.self.invariant
 
 pub invariant_of-self-in-Err-OutOfDeviceMemory : goal.invariant_of-self-in-Err-OutOfDeviceMemory
-invariant_of-self-in-Err-OutOfDeviceMemory g c = consistent-room _ _ _ _ _ _ _ c.reserve.ensures.kept c.self.invariant
+invariant_of-self-in-Err-OutOfDeviceMemory g c = consistent-room _ _ _ _ _ _ _ _ c.reserve.ensures.kept c.self.invariant
 
 pub invariant_of-self-in-Err-OutOfHostMemory : goal.invariant_of-self-in-Err-OutOfHostMemory
-invariant_of-self-in-Err-OutOfHostMemory g c = consistent-room _ _ _ _ _ _ _ c.reserve.ensures.kept c.self.invariant
+invariant_of-self-in-Err-OutOfHostMemory g c = consistent-room _ _ _ _ _ _ _ _ c.reserve.ensures.kept c.self.invariant
 
 pub index_mut-requires : goal.index_mut-requires
 index_mut-requires g c =
@@ -45,7 +45,7 @@ alloc-requires g c =
 -- What is known where the device granted an object: the state before, the new row and block, and what follows from the steps.
 
 abbrev before : (g : Over) → goal.After-new g → State
-before g c = state_in c.self.inside.limits c.self.inside.heaps.items c.self.inside.buddies.items c.self.inside.spans c.self.inside.allocations_remains
+before g c = state_in c.self.inside.limits c.self.inside.heaps.items c.self.inside.buddies.items c.self.inside.free_lists.items c.self.inside.spans c.self.inside.allocations_remains
 
 abbrev object : (g : Over) → goal.After-new g → HeldObject
 object g c = own_object c.args.request.size c.args.memory_type
@@ -71,10 +71,10 @@ more g c =
     }
 
 state_is : (g : Over) (c : goal.After-new g)
-    → state_in c.self.inside.limits (set c.self.inside.heaps.items c.heap_index-heap.result c.alloc.new.self) c.self.inside.buddies.items c.insert-key.new.self (c.self.inside.allocations_remains - 1)
+    → state_in c.self.inside.limits (set c.self.inside.heaps.items c.heap_index-heap.result c.alloc.new.self) c.self.inside.buddies.items c.self.inside.free_lists.items c.insert-key.new.self (c.self.inside.allocations_remains - 1)
     ≡ holding (before g c) (own_object c.args.request.size c.args.memory_type) (block g c)
 state_is g c =
-    state_held c.self.inside.limits _ c.self.inside.buddies.items _ _ c.index_mut.result.now c.self.inside.spans c.insert-key.new.self _ _ _ _ c.index_mut.ensures.value (ap (λ (h : Heap). h.size) c.alloc.ensures)
+    state_held c.self.inside.limits _ c.self.inside.buddies.items c.self.inside.free_lists.items _ _ c.index_mut.result.now c.self.inside.spans c.insert-key.new.self _ _ _ _ c.index_mut.ensures.value (ap (λ (h : Heap). h.size) c.alloc.ensures)
     (more g c).held (more g c).live
 
 block_is : (g : Over) (c : goal.After-new g) → c.new.result ≡ block g c
@@ -83,7 +83,7 @@ block_is g c = c.new.ensures ∙ (λ k. record (block g c) { object = sym c.obje
 pub invariant_of-self-in-Ok : goal.invariant_of-self-in-Ok
 invariant_of-self-in-Ok g c =
     rw (properties_kept c.self.inside.limits c.self.inside.heaps.items c.heap_index-heap.result c.alloc.new.self c.index_mut.result.now c.index_mut.ensures.value (ap (λ (h : Heap). h.size) c.alloc.ensures))
-    (consistent-held _ _ _ _ c.self.inside.spans _ c.self.invariant refl c.insert-key.new.self (object g c) (whole_span c.object.result (object g c)) refl (more g c) _
+    (consistent-held _ _ _ _ _ c.self.inside.spans _ c.self.invariant refl c.insert-key.new.self (object g c) (whole_span c.object.result (object g c)) refl (more g c) _
     (c.insert-key.ensures.places ∙ ap (λ (t : Table). finite.insert t.places (whole_span c.object.result (object g c)) (record { chunk = 0; index = 0 })) c.reserve.ensures.kept) c.index_mut.result.now _ _ (omega arith)
     c.heap_index-heap.ensures c.index_mut.ensures.value (ap (λ (h : Heap). h.used) c.alloc.ensures))
 
@@ -116,7 +116,7 @@ returns-in-Ok-clause-total g c =
 
 pub returns-in-Err-OutOfHostMemory-clause-tries : goal.returns-in-Err-OutOfHostMemory-clause-tries
 returns-in-Err-OutOfHostMemory-clause-tries g c =
-    let same = ap (λ t. state_in c.self.inside.limits c.self.inside.heaps.items c.self.inside.buddies.items t c.self.inside.allocations_remains) c.reserve.ensures.kept in
+    let same = ap (λ t. state_in c.self.inside.limits c.self.inside.heaps.items c.self.inside.buddies.items c.self.inside.free_lists.items t c.self.inside.allocations_remains) c.reserve.ensures.kept in
     rw (← c.self.view_is) (
       Allocated c.args.request.size c.args.memory_type (flags_of (properties_in c.self.inside.limits c.self.inside.heaps.items)) (Err c.in-Err-OutOfHostMemory.field-0) ∷ [],
       (c.allocate_memory-answer.new.self, rw (← c.flags-flags.ensures) (rw c.in-Err-OutOfHostMemory.is at c.allocate_memory-answer.ensures), refl),

@@ -1,0 +1,43 @@
+-- The atom of a memory type, by its properties.
+use Rattle.std.proofs.Common.{◌≡◌, ℕ, ◌+◌, ◌-◌, ◌*◌, ◌^◌, ◌<◌, Bool, true, false, cond, not, ◌&&◌, ◌==◌, IsTrue, sym, ◌∙◌, ap, subst, arith, inl, inr}
+use Rattle.std.proofs.lemmas.Bool.{cases_eq}
+use Rattle.std.proofs.lemmas.Bool.Decides.{nat_tests}
+use Rattle.std.proofs.lemmas.Nat.{pow_pos}
+use Rattle.std.proofs.lemmas.Nat.Bits.{and_pow}
+use Rattle.std.specs.Int.{bit_at, is_power_of_two}
+use Rattle.std.specs.Int.Bits.{bit_and}
+use Rattle.gpu_alloc_types.specs.Flags.{has_bit, has_all_bits}
+use Rattle.gpu_alloc.specs.Sizes.{atom_where}
+use Rattle.gpu_alloc.proofs.PowersOfTwo.{bit_of_power, power_of_bit}
+
+-- a mask of one bit
+pub one_bit-all : (bits k : ℕ) → has_all_bits bits (2 ^ k) ≡ has_bit bits (2 ^ k)
+one_bit-all bits k =
+    let masked = and_pow bits k in
+    let some : 0 < 2 ^ k = pow_pos k in
+    elim (cases_eq (bit_at bits k) 0) [
+      | inl none ↦
+          let nothing : bit_and bits (2 ^ k) ≡ 0 = masked ∙ ap (λ b. b * 2 ^ k) none ∙ omega arith in
+          let all : (bit_and bits (2 ^ k) == 2 ^ k) ≡ false = grind (arith, nat_tests) in
+          let any : (bit_and bits (2 ^ k) == 0) ≡ true = grind (arith, nat_tests) in
+          all ∙ ap not (sym any)
+      | inr is ↦
+          let one : bit_at bits k ≡ 1 = omega (arith, is) in
+          let whole : bit_and bits (2 ^ k) ≡ 2 ^ k = masked ∙ ap (λ b. b * 2 ^ k) one ∙ omega arith in
+          let all : (bit_and bits (2 ^ k) == 2 ^ k) ≡ true = grind (arith, nat_tests) in
+          let any : (bit_and bits (2 ^ k) == 0) ≡ false = grind (arith, nat_tests) in
+          all ∙ ap not (sym any)
+    ]
+
+-- the atom by two tests of the properties
+pub atom_by_tests : (bits size atom : ℕ) (seen coherent : Bool) → seen ≡ has_all_bits bits 2 → coherent ≡ has_all_bits bits 4 → atom ≡ cond (seen && not coherent) size 1 → atom ≡ atom_where size bits
+atom_by_tests bits size atom seen coherent see flush is =
+    is ∙ (λ k. cond ((see ∙ one_bit-all bits 1) k && not ((flush ∙ one_bit-all bits 2) k)) size 1)
+
+-- an atom is a power of two
+pub atom_power : (size atom : ℕ) (b : Bool) → IsTrue (is_power_of_two size) → atom ≡ cond b size 1 → IsTrue (is_power_of_two atom)
+atom_power size atom true power is = subst (λ n. IsTrue (is_power_of_two n)) (sym is) power
+atom_power size atom false power is = subst (λ n. IsTrue (is_power_of_two n)) (sym is) (bit_of_power 0)
+
+pub one_more : (n : ℕ) → IsTrue (is_power_of_two n) → n - 1 + 1 ≡ n
+one_more n power = let k = power_of_bit n power in omega (arith, k.1, pow_pos k.0)

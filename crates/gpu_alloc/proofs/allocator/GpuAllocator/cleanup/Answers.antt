@@ -1,0 +1,24 @@
+use Rattle.std.proofs.Common.{◌≡◌, length, ◌++◌, arith}
+use Rattle.gpu_alloc_types.specs.Chains.{chain_append}
+use Rattle.gpu_alloc.proofs.ListCleanups.{cleaning_goes_on, all_gone}
+use Rattle.gpu_alloc.proofs.allocator.GpuAllocator.cleanup.Goals as goal
+
+pub loop-memory_type-preserved : goal.loop-memory_type-preserved
+loop-memory_type-preserved g c =
+    let way = c.loop-memory_type.invariant in
+    let gives = c.give_back.ensures.gives in (
+      way.0 ++ gives.0,
+      way.1 ++ gives.1,
+      chain_append g.D.MemoryDevice.step way.1 gives.1 _ _ _ way.2 gives.2,
+      cleaning_goes_on _ _ _ _ _ _ _ _ c.loop-memory_type.memory_type way.0 gives.0 way.1 gives.1 way.3 gives.3 gives.4 gives.5 c.give_back.ensures.agrees c.give_back.ensures.total,
+    )
+
+pub returns-clause-ends : goal.returns-clause-ends
+returns-clause-ends g c unused =
+    let way = c.loop-memory_type.invariant in
+    let last : c.loop-memory_type.memory_type ≡ length c.self.inside.limits.memory_types.items =
+    omega (arith, c.loop-memory_type.auto.memory_type-end, c.loop-memory_type-test.false, c.len-count.ensures, c.self.inside.limits.memory_types.ok) in
+    let never = rw (← c.self.view_is) at unused in
+    let all = rw (← c.self.view_is) at way.3.all in
+    let lets = rw (← c.self.view_is) at way.3.lets in
+    all_gone c.self.inside.limits _ _ _ _ _ c.self.invariant never way.0 (rw (← last) all) _ _ lets

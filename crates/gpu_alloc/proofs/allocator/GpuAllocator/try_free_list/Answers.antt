@@ -1,0 +1,224 @@
+use Rattle.std.proofs.Common.{◌≡◌, ◌+◌, [], refl, ap, ◌∙◌, arith, length, vec_len}
+use Rattle.std.proofs.lemmas.Grind.{common_steps}
+use Rattle.std.proofs.Math.ListN.{set}
+use Rattle.std.specs.FinMap as finite
+use Rattle.std.specs.FinSet as set_of
+use Rattle.gpu_alloc_types.specs.Flags.{allocation_bits}
+use Rattle.gpu_alloc.specs.Inside.{state_in, with_chunk_of_slot, span_of_slot, no_place}
+use Rattle.gpu_alloc.specs.ListSharing.{list_block}
+use Rattle.gpu_alloc.specs.Spans.{Table}
+use Rattle.gpu_alloc.specs.State.{State, HeldObject, Block, total}
+use Rattle.gpu_alloc.specs.declared.block.Kind.TheVariants.{FreeListChunk}
+use Rattle.gpu_alloc.specs.declared.freelist.block.Slot.{Slot}
+use Rattle.gpu_alloc.proofs.Consistency.{heap_there}
+use Rattle.gpu_alloc.proofs.ListAnswers.{Given, slot_fits, slot_is_free, list_objects_served, list_served, gives_wanted}
+use Rattle.gpu_alloc.proofs.ListGrants.{fits_list, counted_before, bounded_before, consistent_refused, state_refused}
+use Rattle.gpu_alloc.proofs.ListRefusals.{first_tries, refused_tries}
+use Rattle.gpu_alloc.proofs.ListServed.{list_agrees}
+use Rattle.gpu_alloc.proofs.ListServing.{ServesList, first_open}
+use Rattle.gpu_alloc.proofs.OwnObjects.{consistent-room}
+use Rattle.gpu_alloc.proofs.SharedRefusals.{nothing_made, nothing_granted}
+use Rattle.gpu_alloc.proofs.allocator.GpuAllocator.try_free_list.Given.{Over}
+use Rattle.gpu_alloc.proofs.allocator.GpuAllocator.try_free_list.Goals as goal
+use Rattle.gpu_alloc.proofs.TypeLists.{serves_own}
+
+-- Before anything is asked.
+
+pub returns-in-Some : goal.returns-in-Some
+returns-in-Some g c =
+    let known = rw (← c.self.view_is) at c.requires.known in
+    let serving = serves_own c.self.inside.limits _ _ _ _ _ c.args.memory_type c.index.result.now c.self.invariant known c.index.ensures in
+    let first = rw c.in-Some.is at (c.refuses-first.ensures 0) in
+    rw (c.passing.ensures, ← c.self.view_is) (record {
+      tries = ([], refl, first_tries _ _ _ c.args.memory_type _ serving c.index-2.result.now c.args.request 0 c.in-Some.refusal first);
+      objects = nothing_made _ c.in-Some.refusal _ _ refl;
+      agrees = rw (← c.self.view_is) at c.requires.agrees;
+      granted = nothing_granted _ c.args.request c.in-Some.refusal _ refl;
+      total = refl;
+    })
+
+pub invariant_of-self : goal.invariant_of-self
+invariant_of-self g c = consistent-room _ _ _ _ _ _ _ _ c.reserve.ensures.kept c.self.invariant
+
+pub returns-then-is_err-clause-tries : goal.returns-then-is_err-clause-tries
+returns-then-is_err-clause-tries g c =
+    let known = rw (← c.self.view_is) at c.requires.known in
+    let serving = serves_own c.self.inside.limits _ _ _ _ _ c.args.memory_type c.index.result.now c.self.invariant known c.index.ensures in
+    let first = c.in_default.ensures 0 in
+    let refused = first_open _ _ _ c.args.memory_type _ serving c.index-2.result.now c.args.request 0 first in
+    let same = ap (λ t. state_in c.self.inside.limits c.self.inside.heaps.items c.self.inside.buddies.items c.self.inside.free_lists.items t c.self.inside.allocations_remains) c.reserve.ensures.kept in
+    rw (← c.self.view_is) ([], refl, (same, refused.1))
+
+-- The call of the free list.
+
+pub index_mut-requires-2 : goal.index_mut-requires-2
+index_mut-requires-2 g c =
+    let known = rw (← c.self.view_is) at c.requires.known in
+    let n : vec_len c.self.inside.heaps ≡ length c.self.inside.heaps.items = grind (arith, common_steps) in
+    omega (arith, n, c.heap_index-heap.ensures, heap_there _ _ _ _ c.self.invariant.books refl c.args.memory_type known)
+
+pub alloc-answer-requires-clause-fits : goal.alloc-answer-requires-clause-fits
+alloc-answer-requires-clause-fits g c =
+    let known = rw (← c.self.view_is) at c.requires.known in
+    let fits = rw (← c.self.view_is) at c.requires.fits in
+    fits_list c.self.inside.limits _ _ _ _ _ c.args.memory_type _ c.self.invariant known c.index_mut.ensures.value c.args.request fits
+
+pub alloc-answer-requires-clause-agrees : goal.alloc-answer-requires-clause-agrees
+alloc-answer-requires-clause-agrees g c =
+    let known = rw (← c.self.view_is) at c.requires.known in
+    let agrees = rw (← c.self.view_is) at c.requires.agrees in
+    let serving = serves_own c.self.inside.limits _ _ _ _ _ c.args.memory_type c.index_mut.result.now c.self.invariant known c.index_mut.ensures.value in
+    list_agrees _ _ _ c.args.memory_type _ serving _ _ known agrees
+
+pub alloc-answer-requires-clause-counted : goal.alloc-answer-requires-clause-counted
+alloc-answer-requires-clause-counted g c =
+    let known = rw (← c.self.view_is) at c.requires.known in
+    counted_before c.self.inside.limits _ _ _ _ _ c.args.memory_type _ c.self.invariant known c.index_mut.ensures.value _ c.index_mut-2.result.now c.heap_index-heap.ensures c.index_mut-2.ensures.value
+
+pub alloc-answer-requires-clause-bound : goal.alloc-answer-requires-clause-bound
+alloc-answer-requires-clause-bound g c =
+    let known = rw (← c.self.view_is) at c.requires.known in
+    bounded_before c.self.inside.limits _ _ _ _ _ c.args.memory_type _ c.self.invariant known c.index_mut.ensures.value _ c.index_mut-2.result.now c.heap_index-heap.ensures c.index_mut-2.ensures.value
+
+-- A grant.
+
+pub add_slot-key-requires-clause-free : goal.add_slot-key-requires-clause-free
+add_slot-key-requires-clause-free g c =
+    let told = c.in-Ok.ensures.allocates in
+    let given : Given c.self.inside.limits c.self.inside.heaps.items c.self.inside.buddies.items c.self.inside.free_lists.items c.self.inside.spans c.self.inside.allocations_remains c.args.memory_type c.heap_index-heap.result
+    c.index_mut.result.now c.index_mut-2.result.now c.args.request (allocation_bits c.flags-flags.result) c.in-Ok.block (g.D.MemoryDevice.properties c.args.device.now) (g.D.MemoryDevice.objects c.args.device.now) =
+    record {
+      is = c.self.invariant;
+      known = rw (← c.self.view_is) at c.requires.known;
+      at = c.index_mut.ensures.value;
+      here = c.heap_index-heap.ensures;
+      at_heap = c.index_mut-2.ensures.value;
+      flags_are = c.flags-flags.ensures;
+      agrees = rw (← c.self.view_is) at c.requires.agrees;
+      nonempty = c.requires.askable.nonempty;
+    } in
+    ap (λ (t : Table). set_of.contains t.live (span_of_slot c.into_parts-memory.result.1)) c.reserve.ensures.kept
+    ∙ ap (λ slot. set_of.contains c.self.inside.spans.live (span_of_slot slot)) c.into_parts-memory.ensures.slot
+    ∙ slot_is_free given _ _ _ told.0 _ told.2 c.in-Ok.ensures.objects c.in-Ok.ensures.granted
+
+pub add_slot-key-requires-clause-fits : goal.add_slot-key-requires-clause-fits
+add_slot-key-requires-clause-fits g c =
+    let fits = slot_fits _ _ _ c.in-Ok.block c.in-Ok.ensures.sound c.in-Ok.ensures.granted in
+    omega (arith, fits, ap (λ (x : Slot). x.offset + x.size) c.into_parts-memory.ensures.slot)
+
+given : (g : Over) (c : goal.After-new g)
+    → Given c.self.inside.limits c.self.inside.heaps.items c.self.inside.buddies.items c.self.inside.free_lists.items c.self.inside.spans c.self.inside.allocations_remains c.args.memory_type c.heap_index-heap.result
+    c.index_mut.result.now c.index_mut-2.result.now c.args.request (allocation_bits c.flags-flags.result) c.in-Ok.block (g.D.MemoryDevice.properties c.args.device.now) (g.D.MemoryDevice.objects c.args.device.now)
+given g c = record {
+  is = c.self.invariant;
+  known = rw (← c.self.view_is) at c.requires.known;
+  at = c.index_mut.ensures.value;
+  here = c.heap_index-heap.ensures;
+  at_heap = c.index_mut-2.ensures.value;
+  flags_are = c.flags-flags.ensures;
+  agrees = rw (← c.self.view_is) at c.requires.agrees;
+  nonempty = c.requires.askable.nonempty;
+}
+
+-- The table with the block's span, as `list_served` asks for it.
+
+abbrev row : (g : Over) → goal.After-new g → Slot → HeldObject
+row g c slot = record { memory_type = c.args.memory_type; counted = slot.offset + slot.size; kind = FreeListChunk slot.chunk }
+
+held_is : (g : Over) (c : goal.After-new g) → c.add_slot-key.new.spans.held ≡ with_chunk_of_slot c.self.inside.spans.held c.in-Ok.block (row g c c.in-Ok.block)
+held_is g c =
+    c.add_slot-key.ensures.held ∙ ap (λ (t : Table). with_chunk_of_slot t.held c.into_parts-memory.result.1 (row g c c.into_parts-memory.result.1)) c.reserve.ensures.kept
+    ∙ ap (λ slot. with_chunk_of_slot c.self.inside.spans.held slot (row g c slot)) c.into_parts-memory.ensures.slot
+
+live_is : (g : Over) (c : goal.After-new g) → c.add_slot-key.new.spans.live ≡ set_of.insert c.self.inside.spans.live (span_of_slot c.in-Ok.block)
+live_is g c =
+    c.add_slot-key.ensures.live ∙ ap (λ (t : Table). set_of.insert t.live (span_of_slot c.into_parts-memory.result.1)) c.reserve.ensures.kept
+    ∙ ap (λ slot. set_of.insert c.self.inside.spans.live (span_of_slot slot)) c.into_parts-memory.ensures.slot
+
+places_are : (g : Over) (c : goal.After-new g) → c.add_slot-key.new.spans.places ≡ finite.insert c.self.inside.spans.places (span_of_slot c.in-Ok.block) no_place
+places_are g c =
+    c.add_slot-key.ensures.places ∙ ap (λ (t : Table). finite.insert t.places (span_of_slot c.into_parts-memory.result.1) no_place) c.reserve.ensures.kept
+    ∙ ap (λ slot. finite.insert c.self.inside.spans.places (span_of_slot slot) no_place) c.into_parts-memory.ensures.slot
+
+abbrev before : (g : Over) → goal.After-new g → State
+before g c = state_in c.self.inside.limits c.self.inside.heaps.items c.self.inside.buddies.items c.self.inside.free_lists.items c.self.inside.spans c.self.inside.allocations_remains
+
+abbrev block : (g : Over) → goal.After-new g → Block
+block g c = list_block (before g c) c.args.memory_type c.in-Ok.block.chunk (span_of_slot c.in-Ok.block)
+
+block_is : (g : Over) (c : goal.After-new g) → c.new.result ≡ block g c
+block_is g c =
+    let slot = c.into_parts-memory.ensures.slot in
+    let object = c.into_parts-memory.ensures.handle in
+    c.new.ensures ∙ (λ k. record (block g c) { object = object k; offset = (slot k).offset; size = (slot k).size; props = c.props-props.ensures k; kind = FreeListChunk (slot k).chunk })
+
+serves_now : (g : Over) (c : goal.After-new g) → ServesList (before g c) c.self.inside.spans.places c.self.inside.spans.room c.args.memory_type c.index_mut.result.now
+serves_now g c = serves_own c.self.inside.limits _ _ _ _ _ c.args.memory_type c.index_mut.result.now c.self.invariant (given g c).known c.index_mut.ensures.value
+
+abbrev after : (g : Over) → goal.After-new g → State
+after g c =
+    state_in c.self.inside.limits (set c.self.inside.heaps.items c.heap_index-heap.result c.alloc-answer.new.heap) c.self.inside.buddies.items (set c.self.inside.free_lists.items c.args.memory_type c.alloc-answer.new.self)
+    c.add_slot-key.new.spans c.alloc-answer.new.allocations_remains
+
+pub invariant_of-self-in-Ok : goal.invariant_of-self-in-Ok
+invariant_of-self-in-Ok g c =
+    let is = list_served (given g c) _ _ _ c.in-Ok.ensures.allocates.0 _ c.in-Ok.ensures.allocates.2 c.in-Ok.ensures.objects c.in-Ok.ensures.granted
+    c.add_slot-key.new.spans c.in-Ok.ensures.sound (held_is g c) (live_is g c) (places_are g c) in
+    is.consistent
+
+pub returns-in-Ok-clause-tries : goal.returns-in-Ok-clause-tries
+returns-in-Ok-clause-tries g c =
+    let is = list_served (given g c) _ _ _ c.in-Ok.ensures.allocates.0 _ c.in-Ok.ensures.allocates.2 c.in-Ok.ensures.objects c.in-Ok.ensures.granted
+    c.add_slot-key.new.spans c.in-Ok.ensures.sound (held_is g c) (live_is g c) (places_are g c) in
+    let told = c.in-Ok.ensures.allocates in
+    let sized = gives_wanted _ _ _ c.args.memory_type _ (serves_now g c) c.args.request (allocation_bits c.flags-flags.result) told.0 c.in-Ok.block.chunk (span_of_slot c.in-Ok.block) (after g c) is.gives in
+    rw (← c.self.view_is, block_is g c) (told.0, told.1, (c.in-Ok.block.chunk, (refl, sized)))
+
+pub returns-in-Ok-clause-objects : goal.returns-in-Ok-clause-objects
+returns-in-Ok-clause-objects g c =
+    let told = c.in-Ok.ensures.allocates in
+    rw (← c.self.view_is, block_is g c) (list_objects_served (given g c) _ _ _ told.0 _ told.2 c.in-Ok.ensures.objects c.in-Ok.ensures.granted)
+
+pub returns-in-Ok-clause-agrees : goal.returns-in-Ok-clause-agrees
+returns-in-Ok-clause-agrees g c =
+    let is = list_served (given g c) _ _ _ c.in-Ok.ensures.allocates.0 _ c.in-Ok.ensures.allocates.2 c.in-Ok.ensures.objects c.in-Ok.ensures.granted
+    c.add_slot-key.new.spans c.in-Ok.ensures.sound (held_is g c) (live_is g c) (places_are g c) in
+    rw c.in-Ok.ensures.properties is.agreed
+
+pub returns-in-Ok-clause-granted : goal.returns-in-Ok-clause-granted
+returns-in-Ok-clause-granted g c =
+    let is = list_served (given g c) _ _ _ c.in-Ok.ensures.allocates.0 _ c.in-Ok.ensures.allocates.2 c.in-Ok.ensures.objects c.in-Ok.ensures.granted
+    c.add_slot-key.new.spans c.in-Ok.ensures.sound (held_is g c) (live_is g c) (places_are g c) in
+    rw (← c.self.view_is, block_is g c) is.told
+
+pub returns-in-Ok-clause-total : goal.returns-in-Ok-clause-total
+returns-in-Ok-clause-total g c =
+    let is = list_served (given g c) _ _ _ c.in-Ok.ensures.allocates.0 _ c.in-Ok.ensures.allocates.2 c.in-Ok.ensures.objects c.in-Ok.ensures.granted
+    c.add_slot-key.new.spans c.in-Ok.ensures.sound (held_is g c) (live_is g c) (places_are g c) in
+    rw (← c.self.view_is) is.whole
+
+-- A refusal.
+
+pub invariant_of-self-in-Err : goal.invariant_of-self-in-Err
+invariant_of-self-in-Err g c =
+    let known = rw (← c.self.view_is) at c.requires.known in
+    let same = c.in-Err.ensures.refused in
+    consistent_refused c.self.inside.limits _ _ _ _ _ c.args.memory_type c.index_mut.result.now c.self.invariant known c.index_mut.ensures.value c.heap_index-heap.result c.index_mut-2.result.now c.heap_index-heap.ensures
+    c.index_mut-2.ensures.value _ _ _ same.0 same.1.0 same.1.1 c.reserve.new.self (consistent-room _ _ _ _ _ _ _ _ c.reserve.ensures.kept c.self.invariant)
+
+pub returns-in-Err : goal.returns-in-Err
+returns-in-Err g c =
+    let known = rw (← c.self.view_is) at c.requires.known in
+    let agrees = rw (← c.self.view_is) at c.requires.agrees in
+    let serving = serves_own c.self.inside.limits _ _ _ _ _ c.args.memory_type c.index_mut.result.now c.self.invariant known c.index_mut.ensures.value in
+    let same = c.in-Err.ensures.refused in
+    let told = c.in-Err.ensures.allocates in
+    let left = state_refused c.self.inside.limits _ _ _ _ _ c.args.memory_type c.index_mut.result.now c.self.invariant known c.index_mut.ensures.value c.heap_index-heap.result c.index_mut-2.result.now c.heap_index-heap.ensures
+    c.index_mut-2.ensures.value _ _ _ same.0 same.1.0 same.1.1 c.reserve.new.self (ap (λ (t : Table). t.held) c.reserve.ensures.kept) (ap (λ (t : Table). t.live) c.reserve.ensures.kept) in
+    rw (c.passing-in-Err.ensures, ← c.self.view_is, left) (record {
+      tries = (told.0, told.1, refused_tries _ _ _ c.args.memory_type _ serving c.index_mut-2.result.now c.args.request _ told.0 _ c.flags-flags.ensures c.in-Err.refusal told.2);
+      objects = nothing_made _ c.in-Err.refusal _ _ c.in-Err.ensures.objects;
+      agrees = rw (c.in-Err.ensures.properties, c.in-Err.ensures.objects) agrees;
+      granted = nothing_granted _ c.args.request c.in-Err.refusal _ refl;
+      total = ap total left;
+    })

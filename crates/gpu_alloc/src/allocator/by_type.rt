@@ -1,0 +1,125 @@
+//! What each memory type has: a buddy allocator and a free list, opened and closed.
+
+ghost use Rattle.std.specs.Prelude.{◌≡◌, ◌<◌, length, All, IfOk};
+ghost use Rattle.std.specs.FinMap as map;
+ghost use Rattle.gpu_alloc_types.specs.Properties.{IsUsable, properties_of};
+ghost use Rattle.gpu_alloc.specs.BuddySound.{IsSound};
+ghost use Rattle.gpu_alloc.specs.FreeListSound.{IsSound as IsSoundListing};
+ghost use Rattle.gpu_alloc.specs.Opening.{first_buddy, AreFirstBuddies, first_listing, AreFirstListings};
+
+use crate::Config;
+use crate::buddy::BuddyAllocator;
+use crate::freelist::FreeListAllocator;
+use crate::limits::atom_of;
+use gpu_alloc_types::{DeviceProperties, MemoryObject};
+use std::alloc::{AllocError, Allocator};
+
+/// A buddy allocator for each memory type, with no chunk.
+pub(super) fn empty_buddies<M: MemoryObject, A: Allocator + Copy>(
+    alloc: A,
+    config: Config,
+    props: &DeviceProperties<'_>,
+) -> Result<Vec<BuddyAllocator<M, A>, A>, AllocError>
+    requires { IsUsable (properties_of props.now) }
+    ensures count { IfOk result (λ buddies. length buddies.items ≡ length (properties_of props.now).memory_types) }
+    ensures each { IfOk result (λ buddies. AreFirstBuddies config (properties_of props.now) buddies.items) }
+{
+    let count = props.memory_types.len();
+    let mut buddies = Vec::with_capacity(alloc, count)?;
+    for memory_type in 0..count {
+        buddies.push_reserved(empty_buddy(alloc, config, props, memory_type));
+    }
+    Ok(buddies)
+}
+
+/// A memory type's buddy allocator, with no chunk.
+fn empty_buddy<M: MemoryObject, A: Allocator + Copy>(
+    alloc: A,
+    config: Config,
+    props: &DeviceProperties<'_>,
+    memory_type: usize,
+) -> BuddyAllocator<M, A>
+    requires usable { IsUsable (properties_of props.now) }
+    requires known { memory_type < length (properties_of props.now).memory_types }
+    ensures first { result ≡ first_buddy config (properties_of props.now) memory_type }
+    ensures sound { IsSound result }
+{
+    let own = props.memory_types[memory_type];
+    let heap = props.memory_heaps[own.heap as usize].size;
+    let atom = atom_of(own.props, props.non_coherent_atom_size);
+    BuddyAllocator::empty(
+        alloc,
+        config.minimal_size(heap),
+        config.initial_size(heap),
+        memory_type as u32,
+        own.props,
+        atom - 1,
+    )
+}
+
+/// Ends buddy allocators that hold no chunk.
+pub(super) fn close_buddies<M: MemoryObject, A: Allocator>(
+    mut buddies: Vec<BuddyAllocator<M, A>, A>,
+)
+    requires { All (λ b. map.len b.chunks ≡ 0) buddies.items }
+{
+    while let Some(buddy) = buddies.pop() {
+        buddy.close();
+    }
+    buddies.destroy_empty();
+}
+
+/// A free list for each memory type, with no chunk.
+pub(super) fn empty_free_lists<M: MemoryObject, A: Allocator + Copy>(
+    alloc: A,
+    config: Config,
+    props: &DeviceProperties<'_>,
+) -> Result<Vec<FreeListAllocator<M, A>, A>, AllocError>
+    requires { IsUsable (properties_of props.now) }
+    ensures count { IfOk result (λ lists. length lists.items ≡ length (properties_of props.now).memory_types) }
+    ensures each { IfOk result (λ lists. AreFirstListings config (properties_of props.now) lists.items) }
+{
+    let count = props.memory_types.len();
+    let mut lists = Vec::with_capacity(alloc, count)?;
+    for memory_type in 0..count {
+        lists.push_reserved(empty_free_list(alloc, config, props, memory_type));
+    }
+    Ok(lists)
+}
+
+/// A memory type's free list, with no chunk.
+fn empty_free_list<M: MemoryObject, A: Allocator + Copy>(
+    alloc: A,
+    config: Config,
+    props: &DeviceProperties<'_>,
+    memory_type: usize,
+) -> FreeListAllocator<M, A>
+    requires usable { IsUsable (properties_of props.now) }
+    requires known { memory_type < length (properties_of props.now).memory_types }
+    ensures first { result ≡ first_listing config (properties_of props.now) memory_type }
+    ensures sound { IsSoundListing result }
+{
+    let own = props.memory_types[memory_type];
+    let heap = props.memory_heaps[own.heap as usize].size;
+    let atom = atom_of(own.props, props.non_coherent_atom_size);
+    FreeListAllocator::new(
+        alloc,
+        config.starting_size(heap, atom),
+        config.final_size(heap, atom),
+        memory_type as u32,
+        own.props,
+        atom - 1,
+    )
+}
+
+/// Ends free lists that hold no chunk.
+pub(super) fn close_free_lists<M: MemoryObject, A: Allocator>(
+    mut lists: Vec<FreeListAllocator<M, A>, A>,
+)
+    requires { All (λ l. map.len (l.space).chunks ≡ 0) lists.items }
+{
+    while let Some(list) = lists.pop() {
+        list.close();
+    }
+    lists.destroy_empty();
+}
