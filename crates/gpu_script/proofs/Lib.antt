@@ -1,5 +1,7 @@
 mod EmptyMaps
 mod KeptHeaps
 mod LiveLeaves
+mod LiveSlots
 mod NumberedEntries
+mod OneChunk
 mod SimNames

@@ -1,12 +1,12 @@
 //! Tests of what no clause says: that calls succeed, and what a few of them answer in turn.
 
-ghost use Rattle.std.specs.Prelude.{◌≡◌, ◌<◌, IsTrue, length};
-ghost use Rattle.gpu_alloc_types.specs.Properties.{is_host_visible};
+ghost use Rattle.std.specs.Prelude.{◌<◌};
 ghost use Rattle.gpu_script.specs.Question.{CanRefuse};
 
 use super::*;
 use gpu_alloc_types::{MemoryHeap, MemoryPropertyFlags, MemoryType};
 use linked_list_allocator::LocalHeap;
+use std::marker::Model;
 use std::process::Abort;
 use std::test::Fail;
 
@@ -17,12 +17,21 @@ const TYPES: [MemoryType; 1] = [MemoryType {
 
 const HEAPS: [MemoryHeap; 1] = [MemoryHeap { size: 1 << 20 }];
 
-// A device with one memory type, which the host sees.
+// A device with one memory type, which the host sees. Contracts see nothing else of it.
 #[derive(Drop)]
 struct OneType {
     sim: Sim,
-    ghost one_type: { length sim.properties.memory_types ≡ 1 },
-    ghost visible: { IsTrue (is_host_visible sim.properties 0) },
+}
+
+impl Model for OneType {
+    ghost use Rattle.std.specs.Prelude.{◌≡◌, ℕ, IsTrue, length};
+    ghost use Rattle.gpu_alloc_types.specs.Properties.{is_host_visible};
+
+    ghost Value = { ℕ };
+
+    ghost view = { λ d. length (d.sim).properties.memory_types };
+
+    ghost invariant = { λ d. (length (d.sim).properties.memory_types ≡ 1) × IsTrue (is_host_visible (d.sim).properties 0) };
 }
 
 impl OneType {
@@ -54,19 +63,32 @@ impl OneType {
         Ok(device)
     }
 
+    // How many objects it holds.
+    fn objects(&self) -> usize {
+        self.sim.objects()
+    }
+
+    // How often a kind of question was asked.
+    fn asked(&self, kind: Question) -> u64 {
+        self.sim.asked(kind)
+    }
+
+    // The latest question to allocate.
+    fn last_allocation(&self) -> Option<(u64, u32, AllocationFlags)> {
+        self.sim.last_allocation()
+    }
+
     // The name of an object that is kept.
-    fn ask(&mut self, size: u64) -> Result<u64, OutOfMemory>
-        requires { 0 < size }
-    {
+    fn ask(&mut self, rt: &impl Abort, size: u64) -> Result<u64, OutOfMemory> {
+        assert!(rt; size > 0);
         let flags = AllocationFlags::from_bits_retain(0);
         let memory = self.sim.allocate_memory(size, 0, flags)?;
         Ok(memory.object())
     }
 
     // The name of an object that is given back.
-    fn ask_and_return(&mut self, size: u64) -> Result<u64, OutOfMemory>
-        requires { 0 < size }
-    {
+    fn ask_and_return(&mut self, rt: &impl Abort, size: u64) -> Result<u64, OutOfMemory> {
+        assert!(rt; size > 0);
         let flags = AllocationFlags::from_bits_retain(0);
         let memory = self.sim.allocate_memory(size, 0, flags)?;
         self.sim.deallocate_memory(&memory);
@@ -78,9 +100,8 @@ impl OneType {
         &mut self,
         rt: &impl Abort,
         size: u64,
-    ) -> Result<Result<(), DeviceMapError>, OutOfMemory>
-        requires { 0 < size }
-    {
+    ) -> Result<Result<(), DeviceMapError>, OutOfMemory> {
+        assert!(rt; size > 0);
         let flags = AllocationFlags::from_bits_retain(0);
         let memory = self.sim.allocate_memory(size, 0, flags)?;
         let answer = self.sim.map_memory(&memory, 0, size);
@@ -99,22 +120,27 @@ fn compare_answers(
     rows: &[(u64, Result<u64, OutOfMemory>, usize)],
 ) {
     for (size, answer, objects) in rows {
-        assert!(rt; *size > 0);
-        assert_eq!(rt; device.ask(*size), *answer);
-        assert_eq!(rt; device.sim.objects(), *objects);
+        assert_eq!(rt; device.ask(rt, *size), *answer);
+        assert_eq!(rt; device.objects(), *objects);
     }
+}
+
+// Compares the name of an object that is given back at once. None is held after it.
+fn compare_return(rt: &impl Abort, device: &mut OneType, name: u64) {
+    assert_eq!(rt; device.ask_and_return(rt, 8), Ok(name));
+    assert_eq!(rt; device.objects(), 0);
 }
 
 // Compares how often a device was asked to allocate and the latest question, and that no map was asked for.
 fn compare_questions(
     rt: &impl Abort,
-    sim: &Sim,
+    device: &OneType,
     count: u64,
     latest: Option<(u64, u32, AllocationFlags)>,
 ) {
-    assert_eq!(rt; sim.asked(Question::Allocate), count);
-    assert_eq!(rt; sim.last_allocation(), latest);
-    assert_eq!(rt; sim.asked(Question::Map), 0);
+    assert_eq!(rt; device.asked(Question::Allocate), count);
+    assert_eq!(rt; device.last_allocation(), latest);
+    assert_eq!(rt; device.asked(Question::Map), 0);
 }
 
 #[test]
@@ -135,23 +161,22 @@ fn a_refused_question_uses_no_name(rt: HostRuntime) -> Result<(), Fail> {
 #[test]
 fn a_name_is_given_once(rt: HostRuntime) -> Result<(), Fail> {
     let mut device = OneType::new(rt.alloc())?;
-    assert_eq!(rt; device.ask_and_return(8), Ok(1));
-    assert_eq!(rt; device.sim.objects(), 0);
-    assert_eq!(rt; device.ask(8), Ok(2));
+    compare_return(&rt, &mut device, 1);
+    compare_answers(&rt, &mut device, &[(8, Ok(2), 1)]);
     Ok(())
 }
 
 #[test]
 fn a_question_is_counted_and_told(rt: HostRuntime) -> Result<(), Fail> {
     let mut device = OneType::that_refuses(rt.alloc(), Question::Allocate, 2, Cause::Host)?;
-    compare_questions(&rt, &device.sim, 0, None);
+    compare_questions(&rt, &device, 0, None);
     compare_answers(
         &rt,
         &mut device,
         &[(8, Ok(1), 1), (16, Err(OutOfMemory::OutOfHostMemory), 1)],
     );
     let flags = AllocationFlags::from_bits_retain(0);
-    compare_questions(&rt, &device.sim, 2, Some((16, 0, flags)));
+    compare_questions(&rt, &device, 2, Some((16, 0, flags)));
     Ok(())
 }
 
@@ -162,27 +187,37 @@ fn a_plan_for_a_map_refuses_no_allocation(rt: HostRuntime) -> Result<(), Fail> {
     Ok(())
 }
 
+// Maps a whole new object where the nth map is refused, and compares the answer and how often the device was asked.
+fn compare_map(
+    rt: &impl Abort,
+    alloc: Global,
+    nth: u64,
+    cause: Cause,
+    answer: Result<(), DeviceMapError>,
+    maps: u64,
+) -> Result<(), AllocError> {
+    let mut device = OneType::that_refuses(alloc, Question::Map, nth, cause)?;
+    assert_eq!(rt; device.map_new(rt, 8), Ok(answer), "{cause:?}");
+    assert_eq!(rt; device.asked(Question::Map), maps, "{cause:?}");
+    assert_eq!(rt; device.asked(Question::Allocate), 1, "{cause:?}");
+    Ok(())
+}
+
 #[test]
 fn a_refused_map_is_counted_and_maps_nothing(rt: HostRuntime) -> Result<(), Fail> {
-    let rows = [
+    for (cause, error) in [
         (Cause::Device, DeviceMapError::OutOfDeviceMemory),
         (Cause::Host, DeviceMapError::OutOfHostMemory),
         (Cause::Failed, DeviceMapError::MapFailed),
-    ];
-    for (cause, error) in rows {
-        let mut device = OneType::that_refuses(rt.alloc(), Question::Map, 1, cause)?;
-        assert_eq!(rt; device.map_new(&rt, 8), Ok(Err(error)));
-        assert_eq!(rt; device.sim.asked(Question::Map), 2);
+    ] {
+        compare_map(&rt, rt.alloc(), 1, cause, Err(error), 2)?;
     }
     Ok(())
 }
 
 #[test]
 fn a_granted_map_is_counted(rt: HostRuntime) -> Result<(), Fail> {
-    let mut device = OneType::that_refuses(rt.alloc(), Question::Map, 2, Cause::Failed)?;
-    assert_eq!(rt; device.map_new(&rt, 8), Ok(Ok(())));
-    assert_eq!(rt; device.sim.asked(Question::Map), 1);
-    assert_eq!(rt; device.sim.asked(Question::Allocate), 1);
+    compare_map(&rt, rt.alloc(), 2, Cause::Failed, Ok(()), 1)?;
     Ok(())
 }
 

@@ -1,7 +1,7 @@
 //! An allocator over the simulated device, with the blocks that it gave out.
 
-ghost use Rattle.std.specs.Prelude.{◌≡◌, IfOk};
-ghost use Rattle.gpu_alloc_types.specs.Properties.{properties_of};
+ghost use Rattle.std.specs.Prelude.{◌≡◌, ◌<◌, length, vec_len};
+ghost use Rattle.gpu_alloc_types.specs.Properties.{IsUsable, properties_of};
 ghost use Rattle.gpu_script.specs.Question.{CanRefuse};
 
 use crate::sim::{Cause, Question, Sim, SimMemory};
@@ -10,7 +10,7 @@ use gpu_alloc::{
     MemoryBlock, MemoryHeap, MemoryPropertyFlags, MemoryType, Request, UsageFlags,
 };
 use gpu_alloc_types::MemoryObject;
-use std::alloc::{Allocator, Global};
+use std::alloc::{AllocError, Allocator, Global};
 use std::marker::Model;
 use std::process::Abort;
 use std::test::Fail;
@@ -132,38 +132,27 @@ impl<A: Allocator + Copy> Bench<A> {
         alloc: A,
         offered: DeviceProperties<'_>,
     ) -> Result<Self, Fail> {
-        let device = Sim::new(alloc, again(&offered))?;
-        Bench::over(rt, alloc, offered, device)
-    }
-
-    /// One over a device that refuses its first question of this kind.
-    pub(super) fn that_refuses(
-        rt: &impl Abort,
-        alloc: A,
-        offered: DeviceProperties<'_>,
-        kind: Question,
-        cause: Cause,
-    ) -> Result<Self, Fail>
-        requires { CanRefuse cause kind }
-    {
-        let mut device = Sim::new(alloc, again(&offered))?;
-        device.refuse(kind, 1, cause)?;
-        Bench::over(rt, alloc, offered, device)
-    }
-
-    fn over(
-        rt: &impl Abort,
-        alloc: A,
-        offered: DeviceProperties<'_>,
-        device: Sim<A>,
-    ) -> Result<Self, Fail>
-        requires { device.properties ≡ properties_of offered }
-    {
         assert!(rt; offered.is_usable());
         if offered.memory_heaps.is_empty() {
             panic!(rt; "no heap");
         }
+        let device = Sim::new(alloc, again(&offered))?;
         let blocks = Vec::with_capacity(alloc, 8)?;
+        Bench::over(alloc, offered, device, blocks)
+    }
+
+    /// One over a fresh device that offers this, with room for blocks.
+    fn over(
+        alloc: A,
+        offered: DeviceProperties<'_>,
+        device: Sim<A>,
+        blocks: Vec<MemoryBlock<SimMemory<A>>, A>,
+    ) -> Result<Self, Fail>
+        requires usable { IsUsable (properties_of offered) }
+        requires heap { 0 < length offered.memory_heaps.now }
+        requires same { device.properties ≡ properties_of offered }
+        requires empty { vec_len blocks ≡ 0 }
+    {
         match GpuAllocator::new(alloc, Config::i_am_potato(), offered) {
             Ok(allocator) => Ok(Bench {
                 allocator,
@@ -177,6 +166,29 @@ impl<A: Allocator + Copy> Bench<A> {
         }
     }
 
+    /// One over a device that refuses its first question of this kind.
+    pub(super) fn that_refuses(
+        rt: &impl Abort,
+        alloc: A,
+        offered: DeviceProperties<'_>,
+        kind: Question,
+        cause: Cause,
+    ) -> Result<Self, Fail>
+        requires { CanRefuse cause kind }
+    {
+        let mut bench = Bench::new(rt, alloc, offered)?;
+        let planned = bench.refuse(kind, cause);
+        assert_eq!(rt; planned, Ok(()));
+        Ok(bench)
+    }
+
+    /// Has the device refuse its first question of a kind.
+    fn refuse(&mut self, kind: Question, cause: Cause) -> Result<(), AllocError>
+        requires { CanRefuse cause kind }
+    {
+        self.device.refuse(kind, 1, cause)
+    }
+
     /// Asks for a block. Where it is granted it is kept, for which no memory is taken.
     pub(super) fn ask(
         &mut self,
@@ -185,7 +197,6 @@ impl<A: Allocator + Copy> Bench<A> {
         hint: Option<Dedicated>,
     ) -> Result<Place, AllocationError> {
         assert!(rt; request.is_askable(false));
-        assert!(rt; !request.usage.intersects(UsageFlags::TRANSIENT));
         assert!(rt; self.blocks.len() < self.blocks.capacity());
         let block = match hint {
             None => self.allocator.alloc(&mut self.device, request)?,
@@ -222,6 +233,11 @@ impl<A: Allocator + Copy> Bench<A> {
         }
     }
 
+    /// Gives back what free lists keep without a block.
+    pub(super) fn cleanup(&mut self) {
+        self.allocator.cleanup(&mut self.device);
+    }
+
     /// Gives back the latest block.
     fn give_latest_back(&mut self, rt: &impl Abort) {
         match self.blocks.pop() {
@@ -241,6 +257,39 @@ impl<A: Allocator + Copy> Bench<A> {
         }
     }
 
+    /// What the latest block tells of its memory type.
+    pub(super) fn latest_props(&self, rt: &impl Abort) -> MemoryPropertyFlags {
+        match self.blocks.last() {
+            Some(block) => block.props(),
+            None => panic!(rt; "no block"),
+        }
+    }
+
+    /// Swaps its latest block for the first one of another. That becomes the latest of either.
+    pub(super) fn swap_with_first_of(&mut self, rt: &impl Abort, other: &mut Bench<A>) {
+        assert!(rt; !other.blocks.is_empty());
+        let theirs = other.blocks.swap_remove(0);
+        match self.blocks.pop() {
+            Some(ours) => {
+                assert!(rt; other.blocks.len() < other.blocks.capacity());
+                other.blocks.push_reserved(ours);
+            }
+            None => panic!(rt; "no block"),
+        }
+        assert!(rt; self.blocks.len() < self.blocks.capacity());
+        self.blocks.push_reserved(theirs);
+    }
+
+    /// The limit that the device set to the size of an object.
+    pub(super) fn max_allocation_size(&self) -> u64 {
+        self.allocator.max_allocation_size()
+    }
+
+    /// How many objects the allocator says that it holds.
+    pub(super) fn held_objects(&self) -> u32 {
+        self.allocator.held_objects()
+    }
+
     pub(super) fn counts(&self) -> Counts {
         Counts {
             asked: self.device.asked(Question::Allocate),
@@ -255,19 +304,30 @@ impl<A: Allocator + Copy> Bench<A> {
         self.device.last_allocation()
     }
 
-    /// Gives all blocks back, and ends the allocator. Nothing is held then.
-    pub(super) fn end(mut self, rt: &impl Abort) {
+    /// Gives all blocks back, the latest first.
+    pub(super) fn give_all_back(&mut self, rt: &impl Abort) {
         for _ in 0..self.blocks.len() {
             self.give_latest_back(rt);
         }
+    }
+
+    /// Gives all blocks back and what free lists keep, and ends the allocator. Nothing is held then.
+    pub(super) fn end(mut self, rt: &impl Abort) {
+        self.give_all_back(rt);
+        self.cleanup();
         let Counts { objects, used, .. } = self.counts();
+        assert_eq!(rt; (objects, used), (0, 0));
+        self.close(rt);
+    }
+
+    /// Ends the allocator, which holds nothing.
+    fn close(self, rt: &impl Abort) {
         let Bench {
             allocator,
             device: _,
             blocks,
         } = self;
-        assert_eq!(rt; (objects, used), (0, 0));
-        assert_eq!(rt; allocator.held_objects(), 0);
+        assert!(rt; allocator.held_objects() == 0);
         assert!(rt; blocks.is_empty());
         blocks.destroy_empty();
         allocator.close();
@@ -290,7 +350,7 @@ pub(super) fn compare_grants<A: Allocator + Copy>(
 }
 
 /// Compares a refusal, and how often the device is asked for it. What is held stays as it was.
-pub(super) fn compare_refusal<A: Allocator + Copy>(
+fn compare_refusal<A: Allocator + Copy>(
     rt: &impl Abort,
     bench: &mut Bench<A>,
     request: Request,
@@ -305,4 +365,98 @@ pub(super) fn compare_refusal<A: Allocator + Copy>(
         ..before
     };
     assert_eq!(rt; bench.counts(), after, "{request:?}");
+}
+
+/// What is done with a bench, and what has to come of it.
+#[derive(Clone, Copy, Debug)]
+pub(super) enum Step {
+    /// A request is granted there.
+    Grant(Request, Option<Dedicated>, Place),
+
+    /// A request is refused, and the device is asked so often for it. What is held stays as it was.
+    Refuse(Request, Option<Dedicated>, AllocationError, u64),
+
+    /// The block in that object and at that offset is given back.
+    Return(u64, u64),
+
+    /// What free lists keep without a block is given back.
+    Cleanup,
+
+    /// The device was last asked for so many bytes of that memory type, with those flags.
+    Asked(u64, u32, AllocationFlags),
+
+    /// So many objects are held, so many more may be, and so many bytes are held of the first heap.
+    Held(usize, u32, u128),
+}
+
+/// So many bytes of the first memory type are granted there.
+pub(super) fn grant(size: u64, place: Place) -> Step {
+    Step::Grant(bytes(size), None, place)
+}
+
+/// The device was last asked for so many bytes of that memory type, without flags.
+pub(super) fn asked_for(size: u64, memory_type: u32) -> Step {
+    Step::Asked(size, memory_type, AllocationFlags::empty())
+}
+
+/// Takes one step, and compares what comes of it.
+fn take_step(rt: &impl Abort, bench: &mut Bench, step: Step) {
+    match step {
+        Step::Grant(request, hint, place) => {
+            assert_eq!(rt; bench.ask(rt, request, hint), Ok(place), "{step:?}");
+        }
+        Step::Refuse(request, hint, error, asked) => {
+            compare_refusal(rt, bench, request, hint, error, asked);
+        }
+        Step::Return(object, offset) => bench.give_back(rt, object, offset),
+        Step::Cleanup => bench.cleanup(),
+        Step::Asked(size, memory_type, flags) => {
+            let asked = bench.last_allocation();
+            assert_eq!(rt; asked, Some((size, memory_type, flags)), "{step:?}");
+        }
+        Step::Held(objects, remaining, used) => {
+            let counts = bench.counts();
+            assert_eq!(rt;
+                (counts.objects, counts.remaining, counts.used),
+                (objects, remaining, used),
+                "{step:?}"
+            );
+        }
+    }
+}
+
+/// Takes the steps in their order, and ends the bench.
+pub(super) fn play(rt: &impl Abort, mut bench: Bench, steps: &[Step]) {
+    for step in steps {
+        take_step(rt, &mut bench, *step);
+    }
+    bench.end(rt);
+}
+
+/// Takes the steps with a fresh bench over a device that offers this.
+pub(super) fn play_on(
+    rt: &impl Abort,
+    alloc: Global,
+    offered: DeviceProperties<'_>,
+    steps: &[Step],
+) -> Result<(), Fail> {
+    let bench = Bench::new(rt, alloc, offered)?;
+    play(rt, bench, steps);
+    Ok(())
+}
+
+/// Takes the steps with one whose device refuses its first question of a kind.
+pub(super) fn play_refused(
+    rt: &impl Abort,
+    alloc: Global,
+    offered: DeviceProperties<'_>,
+    kind: Question,
+    cause: Cause,
+    steps: &[Step],
+) -> Result<(), Fail>
+    requires { CanRefuse cause kind }
+{
+    let bench = Bench::that_refuses(rt, alloc, offered, kind, cause)?;
+    play(rt, bench, steps);
+    Ok(())
 }

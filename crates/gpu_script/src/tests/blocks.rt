@@ -1,8 +1,8 @@
 //! Where blocks lie: in chunks that they share, or in objects of their own.
 
 use super::bench::{
-    Bench, DEVICE_LOCAL, Place, TYPES, bytes, compare_grants, compare_refusal, offering, one_type,
-    place_in,
+    Bench, DEVICE_LOCAL, Place, Step, TYPES, asked_for, bytes, compare_grants, grant, offering,
+    one_type, place_in, play, play_on, play_refused,
 };
 use crate::sim::{Cause, Question};
 use gpu_alloc::{
@@ -51,48 +51,42 @@ fn open_with_three(rt: &impl Abort, alloc: Global) -> Result<Bench, Fail> {
     Ok(bench)
 }
 
-/// The size and the memory type of the chunk that was asked for last, without flags.
-fn asked_for(size: u64, memory_type: u32) -> Option<(u64, u32, AllocationFlags)> {
-    Some((size, memory_type, AllocationFlags::empty()))
-}
-
 /// The shortest piece that is long enough is taken, so that a chunk is used up before the next one is made.
 #[test]
 fn a_chunk_is_used_up_first(rt: HostRuntime) -> Result<(), Fail> {
-    let mut bench = open_with_three(&rt, rt.alloc())?;
-    assert_eq!(rt; bench.counts().used, 8192);
-    compare_grants(
+    let bench = open_with_three(&rt, rt.alloc())?;
+    play(
         &rt,
-        &mut bench,
+        bench,
         &[
-            (512, place_in(1, 512, 512)),
-            (1024, place_in(1, 1024, 1024)),
-            (2048, place_in(1, 2048, 2048)),
-            (4096, place_in(1, 4096, 4096)),
+            Step::Held(1, 4095, 8192),
+            grant(512, place_in(1, 512, 512)),
+            grant(1024, place_in(1, 1024, 1024)),
+            grant(2048, place_in(1, 2048, 2048)),
+            grant(4096, place_in(1, 4096, 4096)),
+            Step::Held(1, 4095, 8192),
+            grant(1, place_in(2, 0, 1)),
+            Step::Held(2, 4094, 16384),
         ],
     );
-    assert_eq!(rt; bench.counts().objects, 1);
-    compare_grants(&rt, &mut bench, &[(1, place_in(2, 0, 1))]);
-    assert_eq!(rt; bench.counts().used, 16384);
-    bench.end(&rt);
     Ok(())
 }
 
 /// Gives three blocks back in this order of their offsets, and compares when their chunk goes.
-fn compare_returns(rt: &impl Abort, mut bench: Bench, order: [u64; 3]) {
+fn compare_returns(rt: &impl Abort, bench: Bench, order: [u64; 3]) {
     let [first, second, third] = order;
-    for offset in [first, second] {
-        bench.give_back(rt, 1, offset);
-        assert_eq!(rt; bench.counts().objects, 1, "in {order:?}");
-    }
-    bench.give_back(rt, 1, third);
-    let counts = bench.counts();
-    assert_eq!(rt;
-        (counts.objects, counts.remaining, counts.used),
-        (0, 4096, 0),
-        "in {order:?}"
+    play(
+        rt,
+        bench,
+        &[
+            Step::Return(1, first),
+            Step::Held(1, 4095, 8192),
+            Step::Return(1, second),
+            Step::Held(1, 4095, 8192),
+            Step::Return(1, third),
+            Step::Held(0, 4096, 0),
+        ],
     );
-    bench.end(rt);
 }
 
 #[test]
@@ -113,11 +107,16 @@ fn a_chunk_goes_with_its_last_block(rt: HostRuntime) -> Result<(), Fail> {
 
 #[test]
 fn two_free_halves_are_joined(rt: HostRuntime) -> Result<(), Fail> {
-    let mut bench = open_with_three(&rt, rt.alloc())?;
-    bench.give_back(&rt, 1, 0);
-    bench.give_back(&rt, 1, 128);
-    compare_grants(&rt, &mut bench, &[(200, place_in(1, 0, 256))]);
-    bench.end(&rt);
+    let bench = open_with_three(&rt, rt.alloc())?;
+    play(
+        &rt,
+        bench,
+        &[
+            Step::Return(1, 0),
+            Step::Return(1, 128),
+            grant(200, place_in(1, 0, 256)),
+        ],
+    );
     Ok(())
 }
 
@@ -130,16 +129,15 @@ fn compare_first(
     size: u64,
     object_size: u64,
 ) -> Result<(), Fail> {
-    let mut bench = Bench::new(rt, alloc, one_type())?;
-    let answer = bench.ask(rt, request, hint);
-    assert_eq!(rt; answer, Ok(place_in(1, 0, size)), "{request:?}");
-    assert_eq!(rt;
-        bench.last_allocation(),
-        asked_for(object_size, 0),
-        "{request:?}"
-    );
-    bench.end(rt);
-    Ok(())
+    play_on(
+        rt,
+        alloc,
+        one_type(),
+        &[
+            Step::Grant(request, hint, place_in(1, 0, size)),
+            asked_for(object_size, 0),
+        ],
+    )
 }
 
 /// A block of exactly a threshold has an object of its own, one of a byte less shares a chunk.
@@ -171,11 +169,12 @@ fn a_usage_of_unnamed_bits_is_an_empty_one(rt: HostRuntime) -> Result<(), Fail> 
 #[test]
 fn blocks_of_a_tiny_heap_have_objects_of_their_own(rt: HostRuntime) -> Result<(), Fail> {
     let heaps = [MemoryHeap { size: 31 }];
-    let mut bench = Bench::new(&rt, rt.alloc(), offering(&TYPES, &heaps))?;
-    compare_grants(&rt, &mut bench, &[(31, place_in(1, 0, 31))]);
-    assert_eq!(rt; bench.last_allocation(), asked_for(31, 0));
-    bench.end(&rt);
-    Ok(())
+    play_on(
+        &rt,
+        rt.alloc(),
+        offering(&TYPES, &heaps),
+        &[grant(31, place_in(1, 0, 31)), asked_for(31, 0)],
+    )
 }
 
 #[test]
@@ -186,55 +185,55 @@ fn chunks_are_asked_for_with_the_address_flag_where_the_device_has_it(
         buffer_device_address: true,
         ..one_type()
     };
-    let mut bench = Bench::new(&rt, rt.alloc(), offered)?;
-    compare_grants(&rt, &mut bench, &[(100, place_in(1, 0, 128))]);
-    assert_eq!(rt;
-        bench.last_allocation(),
-        Some((8192, 0, AllocationFlags::from_bits_retain(1)))
-    );
-    bench.end(&rt);
-    Ok(())
+    play_on(
+        &rt,
+        rt.alloc(),
+        offered,
+        &[
+            grant(100, place_in(1, 0, 128)),
+            Step::Asked(8192, 0, AllocationFlags::from_bits_retain(1)),
+        ],
+    )
 }
 
 /// A chunk that was made leaves the next ones as large, also once it is gone.
 #[test]
 fn chunks_stay_as_large_as_the_latest(rt: HostRuntime) -> Result<(), Fail> {
-    let mut bench = Bench::new(&rt, rt.alloc(), one_type())?;
-    for (size, answer) in [(20000, place_in(1, 0, 32768)), (100, place_in(2, 0, 128))] {
-        compare_grants(&rt, &mut bench, &[(size, answer)]);
-        assert_eq!(rt;
-            bench.last_allocation(),
+    play_on(
+        &rt,
+        rt.alloc(),
+        one_type(),
+        &[
+            grant(20000, place_in(1, 0, 32768)),
             asked_for(65536, 0),
-            "{size} bytes"
-        );
-        bench.give_back(&rt, answer.object, 0);
-    }
-    bench.end(&rt);
-    Ok(())
+            Step::Return(1, 0),
+            grant(100, place_in(2, 0, 128)),
+            asked_for(65536, 0),
+            Step::Return(2, 0),
+        ],
+    )
 }
 
 /// A chunk that the device refused leaves the next ones as they were.
 #[test]
 fn a_refused_chunk_makes_no_later_one_larger(rt: HostRuntime) -> Result<(), Fail> {
-    let (kind, cause) = (Question::Allocate, Cause::Device);
-    let mut bench = Bench::that_refuses(&rt, rt.alloc(), one_type(), kind, cause)?;
     let aligned = Request {
         align_mask: (1 << 14) - 1,
         ..bytes(1)
     };
-    compare_refusal(
+    play_refused(
         &rt,
-        &mut bench,
-        aligned,
-        None,
-        AllocationError::OutOfDeviceMemory,
-        1,
-    );
-    assert_eq!(rt; bench.last_allocation(), asked_for(32768, 0));
-    compare_grants(&rt, &mut bench, &[(100, place_in(1, 0, 128))]);
-    assert_eq!(rt; bench.last_allocation(), asked_for(8192, 0));
-    bench.end(&rt);
-    Ok(())
+        rt.alloc(),
+        one_type(),
+        Question::Allocate,
+        Cause::Device,
+        &[
+            Step::Refuse(aligned, None, AllocationError::OutOfDeviceMemory, 1),
+            asked_for(32768, 0),
+            grant(100, place_in(1, 0, 128)),
+            asked_for(8192, 0),
+        ],
+    )
 }
 
 /// A memory type that the device refuses is passed, and is asked for again by the next request.
@@ -248,9 +247,6 @@ fn the_next_type_serves_where_the_first_is_refused(rt: HostRuntime) -> Result<()
         },
     ];
     let heaps = [MemoryHeap { size: 1 << 20 }, MemoryHeap { size: 1 << 20 }];
-    let offered = offering(&types, &heaps);
-    let (kind, cause) = (Question::Allocate, Cause::Device);
-    let mut bench = Bench::that_refuses(&rt, rt.alloc(), offered, kind, cause)?;
     let either = Request {
         memory_types: 3,
         ..bytes(100)
@@ -259,12 +255,19 @@ fn the_next_type_serves_where_the_first_is_refused(rt: HostRuntime) -> Result<()
         memory_type: 1,
         ..place_in(1, 0, 128)
     };
-    assert_eq!(rt; bench.ask(&rt, either, None), Ok(second));
-    assert_eq!(rt; bench.last_allocation(), asked_for(8192, 1));
-    compare_grants(&rt, &mut bench, &[(100, place_in(2, 0, 128))]);
-    assert_eq!(rt; bench.last_allocation(), asked_for(8192, 0));
-    bench.end(&rt);
-    Ok(())
+    play_refused(
+        &rt,
+        rt.alloc(),
+        offering(&types, &heaps),
+        Question::Allocate,
+        Cause::Device,
+        &[
+            Step::Grant(either, None, second),
+            asked_for(8192, 1),
+            grant(100, place_in(2, 0, 128)),
+            asked_for(8192, 0),
+        ],
+    )
 }
 
 /// Blocks of two allocators may be of objects with one name: their spans tell them apart.

@@ -3,6 +3,7 @@
 use gpu_alloc::Config;
 use serde_json::Error;
 use std::alloc::{AllocError, Global};
+use std::process::Abort;
 use std::test::Fail;
 
 /// A field's name and the text of its value.
@@ -34,6 +35,30 @@ fn read(alloc: Global, text: &str) -> Result<Config, Error> {
     serde_json::from_str(alloc, text)
 }
 
+/// A text that no configuration has.
+fn compare_refused(rt: &impl Abort, alloc: Global, text: &str) {
+    assert!(rt; read(alloc, text).is_err(), "at {text}");
+}
+
+/// Fields that no configuration has.
+fn compare_refused_fields(
+    rt: &impl Abort,
+    alloc: Global,
+    fields: &[Field],
+) -> Result<(), AllocError> {
+    let text = object(alloc, fields)?;
+    compare_refused(rt, alloc, text.as_str());
+    Ok(())
+}
+
+/// Fields that the potato's configuration has.
+fn compare_potato(rt: &impl Abort, alloc: Global, fields: &[Field]) -> Result<(), Fail> {
+    let text = object(alloc, fields)?;
+    let config = read(alloc, text.as_str())?;
+    assert_eq!(rt; config, Config::i_am_potato(), "at {text}");
+    Ok(())
+}
+
 #[test]
 fn a_configuration_is_read_as_it_was_written(rt: HostRuntime) -> Result<(), Fail> {
     let alloc = rt.alloc();
@@ -55,36 +80,63 @@ fn a_configuration_is_read_as_it_was_written(rt: HostRuntime) -> Result<(), Fail
     Ok(())
 }
 
+/// Puts an unknown field among the potato's at each place, and compares what is read of them in order and turned round.
+fn compare_with_unknown(
+    rt: &impl Abort,
+    alloc: Global,
+    index: usize,
+    value: &'static str,
+) -> Result<(), Fail> {
+    assert!(rt; index < 8);
+    let mut fields = Vec::from_slice(alloc, &POTATO)?;
+    fields.insert(index, ("unknown", value))?;
+    compare_potato(rt, alloc, fields.as_slice())?;
+    fields.reverse();
+    compare_potato(rt, alloc, fields.as_slice())
+}
+
 #[test]
 fn fields_come_in_any_order_with_others_among_them(rt: HostRuntime) -> Result<(), Fail> {
-    let alloc = rt.alloc();
-    let potato = Config::i_am_potato();
     for index in 0..8 {
         for value in ["1", "\"\"", "null", "[[1],{}]", "{\"a\":{\"b\":[]}}", "1e9"] {
-            let mut fields = Vec::from_slice(alloc, &POTATO)?;
-            fields.insert(index, ("unknown", value))?;
-            let text = object(alloc, &fields)?;
-            assert_eq!(rt; read(alloc, text.as_str())?, potato, "at {text}");
-            fields.reverse();
-            let text = object(alloc, &fields)?;
-            assert_eq!(rt; read(alloc, text.as_str())?, potato, "at {text}");
+            compare_with_unknown(&rt, rt.alloc(), index, value)?;
         }
     }
     Ok(())
 }
 
+/// A field that comes twice, and one that is missing.
+fn compare_doubled_and_missing(
+    rt: &impl Abort,
+    alloc: Global,
+    index: usize,
+) -> Result<(), AllocError> {
+    assert!(rt; index < 7);
+    let mut fields = Vec::from_slice(alloc, &POTATO)?;
+    fields.push(POTATO[index])?;
+    compare_refused_fields(rt, alloc, fields.as_slice())?;
+    fields.pop();
+    fields.remove(index);
+    compare_refused_fields(rt, alloc, fields.as_slice())
+}
+
+/// A field that has this value.
+fn compare_wrong_value(
+    rt: &impl Abort,
+    alloc: Global,
+    index: usize,
+    value: &'static str,
+) -> Result<(), AllocError> {
+    assert!(rt; index < 7);
+    let mut fields = POTATO;
+    fields[index].1 = value;
+    compare_refused_fields(rt, alloc, &fields)
+}
+
 #[test]
 fn a_wrong_field_is_refused(rt: HostRuntime) -> Result<(), Fail> {
-    let alloc = rt.alloc();
-    for (index, field) in POTATO.iter().enumerate() {
-        let mut fields = Vec::from_slice(alloc, &POTATO)?;
-        fields.push(*field)?;
-        let doubled = object(alloc, &fields)?;
-        assert!(rt; read(alloc, doubled.as_str()).is_err(), "at {doubled}");
-        let mut fields = Vec::from_slice(alloc, &POTATO)?;
-        fields.remove(index);
-        let missing = object(alloc, &fields)?;
-        assert!(rt; read(alloc, missing.as_str()).is_err(), "at {missing}");
+    for index in 0..7 {
+        compare_doubled_and_missing(&rt, rt.alloc(), index)?;
         for value in [
             "-1",
             "18446744073709551616",
@@ -101,29 +153,31 @@ fn a_wrong_field_is_refused(rt: HostRuntime) -> Result<(), Fail> {
             "0x1",
             "-0",
         ] {
-            let mut fields = Vec::from_slice(alloc, &POTATO)?;
-            fields[index].1 = value;
-            let text = object(alloc, &fields)?;
-            assert!(rt; read(alloc, text.as_str()).is_err(), "at {text}");
+            compare_wrong_value(&rt, rt.alloc(), index, value)?;
         }
     }
+    Ok(())
+}
+
+/// Each text that the potato's begins with, but for the whole, and the whole with something after it.
+fn compare_cut_and_longer(rt: &impl Abort, alloc: Global) -> Result<(), AllocError> {
+    let mut cut = object(alloc, &POTATO)?;
+    for tail in ["}", ",", "0", "{}", "x", "\u{0}"] {
+        let longer = format!(in alloc; "{cut}{tail}")?;
+        compare_refused(rt, alloc, longer.as_str());
+    }
+    for _ in 0..cut.len() {
+        cut.pop();
+        compare_refused(rt, alloc, cut.as_str());
+    }
+    assert!(rt; cut.is_empty());
     Ok(())
 }
 
 #[test]
 fn a_text_of_no_configuration_is_refused(rt: HostRuntime) -> Result<(), Fail> {
     let alloc = rt.alloc();
-    let text = object(alloc, &POTATO)?;
-    let mut cut = object(alloc, &POTATO)?;
-    for _ in 0..text.len() {
-        cut.pop();
-        assert!(rt; read(alloc, cut.as_str()).is_err(), "at {cut}");
-    }
-    assert!(rt; cut.is_empty());
-    for tail in ["}", ",", "0", "{}", "x", "\u{0}"] {
-        let longer = format!(in alloc; "{text}{tail}")?;
-        assert!(rt; read(alloc, longer.as_str()).is_err(), "at {longer}");
-    }
+    compare_cut_and_longer(&rt, alloc)?;
     for text in [
         " ",
         "null",
@@ -134,11 +188,11 @@ fn a_text_of_no_configuration_is_refused(rt: HostRuntime) -> Result<(), Fail> {
         "[1,2,3,4,5,6]",
         "[1,2,3,4,5,6,7,8]",
     ] {
-        assert!(rt; read(alloc, text).is_err(), "at {text}");
+        compare_refused(&rt, alloc, text);
     }
     let deep = "[".repeat(alloc, 100_000)?;
     let text = format!(in alloc; "{{\"unknown\":{deep}")?;
-    assert!(rt; read(alloc, text.as_str()).is_err());
+    compare_refused(&rt, alloc, text.as_str());
     Ok(())
 }
 

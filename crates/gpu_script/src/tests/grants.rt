@@ -1,10 +1,7 @@
 //! Blocks of shared chunks in memory of each kind, and where a chunk has room but nothing else is left.
 
-use super::bench::{Bench, DEVICE_LOCAL, HEAPS, bytes, offering, place_in};
-use gpu_alloc::{
-    AllocationFlags, DeviceProperties, MemoryPropertyFlags, MemoryType, Request, UsageFlags,
-};
-use std::process::Abort;
+use super::bench::{HEAPS, Step, asked_for, bytes, grant, offering, one_type, place_in, play_on};
+use gpu_alloc::{DeviceProperties, MemoryPropertyFlags, MemoryType, Request, UsageFlags};
 use std::test::Fail;
 
 /// A request for so many bytes that the host writes and reads.
@@ -21,17 +18,16 @@ fn memory_that_the_host_sees_is_shared(rt: HostRuntime) -> Result<(), Fail> {
         heap: 0,
         props: MemoryPropertyFlags::HOST_VISIBLE | MemoryPropertyFlags::HOST_COHERENT,
     }];
-    let mut bench = Bench::new(&rt, rt.alloc(), offering(&types, &HEAPS))?;
-    let first = bench.ask(&rt, by_host(100), None);
-    assert_eq!(rt; first, Ok(place_in(1, 0, 128)));
-    let second = bench.ask(&rt, by_host(100), None);
-    assert_eq!(rt; second, Ok(place_in(1, 128, 128)));
-    assert_eq!(rt;
-        bench.last_allocation(),
-        Some((8192, 0, AllocationFlags::empty()))
-    );
-    bench.end(&rt);
-    Ok(())
+    play_on(
+        &rt,
+        rt.alloc(),
+        offering(&types, &HEAPS),
+        &[
+            Step::Grant(by_host(100), None, place_in(1, 0, 128)),
+            Step::Grant(by_host(100), None, place_in(1, 128, 128)),
+            asked_for(8192, 0),
+        ],
+    )
 }
 
 /// Where what the host writes has to be flushed, no two blocks share an atom.
@@ -45,28 +41,32 @@ fn blocks_of_non_coherent_memory_are_whole_atoms(rt: HostRuntime) -> Result<(), 
         non_coherent_atom_size: 64,
         ..offering(&types, &HEAPS)
     };
-    let mut bench = Bench::new(&rt, rt.alloc(), offered)?;
-    let first = bench.ask(&rt, by_host(20), None);
-    assert_eq!(rt; first, Ok(place_in(1, 0, 64)));
-    let second = bench.ask(&rt, by_host(20), None);
-    assert_eq!(rt; second, Ok(place_in(1, 64, 64)));
-    bench.end(&rt);
-    Ok(())
+    play_on(
+        &rt,
+        rt.alloc(),
+        offered,
+        &[
+            Step::Grant(by_host(20), None, place_in(1, 0, 64)),
+            Step::Grant(by_host(20), None, place_in(1, 64, 64)),
+        ],
+    )
 }
 
 #[test]
 fn blocks_start_at_their_alignment(rt: HostRuntime) -> Result<(), Fail> {
-    let mut bench = Bench::new(&rt, rt.alloc(), offering(&[DEVICE_LOCAL], &HEAPS))?;
-    let first = bench.ask(&rt, bytes(1), None);
-    assert_eq!(rt; first, Ok(place_in(1, 0, 1)));
     let aligned = Request {
         align_mask: 255,
         ..bytes(1)
     };
-    let second = bench.ask(&rt, aligned, None);
-    assert_eq!(rt; second, Ok(place_in(1, 256, 256)));
-    bench.end(&rt);
-    Ok(())
+    play_on(
+        &rt,
+        rt.alloc(),
+        one_type(),
+        &[
+            grant(1, place_in(1, 0, 1)),
+            Step::Grant(aligned, None, place_in(1, 256, 256)),
+        ],
+    )
 }
 
 /// A chunk with room serves where no more objects may be held.
@@ -74,14 +74,16 @@ fn blocks_start_at_their_alignment(rt: HostRuntime) -> Result<(), Fail> {
 fn a_place_takes_no_object(rt: HostRuntime) -> Result<(), Fail> {
     let offered = DeviceProperties {
         max_memory_allocation_count: 1,
-        ..offering(&[DEVICE_LOCAL], &HEAPS)
+        ..one_type()
     };
-    let mut bench = Bench::new(&rt, rt.alloc(), offered)?;
-    let first = bench.ask(&rt, bytes(100), None);
-    assert_eq!(rt; first, Ok(place_in(1, 0, 128)));
-    assert_eq!(rt; bench.counts().remaining, 0);
-    let second = bench.ask(&rt, bytes(100), None);
-    assert_eq!(rt; second, Ok(place_in(1, 128, 128)));
-    bench.end(&rt);
-    Ok(())
+    play_on(
+        &rt,
+        rt.alloc(),
+        offered,
+        &[
+            grant(100, place_in(1, 0, 128)),
+            Step::Held(1, 0, 8192),
+            grant(100, place_in(1, 128, 128)),
+        ],
+    )
 }

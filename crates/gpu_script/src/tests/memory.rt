@@ -13,6 +13,7 @@ use gpu_alloc::AllocationError;
 use gpu_session::{Fault, Reply};
 use linked_list_allocator::LocalHeap;
 use std::alloc::{AllocError, Global};
+use std::marker::Model;
 use std::process::Abort;
 use std::test::Fail;
 
@@ -55,8 +56,48 @@ enum Outcome {
     Refused,
 }
 
-/// A session over memory of a test's own.
-type LocalSession<'a> = SimSession<&'a LocalHeap>;
+/// A session over memory of a test's own. Contracts see nothing of it.
+struct LocalSession<'a> {
+    session: SimSession<&'a LocalHeap>,
+}
+
+impl<'a> Model for LocalSession<'a> {
+    ghost use Rattle.std.specs.Prelude.{ℕ};
+
+    ghost Value = { ℕ };
+
+    ghost view = { λ _. 0 };
+}
+
+impl<'a> LocalSession<'a> {
+    /// A session over the device that a script describes. Its memory all comes from the heap.
+    fn new(
+        rt: &impl Abort,
+        heap: &'a LocalHeap,
+        script: &Script<&'a LocalHeap>,
+    ) -> Result<LocalSession<'a>, Fail> {
+        assert!(rt; script.setup.properties().is_usable());
+        let session = open(heap, &script.setup)?;
+        Ok(LocalSession { session })
+    }
+
+    /// Runs a script's commands.
+    fn run(
+        &mut self,
+        script: &Script<&'a LocalHeap>,
+    ) -> Result<Vec<Reply<&'a LocalHeap>, &'a LocalHeap>, AllocError>
+        requires { All IsForRequired script.now.commands.items }
+    {
+        self.session.run(script.commands.as_slice())
+    }
+
+    /// Ends it. The device holds nothing then.
+    fn end(self, rt: &impl Abort, hole: usize) {
+        let LocalSession { session } = self;
+        let device = session.finish();
+        assert_eq!(rt; device.objects(), 0, "with {hole}");
+    }
+}
 
 /// What one command was answered by.
 fn outcome_of(replies: Result<Vec<Reply<&LocalHeap>, &LocalHeap>, AllocError>) -> Outcome {
@@ -88,7 +129,7 @@ fn counted<'a>(
 ) -> Result<String<&'a LocalHeap>, AllocError>
     requires { All IsForRequired counts.now.commands.items }
 {
-    let replies = session.run(counts.commands.as_slice())?;
+    let replies = session.run(counts)?;
     let mut text = String::new(heap);
     for reply in &replies {
         print_reply(&mut text, reply)?;
@@ -96,7 +137,7 @@ fn counted<'a>(
     Ok(text)
 }
 
-/// A session over the device that a script describes, once its commands ran. Its memory all comes from the heap.
+/// A session over the device that a script describes, once its commands ran.
 fn session_after<'a>(
     rt: &impl Abort,
     heap: &'a LocalHeap,
@@ -104,9 +145,8 @@ fn session_after<'a>(
 ) -> Result<LocalSession<'a>, Fail>
     requires { All IsForRequired script.now.commands.items }
 {
-    assert!(rt; script.setup.properties().is_usable());
-    let mut session = open(heap, &script.setup)?;
-    let ran = session.run(script.commands.as_slice()).is_ok();
+    let mut session = LocalSession::new(rt, heap, script)?;
+    let ran = session.run(script).is_ok();
     assert!(rt; ran, "the earlier commands");
     Ok(session)
 }
@@ -122,7 +162,7 @@ fn run_in_hole<'a>(
     requires { All IsForRequired script.now.commands.items }
 {
     let plugs = plug(alloc, heap, hole)?;
-    let replies = session.run(script.commands.as_slice());
+    let replies = session.run(script);
     drop(plugs);
     Ok(outcome_of(replies))
 }
@@ -147,12 +187,6 @@ fn outcome_at<'a>(
     Ok(outcome)
 }
 
-/// Ends a session. The device holds nothing then.
-fn end(rt: &impl Abort, session: LocalSession<'_>, hole: usize) {
-    let device = session.finish();
-    assert_eq!(rt; device.objects(), 0, "with {hole}");
-}
-
 /// Runs the earlier commands with ample memory, and then one command with one hole of it left. At the end the device holds
 /// nothing.
 fn outcome_of_script(
@@ -167,7 +201,7 @@ fn outcome_of_script(
     let command = good_script(&heap, command)?;
     let mut session = session_after(rt, &heap, &earlier)?;
     let outcome = outcome_at(alloc, &heap, &mut session, &command, hole);
-    end(rt, session, hole);
+    session.end(rt, hole);
     outcome
 }
 

@@ -1,10 +1,11 @@
 //! Refused requests: which refusal it is, what the device is asked, and that nothing is left behind.
 
 use super::bench::{
-    Bench, DEVICE_LOCAL, HEAPS, Place, TYPES, bytes, compare_grants, compare_refusal, offering,
-    one_type, place_in,
+    Bench, DEVICE_LOCAL, HEAPS, Place, Step, TYPES, asked_for, bytes, offering, one_type, place_in,
+    play_on, play_refused,
 };
 use super::memory::plug;
+use super::transient::transient;
 use crate::sim::{Cause, Question};
 use gpu_alloc::{
     AllocationError, AllocationFlags, Dedicated, DeviceProperties, MemoryHeap, MemoryPropertyFlags,
@@ -24,10 +25,7 @@ fn compare_unasked(
     hint: Option<Dedicated>,
     error: AllocationError,
 ) -> Result<(), Fail> {
-    let mut bench = Bench::new(rt, alloc, offered)?;
-    compare_refusal(rt, &mut bench, request, hint, error, 0);
-    bench.end(rt);
-    Ok(())
+    play_on(rt, alloc, offered, &[Step::Refuse(request, hint, error, 0)])
 }
 
 /// A request that is too large comes before the count of objects, and that before the memory types.
@@ -102,21 +100,23 @@ fn one_object<'a>(types: &'a [MemoryType]) -> DeviceProperties<'a> {
 
 #[test]
 fn objects_are_used_up(rt: HostRuntime) -> Result<(), Fail> {
-    let mut bench = Bench::new(&rt, rt.alloc(), one_object(&TYPES))?;
-    let first = bench.ask(&rt, bytes(10), Some(Dedicated::Required));
-    assert_eq!(rt; first, Ok(place_in(1, 0, 10)));
-    assert_eq!(rt; bench.counts().remaining, 0);
-    let error = AllocationError::TooManyObjects;
-    compare_refusal(&rt, &mut bench, bytes(32768), None, error, 0);
-    bench.end(&rt);
-    Ok(())
+    let required = Some(Dedicated::Required);
+    play_on(
+        &rt,
+        rt.alloc(),
+        one_object(&TYPES),
+        &[
+            Step::Grant(bytes(10), required, place_in(1, 0, 10)),
+            Step::Held(1, 0, 10),
+            Step::Refuse(bytes(32768), None, AllocationError::TooManyObjects, 0),
+        ],
+    )
 }
 
 /// A memory type for which no more objects may be held is not passed, though a later one has a free piece.
 #[test]
 fn a_lack_of_objects_is_not_passed(rt: HostRuntime) -> Result<(), Fail> {
     let types = [DEVICE_LOCAL, DEVICE_LOCAL];
-    let mut bench = Bench::new(&rt, rt.alloc(), one_object(&types))?;
     let second = Request {
         memory_types: 2,
         ..bytes(100)
@@ -129,15 +129,16 @@ fn a_lack_of_objects_is_not_passed(rt: HostRuntime) -> Result<(), Fail> {
         memory_type: 1,
         ..place_in(1, 0, 128)
     };
-    assert_eq!(rt; bench.ask(&rt, second, None), Ok(granted));
-    assert_eq!(rt;
-        bench.last_allocation(),
-        Some((8192, 1, AllocationFlags::empty()))
-    );
-    let error = AllocationError::TooManyObjects;
-    compare_refusal(&rt, &mut bench, either, None, error, 0);
-    bench.end(&rt);
-    Ok(())
+    play_on(
+        &rt,
+        rt.alloc(),
+        one_object(&types),
+        &[
+            Step::Grant(second, None, granted),
+            asked_for(8192, 1),
+            Step::Refuse(either, None, AllocationError::TooManyObjects, 0),
+        ],
+    )
 }
 
 /// Compares the refusal of a first chunk whose mapping the device refuses. The chunk goes back.
@@ -155,16 +156,17 @@ fn compare_unmapped(
         usage: UsageFlags::HOST_ACCESS,
         ..bytes(100)
     };
-    let offered = offering(&types, &HEAPS);
-    let mut bench = Bench::that_refuses(rt, alloc, offered, Question::Map, cause)?;
-    compare_refusal(rt, &mut bench, request, None, error, 1);
-    let counts = bench.counts();
-    assert_eq!(rt;
-        (counts.objects, counts.remaining, counts.used),
-        (0, 4096, 0)
-    );
-    bench.end(rt);
-    Ok(())
+    play_refused(
+        rt,
+        alloc,
+        offering(&types, &HEAPS),
+        Question::Map,
+        cause,
+        &[
+            Step::Refuse(request, None, error, 1),
+            Step::Held(0, 4096, 0),
+        ],
+    )
 }
 
 #[test]
@@ -195,30 +197,36 @@ enum Reached {
     Block,
 }
 
-/// Asks for 100 bytes with one hole of memory left.
+/// Asks with one hole of memory left.
 fn ask_in_hole<'a>(
     rt: &impl Abort,
     alloc: Global,
     heap: &'a LocalHeap,
     bench: &mut Bench<&'a LocalHeap>,
+    request: Request,
     hole: usize,
 ) -> Result<Result<Place, AllocationError>, AllocError> {
     let plugs = plug(alloc, heap, hole)?;
-    let answer = bench.ask(rt, bytes(100), None);
+    let answer = bench.ask(rt, request, None);
     drop(plugs);
     Ok(answer)
 }
 
 /// How far such a request came that was refused. Nothing is held, and the same request is granted with ample memory: its
 /// object's name tells whether there was one before.
-fn how_far(rt: &impl Abort, bench: &mut Bench<&LocalHeap>, hole: usize) -> Reached {
+fn how_far(
+    rt: &impl Abort,
+    bench: &mut Bench<&LocalHeap>,
+    request: Request,
+    hole: usize,
+) -> Reached {
     let counts = bench.counts();
     assert_eq!(rt;
         (counts.objects, counts.remaining, counts.used),
         (0, 4096, 0),
         "with {hole}"
     );
-    let later = bench.ask(rt, bytes(100), None);
+    let later = bench.ask(rt, request, None);
     assert_eq!(rt;
         bench.last_allocation(),
         Some((8192, 0, AllocationFlags::empty())),
@@ -232,16 +240,21 @@ fn how_far(rt: &impl Abort, bench: &mut Bench<&LocalHeap>, hole: usize) -> Reach
     }
 }
 
-/// How far a first request for 100 bytes comes with one hole of memory left.
-fn reached_in_hole(rt: &impl Abort, alloc: Global, hole: usize) -> Result<Reached, Fail> {
+/// How far a first request comes with one hole of memory left.
+fn reached_in_hole(
+    rt: &impl Abort,
+    alloc: Global,
+    request: Request,
+    hole: usize,
+) -> Result<Reached, Fail> {
     let heap = LocalHeap::new(alloc, 1 << 16)?;
     let mut bench = Bench::new(rt, &heap, one_type())?;
-    let asked = ask_in_hole(rt, alloc, &heap, &mut bench, hole);
+    let asked = ask_in_hole(rt, alloc, &heap, &mut bench, request, hole);
     let answer = match asked {
         Ok(Ok(_)) => Ok(Reached::Block),
         Ok(Err(error)) => {
             assert_eq!(rt; error, AllocationError::OutOfHostMemory, "with {hole}");
-            Ok(how_far(rt, &mut bench, hole))
+            Ok(how_far(rt, &mut bench, request, hole))
         }
         Err(_) => Err(Fail::from("no memory for the plugs")),
     };
@@ -250,14 +263,13 @@ fn reached_in_hole(rt: &impl Abort, alloc: Global, hole: usize) -> Result<Reache
 }
 
 /// Each request for host memory is refused in turn, as the hole grows by 8 bytes until the block is granted. Once there is an
-/// object only its second handle is wanted, and not the room for 65 free pieces.
-#[test]
-fn a_want_of_host_memory_leaves_nothing(rt: HostRuntime) -> Result<(), Fail> {
+/// object only its second handle is wanted, and no room for 65 free pieces or for the books of a chunk.
+fn compare_wants(rt: &impl Abort, alloc: Global, request: Request) -> Result<(), Fail> {
     let mut nothing = 0u32;
     let mut question = 0u32;
     let mut object = 0u32;
     for hole in 0..4096 {
-        match reached_in_hole(&rt, rt.alloc(), hole << 3)? {
+        match reached_in_hole(rt, alloc, request, hole << 3)? {
             Reached::Nothing => nothing = nothing.saturating_add(1),
             Reached::Question => question = question.saturating_add(1),
             Reached::Object => object = object.saturating_add(1),
@@ -271,4 +283,12 @@ fn a_want_of_host_memory_leaves_nothing(rt: HostRuntime) -> Result<(), Fail> {
         }
     }
     Err(Fail::from("never granted"))
+}
+
+#[test]
+fn a_want_of_host_memory_leaves_nothing(rt: HostRuntime) -> Result<(), Fail> {
+    for request in [bytes(100), transient(100)] {
+        compare_wants(&rt, rt.alloc(), request)?;
+    }
+    Ok(())
 }

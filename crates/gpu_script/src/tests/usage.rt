@@ -38,84 +38,96 @@ fn shared_memory() -> [MemoryType; 8]
 }
 
 /// For each usage from 0 on, a digit for each type in rank: of `three_types`, of `card` and of `shared_memory`.
-const RANKED: [[&[u8]; 3]; 64] = [
-    [b"012", b"176045", b"26430517"],
-    [b"012", b"176045", b"26430517"],
-    [b"12", b"456", b"05172643"],
-    [b"12", b"645", b"26430517"],
-    [b"21", b"546", b"17053462"],
-    [b"21", b"654", b"34621705"],
-    [b"21", b"546", b"17053462"],
-    [b"21", b"654", b"34621705"],
-    [b"12", b"456", b"05176234"],
-    [b"12", b"645", b"62340517"],
-    [b"12", b"456", b"05176234"],
-    [b"12", b"645", b"62340517"],
-    [b"21", b"546", b"17053462"],
-    [b"21", b"654", b"34621705"],
-    [b"21", b"546", b"17053462"],
-    [b"21", b"654", b"34621705"],
-    [b"120", b"045176", b"05172643"],
-    [b"012", b"176045", b"26430517"],
-    [b"12", b"456", b"05172643"],
-    [b"12", b"645", b"26430517"],
-    [b"21", b"546", b"17053462"],
-    [b"21", b"654", b"34621705"],
-    [b"21", b"546", b"17053462"],
-    [b"21", b"654", b"34621705"],
-    [b"12", b"456", b"05176234"],
-    [b"12", b"645", b"62340517"],
-    [b"12", b"456", b"05176234"],
-    [b"12", b"645", b"62340517"],
-    [b"21", b"546", b"17053462"],
-    [b"21", b"654", b"34621705"],
-    [b"21", b"546", b"17053462"],
-    [b"21", b"654", b"34621705"],
-    [b"120", b"045176", b"05172643"],
-    [b"012", b"176045", b"26430517"],
-    [b"12", b"456", b"05172643"],
-    [b"12", b"645", b"26430517"],
-    [b"21", b"546", b"17053462"],
-    [b"21", b"654", b"34621705"],
-    [b"21", b"546", b"17053462"],
-    [b"21", b"654", b"34621705"],
-    [b"12", b"456", b"05176234"],
-    [b"12", b"645", b"62340517"],
-    [b"12", b"456", b"05176234"],
-    [b"12", b"645", b"62340517"],
-    [b"21", b"546", b"17053462"],
-    [b"21", b"654", b"34621705"],
-    [b"21", b"546", b"17053462"],
-    [b"21", b"654", b"34621705"],
-    [b"120", b"045176", b"05172643"],
-    [b"012", b"176045", b"26430517"],
-    [b"12", b"456", b"05172643"],
-    [b"12", b"645", b"26430517"],
-    [b"21", b"546", b"17053462"],
-    [b"21", b"654", b"34621705"],
-    [b"21", b"546", b"17053462"],
-    [b"21", b"654", b"34621705"],
-    [b"12", b"456", b"05176234"],
-    [b"12", b"645", b"62340517"],
-    [b"12", b"456", b"05176234"],
-    [b"12", b"645", b"62340517"],
-    [b"21", b"546", b"17053462"],
-    [b"21", b"654", b"34621705"],
-    [b"21", b"546", b"17053462"],
-    [b"21", b"654", b"34621705"],
-];
+const RANKED: &str = "\
+012 176045 26430517
+012 176045 26430517
+12 456 05172643
+12 645 26430517
+21 546 17053462
+21 654 34621705
+21 546 17053462
+21 654 34621705
+12 456 05176234
+12 645 62340517
+12 456 05176234
+12 645 62340517
+21 546 17053462
+21 654 34621705
+21 546 17053462
+21 654 34621705
+120 045176 05172643
+012 176045 26430517
+12 456 05172643
+12 645 26430517
+21 546 17053462
+21 654 34621705
+21 546 17053462
+21 654 34621705
+12 456 05176234
+12 645 62340517
+12 456 05176234
+12 645 62340517
+21 546 17053462
+21 654 34621705
+21 546 17053462
+21 654 34621705
+120 045176 05172643
+012 176045 26430517
+12 456 05172643
+12 645 26430517
+21 546 17053462
+21 654 34621705
+21 546 17053462
+21 654 34621705
+12 456 05176234
+12 645 62340517
+12 456 05176234
+12 645 62340517
+21 546 17053462
+21 654 34621705
+21 546 17053462
+21 654 34621705
+120 045176 05172643
+012 176045 26430517
+12 456 05172643
+12 645 26430517
+21 546 17053462
+21 654 34621705
+21 546 17053462
+21 654 34621705
+12 456 05176234
+12 645 62340517
+12 456 05176234
+12 645 62340517
+21 546 17053462
+21 654 34621705
+21 546 17053462
+21 654 34621705
+";
 
 #[test]
 fn each_usage_ranks_the_types_of_three_devices(rt: HostRuntime) {
     let few = MemoryForUsage::new(&three_types());
     let card = MemoryForUsage::new(&card());
     let shared = MemoryForUsage::new(&shared_memory());
-    for usage in 0..64 {
-        let [of_few, of_card, of_shared] = RANKED[usage];
-        is_ranked(&rt, &few, usage as u8, of_few);
-        is_ranked(&rt, &card, usage as u8, of_card);
-        is_ranked(&rt, &shared, usage as u8, of_shared);
+    let mut usage = 0_u8;
+    for row in RANKED.lines() {
+        are_ranked(&rt, [&few, &card, &shared], usage, row);
+        usage = usage.saturating_add(1);
     }
+    assert_eq!(rt; usage, 64);
+}
+
+/// Compares how some tables rank the types for a usage with the words of a row.
+fn are_ranked(rt: &impl Abort, tables: [&MemoryForUsage; 3], usage: u8, row: &str) {
+    let mut words = row.split(' ');
+    for table in tables {
+        match words.next() {
+            Some(digits) => is_ranked(rt, table, usage, digits.as_bytes()),
+            None => panic!(rt; "usage {usage} has no further word"),
+        }
+    }
+    assert!(rt; words.next().is_none(), "usage {usage}");
 }
 
 fn is_ranked(rt: &impl Abort, table: &MemoryForUsage, usage: u8, digits: &[u8]) {
@@ -184,6 +196,60 @@ fn from_none_to_32_types_are_ranked(rt: HostRuntime) {
 /// The lines of a script for `three_types`.
 const THREE_TYPES: &str = "type 0 1\ntype 0 6\ntype 0 14\n";
 
+/// A script that is being written, in two parts, with what it has to print.
+#[derive(Drop)]
+struct Trial {
+    setup: String,
+    commands: String,
+    printed: String,
+
+    /// How often the device is asked so far.
+    questions: u64,
+}
+
+impl Trial {
+    /// Has the device refuse the next questions.
+    fn refuse(&mut self, count: usize) -> Result<(), Fail> {
+        for _ in 0..count {
+            self.questions = self.questions.saturating_add(1);
+            write!(self.setup, "refuse allocate {} device\n", self.questions)?;
+        }
+        Ok(())
+    }
+
+    /// Asks for a byte under this name.
+    fn ask(&mut self, name: usize, usage: u8, mask: u32) -> Result<(), Fail> {
+        write!(self.commands, "required {name} 1 0 {usage} {mask}\n")?;
+        Ok(())
+    }
+
+    /// Has the next question granted, in memory of this type.
+    fn grant(&mut self, object: usize, memory_type: u32) -> Result<(), Fail> {
+        self.questions = self.questions.saturating_add(1);
+        write!(
+            self.printed,
+            "block type {memory_type} object {object} offset 0 size 1\n"
+        )?;
+        Ok(())
+    }
+
+    /// Compares what the script prints that ends with a refusal.
+    fn compare(mut self, rt: &impl Abort, alloc: Global, refusal: &str) -> Result<(), Fail> {
+        write!(
+            self.printed,
+            "refused: {refusal}\nend objects 0 allocations {}\n",
+            self.questions
+        )?;
+        self.setup.push_str(self.commands.as_str())?;
+        compare(
+            rt,
+            alloc,
+            &[(self.setup.as_str(), self.printed.as_str(), 0)],
+        );
+        Ok(())
+    }
+}
+
 /// Compares the types that an allocator tries for a request with those that are wanted, in their order. Each request but
 /// the first has one more refusal of the device than the one before, until nothing is left to be tried.
 fn are_tried(
@@ -194,41 +260,25 @@ fn are_tried(
     mask: u32,
     want: &[u32],
 ) -> Result<(), Fail> {
-    let mut setup = format!(in alloc; "heap 64\n{types}")?;
-    let mut commands = String::new(alloc);
-    let mut printed = String::new(alloc);
-    let mut questions = 0_u64;
-    for refusals in 0..want.len() {
-        for _ in 0..refusals {
-            questions = questions.saturating_add(1);
-            write!(setup, "refuse allocate {questions} device\n")?;
-        }
-        questions = questions.saturating_add(1);
-        write!(commands, "required {refusals} 1 0 {usage} {mask}\n")?;
-        let object = refusals.saturating_add(1);
-        write!(
-            printed,
-            "block type {} object {object} offset 0 size 1\n",
-            want[refusals]
-        )?;
+    let mut trial = Trial {
+        setup: format!(in alloc; "heap 64\n{types}")?,
+        commands: String::new(alloc),
+        printed: String::new(alloc),
+        questions: 0,
+    };
+    for (refusals, memory_type) in want.iter().enumerate() {
+        trial.refuse(refusals)?;
+        trial.ask(refusals, usage, mask)?;
+        trial.grant(refusals.saturating_add(1), *memory_type)?;
     }
-    for _ in 0..want.len() {
-        questions = questions.saturating_add(1);
-        write!(setup, "refuse allocate {questions} device\n")?;
-    }
-    let refused = if want.is_empty() {
+    trial.refuse(want.len())?;
+    trial.ask(want.len(), usage, mask)?;
+    let refusal = if want.is_empty() {
         "No compatible memory types from requested types support requested usage"
     } else {
         "Device memory exhausted"
     };
-    let objects = want.len();
-    let script = format!(in alloc; "{setup}{commands}required {objects} 1 0 {usage} {mask}\n")?;
-    write!(
-        printed,
-        "refused: {refused}\nend objects 0 allocations {questions}\n"
-    )?;
-    compare(rt, alloc, &[(script.as_str(), printed.as_str(), 0)]);
-    Ok(())
+    trial.compare(rt, alloc, refusal)
 }
 
 #[test]

@@ -14,4 +14,4 @@ held_once_granted old new size t flags name s =
     subst IsSome (sym at_name) refl
 
 pub deallocate_memory-requires : goal.deallocate_memory-requires
-deallocate_memory-requires c = held_once_granted c.args.self.now.sim _ c.args.size 0 c.from_bits_retain-flags.result.bits _ c.in_ok-memory.ensures
+deallocate_memory-requires g c = held_once_granted c.self.inside.sim _ c.args.size 0 c.from_bits_retain-flags.result.bits _ c.in_ok-memory.ensures

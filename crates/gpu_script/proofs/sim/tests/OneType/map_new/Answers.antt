@@ -36,9 +36,9 @@ mappable_once_refused old new range (Ok _) name size refused s mappable = absurd
 mappable_once_refused old new range (Err error) name size refused s mappable = subst (λ sim. IsMappableWhole sim name size) (sym s.1) mappable
 
 pub map_memory-answer-requires : goal.map_memory-answer-requires
-map_memory-answer-requires g c = mappable_once_granted c.args.self.now.sim _ c.args.size c.from_bits_retain-flags.result.bits _ c.requires c.args.self.now.visible c.in_ok-memory.ensures
+map_memory-answer-requires g c = mappable_once_granted c.self.inside.sim _ c.args.size c.from_bits_retain-flags.result.bits _ (omega arith) c.self.invariant.1 c.in_ok-memory.ensures
 
 pub map_memory-again-requires : goal.map_memory-again-requires
 map_memory-again-requires g c =
     mappable_once_refused _ _ _ _ _ c.args.size (sym c.is_err.ensures.value ∙ c.if-is_err.true) c.map_memory-answer.ensures
-    (mappable_once_granted c.args.self.now.sim _ c.args.size c.from_bits_retain-flags.result.bits _ c.requires c.args.self.now.visible c.in_ok-memory.ensures)
+    (mappable_once_granted c.self.inside.sim _ c.args.size c.from_bits_retain-flags.result.bits _ (omega arith) c.self.invariant.1 c.in_ok-memory.ensures)

@@ -1,0 +1,25 @@
+-- Which blocks of a free-list allocator are live after a call.
+use Rattle.std.proofs.Common.{◌≡◌, inl, inr, ◌<◌, List, Ok, refl, sym, subst, arith}
+use Rattle.gpu_alloc_types.specs.Device.{Event}
+use Rattle.gpu_alloc.specs.Buddy.{Wanted}
+use Rattle.gpu_alloc.specs.FreeListAllocator.{Account, Allocates, Frees, IsGranted}
+use Rattle.gpu_alloc.specs.FreeListState.{Listing, IsLiveSlot}
+use Rattle.gpu_alloc.specs.FreeSpace.{IsIn}
+use Rattle.gpu_alloc.specs.declared.freelist.block.Slot.{Slot}
+use Rattle.gpu_alloc.proofs.Slots.{slot_inserted, slot_removed}
+
+-- a granted block was not live, since its first byte was free
+pub was_not_live : (old : Listing) (w : Wanted) (new : Listing) (slot : Slot) → 0 < w.size → IsGranted old w new slot → IsLiveSlot old.space slot → ⊥
+was_not_live old w new slot nonempty granted live =
+    let first : IsIn slot.offset slot.size slot.offset = record { from = omega arith; to = omega (arith, nonempty, granted.enough) } in
+    granted.was_free slot live refl slot.offset first first
+
+-- a grant leaves the others live
+pub live_after_grant : (a new : Account) (w : Wanted) (es : List Event) (slot other : Slot) → Allocates a w es (Ok slot) new → IsLiveSlot a.listing.space other → IsLiveSlot new.listing.space other
+live_after_grant a new w es slot other (inl tail) live = subst (λ (x : Account). IsLiveSlot x.listing.space other) (sym tail.1.1) ((slot_inserted a.listing.space.live slot other).1 (inr live))
+live_after_grant a new w es slot other (inr begins) live =
+    subst (λ (x : Account). IsLiveSlot x.listing.space other) (sym begins.1.1.1) ((slot_inserted a.listing.space.live _ other).1 (inr live))
+
+-- and so does a return
+pub live_after_return : (a new : Account) (es : List Event) (slot other : Slot) → Frees a slot es new → (other ≡ slot → ⊥) → IsLiveSlot a.listing.space other → IsLiveSlot new.listing.space other
+live_after_return a new es slot other freed different live = subst (λ (x : Account). IsLiveSlot x.listing.space other) (sym freed.1.1.1) ((slot_removed a.listing.space.live slot other).1 (different, live))
