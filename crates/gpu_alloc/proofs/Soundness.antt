@@ -6,16 +6,20 @@ use Rattle.std.specs.FinMap as map
 use Rattle.gpu_alloc_types.specs.Properties.{Properties}
 use Rattle.gpu_alloc.specs.BuddyState.{Chunk, Buddy, IsLiveLeaf}
 use Rattle.gpu_alloc.specs.FreeListState.{Listing, IsLiveSlot}
-use Rattle.gpu_alloc.specs.Inside.{state_in, properties_in, span_of_leaf, leaf_at, span_of_slot, slot_at, whole_span, IsLiveIn, IsChunkOf, IsNumberedChunk, IsKnown, IsBuddyOf, IsListOf, IsConsistent}
+use Rattle.gpu_alloc.specs.ListSharing.{IsListChunk, latest_number}
+use Rattle.gpu_alloc.specs.Sizes.{first_types, first_type_state}
+use Rattle.gpu_alloc.specs.Inside.{state_in, properties_in, types_in, span_of_leaf, leaf_at, span_of_slot, slot_at, whole_span, IsLiveIn, IsChunkOf, IsNumberedChunk, IsKnown, IsBuddyOf, IsListOf, IsConsistent}
 use Rattle.gpu_alloc.specs.Sound.{IsSound, is_list_chunk}
 use Rattle.gpu_alloc.specs.Spans.{Place, Table}
-use Rattle.gpu_alloc.specs.State.{HeldObject, Span, AreApart, is_shared}
+use Rattle.gpu_alloc.specs.State.{HeldObject, Span, State, AreApart, is_shared}
 use Rattle.gpu_alloc.specs.declared.block.Kind.TheVariants.{Dedicated, BuddyChunk, FreeListChunk}
 use Rattle.gpu_alloc.specs.declared.config.Config.{Config}
 use Rattle.gpu_alloc.specs.declared.heap.Heap.{Heap}
 use Rattle.gpu_alloc.specs.declared.limits.Limits.{Limits}
 use Rattle.gpu_alloc.proofs.Consistency.{chunk_kinds}
 use Rattle.gpu_alloc.proofs.ServedBlocks.{ranges_apart}
+use Rattle.std.proofs.lemmas.List.{length-map}
+use Rattle.gpu_alloc.proofs.ListStates.{list_latest_at, types_within}
 use Rattle.gpu_alloc.proofs.Maps.{one_value}
 
 -- what holds of each element that is there holds of one
@@ -175,10 +179,53 @@ module _ {c : Config} {p : Properties} {t : Table} {buddies : List Buddy} {lists
 
 -- The whole state.
 
+-- a listing that stands at a place
+there_is : (lists : List Listing) (i : ℕ) → i < length lists → (l : Listing) × (slice_get lists i ≡ Some l)
+there_is [] i inside = absurd (omega (arith, inside))
+there_is (l ∷ lists) zero inside = (l, refl)
+there_is (l ∷ lists) (suc i) inside = there_is lists i (omega (arith, inside))
+
+module _ {A : Type 0} (l : Limits A) (heaps : List Heap) (buddies : List Buddy) (lists : List Listing) (t : Table) (remaining : ℕ)
+    (is : IsConsistent l.config (properties_in l heaps) heaps buddies lists t remaining) (index number : ℕ) where
+  abbrev s : State
+  s = state_in l heaps buddies lists t remaining
+
+  type_known : (object : ℕ) → IsListChunk s index number object → index < length (properties_in l heaps).memory_types
+  type_known object of = subst (λ n. n < length (properties_in l heaps).memory_types) of.of_type (known_at is object of.chunk of.held).of_type
+
+  module _ (fl : Listing) (own : IsListOf l.config (properties_in l heaps) t index fl) where
+    -- a chunk's object is held under its number
+    under_number : (object : ℕ) (of : IsListChunk s index number object) → map.get fl.space.chunks number ≡ Some (chunk_at object of.chunk)
+    under_number object of = own.linked.objects number object of.chunk (record { held = of.held; of_kind = of.of_kind; of_type = of.of_type ∙ sym own.for_type.memory_type })
+
+  list_there : (object : ℕ) → IsListChunk s index number object → (fl : Listing) × (slice_get lists index ≡ Some fl)
+  list_there object of = there_is lists index (omega (arith, type_known object of, is.listed.count))
+
+  list_own : (object : ℕ) (of : IsListChunk s index number object) → IsListOf l.config (properties_in l heaps) t index (list_there object of).0
+  list_own object of = subst (λ (o : Option Listing). IfSome o (IsListOf l.config (properties_in l heaps) t index)) (list_there object of).1 (is.listed.each index)
+
+  one_object : (a b : ℕ) → IsListChunk s index number a → IsListChunk s index number b → a ≡ b
+  one_object a b of also =
+      let fl = (list_there a of).0 in
+      let own = list_own a of in
+      ap (λ (c : Chunk). c.object) (one_value _ (chunk_at a of.chunk) (chunk_at b also.chunk) (under_number fl own a of) (under_number fl own b also))
+
+  within : (object : ℕ) → IsListChunk s index number object → (0 < number) × (number ≤ latest_number s index)
+  within object of =
+      let fl = list_there object of in
+      let own = list_own object of in
+      let types = first_types l.config (properties_in l heaps) in
+      let typed = types_within types buddies index (omega (arith, type_known object of, length-map (properties_in l heaps).memory_types (first_type_state l.config (properties_in l heaps)))) (omega (arith, type_known object of, is.shared.count)) in
+      let latest : latest_number s index ≡ fl.0.space.latest = list_latest_at (types_in types buddies) lists index fl.0 fl.1 typed in
+      let is_number = own.sound.space.numbers number (chunk_at object of.chunk) (under_number fl.0 own object of) in
+      (is_number.0, omega (arith, is_number.1, latest))
+
 pub sound_is : {A : Type 0} (l : Limits A) (heaps : List Heap) (buddies : List Buddy) (lists : List Listing) (t : Table) (remaining : ℕ) → IsConsistent l.config (properties_in l heaps) heaps buddies lists t remaining
     → IsSound (state_in l heaps buddies lists t remaining)
 sound_is l heaps buddies lists t remaining is = record {
   inside = lies_inside is;
   apart = are_apart is;
   used = λ object. each_used is object (map.get t.held object) refl;
+  numbers = λ index number a b. one_object l heaps buddies lists t remaining is index number a b;
+  numbered = λ index number object. within l heaps buddies lists t remaining is index number object;
 }

@@ -1,8 +1,9 @@
 -- What holds of an allocator between calls.
-use Rattle.std.specs.Prelude.{◌≡◌, ◌≢◌, ℕ, ◌+◌, ◌≤◌, Bool, true, false, Some, IfSome}
+use Rattle.std.specs.Prelude.{◌≡◌, ◌≢◌, ℕ, ◌+◌, ◌<◌, ◌≤◌, Bool, true, false, Some, IfSome}
 use Rattle.std.specs.FinMap as map
 use Rattle.gpu_alloc.specs.declared.block.Kind.{Kind}
 use Rattle.gpu_alloc.specs.declared.block.Kind.TheVariants.{Dedicated, Imported, BuddyChunk, FreeListChunk}
+use Rattle.gpu_alloc.specs.ListSharing.{IsListChunk, latest_number}
 use Rattle.gpu_alloc.specs.State.{HeldObject, Span, State, IsLive, AreApart}
 
 -- whether an object is held for a free list, which may keep a chunk in which nothing is live
@@ -23,3 +24,6 @@ pub record IsSound (s : State) : Type 0 where
   pub apart : (x y : Span) → IsLive s x → IsLive s y → x ≢ y → AreApart x y
   -- each held object of one block and each held buddy chunk has a live span
   pub used : (object : ℕ) → IfSome (map.get s.held object) (λ h. is_list_chunk h.kind ≡ false → HasLiveSpan s object)
+  -- the chunks of a memory type's free list have numbers of their own, from 1 to the latest
+  pub numbers : (t number a b : ℕ) → IsListChunk s t number a → IsListChunk s t number b → a ≡ b
+  pub numbered : (t number object : ℕ) → IsListChunk s t number object → (0 < number) × (number ≤ latest_number s t)
