@@ -11,15 +11,15 @@ use Rattle.std.proofs.lemmas.Nat.{pow_pos}
 use Rattle.std.proofs.Math.Nat.{zero-mul}
 use mathlib.Core.Bool.{true≢false}
 use Rattle.gpu_alloc.specs.BuddyState.{Chunk, Buddy, IsLiveLeaf, IsFreeAt}
-use Rattle.gpu_alloc.specs.FreeSpace.{IsIn, IsMultipleOf, IsPlace, IsFreePiece}
+use Rattle.gpu_alloc.specs.FreeSpace.{IsIn, IsMultipleOf}
 use Rattle.gpu_alloc.specs.Pieces.{InPiece, Without, AreKept, AreKeptBeside}
 use Rattle.gpu_alloc.specs.declared.buddy.block.Leaf.{Leaf}
 use Rattle.gpu_alloc.specs.declared.buddy.pieces.Piece.{Piece}
 use Rattle.gpu_alloc.proofs.AlignedPowers.{order-le}
 use Rattle.gpu_alloc.proofs.Maps.{one_value, gone, kept_other, own_inserted, other_inserted}
 use Rattle.gpu_alloc.proofs.BuddyLeaves.{in_leaves, leaf_inserted, leaf_removed, leaf_same_or_left}
-use Rattle.gpu_alloc.proofs.ExactPieces.{whole_chunk, piece_for_place}
-use Rattle.gpu_alloc.proofs.Lists.{seek, all_contained}
+use Rattle.gpu_alloc.proofs.ExactPieces.{whole_chunk}
+use Rattle.gpu_alloc.proofs.Lists.{seek}
 use Rattle.gpu_alloc.proofs.PieceSteps.{same_bytes}
 
 -- A leaf and the piece that it is.

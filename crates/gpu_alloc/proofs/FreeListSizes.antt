@@ -4,7 +4,7 @@ use Rattle.std.specs.Prelude.{min, max}
 use Rattle.std.proofs.lemmas.Bool.{cases_lt}
 use Rattle.std.proofs.lemmas.Bool.Decides.{nat_tests}
 use Rattle.std.proofs.lemmas.Nat.{pow_pos, div-mul-add}
-use Rattle.std.proofs.Math.Nat.{add-div_right, div-le_self, mul-le-mul_left, mul_comm, div-mul-le_self, mul-le-mul_right, le-div_iff_mul-le}
+use Rattle.std.proofs.Math.Nat.{add-div_right, div-le_self, mul-le-mul_left, mul_comm, mul-le-mul_right}
 use Rattle.gpu_alloc.specs.BuddySound.{IsPowerUpTo}
 use Rattle.gpu_alloc.specs.FreeListAllocator.{chunk_size, next_size}
 use Rattle.gpu_alloc.specs.FreeListSound.{IsSound}

@@ -1,13 +1,8 @@
 -- A buddy allocator and the table of spans that say the same, as the table changes.
-use Rattle.std.proofs.Common.{◌≡◌, ◌≢◌, ◌⊎◌, inl, inr, ℕ, Bool, true, false, Some, None, IsTrue, refl, sym, ◌∙◌, ap, subst}
-use Rattle.std.specs.Bool.{Decides}
-use Rattle.std.specs.Cmp.{IsTotalOrder, nat_cmp_total}
+use Rattle.std.proofs.Common.{◌≡◌, ◌≢◌, ◌⊎◌, inl, inr, ℕ, true, false, Some, None, IsTrue, refl, sym, ◌∙◌, ap, subst}
 use Rattle.std.specs.FinMap as map
 use Rattle.std.specs.FinSet as set
-use Rattle.std.specs.Ordering.{nat_cmp, eq_by_cmp}
-use Rattle.std.specs.declared.cmp.Ordering.{Ordering}
 use Rattle.std.proofs.lemmas.Bool.{cases_eq}
-use Rattle.std.proofs.lemmas.Bool.Decides.{Decides-eqb}
 use Rattle.gpu_alloc.specs.Buddy.{with_leaf, with_chunk, without_leaf, IsUnusedChunk}
 use Rattle.gpu_alloc.specs.BuddySound.{LiesInChunk, IsSound}
 use Rattle.gpu_alloc.specs.BuddyState.{Chunk, Buddy, IsLiveLeaf}
@@ -17,7 +12,7 @@ use Rattle.gpu_alloc.specs.State.{HeldObject, Span}
 use Rattle.gpu_alloc.specs.declared.buddy.block.Leaf.{Leaf}
 use Rattle.gpu_alloc.proofs.BuddyGrants.{was_live, still_live, now_live}
 use Rattle.gpu_alloc.proofs.BuddyLeaves.{leaf_removed}
-use Rattle.gpu_alloc.proofs.Maps.{name_test, one_value, get_put, get_beside, get_left, own_inserted, other_inserted, another_key, kept_other, kept_key}
+use Rattle.gpu_alloc.proofs.Maps.{one_value, get_put, get_beside, get_left, own_inserted, other_inserted, another_key, kept_other, kept_key}
 use Rattle.gpu_alloc.proofs.LiveSpans.{span_total, span_test, live_new, live_still, live_before, live_kept, live_other}
 
 -- What changed in the table is of one object.

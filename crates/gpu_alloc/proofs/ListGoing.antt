@@ -1,5 +1,5 @@
 -- Chunks that go out of a memory type's free list, one by one, in the allocator's fields and in its state.
-use Rattle.std.proofs.Common.{◌≡◌, ◌≢◌, ℕ, ◌+◌, ◌-◌, ◌<◌, Bool, List, [], ◌∷◌, ◌++◌, length, get_or, length-append, map, Option, Some, None, IfSome, IsTrue, refl, sym, ◌∙◌, inl, inr, ap, subst, arith}
+use Rattle.std.proofs.Common.{◌≡◌, ◌≢◌, ℕ, ◌+◌, ◌-◌, ◌<◌, Bool, List, [], ◌∷◌, ◌++◌, length, get_or, length-append, map, Option, Some, None, IsTrue, refl, sym, ◌∙◌, inl, inr, ap, subst, arith}
 use Rattle.std.proofs.Math.ListN.{set}
 use Rattle.std.proofs.lemmas.List.{map-append, append-nil, get_or-set_same}
 use Rattle.std.proofs.lemmas.Option.{slice_get_read, slice_get_cases}

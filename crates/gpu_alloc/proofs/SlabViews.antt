@@ -8,11 +8,11 @@ use Rattle.std.specs.Cmp.{IsTotalOrder, nat_cmp_total}
 use Rattle.std.specs.FinMap as finite
 use Rattle.std.specs.FinMap.{IsAntisymmetric, nat_cmp-IsAntisymmetric}
 use Rattle.std.specs.FinSet as set
-use Rattle.slab.specs.Slab.{Slab, get, entries, entries_from, slab_len, Updates}
-use Rattle.slab.proofs.SlabLemmas.{Contains-entries, length-entries}
+use Rattle.slab.specs.Slab.{Slab, get, entries, entries_from, Updates}
+use Rattle.slab.proofs.SlabLemmas.{Contains-entries}
 use Rattle.gpu_alloc.specs.SlabViews.{map_by, set_by, by_key, HasOneKeyEach}
 use Rattle.gpu_alloc.proofs.Lists.{contains_cases, contains_none, contains_head, contains_later}
-use Rattle.gpu_alloc.proofs.ListViews.{IsMore, IsLess, IsOneToOne, AreNamedApart, named_there, named_absent, named_more, named_less, in_names, names_more, names_less, names_len, same_or_other}
+use Rattle.gpu_alloc.proofs.ListViews.{IsMore, IsLess, IsOneToOne, AreNamedApart, named_there, named_absent, named_more, named_less, in_names, names_more, names_less, same_or_other}
 use Rattle.gpu_alloc.proofs.ListSets.{key_test}
 
 one_value : {X : Type 0} (a b : X) → Some a ≡ Some b → a ≡ b

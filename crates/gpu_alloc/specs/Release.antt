@@ -12,6 +12,7 @@ use Rattle.gpu_alloc.specs.declared.freelist.region.FreeListRegion.{FreeListRegi
 use Rattle.gpu_alloc.specs.FreeListAllocator.{AreRisingNumbers}
 use Rattle.gpu_alloc.specs.FreeRuns.{IsLastRun}
 use Rattle.gpu_alloc.specs.ListSharing.{IsListChunk, IsFreeInChunk}
+use Rattle.gpu_alloc.specs.Sound.{is_list_chunk}
 use Rattle.gpu_alloc.specs.State.{HeldObject, Span, span_of, Block, State, IsLive}
 
 -- no span of the object is live
@@ -87,3 +88,7 @@ Cleans s es new = (gone : List ℕ) × AreAllGone s (length s.properties.memory_
 
 abbrev pub ObjectsCleaned : State → (ℕ → Option Object) → (ℕ → Option Object) → Type 0
 ObjectsCleaned s old new = (gone : List ℕ) × AreAllGone s (length s.properties.memory_types) gone × (new ≡ without_objects old gone)
+
+-- What a cleanup takes: a free list's chunk in which nothing is live.
+abbrev pub IsCleanedUp : State → ℕ → HeldObject → Type 0
+IsCleanedUp s object h = (is_list_chunk h.kind ≡ true) × IsUnused s object

@@ -10,10 +10,10 @@ ghost use Rattle.gpu_alloc.specs.Agreement.{Agrees};
 ghost use Rattle.gpu_alloc.specs.Allocation.{passing, strategy, unhinted, fits_a_chunk, Tries, TriesBy, TriesAll, Allocates, ObjectsAfter, ObjectsTried, IsGranted, GrantsTried};
 ghost use Rattle.gpu_alloc.specs.declared.allocator.Strategy.TheVariants.{OwnObject, InBuddyChunk, InFreeList};
 ghost use Rattle.gpu_alloc.specs.Opening.{opened};
-ghost use Rattle.gpu_alloc.specs.Release.{Frees, ObjectsFreed, LetsGo, Cleans, ObjectsCleaned, AreChunksGone, without_span, without_objects};
+ghost use Rattle.gpu_alloc.specs.Release.{Frees, ObjectsFreed, LetsGo, Cleans, ObjectsCleaned, AreChunksGone, IsCleanedUp, without_span, without_objects};
 ghost use Rattle.gpu_alloc.specs.Request.{IsAskable};
 ghost use Rattle.gpu_alloc.specs.Sound as Sound;
-ghost use Rattle.gpu_alloc.specs.State.{Span, IsLive, IsOwned, is_shared, ledger, total};
+ghost use Rattle.gpu_alloc.specs.State.{HeldObject, Span, IsLive, IsOwned, is_shared, ledger, total};
 
 mod by_type;
 mod rows;
@@ -685,6 +685,7 @@ impl<M: MemoryObject, A: Allocator> GpuAllocator<M, A> {
         ensures objects { ObjectsCleaned self.old (D.objects device.old) (D.objects device.new) }
         ensures agrees { Agrees self.new (D.properties device.new) (D.objects device.new) }
         ensures total { total self.new ≡ total self.old }
+        ensures left { (object : ℕ) (h : HeldObject) → map.get self.new.held object ≡ Some h ↔ ((map.get self.old.held object ≡ Some h) × (IsCleanedUp self.old object h → ⊥)) }
         ensures ends { ((span : Span) → IsLive self.old span → ⊥) → (self.new.held ≡ map.empty) × ((heap : ℕ) → ledger self.new heap ≡ 0) }
     {
         let count = self.limits.memory_types.len() as u32;

@@ -1,6 +1,6 @@
 use Rattle.std.proofs.Common.{◌≡◌, length, ◌++◌, arith}
 use Rattle.gpu_alloc_types.specs.Chains.{chain_append}
-use Rattle.gpu_alloc.proofs.ListCleanups.{cleaning_goes_on, all_gone}
+use Rattle.gpu_alloc.proofs.ListCleanups.{cleaning_goes_on, all_gone, left_is}
 use Rattle.gpu_alloc.proofs.allocator.GpuAllocator.cleanup.Goals as goal
 
 pub loop-memory_type-preserved : goal.loop-memory_type-preserved
@@ -22,3 +22,12 @@ returns-clause-ends g c unused =
     let all = rw (← c.self.view_is) at way.3.all in
     let lets = rw (← c.self.view_is) at way.3.lets in
     all_gone c.self.inside.limits _ _ _ _ _ c.self.invariant never way.0 (rw (← last) all) _ _ lets
+
+pub returns-clause-left : goal.returns-clause-left
+returns-clause-left g c object h =
+    let way = c.loop-memory_type.invariant in
+    let last : c.loop-memory_type.memory_type ≡ length c.self.inside.limits.memory_types.items =
+    omega (arith, c.loop-memory_type.auto.memory_type-end, c.loop-memory_type-test.false, c.len-count.ensures, c.self.inside.limits.memory_types.ok) in
+    let all = rw (← c.self.view_is) at way.3.all in
+    let lets = rw (← c.self.view_is) at way.3.lets in
+    rw (← c.self.view_is) (left_is c.self.inside.limits _ _ _ _ _ c.self.invariant way.0 (rw (← last) all) _ _ lets object h)

@@ -1,4 +1,4 @@
-use Rattle.std.proofs.Common.{◌≡◌, ◌<◌, length, Some, refl, sym, subst}
+use Rattle.std.proofs.Common.{◌≡◌, ◌<◌, length, Some, sym, subst}
 use Rattle.std.specs.FinMap as map
 use Rattle.gpu_alloc.specs.BuddyState.{Chunk}
 use Rattle.gpu_alloc.specs.FreeListInside.{by_number}
