@@ -3,7 +3,7 @@ use Rattle.std.proofs.Common.{◌≡◌, inl, inr, ℕ, ◌+◌, ◌-◌, ◌*�
 use Rattle.std.specs.Prelude.{min, max}
 use Rattle.std.proofs.lemmas.Bool.{cases_lt}
 use Rattle.std.proofs.lemmas.Bool.Decides.{nat_tests}
-use Rattle.std.proofs.lemmas.Nat.{pow_pos, div-mul-add}
+use Rattle.std.proofs.lemmas.Nat.{pow_pos, div-mul-add, div_below}
 use Rattle.std.proofs.Math.Nat.{add-div_right, div-le_self, mul-le-mul_left, mul_comm, mul-le-mul_right}
 use Rattle.gpu_alloc.specs.BuddySound.{IsPowerUpTo}
 use Rattle.gpu_alloc.specs.FreeListAllocator.{chunk_size, next_size}
@@ -11,7 +11,7 @@ use Rattle.gpu_alloc.specs.FreeListSound.{IsSound}
 use Rattle.gpu_alloc.specs.FreeListState.{Listing}
 use Rattle.gpu_alloc.specs.FreeSpace.{IsMultipleOf}
 use Rattle.gpu_alloc.specs.Request.{IsAlignMask}
-use Rattle.gpu_alloc.specs.Sizes.{next_power_of_two, down, up, doubled_up, grown_chunk, cut, at_least_an_atom, starting_size, final_size, transient_threshold}
+use Rattle.gpu_alloc.specs.Sizes.{next_power_of_two, down, up, doubled_up, grown_chunk, IsLeastProduct, cut, at_least_an_atom, starting_size, final_size, transient_threshold}
 use Rattle.gpu_alloc.proofs.AlignedPowers.{pow-le}
 use Rattle.gpu_alloc.proofs.PowersOfTwo.{is_next_power_of_two, power_of_bit, bit_of_power, greater_power, power_is_next}
 use Rattle.gpu_alloc.proofs.Multiples.{multiple_times, multiple_min, multiple_below, multiple_down, down_below}
@@ -77,6 +77,41 @@ chunk_size_bound l size s = elim (cases_lt l.next_chunk size) [
   | inr le ↦ rw (grown_small l.next_chunk l.final_chunk size le) s.next_chunk.1
   | inl lt ↦ rw (grown_large l.next_chunk l.final_chunk size lt) (omega arith)
 ]
+
+-- It is the least of the products that are enough.
+
+-- a product that holds the block has enough pieces
+pieces_within : (next size n : ℕ) → 0 < next → size ≤ next * n → (size + (next - 1)) / next ≤ n
+pieces_within next size n some enough = omega (arith, div_below (size + (next - 1)) next (n + 1) some (omega (arith, enough, some)))
+
+pub grown_is_least : (next final size : ℕ) → 0 < next → next ≤ final → final ≤ 2 ^ 62 → size ≤ final → IsLeastProduct next final size (grown_chunk next final size)
+grown_is_least next final size some le bound fits = elim (cases_lt next size) [
+  | inr small ↦ rw (grown_small next final size small) (record {
+      enough = small;
+      product = (0, omega (arith, le));
+      least = λ k _. omega (arith, mul-le-mul_left next (pow_pos k));
+    })
+  | inl lt ↦
+      let parts : ℕ = (size + (next - 1)) / next in
+      let few : parts ≤ 2 ^ 64 = omega (arith, div-le_self (size + (next - 1)) next, le, fits, bound) in
+      let power = is_next_power_of_two parts few in
+      rw (grown_large next final size lt) (record {
+        enough = omega (arith, enough_pieces next size some, mul-le-mul_left next power.enough, fits);
+        product = (power.power.0, ap (λ p. min (next * p) final) power.power.1);
+        least = λ k enough. omega (arith, mul-le-mul_left next (power.least k (pieces_within next size (2 ^ k) some enough)));
+      })
+]
+
+-- of two such numbers none is greater
+least_product_below : (next final size chunk other : ℕ) → IsLeastProduct next final size chunk → IsLeastProduct next final size other → chunk ≤ other
+least_product_below next final size chunk other it that =
+    let (k, is) = that.product in
+    let (_, of) = it.product in
+    omega (arith, is, of, it.least k (omega (arith, is, that.enough)))
+
+pub least_product_only : (next final size chunk other : ℕ) → IsLeastProduct next final size chunk → IsLeastProduct next final size other → chunk ≡ other
+least_product_only next final size chunk other it that =
+    omega (arith, least_product_below next final size chunk other it that, least_product_below next final size other chunk that it)
 
 -- Chunks are of whole atoms.
 

@@ -18,7 +18,7 @@ ghost use Rattle.gpu_alloc.specs.Ranking.{IsRanking, IsRankingWithin, ranking, c
 ghost use Rattle.gpu_alloc.specs.Request.{IsAlignMask};
 ghost use Rattle.gpu_alloc.specs.Samples.{one_type, three_types, over, bytes_for, buddy_config};
 ghost use Rattle.gpu_alloc.specs.Sharing.{buddy_size, buddy_question, with_buddy_chunk};
-ghost use Rattle.gpu_alloc.specs.Sizes.{IsNextPowerOfTwo, next_power_of_two, minimal_size, initial_size, starting_size, final_size, first_types, grown_chunk, doubled_chunk};
+ghost use Rattle.gpu_alloc.specs.Sizes.{IsNextPowerOfTwo, next_power_of_two, minimal_size, initial_size, starting_size, final_size, first_types, grown_chunk, IsLeastProduct, doubled_chunk};
 ghost use Rattle.gpu_alloc.specs.State.{State};
 ghost use Rattle.gpu_alloc.specs.declared.block.Kind.{Kind};
 ghost use Rattle.gpu_alloc.specs.declared.buddy.pieces.Piece.{Piece};
@@ -74,6 +74,13 @@ pub fn regions_are_the_free_runs()
     ensures place { (s : Space) (regions : List FreeListRegion) → IsSpaced (IsFreeIn s) (Contains regions) → (size order : ℕ) → 0 < size → HasPlace s size (2 ^ order) ↔ ((r : FreeListRegion) × Contains regions r × HasRoom size (2 ^ order) r.start r.end) }
     ensures exact_in_state { (s : State) (memory_type : ℕ) (regions : List FreeListRegion) → IsSpaced (IsFreeInChunk s memory_type) (Contains regions) → (r : FreeListRegion) → Contains regions r ↔ IsFreeRun (IsFreeInChunk s memory_type) r.chunk r.start r.end }
     ensures place_in_state { (s : State) (memory_type : ℕ) (regions : List FreeListRegion) → IsSpaced (IsFreeInChunk s memory_type) (Contains regions) → (size order : ℕ) → 0 < size → HasListPlace s memory_type size (2 ^ order) ↔ ((r : FreeListRegion) × Contains regions r × HasRoom size (2 ^ order) r.start r.end) }
+{}
+
+/// A chunk for a block that is no larger than the largest chunk holds it, and is the least that does so of the next chunk's
+/// size, its double, and so on, each cut at the largest. No other number is.
+pub fn free_list_chunk_is_least()
+    ensures is { (next final size : ℕ) → 0 < next → next ≤ final → final ≤ 2 ^ 62 → size ≤ final → IsLeastProduct next final size (grown_chunk next final size) }
+    ensures only { (next final size chunk other : ℕ) → IsLeastProduct next final size chunk → IsLeastProduct next final size other → chunk ≡ other }
 {}
 
 /// Chunks of free lists and the tails that blocks are, for a first chunk of 8192 bytes: the next chunk, one that has to be
