@@ -20,7 +20,7 @@ use Rattle.gpu_alloc.proofs.SharedRefusals.{first_tries, refused_tries, nothing_
 use Rattle.gpu_alloc.proofs.allocator.GpuAllocator.try_buddy.Given.{Over}
 use Rattle.gpu_alloc.proofs.allocator.GpuAllocator.try_buddy.Goals as goal
 
--- Before anything is asked.
+-- Before anything is asked of the device.
 
 pub returns-in-Some : goal.returns-in-Some
 returns-in-Some g c =
