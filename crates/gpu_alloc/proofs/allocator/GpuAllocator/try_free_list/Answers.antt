@@ -5,6 +5,7 @@ use Rattle.std.specs.FinMap as finite
 use Rattle.std.specs.FinSet as set_of
 use Rattle.gpu_alloc_types.specs.Flags.{allocation_bits, has_bit}
 use Rattle.gpu_alloc_types.specs.Properties.{Properties}
+use Rattle.gpu_alloc.specs.FreeListAllocator.{account}
 use Rattle.gpu_alloc.specs.Inside.{state_in, with_chunk_of_slot, span_of_slot, no_place}
 use Rattle.gpu_alloc.specs.ListSharing.{list_block}
 use Rattle.gpu_alloc.specs.Spans.{Table}
@@ -13,7 +14,7 @@ use Rattle.gpu_alloc.specs.declared.block.Kind.TheVariants.{FreeListChunk}
 use Rattle.gpu_alloc.specs.declared.freelist.block.Slot.{Slot}
 use Rattle.gpu_alloc.proofs.BuddyGrants.{when_ok}
 use Rattle.gpu_alloc.proofs.Consistency.{heap_there}
-use Rattle.gpu_alloc.proofs.ListAnswers.{Given, slot_fits, slot_is_free, list_objects_served, list_served, gives_wanted}
+use Rattle.gpu_alloc.proofs.ListAnswers.{Given, slot_fits, slot_is_free, IsServed, list_objects_served, list_served, gives_wanted}
 use Rattle.gpu_alloc.proofs.ListGrants.{fits_list, counted_before, bounded_before, consistent_refused, state_refused}
 use Rattle.gpu_alloc.proofs.ListRefusals.{first_tries, refused_tries}
 use Rattle.gpu_alloc.proofs.ListServed.{list_agrees}
@@ -169,18 +170,21 @@ after g c =
     state_in c.self.inside.limits (set c.self.inside.heaps.items c.heap_index-heap.result c.alloc-answer.new.heap) c.self.inside.buddies.items (set c.self.inside.free_lists.items c.args.memory_type c.alloc-answer.new.self)
     c.add_slot-key.new.spans c.alloc-answer.new.allocations_remains
 
+is : (g : Over) (c : goal.After-new g)
+    → IsServed (given g c) _ _ _ c.in-Ok.ensures.allocates.0 _ c.in-Ok.ensures.allocates.2 c.in-Ok.ensures.objects c.in-Ok.ensures.granted c.add_slot-key.new.spans c.in-Ok.ensures.sound (held_is g c) (live_is g c)
+    (places_are g c) (account c.alloc-answer.new.self c.alloc-answer.new.heap c.alloc-answer.new.allocations_remains)
+is g c =
+    list_served (given g c) _ _ _ c.in-Ok.ensures.allocates.0 _ c.in-Ok.ensures.allocates.2 c.in-Ok.ensures.objects c.in-Ok.ensures.granted c.add_slot-key.new.spans c.in-Ok.ensures.sound (held_is g c) (live_is g c)
+    (places_are g c)
+
 pub invariant_of-self-in-Ok : goal.invariant_of-self-in-Ok
 invariant_of-self-in-Ok g c =
-    let is = list_served (given g c) _ _ _ c.in-Ok.ensures.allocates.0 _ c.in-Ok.ensures.allocates.2 c.in-Ok.ensures.objects c.in-Ok.ensures.granted
-    c.add_slot-key.new.spans c.in-Ok.ensures.sound (held_is g c) (live_is g c) (places_are g c) in
-    is.consistent
+    (is g c).consistent
 
 pub returns-in-Ok-clause-tries : goal.returns-in-Ok-clause-tries
 returns-in-Ok-clause-tries g c =
-    let is = list_served (given g c) _ _ _ c.in-Ok.ensures.allocates.0 _ c.in-Ok.ensures.allocates.2 c.in-Ok.ensures.objects c.in-Ok.ensures.granted
-    c.add_slot-key.new.spans c.in-Ok.ensures.sound (held_is g c) (live_is g c) (places_are g c) in
     let told = c.in-Ok.ensures.allocates in
-    let sized = gives_wanted _ _ _ c.args.memory_type _ (serves_now g c) c.args.request (allocation_bits c.flags-flags.result) told.0 c.in-Ok.block.chunk (span_of_slot c.in-Ok.block) (after g c) is.gives in
+    let sized = gives_wanted _ _ _ c.args.memory_type _ (serves_now g c) c.args.request (allocation_bits c.flags-flags.result) told.0 c.in-Ok.block.chunk (span_of_slot c.in-Ok.block) (after g c) (is g c).gives in
     rw (← c.self.view_is, block_is g c) (told.0, told.1, (c.in-Ok.block.chunk, (refl, sized)))
 
 pub returns-in-Ok-clause-objects : goal.returns-in-Ok-clause-objects
@@ -190,21 +194,15 @@ returns-in-Ok-clause-objects g c =
 
 pub returns-in-Ok-clause-agrees : goal.returns-in-Ok-clause-agrees
 returns-in-Ok-clause-agrees g c =
-    let is = list_served (given g c) _ _ _ c.in-Ok.ensures.allocates.0 _ c.in-Ok.ensures.allocates.2 c.in-Ok.ensures.objects c.in-Ok.ensures.granted
-    c.add_slot-key.new.spans c.in-Ok.ensures.sound (held_is g c) (live_is g c) (places_are g c) in
-    rw c.in-Ok.ensures.properties is.agreed
+    rw c.in-Ok.ensures.properties (is g c).agreed
 
 pub returns-in-Ok-clause-granted : goal.returns-in-Ok-clause-granted
 returns-in-Ok-clause-granted g c =
-    let is = list_served (given g c) _ _ _ c.in-Ok.ensures.allocates.0 _ c.in-Ok.ensures.allocates.2 c.in-Ok.ensures.objects c.in-Ok.ensures.granted
-    c.add_slot-key.new.spans c.in-Ok.ensures.sound (held_is g c) (live_is g c) (places_are g c) in
-    rw (← c.self.view_is, block_is g c) is.told
+    rw (← c.self.view_is, block_is g c) (is g c).told
 
 pub returns-in-Ok-clause-total : goal.returns-in-Ok-clause-total
 returns-in-Ok-clause-total g c =
-    let is = list_served (given g c) _ _ _ c.in-Ok.ensures.allocates.0 _ c.in-Ok.ensures.allocates.2 c.in-Ok.ensures.objects c.in-Ok.ensures.granted
-    c.add_slot-key.new.spans c.in-Ok.ensures.sound (held_is g c) (live_is g c) (places_are g c) in
-    rw (← c.self.view_is) is.whole
+    rw (← c.self.view_is) (is g c).whole
 
 -- A refusal.
 
