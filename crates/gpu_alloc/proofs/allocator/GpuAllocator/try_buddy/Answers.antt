@@ -1,5 +1,4 @@
-use Rattle.std.proofs.Common.{ℕ, ◌≡◌, ◌⊎◌, ◌+◌, ◌<◌, [], Bool, true, false, cond, IfSome, IsTrue, refl, sym, ap, ◌∙◌, arith, subst, length, vec_len}
-use Rattle.std.proofs.lemmas.Grind.{common_steps}
+use Rattle.std.proofs.Common.{ℕ, ◌≡◌, ◌⊎◌, ◌+◌, ◌<◌, [], Bool, true, false, cond, IfSome, IsTrue, refl, sym, ap, ◌∙◌, arith, subst}
 use Rattle.std.proofs.lemmas.List.{get_or-set_same}
 use Rattle.std.proofs.Math.ListN.{set}
 use Rattle.std.specs.FinMap as finite
@@ -61,10 +60,7 @@ returns-then-is_err-clause-tries g c =
 -- The call of the buddy allocator.
 
 pub index_mut-requires-2 : goal.index_mut-requires-2
-index_mut-requires-2 g c =
-    let known = rw (← c.self.view_is) at c.requires.known in
-    let n : vec_len c.self.inside.heaps ≡ length c.self.inside.heaps.items = grind (arith, common_steps) in
-    omega (arith, n, c.heap_index-heap.ensures, heap_there _ _ _ _ c.self.invariant.books refl c.args.memory_type known)
+index_mut-requires-2 g c = below c.heap_index-heap.ensures c.self.inside.heaps.ok.0 (heap_there _ _ _ _ c.self.invariant.books refl c.args.memory_type (rw (← c.self.view_is) at c.requires.known))
 
 pub alloc-answer-requires-clause-agrees : goal.alloc-answer-requires-clause-agrees
 alloc-answer-requires-clause-agrees g c =
@@ -121,8 +117,7 @@ given g c = record {
 size_is : (g : Over) (c : goal.After-new g) → IfSome (finite.get c.alloc-answer.new.self.chunks c.in-Ok.block.chunk) (λ chunk. chunk.size ≡ c.chunk_size-chunk_size.result)
 size_is g c =
     let known = rw (← c.self.view_is) at c.requires.known in
-    let inside : c.args.memory_type < length c.self.inside.buddies.items = omega (arith, known, c.self.invariant.shared.count) in
-    let own : c.index-in-Ok.result.now ≡ c.alloc-answer.new.self = c.index-in-Ok.ensures ∙ get_or-set_same c.self.inside.buddies.items c.args.memory_type c.alloc-answer.new.self c.index-in-Ok.result.now inside in
+    let own : c.index-in-Ok.result.now ≡ c.alloc-answer.new.self = c.index-in-Ok.ensures ∙ get_or-set_same c.self.inside.buddies.items c.args.memory_type c.alloc-answer.new.self c.index-in-Ok.result.now (below refl c.self.invariant.shared.count known) in
     subst (λ b. IfSome (finite.get b.chunks c.in-Ok.block.chunk) (λ chunk. chunk.size ≡ c.chunk_size-chunk_size.result)) own
     (subst (λ leaf. IfSome (finite.get c.index-in-Ok.result.now.chunks leaf.chunk) (λ chunk. chunk.size ≡ c.chunk_size-chunk_size.result)) c.into_parts-memory.ensures.leaf c.chunk_size-chunk_size.ensures)
 

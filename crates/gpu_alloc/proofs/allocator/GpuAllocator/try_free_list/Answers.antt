@@ -1,5 +1,4 @@
-use Rattle.std.proofs.Common.{ℕ, ◌≡◌, ◌+◌, ◌<◌, [], Bool, true, false, cond, IsTrue, refl, sym, ap, ◌∙◌, arith, subst, length, vec_len}
-use Rattle.std.proofs.lemmas.Grind.{common_steps}
+use Rattle.std.proofs.Common.{ℕ, ◌≡◌, ◌+◌, ◌^◌, ◌<◌, [], Bool, true, false, cond, IsTrue, refl, sym, ap, ◌∙◌, arith, subst}
 use Rattle.std.proofs.Math.ListN.{set}
 use Rattle.std.specs.FinMap as finite
 use Rattle.std.specs.FinSet as set_of
@@ -62,10 +61,7 @@ returns-then-is_err-clause-tries g c =
 -- The call of the free list.
 
 pub index_mut-requires-2 : goal.index_mut-requires-2
-index_mut-requires-2 g c =
-    let known = rw (← c.self.view_is) at c.requires.known in
-    let n : vec_len c.self.inside.heaps ≡ length c.self.inside.heaps.items = grind (arith, common_steps) in
-    omega (arith, n, c.heap_index-heap.ensures, heap_there _ _ _ _ c.self.invariant.books refl c.args.memory_type known)
+index_mut-requires-2 g c = below c.heap_index-heap.ensures c.self.inside.heaps.ok.0 (heap_there _ _ _ _ c.self.invariant.books refl c.args.memory_type (rw (← c.self.view_is) at c.requires.known))
 
 pub alloc-answer-requires-clause-fits : goal.alloc-answer-requires-clause-fits
 alloc-answer-requires-clause-fits g c =
@@ -114,7 +110,7 @@ add_slot-key-requires-clause-free g c =
 pub add_slot-key-requires-clause-fits : goal.add_slot-key-requires-clause-fits
 add_slot-key-requires-clause-fits g c =
     let fits = slot_fits _ _ _ c.in-Ok.block c.in-Ok.ensures.sound c.in-Ok.ensures.granted in
-    omega (arith, fits, ap (λ (x : Slot). x.offset + x.size) c.into_parts-memory.ensures.slot)
+    subst (λ (x : Slot). x.offset + x.size < 2 ^ 64) (sym c.into_parts-memory.ensures.slot) fits
 
 given : (g : Over) (c : goal.After-new g)
     → Given c.self.inside.limits c.self.inside.heaps.items c.self.inside.buddies.items c.self.inside.free_lists.items c.self.inside.spans c.self.inside.allocations_remains c.args.memory_type c.heap_index-heap.result
