@@ -1,26 +1,36 @@
-use Rattle.std.proofs.Common.{◌≡◌, ◌⊎◌, ◌<◌, [], IfSome, refl, ap, ◌∙◌, arith, subst, length, vec_len}
-use Rattle.std.proofs.lemmas.Grind.{common_steps}
+use Rattle.std.proofs.Common.{ℕ, ◌≡◌, ◌⊎◌, ◌+◌, ◌<◌, [], Bool, true, false, cond, IfSome, IsTrue, refl, sym, ap, ◌∙◌, arith, subst}
 use Rattle.std.proofs.lemmas.List.{get_or-set_same}
 use Rattle.std.proofs.Math.ListN.{set}
 use Rattle.std.specs.FinMap as finite
 use Rattle.std.specs.FinSet as set_of
-use Rattle.gpu_alloc_types.specs.Flags.{allocation_bits}
+use Rattle.std.specs.Option.{IsSome, is_some}
+use Rattle.gpu_alloc_types.specs.Flags.{allocation_bits, has_bit}
+use Rattle.gpu_alloc_types.specs.Properties.{Properties}
+use Rattle.gpu_alloc.specs.Buddy.{account}
 use Rattle.gpu_alloc.specs.Inside.{state_in, with_chunk_of, span_of_leaf, place_of_leaf}
 use Rattle.gpu_alloc.specs.Sharing.{buddy_block, GivesInChunk, GivesInNewChunk}
 use Rattle.gpu_alloc.specs.Spans.{Table}
 use Rattle.gpu_alloc.specs.State.{State, HeldObject, Block, total}
 use Rattle.gpu_alloc.specs.declared.block.Kind.TheVariants.{BuddyChunk}
+use Rattle.gpu_alloc.proofs.BuddyGrants.{when_ok}
 use Rattle.gpu_alloc.proofs.Consistency.{heap_there}
 use Rattle.gpu_alloc.proofs.OwnObjects.{consistent-room}
 use Rattle.gpu_alloc.proofs.ServedBlocks.{buddy_agrees}
 use Rattle.gpu_alloc.proofs.Serving.{Serves, first_open, rounded_is}
-use Rattle.gpu_alloc.proofs.SharedAnswers.{Given, span_is_free, objects_served, served}
+use Rattle.gpu_alloc.proofs.SharedAnswers.{Given, span_is_free, IsServed, objects_served, served}
 use Rattle.gpu_alloc.proofs.SharedGrants.{serves, counted_before, bounded_before, consistent_refused, state_refused}
 use Rattle.gpu_alloc.proofs.SharedRefusals.{first_tries, refused_tries, nothing_made, nothing_granted}
 use Rattle.gpu_alloc.proofs.allocator.GpuAllocator.try_buddy.Given.{Over}
 use Rattle.gpu_alloc.proofs.allocator.GpuAllocator.try_buddy.Goals as goal
 
--- Before anything is asked.
+below : {a b m n : ℕ} → a ≡ b → m ≡ n → b < n → a < m
+below e k h = omega arith
+
+address_there : (bits : ℕ) (has device : Bool) → bits ≡ cond has 1 0 → device ≡ has → IsTrue (has_bit bits 1) → IsTrue device
+address_there bits true device e is asked = is
+address_there bits false device e is asked = let none : IsTrue (has_bit 0 1) = subst (λ n. IsTrue (has_bit n 1)) e asked in absurd (cc)
+
+-- Before anything is asked of the device.
 
 pub returns-in-Some : goal.returns-in-Some
 returns-in-Some g c =
@@ -50,10 +60,7 @@ returns-then-is_err-clause-tries g c =
 -- The call of the buddy allocator.
 
 pub index_mut-requires-2 : goal.index_mut-requires-2
-index_mut-requires-2 g c =
-    let known = rw (← c.self.view_is) at c.requires.known in
-    let n : vec_len c.self.inside.heaps ≡ length c.self.inside.heaps.items = grind (arith, common_steps) in
-    omega (arith, n, c.heap_index-heap.ensures, heap_there _ _ _ _ c.self.invariant.books refl c.args.memory_type known)
+index_mut-requires-2 g c = below c.heap_index-heap.ensures c.self.inside.heaps.ok.0 (heap_there _ _ _ _ c.self.invariant.books refl c.args.memory_type (rw (← c.self.view_is) at c.requires.known))
 
 pub alloc-answer-requires-clause-agrees : goal.alloc-answer-requires-clause-agrees
 alloc-answer-requires-clause-agrees g c =
@@ -110,8 +117,7 @@ given g c = record {
 size_is : (g : Over) (c : goal.After-new g) → IfSome (finite.get c.alloc-answer.new.self.chunks c.in-Ok.block.chunk) (λ chunk. chunk.size ≡ c.chunk_size-chunk_size.result)
 size_is g c =
     let known = rw (← c.self.view_is) at c.requires.known in
-    let inside : c.args.memory_type < length c.self.inside.buddies.items = omega (arith, known, c.self.invariant.shared.count) in
-    let own : c.index-in-Ok.result.now ≡ c.alloc-answer.new.self = c.index-in-Ok.ensures ∙ get_or-set_same c.self.inside.buddies.items c.args.memory_type c.alloc-answer.new.self c.index-in-Ok.result.now inside in
+    let own : c.index-in-Ok.result.now ≡ c.alloc-answer.new.self = c.index-in-Ok.ensures ∙ get_or-set_same c.self.inside.buddies.items c.args.memory_type c.alloc-answer.new.self c.index-in-Ok.result.now (below refl c.self.invariant.shared.count known) in
     subst (λ b. IfSome (finite.get b.chunks c.in-Ok.block.chunk) (λ chunk. chunk.size ≡ c.chunk_size-chunk_size.result)) own
     (subst (λ leaf. IfSome (finite.get c.index-in-Ok.result.now.chunks leaf.chunk) (λ chunk. chunk.size ≡ c.chunk_size-chunk_size.result)) c.into_parts-memory.ensures.leaf c.chunk_size-chunk_size.ensures)
 
@@ -153,19 +159,22 @@ after g c =
     state_in c.self.inside.limits (set c.self.inside.heaps.items c.heap_index-heap.result c.alloc-answer.new.heap) (set c.self.inside.buddies.items c.args.memory_type c.alloc-answer.new.self) c.self.inside.free_lists.items
     c.add_leaf-key.new.spans c.alloc-answer.new.allocations_remains
 
+is : (g : Over) (c : goal.After-new g)
+    → IsServed (given g c) _ _ c.in-Ok.ensures.allocates.0 _ c.in-Ok.ensures.allocates.2 c.in-Ok.ensures.objects c.in-Ok.ensures.granted c.add_leaf-key.new.spans c.chunk_size-chunk_size.result c.in-Ok.ensures.sound (size_is g c) (held_is g c)
+    (live_is g c) (places_are g c) (account c.alloc-answer.new.self c.alloc-answer.new.heap c.alloc-answer.new.allocations_remains)
+is g c =
+    served (given g c) _ _ c.in-Ok.ensures.allocates.0 _ c.in-Ok.ensures.allocates.2 c.in-Ok.ensures.objects c.in-Ok.ensures.granted c.add_leaf-key.new.spans c.chunk_size-chunk_size.result c.in-Ok.ensures.sound (size_is g c) (held_is g c)
+    (live_is g c) (places_are g c)
+
 pub invariant_of-self-in-Ok : goal.invariant_of-self-in-Ok
 invariant_of-self-in-Ok g c =
-    let is = served (given g c) _ _ c.in-Ok.ensures.allocates.0 _ c.in-Ok.ensures.allocates.2 c.in-Ok.ensures.objects c.in-Ok.ensures.granted
-    c.add_leaf-key.new.spans c.chunk_size-chunk_size.result c.in-Ok.ensures.sound (size_is g c) (held_is g c) (live_is g c) (places_are g c) in
-    is.consistent
+    (is g c).consistent
 
 pub returns-in-Ok-clause-tries : goal.returns-in-Ok-clause-tries
 returns-in-Ok-clause-tries g c =
-    let is = served (given g c) _ _ c.in-Ok.ensures.allocates.0 _ c.in-Ok.ensures.allocates.2 c.in-Ok.ensures.objects c.in-Ok.ensures.granted
-    c.add_leaf-key.new.spans c.chunk_size-chunk_size.result c.in-Ok.ensures.sound (size_is g c) (held_is g c) (live_is g c) (places_are g c) in
     let told = c.in-Ok.ensures.allocates in
     let sized = subst (λ n. GivesInChunk (before g c) c.args.memory_type n told.0 (span_of_leaf c.in-Ok.block) (after g c) ⊎ GivesInNewChunk (before g c) c.args.memory_type n told.0 (span_of_leaf c.in-Ok.block) (after g c))
-    (rounded_is _ _ _ c.args.memory_type _ (serves_now g c) c.args.request (allocation_bits c.flags-flags.result)) is.gives in
+    (rounded_is _ _ _ c.args.memory_type _ (serves_now g c) c.args.request (allocation_bits c.flags-flags.result)) (is g c).gives in
     rw (← c.self.view_is, block_is g c) (told.0, told.1, (refl, sized))
 
 pub returns-in-Ok-clause-objects : goal.returns-in-Ok-clause-objects
@@ -175,21 +184,15 @@ returns-in-Ok-clause-objects g c =
 
 pub returns-in-Ok-clause-agrees : goal.returns-in-Ok-clause-agrees
 returns-in-Ok-clause-agrees g c =
-    let is = served (given g c) _ _ c.in-Ok.ensures.allocates.0 _ c.in-Ok.ensures.allocates.2 c.in-Ok.ensures.objects c.in-Ok.ensures.granted
-    c.add_leaf-key.new.spans c.chunk_size-chunk_size.result c.in-Ok.ensures.sound (size_is g c) (held_is g c) (live_is g c) (places_are g c) in
-    rw c.in-Ok.ensures.properties is.agreed
+    rw c.in-Ok.ensures.properties (is g c).agreed
 
 pub returns-in-Ok-clause-granted : goal.returns-in-Ok-clause-granted
 returns-in-Ok-clause-granted g c =
-    let is = served (given g c) _ _ c.in-Ok.ensures.allocates.0 _ c.in-Ok.ensures.allocates.2 c.in-Ok.ensures.objects c.in-Ok.ensures.granted
-    c.add_leaf-key.new.spans c.chunk_size-chunk_size.result c.in-Ok.ensures.sound (size_is g c) (held_is g c) (live_is g c) (places_are g c) in
-    rw (← c.self.view_is, block_is g c) is.told
+    rw (← c.self.view_is, block_is g c) (is g c).told
 
 pub returns-in-Ok-clause-total : goal.returns-in-Ok-clause-total
 returns-in-Ok-clause-total g c =
-    let is = served (given g c) _ _ c.in-Ok.ensures.allocates.0 _ c.in-Ok.ensures.allocates.2 c.in-Ok.ensures.objects c.in-Ok.ensures.granted
-    c.add_leaf-key.new.spans c.chunk_size-chunk_size.result c.in-Ok.ensures.sound (size_is g c) (held_is g c) (live_is g c) (places_are g c) in
-    rw (← c.self.view_is) is.whole
+    rw (← c.self.view_is) (is g c).whole
 
 -- A refusal.
 
@@ -216,3 +219,59 @@ returns-in-Err g c =
       granted = nothing_granted _ c.args.request c.in-Err.refusal _ refl;
       total = ap total left;
     })
+
+pub heap_index-heap-requires : goal.heap_index-heap-requires
+heap_index-heap-requires g c = rw (← c.self.view_is) at c.requires.known
+
+pub index-requires : goal.index-requires
+index-requires g c = below refl (c.self.inside.buddies.ok.0 ∙ c.self.invariant.shared.count) (rw (← c.self.view_is) at c.requires.known)
+
+pub index-requires-2 : goal.index-requires-2
+index-requires-2 g c = below c.heap_index-heap.ensures c.self.inside.heaps.ok.0 (heap_there _ _ _ _ c.self.invariant.books refl c.args.memory_type (rw (← c.self.view_is) at c.requires.known))
+
+pub refuses-first-requires-clause-nonempty : goal.refuses-first-requires-clause-nonempty
+refuses-first-requires-clause-nonempty g c = c.requires.askable.nonempty
+
+pub refuses-first-requires-clause-alignment : goal.refuses-first-requires-clause-alignment
+refuses-first-requires-clause-alignment g c = c.requires.askable.alignment
+
+pub returns-then-is_err-clause-objects : goal.returns-then-is_err-clause-objects
+returns-then-is_err-clause-objects g c = refl
+
+pub returns-then-is_err-clause-agrees : goal.returns-then-is_err-clause-agrees
+returns-then-is_err-clause-agrees g c = rw (ap (λ (t : Table). t.held) c.reserve.ensures.kept, ap (λ (t : Table). t.live) c.reserve.ensures.kept, c.self.view_is) c.requires.agrees
+
+pub returns-then-is_err-clause-granted : goal.returns-then-is_err-clause-granted
+returns-then-is_err-clause-granted g c = rw (ap (λ (t : Table). t.held) c.reserve.ensures.kept, ap (λ (t : Table). t.live) c.reserve.ensures.kept) c.self.view_is
+
+pub returns-then-is_err-clause-total : goal.returns-then-is_err-clause-total
+returns-then-is_err-clause-total g c = ap (λ (t : Table). c.self.inside.allocations_remains + finite.len t.held) c.reserve.ensures.kept ∙ ap total c.self.view_is
+
+pub index_mut-requires : goal.index_mut-requires
+index_mut-requires g c = below refl (c.self.inside.buddies.ok.0 ∙ c.self.invariant.shared.count) (rw (← c.self.view_is) at c.requires.known)
+
+pub alloc-answer-requires-clause-nonempty : goal.alloc-answer-requires-clause-nonempty
+alloc-answer-requires-clause-nonempty g c = c.requires.askable.nonempty
+
+pub alloc-answer-requires-clause-alignment : goal.alloc-answer-requires-clause-alignment
+alloc-answer-requires-clause-alignment g c = c.requires.askable.alignment
+
+pub alloc-answer-requires-clause-address : goal.alloc-answer-requires-clause-address
+alloc-answer-requires-clause-address g c = address_there _ _ _ c.flags-flags.ensures (ap (λ (p : Properties). p.buffer_device_address) (c.requires.agrees.properties ∙ ap (λ (s : State). s.properties) (sym c.self.view_is)))
+
+pub props-props-requires : goal.props-props-requires
+props-props-requires g c = rw (← c.self.view_is) at c.requires.known
+
+pub add_leaf-key-requires-clause-room : goal.add_leaf-key-requires-clause-room
+add_leaf-key-requires-clause-room g c = when_ok c.reserve.result (sym c.if-is_err.ensures.value) c.reserve.ensures.room
+
+pub index-requires-in-Ok : goal.index-requires-in-Ok
+index-requires-in-Ok g c = below refl (c.self.inside.buddies.ok.0 ∙ c.self.invariant.shared.count) (rw (← c.self.view_is) at c.requires.known)
+
+pub chunk_size-chunk_size-requires : goal.chunk_size-chunk_size-requires
+chunk_size-chunk_size-requires g c =
+    let known = rw (← c.self.view_is) at c.requires.known in
+    let own : c.index-in-Ok.result.now ≡ c.alloc-answer.new.self =
+    c.index-in-Ok.ensures ∙ get_or-set_same c.self.inside.buddies.items c.args.memory_type c.alloc-answer.new.self c.index-in-Ok.result.now (below refl c.self.invariant.shared.count known) in
+    subst (λ b. IsSome (finite.get b.chunks c.into_parts-memory.result.1.chunk)) (sym own)
+    (subst (λ leaf. IsSome (finite.get c.alloc-answer.new.self.chunks leaf.chunk)) (sym c.into_parts-memory.ensures.leaf) (ap is_some c.in-Ok.ensures.granted.inside.1))

@@ -1,17 +1,19 @@
-use Rattle.std.proofs.Common.{◌≡◌, ◌+◌, [], refl, ap, ◌∙◌, arith, length, vec_len}
-use Rattle.std.proofs.lemmas.Grind.{common_steps}
+use Rattle.std.proofs.Common.{ℕ, ◌≡◌, ◌+◌, ◌^◌, ◌<◌, [], Bool, true, false, cond, IsTrue, refl, sym, ap, ◌∙◌, arith, subst}
 use Rattle.std.proofs.Math.ListN.{set}
 use Rattle.std.specs.FinMap as finite
 use Rattle.std.specs.FinSet as set_of
-use Rattle.gpu_alloc_types.specs.Flags.{allocation_bits}
+use Rattle.gpu_alloc_types.specs.Flags.{allocation_bits, has_bit}
+use Rattle.gpu_alloc_types.specs.Properties.{Properties}
+use Rattle.gpu_alloc.specs.FreeListAllocator.{account}
 use Rattle.gpu_alloc.specs.Inside.{state_in, with_chunk_of_slot, span_of_slot, no_place}
 use Rattle.gpu_alloc.specs.ListSharing.{list_block}
 use Rattle.gpu_alloc.specs.Spans.{Table}
 use Rattle.gpu_alloc.specs.State.{State, HeldObject, Block, total}
 use Rattle.gpu_alloc.specs.declared.block.Kind.TheVariants.{FreeListChunk}
 use Rattle.gpu_alloc.specs.declared.freelist.block.Slot.{Slot}
+use Rattle.gpu_alloc.proofs.BuddyGrants.{when_ok}
 use Rattle.gpu_alloc.proofs.Consistency.{heap_there}
-use Rattle.gpu_alloc.proofs.ListAnswers.{Given, slot_fits, slot_is_free, list_objects_served, list_served, gives_wanted}
+use Rattle.gpu_alloc.proofs.ListAnswers.{Given, slot_fits, slot_is_free, IsServed, list_objects_served, list_served, gives_wanted}
 use Rattle.gpu_alloc.proofs.ListGrants.{fits_list, counted_before, bounded_before, consistent_refused, state_refused}
 use Rattle.gpu_alloc.proofs.ListRefusals.{first_tries, refused_tries}
 use Rattle.gpu_alloc.proofs.ListServed.{list_agrees}
@@ -22,7 +24,14 @@ use Rattle.gpu_alloc.proofs.allocator.GpuAllocator.try_free_list.Given.{Over}
 use Rattle.gpu_alloc.proofs.allocator.GpuAllocator.try_free_list.Goals as goal
 use Rattle.gpu_alloc.proofs.TypeLists.{serves_own}
 
--- Before anything is asked.
+below : {a b m n : ℕ} → a ≡ b → m ≡ n → b < n → a < m
+below e k h = omega arith
+
+address_there : (bits : ℕ) (has device : Bool) → bits ≡ cond has 1 0 → device ≡ has → IsTrue (has_bit bits 1) → IsTrue device
+address_there bits true device e is asked = is
+address_there bits false device e is asked = let none : IsTrue (has_bit 0 1) = subst (λ n. IsTrue (has_bit n 1)) e asked in absurd (cc)
+
+-- Before anything is asked of the device.
 
 pub returns-in-Some : goal.returns-in-Some
 returns-in-Some g c =
@@ -52,10 +61,7 @@ returns-then-is_err-clause-tries g c =
 -- The call of the free list.
 
 pub index_mut-requires-2 : goal.index_mut-requires-2
-index_mut-requires-2 g c =
-    let known = rw (← c.self.view_is) at c.requires.known in
-    let n : vec_len c.self.inside.heaps ≡ length c.self.inside.heaps.items = grind (arith, common_steps) in
-    omega (arith, n, c.heap_index-heap.ensures, heap_there _ _ _ _ c.self.invariant.books refl c.args.memory_type known)
+index_mut-requires-2 g c = below c.heap_index-heap.ensures c.self.inside.heaps.ok.0 (heap_there _ _ _ _ c.self.invariant.books refl c.args.memory_type (rw (← c.self.view_is) at c.requires.known))
 
 pub alloc-answer-requires-clause-fits : goal.alloc-answer-requires-clause-fits
 alloc-answer-requires-clause-fits g c =
@@ -104,7 +110,7 @@ add_slot-key-requires-clause-free g c =
 pub add_slot-key-requires-clause-fits : goal.add_slot-key-requires-clause-fits
 add_slot-key-requires-clause-fits g c =
     let fits = slot_fits _ _ _ c.in-Ok.block c.in-Ok.ensures.sound c.in-Ok.ensures.granted in
-    omega (arith, fits, ap (λ (x : Slot). x.offset + x.size) c.into_parts-memory.ensures.slot)
+    subst (λ (x : Slot). x.offset + x.size < 2 ^ 64) (sym c.into_parts-memory.ensures.slot) fits
 
 given : (g : Over) (c : goal.After-new g)
     → Given c.self.inside.limits c.self.inside.heaps.items c.self.inside.buddies.items c.self.inside.free_lists.items c.self.inside.spans c.self.inside.allocations_remains c.args.memory_type c.heap_index-heap.result
@@ -160,18 +166,21 @@ after g c =
     state_in c.self.inside.limits (set c.self.inside.heaps.items c.heap_index-heap.result c.alloc-answer.new.heap) c.self.inside.buddies.items (set c.self.inside.free_lists.items c.args.memory_type c.alloc-answer.new.self)
     c.add_slot-key.new.spans c.alloc-answer.new.allocations_remains
 
+is : (g : Over) (c : goal.After-new g)
+    → IsServed (given g c) _ _ _ c.in-Ok.ensures.allocates.0 _ c.in-Ok.ensures.allocates.2 c.in-Ok.ensures.objects c.in-Ok.ensures.granted c.add_slot-key.new.spans c.in-Ok.ensures.sound (held_is g c) (live_is g c)
+    (places_are g c) (account c.alloc-answer.new.self c.alloc-answer.new.heap c.alloc-answer.new.allocations_remains)
+is g c =
+    list_served (given g c) _ _ _ c.in-Ok.ensures.allocates.0 _ c.in-Ok.ensures.allocates.2 c.in-Ok.ensures.objects c.in-Ok.ensures.granted c.add_slot-key.new.spans c.in-Ok.ensures.sound (held_is g c) (live_is g c)
+    (places_are g c)
+
 pub invariant_of-self-in-Ok : goal.invariant_of-self-in-Ok
 invariant_of-self-in-Ok g c =
-    let is = list_served (given g c) _ _ _ c.in-Ok.ensures.allocates.0 _ c.in-Ok.ensures.allocates.2 c.in-Ok.ensures.objects c.in-Ok.ensures.granted
-    c.add_slot-key.new.spans c.in-Ok.ensures.sound (held_is g c) (live_is g c) (places_are g c) in
-    is.consistent
+    (is g c).consistent
 
 pub returns-in-Ok-clause-tries : goal.returns-in-Ok-clause-tries
 returns-in-Ok-clause-tries g c =
-    let is = list_served (given g c) _ _ _ c.in-Ok.ensures.allocates.0 _ c.in-Ok.ensures.allocates.2 c.in-Ok.ensures.objects c.in-Ok.ensures.granted
-    c.add_slot-key.new.spans c.in-Ok.ensures.sound (held_is g c) (live_is g c) (places_are g c) in
     let told = c.in-Ok.ensures.allocates in
-    let sized = gives_wanted _ _ _ c.args.memory_type _ (serves_now g c) c.args.request (allocation_bits c.flags-flags.result) told.0 c.in-Ok.block.chunk (span_of_slot c.in-Ok.block) (after g c) is.gives in
+    let sized = gives_wanted _ _ _ c.args.memory_type _ (serves_now g c) c.args.request (allocation_bits c.flags-flags.result) told.0 c.in-Ok.block.chunk (span_of_slot c.in-Ok.block) (after g c) (is g c).gives in
     rw (← c.self.view_is, block_is g c) (told.0, told.1, (c.in-Ok.block.chunk, (refl, sized)))
 
 pub returns-in-Ok-clause-objects : goal.returns-in-Ok-clause-objects
@@ -181,21 +190,15 @@ returns-in-Ok-clause-objects g c =
 
 pub returns-in-Ok-clause-agrees : goal.returns-in-Ok-clause-agrees
 returns-in-Ok-clause-agrees g c =
-    let is = list_served (given g c) _ _ _ c.in-Ok.ensures.allocates.0 _ c.in-Ok.ensures.allocates.2 c.in-Ok.ensures.objects c.in-Ok.ensures.granted
-    c.add_slot-key.new.spans c.in-Ok.ensures.sound (held_is g c) (live_is g c) (places_are g c) in
-    rw c.in-Ok.ensures.properties is.agreed
+    rw c.in-Ok.ensures.properties (is g c).agreed
 
 pub returns-in-Ok-clause-granted : goal.returns-in-Ok-clause-granted
 returns-in-Ok-clause-granted g c =
-    let is = list_served (given g c) _ _ _ c.in-Ok.ensures.allocates.0 _ c.in-Ok.ensures.allocates.2 c.in-Ok.ensures.objects c.in-Ok.ensures.granted
-    c.add_slot-key.new.spans c.in-Ok.ensures.sound (held_is g c) (live_is g c) (places_are g c) in
-    rw (← c.self.view_is, block_is g c) is.told
+    rw (← c.self.view_is, block_is g c) (is g c).told
 
 pub returns-in-Ok-clause-total : goal.returns-in-Ok-clause-total
 returns-in-Ok-clause-total g c =
-    let is = list_served (given g c) _ _ _ c.in-Ok.ensures.allocates.0 _ c.in-Ok.ensures.allocates.2 c.in-Ok.ensures.objects c.in-Ok.ensures.granted
-    c.add_slot-key.new.spans c.in-Ok.ensures.sound (held_is g c) (live_is g c) (places_are g c) in
-    rw (← c.self.view_is) is.whole
+    rw (← c.self.view_is) (is g c).whole
 
 -- A refusal.
 
@@ -222,3 +225,54 @@ returns-in-Err g c =
       granted = nothing_granted _ c.args.request c.in-Err.refusal _ refl;
       total = ap total left;
     })
+
+pub heap_index-heap-requires : goal.heap_index-heap-requires
+heap_index-heap-requires g c = rw (← c.self.view_is) at c.requires.known
+
+pub index-requires : goal.index-requires
+index-requires g c = below refl (c.self.inside.free_lists.ok.0 ∙ c.self.invariant.listed.count) (rw (← c.self.view_is) at c.requires.known)
+
+pub index-requires-2 : goal.index-requires-2
+index-requires-2 g c = below c.heap_index-heap.ensures c.self.inside.heaps.ok.0 (heap_there _ _ _ _ c.self.invariant.books refl c.args.memory_type (rw (← c.self.view_is) at c.requires.known))
+
+pub refuses-first-requires-clause-nonempty : goal.refuses-first-requires-clause-nonempty
+refuses-first-requires-clause-nonempty g c = c.requires.askable.nonempty
+
+pub refuses-first-requires-clause-fits : goal.refuses-first-requires-clause-fits
+refuses-first-requires-clause-fits g c =
+    let known = rw (← c.self.view_is) at c.requires.known in
+    let fits = rw (← c.self.view_is) at c.requires.fits in
+    fits_list c.self.inside.limits _ _ _ _ _ c.args.memory_type _ c.self.invariant known c.index.ensures c.args.request fits
+
+pub refuses-first-requires-clause-alignment : goal.refuses-first-requires-clause-alignment
+refuses-first-requires-clause-alignment g c = c.requires.askable.alignment
+
+pub returns-then-is_err-clause-objects : goal.returns-then-is_err-clause-objects
+returns-then-is_err-clause-objects g c = refl
+
+pub returns-then-is_err-clause-agrees : goal.returns-then-is_err-clause-agrees
+returns-then-is_err-clause-agrees g c = rw (ap (λ (t : Table). t.held) c.reserve.ensures.kept, ap (λ (t : Table). t.live) c.reserve.ensures.kept, c.self.view_is) c.requires.agrees
+
+pub returns-then-is_err-clause-granted : goal.returns-then-is_err-clause-granted
+returns-then-is_err-clause-granted g c = rw (ap (λ (t : Table). t.held) c.reserve.ensures.kept, ap (λ (t : Table). t.live) c.reserve.ensures.kept) c.self.view_is
+
+pub returns-then-is_err-clause-total : goal.returns-then-is_err-clause-total
+returns-then-is_err-clause-total g c = ap (λ (t : Table). c.self.inside.allocations_remains + finite.len t.held) c.reserve.ensures.kept ∙ ap total c.self.view_is
+
+pub index_mut-requires : goal.index_mut-requires
+index_mut-requires g c = below refl (c.self.inside.free_lists.ok.0 ∙ c.self.invariant.listed.count) (rw (← c.self.view_is) at c.requires.known)
+
+pub alloc-answer-requires-clause-nonempty : goal.alloc-answer-requires-clause-nonempty
+alloc-answer-requires-clause-nonempty g c = c.requires.askable.nonempty
+
+pub alloc-answer-requires-clause-alignment : goal.alloc-answer-requires-clause-alignment
+alloc-answer-requires-clause-alignment g c = c.requires.askable.alignment
+
+pub alloc-answer-requires-clause-address : goal.alloc-answer-requires-clause-address
+alloc-answer-requires-clause-address g c = address_there _ _ _ c.flags-flags.ensures (ap (λ (p : Properties). p.buffer_device_address) (c.requires.agrees.properties ∙ ap (λ (s : State). s.properties) (sym c.self.view_is)))
+
+pub props-props-requires : goal.props-props-requires
+props-props-requires g c = rw (← c.self.view_is) at c.requires.known
+
+pub add_slot-key-requires-clause-room : goal.add_slot-key-requires-clause-room
+add_slot-key-requires-clause-room g c = when_ok c.reserve.result (sym c.if-is_err.ensures.value) c.reserve.ensures.room
