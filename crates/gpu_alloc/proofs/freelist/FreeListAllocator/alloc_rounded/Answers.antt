@@ -1,6 +1,6 @@
 use Rattle.std.proofs.Common.{◌≡◌, ◌+◌, [], inl, inr, Ok, Err, refl, sym, ◌∙◌, ap, subst, arith}
 use Rattle.gpu_alloc_types.specs.Flags.{allocation_bits, property_bits}
-use Rattle.gpu_alloc.specs.FreeList.{HasNumber, HasPlace, IsTail}
+use Rattle.gpu_alloc.specs.FreeList.{HasNumber, IsTail}
 use Rattle.gpu_alloc.specs.FreeListAllocator.{Agrees, Answers, IsBarred, IsCounted, ObjectsAfter, account}
 use Rattle.gpu_alloc.specs.FreeListInside.{listing_in}
 use Rattle.gpu_alloc.specs.FreeListSound.{IsSound}
