@@ -2,6 +2,7 @@ use Rattle.std.proofs.Common.{◌≡◌, ℕ, ◌+◌, ◌^◌, ◌++◌, ◌∷
 use Rattle.std.specs.Prelude.{option_map}
 use Rattle.std.specs.FinMap as map
 use Rattle.std.proofs.lemmas.List.{length-append}
+use Rattle.std.proofs.lemmas.Nat.{pow_pos}
 use Rattle.slab.specs.Slab.{Slab}
 use Rattle.gpu_alloc_types.specs.Flags.{property_bits, allocation_bits}
 use Rattle.gpu_alloc.specs.Buddy.{account, Answers, question, BeginsChunk, chunk_size}
@@ -153,3 +154,49 @@ returns-clause-objects g c =
     let more = subst (λ x. HasOneChunkMore x (g.M.MemoryObject.object c.in-Ok.handles.0) (g.D.MemoryDevice.objects c.args.device.now) (g.D.MemoryDevice.objects c.new_chunk_with_handle-made.new.device)) (asked g c) c.in-Ok.ensures.objects in
     rw (← c.self.view_is, c.new.ensures)
     (inl (begins g c, subst (λ n. HasOneChunkMore q n (g.D.MemoryDevice.objects c.args.device.now) (g.D.MemoryDevice.objects c.new_chunk_with_handle-made.new.device)) (sym object) more))
+
+-- What the calls ask, and what is kept where they are refused.
+
+pub invariant_of-self : goal.invariant_of-self
+invariant_of-self g c =
+    rw (c.make_room.ensures.live, c.make_room.ensures.pieces)
+    (c.self.invariant.0, record { kept = c.self.invariant.1.kept; once = c.self.invariant.1.once; room = omega (arith, c.self.invariant.1.room, c.make_room.ensures.capacity) })
+
+pub invariant_of-self-then-is_err-2 : goal.invariant_of-self-then-is_err-2
+invariant_of-self-then-is_err-2 g c =
+    rw (c.make_room.ensures.live, c.make_room.ensures.pieces, c.reserve.ensures.rest_kept)
+    (c.self.invariant.0, record { kept = c.self.invariant.1.kept; once = c.self.invariant.1.once; room = omega (arith, c.self.invariant.1.room, c.make_room.ensures.capacity) })
+
+pub invariant_of-self-in-Err : goal.invariant_of-self-in-Err
+invariant_of-self-in-Err g c =
+    rw (c.make_room.ensures.live, c.make_room.ensures.pieces, c.reserve.ensures.rest_kept)
+    (c.self.invariant.0, record { kept = c.self.invariant.1.kept; once = c.self.invariant.1.once; room = omega (arith, c.self.invariant.1.room, c.make_room.ensures.capacity) })
+
+pub overflow_add-order : goal.overflow_add-order
+overflow_add-order g c = omega (arith, c.requires.short)
+
+pub new_chunk_with_handle-made-requires-clause-askable : goal.new_chunk_with_handle-made-requires-clause-askable
+new_chunk_with_handle-made-requires-clause-askable g c =
+    let agrees = rw (← c.self.view_is) at c.requires.agrees in
+    record { nonempty = omega (arith, c.bytes-size.ensures, pow_pos c.max-chunk_order.result); known = agrees.known; address = c.requires.address }
+
+pub begin_chunk-leaf-requires-clause-order : goal.begin_chunk-leaf-requires-clause-order
+begin_chunk-leaf-requires-clause-order g c = omega (arith, c.max-chunk_order.ensures)
+
+pub begin_chunk-leaf-requires-clause-chunk_room : goal.begin_chunk-leaf-requires-clause-chunk_room
+begin_chunk-leaf-requires-clause-chunk_room g c = when_ok c.reserve.result (sym c.is_err-2.ensures.value ∙ c.if-is_err-2.false) c.reserve.ensures.room
+
+pub begin_chunk-leaf-requires-clause-live_room : goal.begin_chunk-leaf-requires-clause-live_room
+begin_chunk-leaf-requires-clause-live_room g c = when_ok c.make_room.result (sym c.is_err.ensures.value ∙ c.if-is_err.false) c.make_room.ensures.live_room
+
+pub begin_chunk-leaf-requires-clause-room : goal.begin_chunk-leaf-requires-clause-room
+begin_chunk-leaf-requires-clause-room g c = omega (arith, when_ok c.make_room.result (sym c.is_err.ensures.value ∙ c.if-is_err.false) c.make_room.ensures.room)
+
+pub alloc-requires : goal.alloc-requires
+alloc-requires g c = omega (arith, c.requires.bound, c.bytes-size.type_inv)
+
+pub overflow_sub-allocations_remains : goal.overflow_sub-allocations_remains
+overflow_sub-allocations_remains g c = omega (arith, c.requires.asks.1.1)
+
+pub new-requires : goal.new-requires
+new-requires g c = ap (λ (l : Leaf). l.object) c.begin_chunk-leaf.ensures.leaf ∙ sym c.in-Ok.ensures.asks.2.1
