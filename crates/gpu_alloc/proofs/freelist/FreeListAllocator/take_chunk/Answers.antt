@@ -12,6 +12,7 @@ use Rattle.gpu_alloc.specs.FreeListState.{Listing, Space}
 use Rattle.gpu_alloc.specs.NewChunk.{ChunkQuestion, HasOneChunkMore, chunk_question, made}
 use Rattle.gpu_alloc.specs.declared.freelist.block.Slot.{Slot}
 use Rattle.gpu_alloc.specs.declared.heap.Heap.{Heap}
+use Rattle.gpu_alloc.proofs.BuddyGrants.{when_ok}
 use Rattle.gpu_alloc.proofs.FreeListAnswers.{IsOther, askable, grown_is, handle_refused, other_objects, question_is, refused_chunk, sound_in_new_chunk}
 use Rattle.gpu_alloc.proofs.NewChunks.{chunk_is_there, chunk_given_back}
 use Rattle.gpu_alloc.proofs.freelist.FreeListAllocator.take_chunk.Goals as goal
@@ -145,12 +146,13 @@ returns-in-Ok-clause-answers g c =
     let flags = allocation_bits c.args.flags in
     let q : ChunkQuestion = chunk_question c.chunk_size_for-chunk_size.result c.self.inside.memory_type flags c.intersects-visible.result in
     let is = question_is l c.args.size c.chunk_size_for-chunk_size.result flags c.intersects-visible.result c.chunk_size_for-chunk_size.ensures.is c.intersects-visible.ensures in
-    rw (← c.self.view_is) (
+    let after = account (record l { space = c.get_block_from_new_memory-made.new.self.space; next_chunk = c.min-self-inside.result }) c.alloc.new.self (c.args.allocations_remains.now - 1) in (
       told.0,
       told.1,
-      grown_answers l c.args.heap.now c.alloc.new.self c.args.allocations_remains.now c.args.size (c.args.align_mask + 1) flags (g.M.MemoryObject.object c.in_ok-memory.memory) c.chunk_size_for-chunk_size.result c.min-self-inside.result
-      c.reserve.new.self.space c.get_block_from_new_memory-made.new.self.space c.in-Ok.block told.0 q c.reserve.ensures.kept c.in-Ok.ensures.block c.in-Ok.ensures.chunk c.chunk_size_for-chunk_size.ensures.is c.min-self-inside.ensures
-      c.alloc.ensures is told.2 asks,
+      subst (λ x. Answers (account x c.args.heap.now c.args.allocations_remains.now) c.args.size (c.args.align_mask + 1) flags told.0 (Ok c.in-Ok.block) after) c.self.view_is
+          (grown_answers l c.args.heap.now c.alloc.new.self c.args.allocations_remains.now c.args.size (c.args.align_mask + 1) flags (g.M.MemoryObject.object c.in_ok-memory.memory) c.chunk_size_for-chunk_size.result c.min-self-inside.result
+          c.reserve.new.self.space c.get_block_from_new_memory-made.new.self.space c.in-Ok.block told.0 q c.reserve.ensures.kept c.in-Ok.ensures.block c.in-Ok.ensures.chunk c.chunk_size_for-chunk_size.ensures.is c.min-self-inside.ensures
+          c.alloc.ensures is told.2 asks),
     )
 
 -- and the device's objects
@@ -166,7 +168,28 @@ returns-in-Ok-clause-objects g c =
     let flags = allocation_bits c.args.flags in
     let q : ChunkQuestion = chunk_question c.chunk_size_for-chunk_size.result c.self.inside.memory_type flags c.intersects-visible.result in
     let is = question_is l c.args.size c.chunk_size_for-chunk_size.result flags c.intersects-visible.result c.chunk_size_for-chunk_size.ensures.is c.intersects-visible.ensures in
-    rw (← c.self.view_is) (
-      grown_objects l c.args.size (c.args.align_mask + 1) flags (g.M.MemoryObject.object c.in_ok-memory.memory) c.chunk_size_for-chunk_size.result c.reserve.new.self.space c.in-Ok.block q (g.D.MemoryDevice.objects c.args.device.now)
-      (g.D.MemoryDevice.objects c.new_chunk.new.device) c.reserve.ensures.kept c.in-Ok.ensures.block is c.in_ok-memory.ensures.objects
-    )
+    let before = g.D.MemoryDevice.objects c.args.device.now in
+    let after = g.D.MemoryDevice.objects c.new_chunk.new.device in
+    subst (λ x. ObjectsAfter x c.args.size (c.args.align_mask + 1) flags (Ok c.in-Ok.block) before after) c.self.view_is
+    (grown_objects l c.args.size (c.args.align_mask + 1) flags (g.M.MemoryObject.object c.in_ok-memory.memory) c.chunk_size_for-chunk_size.result c.reserve.new.self.space c.in-Ok.block q before
+    after c.reserve.ensures.kept c.in-Ok.ensures.block is c.in_ok-memory.ensures.objects)
+
+pub returns-in_err-memory-clause-objects : goal.returns-in_err-memory-clause-objects
+returns-in_err-memory-clause-objects g c =
+    let p = err_from_is_err_and c.from_residual.result c.from_residual.ensures.1 in
+    rw (p.1) c.in_err-memory.ensures.objects
+
+pub returns-in_err-memory-clause-properties : goal.returns-in_err-memory-clause-properties
+returns-in_err-memory-clause-properties g c = c.in_err-memory.ensures.properties
+
+pub returns-in-Ok-clause-properties : goal.returns-in-Ok-clause-properties
+returns-in-Ok-clause-properties g c = c.in_ok-memory.ensures.properties
+
+pub returns-in-Err-clause-properties : goal.returns-in-Err-clause-properties
+returns-in-Err-clause-properties g c = g.met.D.MemoryDevice.keeps_properties _ _ _ c.deallocate_memory.ensures ∙ c.in_ok-memory.ensures.properties
+
+pub get_block_from_new_memory-made-requires-clause-room : goal.get_block_from_new_memory-made-requires-clause-room
+get_block_from_new_memory-made-requires-clause-room g c = when_ok c.reserve.result (sym c.is_err.ensures.value ∙ c.if-is_err.false) c.reserve.ensures.room
+
+pub get_block_from_new_memory-made-requires-clause-inside : goal.get_block_from_new_memory-made-requires-clause-inside
+get_block_from_new_memory-made-requires-clause-inside g c = c.chunk_size_for-chunk_size.ensures.enough
