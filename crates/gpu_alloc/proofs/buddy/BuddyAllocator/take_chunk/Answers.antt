@@ -1,17 +1,21 @@
-use Rattle.std.proofs.Common.{◌≡◌, ℕ, ◌+◌, ◌^◌, ◌++◌, ◌∷◌, [], inl, inr, length, Some, None, Err, refl, sym, ◌∙◌, ap, subst, arith, vec_capacity}
+use Rattle.std.proofs.Common.{◌≡◌, ℕ, ◌+◌, ◌^◌, ◌≤◌, ◌++◌, ◌∷◌, [], List, inl, inr, length, Some, None, Err, refl, sym, ◌∙◌, ap, subst, arith, vec_capacity}
 use Rattle.std.specs.Prelude.{option_map}
 use Rattle.std.specs.FinMap as map
+use Rattle.std.specs.Ordering.{nat_cmp}
 use Rattle.std.proofs.lemmas.List.{length-append}
+use Rattle.std.proofs.lemmas.Nat.{pow_pos}
 use Rattle.slab.specs.Slab.{Slab}
 use Rattle.gpu_alloc_types.specs.Flags.{property_bits, allocation_bits}
 use Rattle.gpu_alloc.specs.Buddy.{account, Answers, question, BeginsChunk, chunk_size}
 use Rattle.gpu_alloc.specs.BuddyState.{Buddy, Chunk, IsFreeAt}
-use Rattle.gpu_alloc.specs.BuddyInside.{buddy_in}
+use Rattle.gpu_alloc.specs.BuddyInside.{IsStored, buddy_in}
+use Rattle.gpu_alloc.specs.BuddySound.{IsSound}
 use Rattle.gpu_alloc.specs.NewChunk.{chunk_question, made, AsksChunkTwice, HasOneChunkMore}
 use Rattle.gpu_alloc.specs.Pieces.{AreKept}
 use Rattle.gpu_alloc.specs.SlabViews.{by_key}
 use Rattle.gpu_alloc.specs.declared.buddy.Chunk.{Chunk as HeldChunk}
 use Rattle.gpu_alloc.specs.declared.buddy.block.Leaf.{Leaf}
+use Rattle.gpu_alloc.specs.declared.buddy.pieces.Piece.{Piece}
 use Rattle.gpu_alloc.proofs.BuddyGrants.{when_ok, power_order, question_is, chunk_size_is, in_new_chunk_is, refused_chunk, other_objects, no_leaf_at, with_chunk_in, stored_with_chunk}
 use Rattle.gpu_alloc.proofs.SlabViews.{get_by_key, by_key_put}
 use Rattle.gpu_alloc.proofs.buddy.BuddyAllocator.take_chunk.Given.{Over}
@@ -153,3 +157,58 @@ returns-clause-objects g c =
     let more = subst (λ x. HasOneChunkMore x (g.M.MemoryObject.object c.in-Ok.handles.0) (g.D.MemoryDevice.objects c.args.device.now) (g.D.MemoryDevice.objects c.new_chunk_with_handle-made.new.device)) (asked g c) c.in-Ok.ensures.objects in
     rw (← c.self.view_is, c.new.ensures)
     (inl (begins g c, subst (λ n. HasOneChunkMore q n (g.D.MemoryDevice.objects c.args.device.now) (g.D.MemoryDevice.objects c.new_chunk_with_handle-made.new.device)) (sym object) more))
+
+-- What is kept where a call is refused, and what the calls ask.
+
+-- the lists and the room for them, where only the room may have grown
+still_stored : (chunks more : map.FinMap nat_cmp Chunk) (n m t p a : ℕ) (live now : List Leaf) (pieces kept : List Piece) (capacity grown : ℕ) → more ≡ chunks → now ≡ live → kept ≡ pieces → capacity ≤ grown
+    → IsSound (buddy_in chunks live n m t p a) × IsStored (buddy_in chunks live n m t p a) pieces live capacity → IsSound (buddy_in more now n m t p a) × IsStored (buddy_in more now n m t p a) kept now grown
+still_stored chunks more n m t p a live now pieces kept capacity grown chunks_are live_are pieces_are enough held =
+    rw (chunks_are, live_are, pieces_are) (held.0, record { kept = held.1.kept; once = held.1.once; room = omega (arith, held.1.room, enough) })
+
+pub invariant_of-self : goal.invariant_of-self
+invariant_of-self g c =
+    still_stored (by_key (seen g) c.self.inside.chunks) (by_key (seen g) c.self.inside.chunks) c.self.inside.next_order c.self.inside.minimal_size c.self.inside.memory_type (property_bits c.self.inside.props) c.self.inside.atom
+    c.self.inside.live.items c.make_room.new.live.items c.self.inside.pieces.items c.make_room.new.pieces.items (vec_capacity c.self.inside.pieces) (vec_capacity c.make_room.new.pieces)
+    refl c.make_room.ensures.live c.make_room.ensures.pieces c.make_room.ensures.capacity c.self.invariant
+
+pub invariant_of-self-then-is_err-2 : goal.invariant_of-self-then-is_err-2
+invariant_of-self-then-is_err-2 g c =
+    still_stored (by_key (seen g) c.self.inside.chunks) (by_key (seen g) c.reserve.new.self) c.self.inside.next_order c.self.inside.minimal_size c.self.inside.memory_type (property_bits c.self.inside.props) c.self.inside.atom
+    c.self.inside.live.items c.make_room.new.live.items c.self.inside.pieces.items c.make_room.new.pieces.items (vec_capacity c.self.inside.pieces) (vec_capacity c.make_room.new.pieces)
+    (ap (by_key (seen g)) c.reserve.ensures.rest_kept) c.make_room.ensures.live c.make_room.ensures.pieces c.make_room.ensures.capacity c.self.invariant
+
+pub invariant_of-self-in-Err : goal.invariant_of-self-in-Err
+invariant_of-self-in-Err g c =
+    still_stored (by_key (seen g) c.self.inside.chunks) (by_key (seen g) c.reserve.new.self) c.self.inside.next_order c.self.inside.minimal_size c.self.inside.memory_type (property_bits c.self.inside.props) c.self.inside.atom
+    c.self.inside.live.items c.make_room.new.live.items c.self.inside.pieces.items c.make_room.new.pieces.items (vec_capacity c.self.inside.pieces) (vec_capacity c.make_room.new.pieces)
+    (ap (by_key (seen g)) c.reserve.ensures.rest_kept) c.make_room.ensures.live c.make_room.ensures.pieces c.make_room.ensures.capacity c.self.invariant
+
+pub overflow_add-order : goal.overflow_add-order
+overflow_add-order g c = omega (arith, c.requires.short)
+
+pub new_chunk_with_handle-made-requires-clause-askable : goal.new_chunk_with_handle-made-requires-clause-askable
+new_chunk_with_handle-made-requires-clause-askable g c =
+    let agrees = rw (← c.self.view_is) at c.requires.agrees in
+    record { nonempty = omega (arith, c.bytes-size.ensures, pow_pos c.max-chunk_order.result); known = agrees.known; address = c.requires.address }
+
+pub begin_chunk-leaf-requires-clause-order : goal.begin_chunk-leaf-requires-clause-order
+begin_chunk-leaf-requires-clause-order g c = omega (arith, c.max-chunk_order.ensures)
+
+pub begin_chunk-leaf-requires-clause-chunk_room : goal.begin_chunk-leaf-requires-clause-chunk_room
+begin_chunk-leaf-requires-clause-chunk_room g c = when_ok c.reserve.result (sym c.is_err-2.ensures.value ∙ c.if-is_err-2.false) c.reserve.ensures.room
+
+pub begin_chunk-leaf-requires-clause-live_room : goal.begin_chunk-leaf-requires-clause-live_room
+begin_chunk-leaf-requires-clause-live_room g c = when_ok c.make_room.result (sym c.is_err.ensures.value ∙ c.if-is_err.false) c.make_room.ensures.live_room
+
+pub begin_chunk-leaf-requires-clause-room : goal.begin_chunk-leaf-requires-clause-room
+begin_chunk-leaf-requires-clause-room g c = omega (arith, when_ok c.make_room.result (sym c.is_err.ensures.value ∙ c.if-is_err.false) c.make_room.ensures.room)
+
+pub alloc-requires : goal.alloc-requires
+alloc-requires g c = omega (arith, c.requires.bound, c.bytes-size.type_inv)
+
+pub overflow_sub-allocations_remains : goal.overflow_sub-allocations_remains
+overflow_sub-allocations_remains g c = omega (arith, c.requires.asks.1.1)
+
+pub new-requires : goal.new-requires
+new-requires g c = ap (λ (l : Leaf). l.object) c.begin_chunk-leaf.ensures.leaf ∙ sym c.in-Ok.ensures.asks.2.1
