@@ -8,3 +8,6 @@ close-requires g c = all_last HasNoChunk _ _ (subst (All HasNoChunk) c.in-Some.e
 
 pub loop-buddy-preserved : goal.loop-buddy-preserved
 loop-buddy-preserved g c = all_before HasNoChunk _ _ (subst (All HasNoChunk) c.in-Some.ensures.items c.loop-buddy.invariant)
+
+pub loop-buddy-init : goal.loop-buddy-init
+loop-buddy-init g c = c.requires

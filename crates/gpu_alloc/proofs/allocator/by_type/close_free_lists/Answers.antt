@@ -8,3 +8,6 @@ close-requires g c = all_last IsEmptyList _ _ (subst (All IsEmptyList) c.in-Some
 
 pub loop-list-preserved : goal.loop-list-preserved
 loop-list-preserved g c = all_before IsEmptyList _ _ (subst (All IsEmptyList) c.in-Some.ensures.items c.loop-list.invariant)
+
+pub loop-list-init : goal.loop-list-init
+loop-list-init g c = c.requires

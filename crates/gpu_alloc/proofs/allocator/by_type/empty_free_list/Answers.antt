@@ -1,11 +1,26 @@
-use Rattle.std.proofs.Common.{◌∙◌, sym, subst, IsTrue, arith}
+use Rattle.std.proofs.Common.{◌≡◌, ◌/◌, ◌^◌, ◌<◌, ◌≤◌, ◌==◌, ◌∙◌, ℕ, Bool, true, false, cond, min, refl, sym, subst, IsTrue, arith}
+use Rattle.std.proofs.lemmas.Bool.Decides.{nat_tests}
 use Rattle.std.proofs.lemmas.Option.{slice_get-get_or}
 use Rattle.std.specs.Int.{is_power_of_two}
 use Rattle.gpu_alloc_types.specs.Properties.{properties_of}
+use Rattle.gpu_alloc.specs.Sizes.{cut, down}
 use Rattle.gpu_alloc.proofs.Atoms.{atom_power, one_more}
 use Rattle.gpu_alloc.proofs.Opened.{first_listing_is}
 use Rattle.gpu_alloc.proofs.allocator.by_type.empty_free_list.Goals as goal
 use Rattle.gpu_alloc.proofs.FreeListSizes.{cut_whole, starting_fits}
+
+-- an atom is no larger than the device's
+atom_below : (size atom : ℕ) (b : Bool) → size ≤ 2 ^ 62 → atom ≡ cond b size 1 → atom ≤ 2 ^ 62
+atom_below size atom true bound is = omega arith
+atom_below size atom false bound is = omega arith
+
+-- a size that is cut is one atom at least
+cut_some : (heap atom size : ℕ) → 0 < atom → 0 < cut heap atom size
+cut_some heap atom size some = either (down (min size (heap / 32)) atom) _ refl
+  where
+    either : (n : ℕ) (none : Bool) → (n == 0) ≡ none → 0 < cond none atom n
+    either n true is = some
+    either n false is = grind (arith, nat_tests)
 
 pub new-requires-clause-atom : goal.new-requires-clause-atom
 new-requires-clause-atom g c =
@@ -26,6 +41,29 @@ pub new-requires-clause-growing : goal.new-requires-clause-growing
 new-requires-clause-growing g c =
     let power = atom_power c.args.props.now.non_coherent_atom_size c.atom_of-atom.result _ c.requires.usable.atom c.atom_of-atom.ensures in
     rw (c.starting_size.ensures, c.final_size.ensures) (starting_fits c.args.config _ c.atom_of-atom.result (omega (arith, one_more c.atom_of-atom.result power)))
+
+pub starting_size-requires : goal.starting_size-requires
+starting_size-requires g c =
+    let power = atom_power c.args.props.now.non_coherent_atom_size c.atom_of-atom.result _ c.requires.usable.atom c.atom_of-atom.ensures in
+    omega (arith, one_more c.atom_of-atom.result power)
+
+pub final_size-requires : goal.final_size-requires
+final_size-requires g c =
+    let power = atom_power c.args.props.now.non_coherent_atom_size c.atom_of-atom.result _ c.requires.usable.atom c.atom_of-atom.ensures in
+    omega (arith, one_more c.atom_of-atom.result power)
+
+pub new-requires-clause-atom_bound : goal.new-requires-clause-atom_bound
+new-requires-clause-atom_bound g c =
+    let power = atom_power c.args.props.now.non_coherent_atom_size c.atom_of-atom.result _ c.requires.usable.atom c.atom_of-atom.ensures in
+    rw (one_more c.atom_of-atom.result power) (atom_below c.args.props.now.non_coherent_atom_size c.atom_of-atom.result _ c.requires.usable.atom_bound c.atom_of-atom.ensures)
+
+pub new-requires-clause-nonempty : goal.new-requires-clause-nonempty
+new-requires-clause-nonempty g c =
+    let power = atom_power c.args.props.now.non_coherent_atom_size c.atom_of-atom.result _ c.requires.usable.atom c.atom_of-atom.ensures in
+    rw c.starting_size.ensures (cut_some _ c.atom_of-atom.result c.args.config.starting_free_list_chunk (omega (arith, one_more c.atom_of-atom.result power)))
+
+pub returns-clause-sound : goal.returns-clause-sound
+returns-clause-sound g c = c.new.ensures.sound
 
 pub returns-clause-first : goal.returns-clause-first
 returns-clause-first g c =
