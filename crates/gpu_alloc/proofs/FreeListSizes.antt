@@ -87,10 +87,10 @@ pieces_within next size n some enough = omega (arith, div_below (size + (next - 
 pub grown_is_least : (next final size : ℕ) → 0 < next → next ≤ final → final ≤ 2 ^ 62 → size ≤ final → IsLeastProduct next final size (grown_chunk next final size)
 grown_is_least next final size some le bound fits = elim (cases_lt next size) [
   | inr small ↦ rw (grown_small next final size small) (record {
-      enough = small;
-      product = (0, omega (arith, le));
-      least = λ k _. omega (arith, mul-le-mul_left next (pow_pos k));
-    })
+    enough = small;
+    product = (0, omega (arith, le));
+    least = λ k _. omega (arith, mul-le-mul_left next (pow_pos k));
+  })
   | inl lt ↦
       let parts : ℕ = (size + (next - 1)) / next in
       let few : parts ≤ 2 ^ 64 = omega (arith, div-le_self (size + (next - 1)) next, le, fits, bound) in
