@@ -1,9 +1,11 @@
-use Rattle.std.proofs.Common.{◌≡◌, ◌-◌, ◌<◌, ◌∷◌, [], ◌^◌, None, Ok, Err, refl, sym, ap, ◌∙◌, arith, subst, inl, inr, length, vec_len}
+use Rattle.std.proofs.Common.{◌≡◌, ℕ, Option, ◌-◌, ◌<◌, ◌∷◌, [], ◌^◌, None, Ok, Err, refl, sym, ap, ◌∙◌, arith, subst, inl, inr, length, vec_len}
 use Rattle.std.proofs.Math.ListN.{set}
 use Rattle.std.proofs.lemmas.Grind.{common_steps}
 use Rattle.std.specs.FinMap as finite
 use Rattle.std.specs.FinSet as set_of
+use Rattle.gpu_alloc_types.specs.Device.{Object}
 use Rattle.gpu_alloc_types.specs.Device.Event.{Allocated}
+use Rattle.gpu_alloc_types.specs.Properties.{Properties}
 use Rattle.gpu_alloc.specs.Agreement.{Agrees}
 use Rattle.gpu_alloc.specs.Allocation.{HasOneMore, whole_block, holding, asked}
 use Rattle.gpu_alloc.specs.Inside.{state_in, properties_in, whole_span}
@@ -122,3 +124,69 @@ returns-in-Err-OutOfHostMemory-clause-tries g c =
       (c.allocate_memory-answer.new.self, rw (← c.flags-flags.ensures) (rw c.in-Err-OutOfHostMemory.is at c.allocate_memory-answer.ensures), refl),
       (omega arith, inr (rw (rw c.in-Err-OutOfHostMemory.is at c.in-Err-OutOfHostMemory.field-0-is) refl), same),
     )
+
+-- The device grants nothing: room was made, and the state is the one before.
+
+agrees_kept : (s new : State) (p q : Properties) (f h : ℕ → Option Object) → new ≡ s → q ≡ p → h ≡ f → Agrees s p f → Agrees new q h
+agrees_kept s new p q f h state properties objects agreed = rw (state, properties, objects) agreed
+
+kept-is_err : (g : Over) (c : goal.Then-is_err g)
+    → state_in c.self.inside.limits c.self.inside.heaps.items c.self.inside.buddies.items c.self.inside.free_lists.items c.reserve.new.self c.self.inside.allocations_remains ≡ c.args.self.now
+kept-is_err g c = ap (λ t. state_in c.self.inside.limits c.self.inside.heaps.items c.self.inside.buddies.items c.self.inside.free_lists.items t c.self.inside.allocations_remains) c.reserve.ensures.kept ∙ c.self.view_is
+
+kept-device : (g : Over) (c : goal.In-Err-OutOfDeviceMemory g)
+    → state_in c.self.inside.limits c.self.inside.heaps.items c.self.inside.buddies.items c.self.inside.free_lists.items c.reserve.new.self c.self.inside.allocations_remains ≡ c.args.self.now
+kept-device g c = ap (λ t. state_in c.self.inside.limits c.self.inside.heaps.items c.self.inside.buddies.items c.self.inside.free_lists.items t c.self.inside.allocations_remains) c.reserve.ensures.kept ∙ c.self.view_is
+
+kept-host : (g : Over) (c : goal.In-Err-OutOfHostMemory g)
+    → state_in c.self.inside.limits c.self.inside.heaps.items c.self.inside.buddies.items c.self.inside.free_lists.items c.reserve.new.self c.self.inside.allocations_remains ≡ c.args.self.now
+kept-host g c = ap (λ t. state_in c.self.inside.limits c.self.inside.heaps.items c.self.inside.buddies.items c.self.inside.free_lists.items t c.self.inside.allocations_remains) c.reserve.ensures.kept ∙ c.self.view_is
+
+pub returns-then-is_err-clause-tries : goal.returns-then-is_err-clause-tries
+returns-then-is_err-clause-tries g c = ([], refl, (subst (λ s. 0 < s.remaining) c.self.view_is (omega arith), inl refl, kept-is_err g c))
+
+pub returns-then-is_err-clause-agrees : goal.returns-then-is_err-clause-agrees
+returns-then-is_err-clause-agrees g c = subst (λ s. Agrees s (g.D.MemoryDevice.properties c.args.device.now) (g.D.MemoryDevice.objects c.args.device.now)) (sym (kept-is_err g c)) c.requires.agrees
+
+pub returns-then-is_err-clause-granted : goal.returns-then-is_err-clause-granted
+returns-then-is_err-clause-granted g c = kept-is_err g c
+
+pub returns-then-is_err-clause-total : goal.returns-then-is_err-clause-total
+returns-then-is_err-clause-total g c = ap total (kept-is_err g c)
+
+pub returns-in-Err-OutOfDeviceMemory-clause-tries : goal.returns-in-Err-OutOfDeviceMemory-clause-tries
+returns-in-Err-OutOfDeviceMemory-clause-tries g c =
+    let same = ap (λ t. state_in c.self.inside.limits c.self.inside.heaps.items c.self.inside.buddies.items c.self.inside.free_lists.items t c.self.inside.allocations_remains) c.reserve.ensures.kept in
+    rw (← c.self.view_is) (
+      Allocated c.args.request.size c.args.memory_type (flags_of (properties_in c.self.inside.limits c.self.inside.heaps.items)) (Err c.in-Err-OutOfDeviceMemory.field-0) ∷ [],
+      (c.allocate_memory-answer.new.self, rw (← c.flags-flags.ensures) (rw c.in-Err-OutOfDeviceMemory.is at c.allocate_memory-answer.ensures), refl),
+      ((omega arith, rw (rw c.in-Err-OutOfDeviceMemory.is at c.in-Err-OutOfDeviceMemory.field-0-is) refl), same),
+    )
+
+pub returns-in-Err-OutOfDeviceMemory-clause-objects : goal.returns-in-Err-OutOfDeviceMemory-clause-objects
+returns-in-Err-OutOfDeviceMemory-clause-objects g c = g.met.D.MemoryDevice.row _ _ _ (rw c.in-Err-OutOfDeviceMemory.is at c.allocate_memory-answer.ensures)
+
+pub returns-in-Err-OutOfDeviceMemory-clause-agrees : goal.returns-in-Err-OutOfDeviceMemory-clause-agrees
+returns-in-Err-OutOfDeviceMemory-clause-agrees g c =
+    let step = rw c.in-Err-OutOfDeviceMemory.is at c.allocate_memory-answer.ensures in
+    agrees_kept _ _ _ _ _ _ (kept-device g c) (g.met.D.MemoryDevice.keeps_properties _ _ _ step) (g.met.D.MemoryDevice.row _ _ _ step) c.requires.agrees
+
+pub returns-in-Err-OutOfDeviceMemory-clause-granted : goal.returns-in-Err-OutOfDeviceMemory-clause-granted
+returns-in-Err-OutOfDeviceMemory-clause-granted g c = kept-device g c
+
+pub returns-in-Err-OutOfDeviceMemory-clause-total : goal.returns-in-Err-OutOfDeviceMemory-clause-total
+returns-in-Err-OutOfDeviceMemory-clause-total g c = ap total (kept-device g c)
+
+pub returns-in-Err-OutOfHostMemory-clause-objects : goal.returns-in-Err-OutOfHostMemory-clause-objects
+returns-in-Err-OutOfHostMemory-clause-objects g c = g.met.D.MemoryDevice.row _ _ _ (rw c.in-Err-OutOfHostMemory.is at c.allocate_memory-answer.ensures)
+
+pub returns-in-Err-OutOfHostMemory-clause-agrees : goal.returns-in-Err-OutOfHostMemory-clause-agrees
+returns-in-Err-OutOfHostMemory-clause-agrees g c =
+    let step = rw c.in-Err-OutOfHostMemory.is at c.allocate_memory-answer.ensures in
+    agrees_kept _ _ _ _ _ _ (kept-host g c) (g.met.D.MemoryDevice.keeps_properties _ _ _ step) (g.met.D.MemoryDevice.row _ _ _ step) c.requires.agrees
+
+pub returns-in-Err-OutOfHostMemory-clause-granted : goal.returns-in-Err-OutOfHostMemory-clause-granted
+returns-in-Err-OutOfHostMemory-clause-granted g c = kept-host g c
+
+pub returns-in-Err-OutOfHostMemory-clause-total : goal.returns-in-Err-OutOfHostMemory-clause-total
+returns-in-Err-OutOfHostMemory-clause-total g c = ap total (kept-host g c)
