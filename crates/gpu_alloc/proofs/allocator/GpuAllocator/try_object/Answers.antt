@@ -1,17 +1,18 @@
-use Rattle.std.proofs.Common.{◌≡◌, ℕ, Option, ◌-◌, ◌<◌, ◌∷◌, [], ◌^◌, None, Ok, Err, refl, sym, ap, ◌∙◌, arith, subst, inl, inr, length, vec_len}
+use Rattle.std.proofs.Common.{◌≡◌, ◌≢◌, ℕ, Bool, true, false, cond, IsTrue, Option, ◌-◌, ◌<◌, ◌∷◌, [], ◌^◌, None, Ok, Err, refl, sym, ap, ◌∙◌, arith, subst, inl, inr, length, vec_len}
 use Rattle.std.proofs.Math.ListN.{set}
 use Rattle.std.proofs.lemmas.Grind.{common_steps}
 use Rattle.std.specs.FinMap as finite
 use Rattle.std.specs.FinSet as set_of
-use Rattle.gpu_alloc_types.specs.Device.{Object}
+use Rattle.gpu_alloc_types.specs.Device.{Object, IsAskable}
 use Rattle.gpu_alloc_types.specs.Device.Event.{Allocated}
+use Rattle.gpu_alloc_types.specs.Flags.{has_bit}
 use Rattle.gpu_alloc_types.specs.Properties.{Properties}
 use Rattle.gpu_alloc.specs.Agreement.{Agrees}
 use Rattle.gpu_alloc.specs.Allocation.{HasOneMore, whole_block, holding, asked}
-use Rattle.gpu_alloc.specs.Inside.{state_in, properties_in, whole_span}
+use Rattle.gpu_alloc.specs.Inside.{state_in, properties_in, whole_span, IsLiveIn, IsOfObject}
 use Rattle.gpu_alloc.specs.NewChunk.{flags_of}
-use Rattle.gpu_alloc.specs.Spans.{Table}
-use Rattle.gpu_alloc.specs.State.{State, HeldObject, Block, total}
+use Rattle.gpu_alloc.specs.Spans.{Table, span_at}
+use Rattle.gpu_alloc.specs.State.{State, HeldObject, Span, Block, total}
 use Rattle.gpu_alloc.specs.declared.heap.Heap.{Heap}
 use Rattle.gpu_alloc.proofs.Agreeing.{agrees_granted, not_held}
 use Rattle.gpu_alloc.proofs.Consistency.{HoldsMore, heap_there, ledger-room}
@@ -38,10 +39,11 @@ index_mut-requires g c =
     let n : vec_len c.self.inside.heaps ≡ length c.self.inside.heaps.items = grind (arith, common_steps) in
     omega (arith, n, c.heap_index-heap.ensures, heap_there _ _ _ _ c.self.invariant.books refl c.args.memory_type known)
 
+-- `small` is what the size's type says, among what the argument `request` is known by
 pub alloc-requires : goal.alloc-requires
 alloc-requires g c =
     let known = rw (← c.self.view_is) at c.requires.known in
-    let small : c.args.request.size < 2 ^ 64 = omega arith in
+    let small : c.args.request.size < 2 ^ 64 = c.well_formed.1.1.0.1.1.0.1 in
     ledger-room _ _ _ _ c.self.invariant.books refl c.args.memory_type _ _ c.index_mut.result.now known c.heap_index-heap.ensures c.index_mut.ensures.value small
 
 -- What is known where the device granted an object: the state before, the new row and block, and what follows from the steps.
@@ -64,7 +66,7 @@ free g c =
 more : (g : Over) (c : goal.After-new g) → HoldsMore _ _ _ _ c.self.invariant.books refl c.insert-key.new.self (object g c) (whole_span c.object.result (object g c))
 more g c =
     let known = rw (← c.self.view_is) at c.requires.known in
-    let small : c.args.request.size < 2 ^ 64 = omega arith in
+    let small : c.args.request.size < 2 ^ 64 = c.well_formed.1.1.0.1.1.0.1 in
     record {
       with = record { small = small; known = known; kind = inl (refl, refl) };
       free = free g c;
@@ -190,3 +192,53 @@ returns-in-Err-OutOfHostMemory-clause-granted g c = kept-host g c
 
 pub returns-in-Err-OutOfHostMemory-clause-total : goal.returns-in-Err-OutOfHostMemory-clause-total
 returns-in-Err-OutOfHostMemory-clause-total g c = ap total (kept-host g c)
+
+-- The new object's name is free in the table, and so is its span.
+
+no_object : (g : Over) (c : goal.After-insert-arg-1 g) → finite.get c.self.inside.spans.held c.object.result ≡ None
+no_object g c =
+    let made = g.met.D.MemoryDevice.row _ _ _ c.in-Ok.ensures in
+    let none : g.D.MemoryDevice.objects c.args.device.now c.object.result ≡ None = rw c.object.ensures made.0 in
+    ap (λ (s : State). finite.get s.held c.object.result) c.self.view_is ∙ not_held c.args.self.now _ _ _ c.requires.agrees none
+
+not_live : (t : Table) (span : Span) → finite.get t.held span.object ≡ None → ((other : Span) → IsLiveIn t other → IsOfObject t other) → set_of.contains t.live span ≡ false
+not_live t span none of_objects = elim (set_of.contains t.live span) as (λ x. set_of.contains t.live span ≡ x → x ≡ false) [
+  | true ↦ λ live. absurd (let held = (of_objects span live).held in cc (none, held))
+  | false ↦ λ free. refl
+] refl
+
+pub insert-key-requires-clause-free : goal.insert-key-requires-clause-free
+insert-key-requires-clause-free g c =
+    ap (λ (t : Table). set_of.contains t.live (span_at c.object.result 0 c.args.request.size)) c.reserve.ensures.kept
+    ∙ not_live c.self.inside.spans (span_at c.object.result 0 c.args.request.size) (no_object g c) c.self.invariant.books.spans
+
+pub insert-key-requires-clause-object : goal.insert-key-requires-clause-object
+insert-key-requires-clause-object g c = ap (λ (t : Table). finite.get t.held c.object.result) c.reserve.ensures.kept ∙ no_object g c
+
+pub heap_index-heap-requires : goal.heap_index-heap-requires
+heap_index-heap-requires g c = rw (← c.self.view_is) at c.requires.known
+
+pub props-props-requires : goal.props-props-requires
+props-props-requires g c = rw (← c.self.view_is) at c.requires.known
+
+flag : (b : Bool) → IsTrue (has_bit (cond b 1 0) 1) → IsTrue b
+flag true bit = refl
+flag false bit = bit
+
+askable : (s : State) (p : Properties) (size t flags : ℕ) → p ≡ s.properties → 0 < size → t < length s.properties.memory_types → flags ≡ flags_of s.properties → IsAskable p size t flags
+askable s p size t flags same nonempty known is = record {
+  nonempty = nonempty;
+  known = rw same known;
+  address = λ bit. rw same (flag s.properties.buffer_device_address (rw is at bit));
+}
+
+pub allocate_memory-answer-requires : goal.allocate_memory-answer-requires
+allocate_memory-answer-requires g c =
+    askable c.args.self.now _ c.args.request.size c.args.memory_type _ c.requires.agrees.properties c.requires.askable.nonempty c.requires.known
+    (c.flags-flags.ensures ∙ ap (λ (s : State). flags_of s.properties) c.self.view_is)
+
+positive : (n : ℕ) → n ≢ 0 → 0 < n
+positive n not_zero = omega arith
+
+pub overflow_sub-self : goal.overflow_sub-self
+overflow_sub-self g c = positive c.self.inside.allocations_remains c.if-self-eq0.false
