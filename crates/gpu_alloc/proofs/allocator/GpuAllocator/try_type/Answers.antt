@@ -1,0 +1,39 @@
+use Rattle.std.proofs.Common.{◌≡◌, ◌<◌, ◌≤◌, ℕ, List, [], Option, Some, None, Result, Ok, Err, refl, arith, subst, inl, inr}
+use Rattle.gpu_alloc_types.specs.Device.{Event}
+use Rattle.gpu_alloc_types.specs.Properties.{heap_size}
+use Rattle.gpu_alloc.specs.Allocation.{strategy, IsPassedBy, DecidesBy, TriesBy, Tries}
+use Rattle.gpu_alloc.specs.State.{State, Block}
+use Rattle.gpu_alloc.specs.declared.allocator.Strategy.{Strategy}
+use Rattle.gpu_alloc.specs.declared.allocator.Strategy.TheVariants.{OwnObject, InBuddyChunk, InFreeList}
+use Rattle.gpu_alloc.specs.declared.error.AllocationError.{AllocationError}
+use Rattle.gpu_alloc.specs.declared.request.Dedicated.{Dedicated}
+use Rattle.gpu_alloc.specs.declared.request.Request.{Request}
+use Rattle.gpu_alloc.proofs.allocator.GpuAllocator.try_type.Goals as goal
+
+small : (size heap n : ℕ) → n < size → n ≡ heap → heap < size
+small size heap n less is = omega arith
+
+-- where the heap is no smaller than the request, trying its way of being served is trying the candidate
+tries_by : (w : Strategy) (s : State) (r : Request) (hint : Option Dedicated) (t n : ℕ) (es : List Event) (answer : Result (Option Block) AllocationError) (new : State)
+    → r.size ≤ n → n ≡ heap_size s.properties t → w ≡ strategy s r hint t → TriesBy w s r t es answer new → Tries s r hint t es answer new
+tries_by w s r hint t n es (Ok None) new most heap is tried = (inr (rw (← heap) most, subst (λ v. IsPassedBy v s r t es) is tried.0), tried.1)
+tries_by w s r hint t n es (Ok (Some b)) new most heap is tried = (rw (← heap) most, subst (λ v. DecidesBy v s r t es (Ok b) new) is tried)
+tries_by w s r hint t n es (Err e) new most heap is tried = (rw (← heap) most, subst (λ v. DecidesBy v s r t es (Err e) new) is tried)
+
+pub returns-then-heap_size-request-clause-tries : goal.returns-then-heap_size-request-clause-tries
+returns-then-heap_size-request-clause-tries g c = ([], refl, (inl (small _ _ _ c.if-heap_size-request.true c.heap_size.ensures, refl), refl))
+
+pub returns-in-OwnObject-clause-tries : goal.returns-in-OwnObject-clause-tries
+returns-in-OwnObject-clause-tries g c =
+    let tried = c.try_object.ensures.tries in
+    (tried.0, tried.1, tries_by OwnObject c.args.self.now c.args.request c.args.hint c.args.memory_type _ tried.0 c.try_object.result c.try_object.new.self c.if-heap_size-request.false c.heap_size.ensures c.in-OwnObject.ensures tried.2)
+
+pub returns-in-InBuddyChunk-clause-tries : goal.returns-in-InBuddyChunk-clause-tries
+returns-in-InBuddyChunk-clause-tries g c =
+    let tried = c.try_buddy.ensures.tries in
+    (tried.0, tried.1, tries_by InBuddyChunk c.args.self.now c.args.request c.args.hint c.args.memory_type _ tried.0 c.try_buddy.result c.try_buddy.new.self c.if-heap_size-request.false c.heap_size.ensures c.in-InBuddyChunk.ensures tried.2)
+
+pub returns-in-InFreeList-clause-tries : goal.returns-in-InFreeList-clause-tries
+returns-in-InFreeList-clause-tries g c =
+    let tried = c.try_free_list.ensures.tries in
+    (tried.0, tried.1, tries_by InFreeList c.args.self.now c.args.request c.args.hint c.args.memory_type _ tried.0 c.try_free_list.result c.try_free_list.new.self c.if-heap_size-request.false c.heap_size.ensures c.in-InFreeList.ensures tried.2)
