@@ -1,4 +1,4 @@
-use Rattle.std.proofs.Common.{◌≡◌, ◌<◌, ◌^◌, sym, ap, ◌∙◌, arith, map, subst, List}
+use Rattle.std.proofs.Common.{◌≡◌, ◌<◌, ◌^◌, sym, ap, ◌∙◌, map, subst, List}
 use Rattle.gpu_alloc_types.specs.Properties.{Properties, properties_of}
 use Rattle.gpu_alloc_types.specs.declared.types.MemoryType.{MemoryType}
 use Rattle.gpu_alloc.specs.declared.heap.Heap.{Heap}
@@ -26,7 +26,8 @@ close_buddies-requires g c = first_chunkless c.args.config (properties_of c.args
 
 pub invariant_of-result-2 : goal.invariant_of-result-2
 invariant_of-result-2 g c =
-    let few : c.args.props.max_memory_allocation_count < 2 ^ 32 = omega arith in
+    -- the count's type, among what the argument `props` is known by
+    let few : c.args.props.max_memory_allocation_count < 2 ^ 32 = c.well_formed.1.1.0.1.1.1.1.0.1 in
     let given = properties_is (properties_of c.args.props) _ _ c.in_ok-memory_types.ensures.items c.in_ok-heaps.ensures in
     subst (λ p. IsConsistent c.args.config p c.in_ok-heaps.heaps.items c.in_ok-buddies.buddies.items c.in-Ok.free_lists.items c.new.result c.args.props.max_memory_allocation_count) (sym given)
     (consistent-opened _ c.new.ensures.held c.new.ensures.live c.args.config (properties_of c.args.props) _ _ _ _ c.requires few c.in_ok-heaps.ensures c.in_ok-buddies.ensures.count c.in_ok-buddies.ensures.each c.in-Ok.ensures.count c.in-Ok.ensures.each)

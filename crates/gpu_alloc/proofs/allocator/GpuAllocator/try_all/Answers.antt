@@ -1,6 +1,7 @@
-use Rattle.std.proofs.Common.{add-one, ◌∙◌}
+use Rattle.std.proofs.Common.{add-one, ap, ◌∙◌}
 use Rattle.std.proofs.lemmas.Result.{err_from_is_err_and}
 use Rattle.gpu_alloc_types.specs.Chains.{chain_append}
+use Rattle.gpu_alloc.specs.State.{total}
 use Rattle.gpu_alloc.proofs.Trials.{continues_next, continues_decided, continues_end}
 use Rattle.gpu_alloc.proofs.allocator.GpuAllocator.try_all.Goals as goal
 
@@ -32,3 +33,24 @@ returns-in_err-block-clause-tries g c =
     let p = err_from_is_err_and c.from_residual.result c.from_residual.ensures.1 in
     let tried = c.in_err-block.ensures.tries in
     rw (p.1, p.2) (_, chain_append g.D.MemoryDevice.step _ _ _ _ _ before.1 tried.1, continues_decided c.args.self.now c.args.request c.args.hint _ _ _ before.0 tried.0 _ _ c.loop-memory_type.invariant.same c.loop-memory_type-test.true before.2 tried.2)
+
+pub returns-in_err-block-clause-objects : goal.returns-in_err-block-clause-objects
+returns-in_err-block-clause-objects g c =
+    let p = err_from_is_err_and c.from_residual.result c.from_residual.ensures.1 in
+    rw p.1 (c.in_err-block.ensures.objects ∙ c.loop-memory_type.invariant.objects)
+
+pub returns-in_err-block-clause-granted : goal.returns-in_err-block-clause-granted
+returns-in_err-block-clause-granted g c =
+    let p = err_from_is_err_and c.from_residual.result c.from_residual.ensures.1 in
+    rw p.1 tt
+
+pub returns-in_err-block-clause-refused : goal.returns-in_err-block-clause-refused
+returns-in_err-block-clause-refused g c =
+    let p = err_from_is_err_and c.from_residual.result c.from_residual.ensures.1 in
+    rw p.1 (c.in_err-block.ensures.granted ∙ c.loop-memory_type.invariant.same)
+
+pub returns-in_err-block-clause-agrees : goal.returns-in_err-block-clause-agrees
+returns-in_err-block-clause-agrees g c = c.in_err-block.ensures.agrees
+
+pub returns-in_err-block-clause-total : goal.returns-in_err-block-clause-total
+returns-in_err-block-clause-total g c = c.in_err-block.ensures.total ∙ ap total c.loop-memory_type.invariant.same

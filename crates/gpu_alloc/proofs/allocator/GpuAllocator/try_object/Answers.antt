@@ -1,16 +1,23 @@
-use Rattle.std.proofs.Common.{◌≡◌, ◌-◌, ◌<◌, ◌∷◌, [], ◌^◌, None, Ok, Err, refl, sym, ap, ◌∙◌, arith, subst, inl, inr, length, vec_len}
+use Rattle.std.proofs.Common.{◌≡◌, ◌≢◌, ℕ, Bool, true, false, cond, IsTrue, Option, OnOk, List, Result, ◌-◌, ◌<◌, ◌∷◌, [], ◌^◌, None, Ok, Err, refl, sym, ap, ◌∙◌, arith, subst, inl, inr, length, vec_len}
 use Rattle.std.proofs.Math.ListN.{set}
+use Rattle.std.specs.Result.{is_err}
 use Rattle.std.proofs.lemmas.Grind.{common_steps}
 use Rattle.std.specs.FinMap as finite
 use Rattle.std.specs.FinSet as set_of
+use Rattle.gpu_alloc_types.specs.Device.{Object, IsAskable}
 use Rattle.gpu_alloc_types.specs.Device.Event.{Allocated}
+use Rattle.gpu_alloc_types.specs.Flags.{has_bit}
+use Rattle.gpu_alloc_types.specs.Properties.{Properties}
 use Rattle.gpu_alloc.specs.Agreement.{Agrees}
-use Rattle.gpu_alloc.specs.Allocation.{HasOneMore, whole_block, holding, asked}
-use Rattle.gpu_alloc.specs.Inside.{state_in, properties_in, whole_span}
+use Rattle.gpu_alloc.specs.Allocation.{HasOneMore, ObjectsWith, whole_block, holding, asked}
+use Rattle.gpu_alloc.specs.Inside.{state_in, properties_in, whole_span, IsLiveIn, IsOfObject}
 use Rattle.gpu_alloc.specs.NewChunk.{flags_of}
-use Rattle.gpu_alloc.specs.Spans.{Table}
-use Rattle.gpu_alloc.specs.State.{State, HeldObject, Block, total}
+use Rattle.gpu_alloc.specs.Spans.{Table, span_at}
+use Rattle.gpu_alloc.specs.State.{State, HeldObject, Span, Block, total}
+use Rattle.gpu_alloc.specs.BuddyState.{Buddy}
+use Rattle.gpu_alloc.specs.FreeListState.{Listing}
 use Rattle.gpu_alloc.specs.declared.heap.Heap.{Heap}
+use Rattle.gpu_alloc.specs.declared.limits.Limits.{Limits}
 use Rattle.gpu_alloc.proofs.Agreeing.{agrees_granted, not_held}
 use Rattle.gpu_alloc.proofs.Consistency.{HoldsMore, heap_there, ledger-room}
 use Rattle.gpu_alloc.proofs.Grants.{own_object, state_held, decides_granted, granted, total_held}
@@ -19,7 +26,23 @@ use Rattle.gpu_alloc.proofs.OwnObjects.{consistent-room, consistent-held}
 use Rattle.gpu_alloc.proofs.allocator.GpuAllocator.try_object.Given.{Over}
 use Rattle.gpu_alloc.proofs.allocator.GpuAllocator.try_object.Goals as goal
 
+positive : (n : ℕ) → n ≢ 0 → 0 < n
+positive n not_zero = omega arith
+
 -- Room is made, and nothing else changes.
+
+held_kept : (new old : Table) → new ≡ record old { room = new.room } → new.held ≡ old.held
+held_kept new old kept = ap (λ (t : Table). t.held) kept
+
+live_kept : (new old : Table) → new ≡ record old { room = new.room } → new.live ≡ old.live
+live_kept new old kept = ap (λ (t : Table). t.live) kept
+
+places_kept : (new old : Table) → new ≡ record old { room = new.room } → new.places ≡ old.places
+places_kept new old kept = ap (λ (t : Table). t.places) kept
+
+state_kept : {A : Type 0} (l : Limits A) (heaps : List Heap) (buddies : List Buddy) (lists : List Listing) (new old : Table) (remaining : ℕ) → new ≡ record old { room = new.room }
+    → state_in l heaps buddies lists new remaining ≡ state_in l heaps buddies lists old remaining
+state_kept l heaps buddies lists new old remaining kept = ap (λ t. state_in l heaps buddies lists t remaining) kept
 
 pub invariant_of-self : goal.invariant_of-self
 invariant_of-self g c = consistent-room _ _ _ _ _ _ _ _ c.reserve.ensures.kept c.self.invariant
@@ -36,10 +59,11 @@ index_mut-requires g c =
     let n : vec_len c.self.inside.heaps ≡ length c.self.inside.heaps.items = grind (arith, common_steps) in
     omega (arith, n, c.heap_index-heap.ensures, heap_there _ _ _ _ c.self.invariant.books refl c.args.memory_type known)
 
+-- `small` is what the size's type says, among what the argument `request` is known by
 pub alloc-requires : goal.alloc-requires
 alloc-requires g c =
     let known = rw (← c.self.view_is) at c.requires.known in
-    let small : c.args.request.size < 2 ^ 64 = omega arith in
+    let small : c.args.request.size < 2 ^ 64 = c.well_formed.1.1.0.1.1.0.1 in
     ledger-room _ _ _ _ c.self.invariant.books refl c.args.memory_type _ _ c.index_mut.result.now known c.heap_index-heap.ensures c.index_mut.ensures.value small
 
 -- What is known where the device granted an object: the state before, the new row and block, and what follows from the steps.
@@ -62,12 +86,12 @@ free g c =
 more : (g : Over) (c : goal.After-new g) → HoldsMore _ _ _ _ c.self.invariant.books refl c.insert-key.new.self (object g c) (whole_span c.object.result (object g c))
 more g c =
     let known = rw (← c.self.view_is) at c.requires.known in
-    let small : c.args.request.size < 2 ^ 64 = omega arith in
+    let small : c.args.request.size < 2 ^ 64 = c.well_formed.1.1.0.1.1.0.1 in
     record {
       with = record { small = small; known = known; kind = inl (refl, refl) };
       free = free g c;
-      held = c.insert-key.ensures.held ∙ ap (λ (t : Table). finite.insert t.held c.object.result (object g c)) c.reserve.ensures.kept;
-      live = c.insert-key.ensures.live ∙ ap (λ (t : Table). set_of.insert t.live (whole_span c.object.result (object g c))) c.reserve.ensures.kept;
+      held = c.insert-key.ensures.held ∙ ap (λ held. finite.insert held c.object.result (object g c)) (held_kept c.reserve.new.self c.self.inside.spans c.reserve.ensures.kept);
+      live = c.insert-key.ensures.live ∙ ap (λ live. set_of.insert live (whole_span c.object.result (object g c))) (live_kept c.reserve.new.self c.self.inside.spans c.reserve.ensures.kept);
     }
 
 state_is : (g : Over) (c : goal.After-new g)
@@ -84,7 +108,7 @@ pub invariant_of-self-in-Ok : goal.invariant_of-self-in-Ok
 invariant_of-self-in-Ok g c =
     rw (properties_kept c.self.inside.limits c.self.inside.heaps.items c.heap_index-heap.result c.alloc.new.self c.index_mut.result.now c.index_mut.ensures.value (ap (λ (h : Heap). h.size) c.alloc.ensures))
     (consistent-held _ _ _ _ _ c.self.inside.spans _ c.self.invariant refl c.insert-key.new.self (object g c) (whole_span c.object.result (object g c)) refl (more g c) _
-    (c.insert-key.ensures.places ∙ ap (λ (t : Table). finite.insert t.places (whole_span c.object.result (object g c)) (record { chunk = 0; index = 0 })) c.reserve.ensures.kept) c.index_mut.result.now _ _ (omega arith)
+    (c.insert-key.ensures.places ∙ ap (λ places. finite.insert places (whole_span c.object.result (object g c)) (record { chunk = 0; index = 0 })) (places_kept c.reserve.new.self c.self.inside.spans c.reserve.ensures.kept)) c.index_mut.result.now _ _ (positive c.self.inside.allocations_remains c.if-self-eq0.false)
     c.heap_index-heap.ensures c.index_mut.ensures.value (ap (λ (h : Heap). h.used) c.alloc.ensures))
 
 pub returns-in-Ok-clause-tries : goal.returns-in-Ok-clause-tries
@@ -92,18 +116,25 @@ returns-in-Ok-clause-tries g c =
     rw (← c.self.view_is) (
       asked (before g c) c.args.request.size c.args.memory_type (Ok c.object.result) ∷ [],
       (c.allocate_memory-answer.new.self, rw (← c.flags-flags.ensures, c.object.ensures) c.in-Ok.ensures, refl),
-      decides_granted (before g c) _ c.args.request c.args.memory_type c.object.result _ (block_is g c) (omega arith) (state_is g c),
+      decides_granted (before g c) _ c.args.request c.args.memory_type c.object.result _ (block_is g c) (positive c.self.inside.allocations_remains c.if-self-eq0.false) (state_is g c),
     )
+
+-- the device has the block's object
+one_more : (g : Over) (c : goal.After-new g) → HasOneMore (block g c) (g.D.MemoryDevice.objects c.args.device.now) (g.D.MemoryDevice.objects c.allocate_memory-answer.new.self)
+one_more g c =
+    subst (λ n. HasOneMore (whole_block (before g c) n c.args.request.size c.args.memory_type) (g.D.MemoryDevice.objects c.args.device.now) (g.D.MemoryDevice.objects c.allocate_memory-answer.new.self))
+    (sym c.object.ensures) (g.met.D.MemoryDevice.row _ _ _ c.in-Ok.ensures)
+
+pub returns-in-Ok-clause-objects : goal.returns-in-Ok-clause-objects
+returns-in-Ok-clause-objects g c =
+    subst (λ (b : Block). ObjectsWith b.kind c.args.self.now b (g.D.MemoryDevice.objects c.args.device.now) (g.D.MemoryDevice.objects c.allocate_memory-answer.new.self)) (sym (block_is g c)) (one_more g c)
 
 pub returns-in-Ok-clause-agrees : goal.returns-in-Ok-clause-agrees
 returns-in-Ok-clause-agrees g c =
     let agreed = rw (← c.self.view_is) at c.requires.agrees in
     let same = g.met.D.MemoryDevice.keeps_properties _ _ _ c.in-Ok.ensures in
-    let after : HasOneMore (block g c) (g.D.MemoryDevice.objects c.args.device.now) (g.D.MemoryDevice.objects c.allocate_memory-answer.new.self) =
-    subst (λ n. HasOneMore (whole_block (before g c) n c.args.request.size c.args.memory_type) (g.D.MemoryDevice.objects c.args.device.now) (g.D.MemoryDevice.objects c.allocate_memory-answer.new.self))
-    (sym c.object.ensures) (g.met.D.MemoryDevice.row _ _ _ c.in-Ok.ensures) in
     subst (λ s. Agrees s (g.D.MemoryDevice.properties c.allocate_memory-answer.new.self) (g.D.MemoryDevice.objects c.allocate_memory-answer.new.self)) (sym (state_is g c))
-    (agrees_granted (before g c) _ _ _ _ (block g c) agreed same after)
+    (agrees_granted (before g c) _ _ _ _ (block g c) agreed same (one_more g c))
 
 pub returns-in-Ok-clause-granted : goal.returns-in-Ok-clause-granted
 returns-in-Ok-clause-granted g c =
@@ -112,13 +143,133 @@ returns-in-Ok-clause-granted g c =
 
 pub returns-in-Ok-clause-total : goal.returns-in-Ok-clause-total
 returns-in-Ok-clause-total g c =
-    rw (← c.self.view_is) (ap total (state_is g c) ∙ total_held (before g c) _ (block g c) (omega arith) (free g c))
+    rw (← c.self.view_is) (ap total (state_is g c) ∙ total_held (before g c) _ (block g c) (positive c.self.inside.allocations_remains c.if-self-eq0.false) (free g c))
 
 pub returns-in-Err-OutOfHostMemory-clause-tries : goal.returns-in-Err-OutOfHostMemory-clause-tries
 returns-in-Err-OutOfHostMemory-clause-tries g c =
-    let same = ap (λ t. state_in c.self.inside.limits c.self.inside.heaps.items c.self.inside.buddies.items c.self.inside.free_lists.items t c.self.inside.allocations_remains) c.reserve.ensures.kept in
+    let same = state_kept c.self.inside.limits c.self.inside.heaps.items c.self.inside.buddies.items c.self.inside.free_lists.items c.reserve.new.self c.self.inside.spans c.self.inside.allocations_remains c.reserve.ensures.kept in
     rw (← c.self.view_is) (
       Allocated c.args.request.size c.args.memory_type (flags_of (properties_in c.self.inside.limits c.self.inside.heaps.items)) (Err c.in-Err-OutOfHostMemory.field-0) ∷ [],
       (c.allocate_memory-answer.new.self, rw (← c.flags-flags.ensures) (rw c.in-Err-OutOfHostMemory.is at c.allocate_memory-answer.ensures), refl),
-      (omega arith, inr (rw (rw c.in-Err-OutOfHostMemory.is at c.in-Err-OutOfHostMemory.field-0-is) refl), same),
+      (positive c.self.inside.allocations_remains c.if-self-eq0.false, inr (rw (rw c.in-Err-OutOfHostMemory.is at c.in-Err-OutOfHostMemory.field-0-is) refl), same),
     )
+
+-- The device grants nothing: room was made, and the state is the one before.
+
+agrees_kept : (s new : State) (p q : Properties) (f h : ℕ → Option Object) → new ≡ s → q ≡ p → h ≡ f → Agrees s p f → Agrees new q h
+agrees_kept s new p q f h state properties objects agreed = rw (state, properties, objects) agreed
+
+kept-is_err : (g : Over) (c : goal.Then-is_err g)
+    → state_in c.self.inside.limits c.self.inside.heaps.items c.self.inside.buddies.items c.self.inside.free_lists.items c.reserve.new.self c.self.inside.allocations_remains ≡ c.args.self.now
+kept-is_err g c = state_kept c.self.inside.limits c.self.inside.heaps.items c.self.inside.buddies.items c.self.inside.free_lists.items c.reserve.new.self c.self.inside.spans c.self.inside.allocations_remains c.reserve.ensures.kept ∙ c.self.view_is
+
+kept-device : (g : Over) (c : goal.In-Err-OutOfDeviceMemory g)
+    → state_in c.self.inside.limits c.self.inside.heaps.items c.self.inside.buddies.items c.self.inside.free_lists.items c.reserve.new.self c.self.inside.allocations_remains ≡ c.args.self.now
+kept-device g c = state_kept c.self.inside.limits c.self.inside.heaps.items c.self.inside.buddies.items c.self.inside.free_lists.items c.reserve.new.self c.self.inside.spans c.self.inside.allocations_remains c.reserve.ensures.kept ∙ c.self.view_is
+
+kept-host : (g : Over) (c : goal.In-Err-OutOfHostMemory g)
+    → state_in c.self.inside.limits c.self.inside.heaps.items c.self.inside.buddies.items c.self.inside.free_lists.items c.reserve.new.self c.self.inside.allocations_remains ≡ c.args.self.now
+kept-host g c = state_kept c.self.inside.limits c.self.inside.heaps.items c.self.inside.buddies.items c.self.inside.free_lists.items c.reserve.new.self c.self.inside.spans c.self.inside.allocations_remains c.reserve.ensures.kept ∙ c.self.view_is
+
+pub returns-then-is_err-clause-tries : goal.returns-then-is_err-clause-tries
+returns-then-is_err-clause-tries g c = ([], refl, (subst (λ s. 0 < s.remaining) c.self.view_is (positive c.self.inside.allocations_remains c.if-self-eq0.false), inl refl, kept-is_err g c))
+
+pub returns-then-is_err-clause-agrees : goal.returns-then-is_err-clause-agrees
+returns-then-is_err-clause-agrees g c = subst (λ s. Agrees s (g.D.MemoryDevice.properties c.args.device.now) (g.D.MemoryDevice.objects c.args.device.now)) (sym (kept-is_err g c)) c.requires.agrees
+
+pub returns-then-is_err-clause-granted : goal.returns-then-is_err-clause-granted
+returns-then-is_err-clause-granted g c = kept-is_err g c
+
+pub returns-then-is_err-clause-total : goal.returns-then-is_err-clause-total
+returns-then-is_err-clause-total g c = ap total (kept-is_err g c)
+
+pub returns-in-Err-OutOfDeviceMemory-clause-tries : goal.returns-in-Err-OutOfDeviceMemory-clause-tries
+returns-in-Err-OutOfDeviceMemory-clause-tries g c =
+    let same = state_kept c.self.inside.limits c.self.inside.heaps.items c.self.inside.buddies.items c.self.inside.free_lists.items c.reserve.new.self c.self.inside.spans c.self.inside.allocations_remains c.reserve.ensures.kept in
+    rw (← c.self.view_is) (
+      Allocated c.args.request.size c.args.memory_type (flags_of (properties_in c.self.inside.limits c.self.inside.heaps.items)) (Err c.in-Err-OutOfDeviceMemory.field-0) ∷ [],
+      (c.allocate_memory-answer.new.self, rw (← c.flags-flags.ensures) (rw c.in-Err-OutOfDeviceMemory.is at c.allocate_memory-answer.ensures), refl),
+      ((positive c.self.inside.allocations_remains c.if-self-eq0.false, rw (rw c.in-Err-OutOfDeviceMemory.is at c.in-Err-OutOfDeviceMemory.field-0-is) refl), same),
+    )
+
+pub returns-in-Err-OutOfDeviceMemory-clause-objects : goal.returns-in-Err-OutOfDeviceMemory-clause-objects
+returns-in-Err-OutOfDeviceMemory-clause-objects g c = g.met.D.MemoryDevice.row _ _ _ (rw c.in-Err-OutOfDeviceMemory.is at c.allocate_memory-answer.ensures)
+
+pub returns-in-Err-OutOfDeviceMemory-clause-agrees : goal.returns-in-Err-OutOfDeviceMemory-clause-agrees
+returns-in-Err-OutOfDeviceMemory-clause-agrees g c =
+    let step = rw c.in-Err-OutOfDeviceMemory.is at c.allocate_memory-answer.ensures in
+    agrees_kept _ _ _ _ _ _ (kept-device g c) (g.met.D.MemoryDevice.keeps_properties _ _ _ step) (g.met.D.MemoryDevice.row _ _ _ step) c.requires.agrees
+
+pub returns-in-Err-OutOfDeviceMemory-clause-granted : goal.returns-in-Err-OutOfDeviceMemory-clause-granted
+returns-in-Err-OutOfDeviceMemory-clause-granted g c = kept-device g c
+
+pub returns-in-Err-OutOfDeviceMemory-clause-total : goal.returns-in-Err-OutOfDeviceMemory-clause-total
+returns-in-Err-OutOfDeviceMemory-clause-total g c = ap total (kept-device g c)
+
+pub returns-in-Err-OutOfHostMemory-clause-objects : goal.returns-in-Err-OutOfHostMemory-clause-objects
+returns-in-Err-OutOfHostMemory-clause-objects g c = g.met.D.MemoryDevice.row _ _ _ (rw c.in-Err-OutOfHostMemory.is at c.allocate_memory-answer.ensures)
+
+pub returns-in-Err-OutOfHostMemory-clause-agrees : goal.returns-in-Err-OutOfHostMemory-clause-agrees
+returns-in-Err-OutOfHostMemory-clause-agrees g c =
+    let step = rw c.in-Err-OutOfHostMemory.is at c.allocate_memory-answer.ensures in
+    agrees_kept _ _ _ _ _ _ (kept-host g c) (g.met.D.MemoryDevice.keeps_properties _ _ _ step) (g.met.D.MemoryDevice.row _ _ _ step) c.requires.agrees
+
+pub returns-in-Err-OutOfHostMemory-clause-granted : goal.returns-in-Err-OutOfHostMemory-clause-granted
+returns-in-Err-OutOfHostMemory-clause-granted g c = kept-host g c
+
+pub returns-in-Err-OutOfHostMemory-clause-total : goal.returns-in-Err-OutOfHostMemory-clause-total
+returns-in-Err-OutOfHostMemory-clause-total g c = ap total (kept-host g c)
+
+-- The new object's name is free in the table, and so is its span.
+
+no_object : (g : Over) (c : goal.After-insert-arg-1 g) → finite.get c.self.inside.spans.held c.object.result ≡ None
+no_object g c =
+    let made = g.met.D.MemoryDevice.row _ _ _ c.in-Ok.ensures in
+    let none : g.D.MemoryDevice.objects c.args.device.now c.object.result ≡ None = rw c.object.ensures made.0 in
+    ap (λ (s : State). finite.get s.held c.object.result) c.self.view_is ∙ not_held c.args.self.now _ _ _ c.requires.agrees none
+
+not_live : (t : Table) (span : Span) → finite.get t.held span.object ≡ None → ((other : Span) → IsLiveIn t other → IsOfObject t other) → set_of.contains t.live span ≡ false
+not_live t span none of_objects = elim (set_of.contains t.live span) as (λ x. set_of.contains t.live span ≡ x → x ≡ false) [
+  | true ↦ λ live. absurd (let held = (of_objects span live).held in cc (none, held))
+  | false ↦ λ free. refl
+] refl
+
+pub insert-key-requires-clause-free : goal.insert-key-requires-clause-free
+insert-key-requires-clause-free g c =
+    ap (λ live. set_of.contains live (span_at c.object.result 0 c.args.request.size)) (live_kept c.reserve.new.self c.self.inside.spans c.reserve.ensures.kept)
+    ∙ not_live c.self.inside.spans (span_at c.object.result 0 c.args.request.size) (no_object g c) c.self.invariant.books.spans
+
+pub insert-key-requires-clause-object : goal.insert-key-requires-clause-object
+insert-key-requires-clause-object g c = ap (λ held. finite.get held c.object.result) (held_kept c.reserve.new.self c.self.inside.spans c.reserve.ensures.kept) ∙ no_object g c
+
+pub heap_index-heap-requires : goal.heap_index-heap-requires
+heap_index-heap-requires g c = rw (← c.self.view_is) at c.requires.known
+
+pub props-props-requires : goal.props-props-requires
+props-props-requires g c = rw (← c.self.view_is) at c.requires.known
+
+flag : (b : Bool) → IsTrue (has_bit (cond b 1 0) 1) → IsTrue b
+flag true bit = refl
+flag false bit = bit
+
+askable : (s : State) (p : Properties) (size t flags : ℕ) → p ≡ s.properties → 0 < size → t < length s.properties.memory_types → flags ≡ flags_of s.properties → IsAskable p size t flags
+askable s p size t flags same nonempty known is = record {
+  nonempty = nonempty;
+  known = rw same known;
+  address = λ bit. rw same (flag s.properties.buffer_device_address (rw is at bit));
+}
+
+pub allocate_memory-answer-requires : goal.allocate_memory-answer-requires
+allocate_memory-answer-requires g c =
+    askable c.args.self.now _ c.args.request.size c.args.memory_type _ c.requires.agrees.properties c.requires.askable.nonempty c.requires.known
+    (c.flags-flags.ensures ∙ ap (λ (s : State). flags_of s.properties) c.self.view_is)
+
+pub overflow_sub-self : goal.overflow_sub-self
+overflow_sub-self g c = positive c.self.inside.allocations_remains c.if-self-eq0.false
+
+room_made : {T E : Type 0} (r : Result T E) (P : Type 0) → OnOk r P → false ≡ is_err r → P
+room_made (Ok x) P room no_error = room
+room_made (Err e) P room no_error = absurd (cc)
+
+pub insert-key-requires-clause-room : goal.insert-key-requires-clause-room
+insert-key-requires-clause-room g c = room_made _ _ c.reserve.ensures.room c.if-is_err.ensures.value
