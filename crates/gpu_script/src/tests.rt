@@ -1,18 +1,15 @@
-//! What no contract says: what scripts print, that calls succeed with ample memory, what is left where memory is refused,
-//! and configurations as text. The tests of the crates below stand here too, since a crate with tests is proved twice.
+//! What no contract says: what scripts print, that calls succeed with ample memory, and what is left where memory is refused.
+//! The tests of the allocator stand here, over the simulated device; those that need none stand in `gpu_session`.
 
 mod allocator;
 mod bench;
 mod blocks;
 mod buddy;
-mod config;
+mod candidates;
 mod ends;
-mod errors;
-mod flags;
 mod freelist;
 mod grants;
 mod memory;
 mod refusals;
 mod scripts;
 mod transient;
-mod usage;
