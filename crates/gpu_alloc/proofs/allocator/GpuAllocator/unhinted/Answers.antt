@@ -30,6 +30,6 @@ returns-else-request-min g c =
     rw (← c.heap_size-part.ensures, ← c.self.view_is, ← c.transient_threshold.ensures) c.min.ensures in
     let brief = sym c.contains.ensures ∙ c.if-contains.true in
     elim c.else-request-min.branch [
-      else-request-min-via-then-request-min+else-fits_a_chunk w ↦ small_unfitting c.args.self.now c.args.request c.args.memory_type c.min.result brief bound w.if-request-min.true (sym w.fits_a_chunk.ensures ∙ w.if-fits_a_chunk.false)
-    | else-request-min-via-else-request-min w ↦ large_transient c.args.self.now c.args.request c.args.memory_type c.min.result brief bound w.if-request-min.false
+      | else-request-min-via-then-request-min+else-fits_a_chunk w ↦ small_unfitting c.args.self.now c.args.request c.args.memory_type c.min.result brief bound w.if-request-min.true (sym w.fits_a_chunk.ensures ∙ w.if-fits_a_chunk.false)
+      | else-request-min-via-else-request-min w ↦ large_transient c.args.self.now c.args.request c.args.memory_type c.min.result brief bound w.if-request-min.false
     ]
