@@ -1,6 +1,5 @@
-use Rattle.std.proofs.Common.{refl, ap, subst, arith, ◌∙◌}
+use Rattle.std.proofs.Common.{refl, subst, arith}
 use Rattle.gpu_alloc.specs.Release.{GoesWith, LetsGo, without_span}
-use Rattle.gpu_alloc.specs.State.{total}
 use Rattle.gpu_alloc.proofs.ListReturns.{goes_with_list}
 use Rattle.gpu_alloc.proofs.allocator.GpuAllocator.dealloc_in_list.Given.{Over}
 use Rattle.gpu_alloc.proofs.allocator.GpuAllocator.dealloc_in_list.Goals as goal
@@ -24,9 +23,3 @@ returns-clause-freed g c =
 
 pub returns-clause-objects : goal.returns-clause-objects
 returns-clause-objects g c = (c.give_back.ensures.gives.0, with_it g c, c.give_back.ensures.gives.5)
-
-pub returns-clause-agrees : goal.returns-clause-agrees
-returns-clause-agrees g c = c.give_back.ensures.agrees
-
-pub returns-clause-total : goal.returns-clause-total
-returns-clause-total g c = c.give_back.ensures.total ∙ ap total c.free_block.ensures.freed
