@@ -1,6 +1,8 @@
 use Rattle.std.proofs.Common.{◌≡◌, length, ◌++◌, arith}
 use Rattle.gpu_alloc_types.specs.Chains.{chain_append}
+use Rattle.gpu_alloc.specs.Release.{AreAllGone}
 use Rattle.gpu_alloc.proofs.ListCleanups.{cleaning_goes_on, all_gone, left_is}
+use Rattle.gpu_alloc.proofs.allocator.GpuAllocator.cleanup.Given.{Over}
 use Rattle.gpu_alloc.proofs.allocator.GpuAllocator.cleanup.Goals as goal
 
 pub loop-memory_type-preserved : goal.loop-memory_type-preserved
@@ -12,6 +14,28 @@ loop-memory_type-preserved g c =
       chain_append g.D.MemoryDevice.step way.1 gives.1 _ _ _ way.2 gives.2,
       cleaning_goes_on _ _ _ _ _ _ _ _ c.loop-memory_type.memory_type way.0 gives.0 way.1 gives.1 way.3 gives.3 gives.4 gives.5 c.give_back.ensures.agrees c.give_back.ensures.total,
     )
+
+-- At the end all of all memory types went that may go.
+all_went : (g : Over) (c : goal.After-loop-memory_type g) → AreAllGone c.args.self.now (length c.args.self.now.properties.memory_types) c.loop-memory_type.invariant.0
+all_went g c =
+    let last : c.loop-memory_type.memory_type ≡ length c.self.inside.limits.memory_types.items =
+    omega (arith, c.loop-memory_type.auto.memory_type-end, c.loop-memory_type-test.false, c.len-count.ensures, c.self.inside.limits.memory_types.ok) in
+    let all = rw (← c.self.view_is) at c.loop-memory_type.invariant.3.all in
+    rw (← c.self.view_is, ← last) all
+
+pub returns-clause-cleaned : goal.returns-clause-cleaned
+returns-clause-cleaned g c =
+    let way = c.loop-memory_type.invariant in
+    (way.1, way.2, (way.0, all_went g c, way.3.lets))
+
+pub returns-clause-objects : goal.returns-clause-objects
+returns-clause-objects g c = (c.loop-memory_type.invariant.0, all_went g c, c.loop-memory_type.invariant.3.objects_are)
+
+pub returns-clause-agrees : goal.returns-clause-agrees
+returns-clause-agrees g c = c.loop-memory_type.invariant.3.agrees
+
+pub returns-clause-total : goal.returns-clause-total
+returns-clause-total g c = c.loop-memory_type.invariant.3.whole
 
 pub returns-clause-ends : goal.returns-clause-ends
 returns-clause-ends g c unused =

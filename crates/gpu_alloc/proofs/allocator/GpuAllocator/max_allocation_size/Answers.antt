@@ -1,0 +1,5 @@
+use Rattle.std.proofs.Common.{refl}
+use Rattle.gpu_alloc.proofs.allocator.GpuAllocator.max_allocation_size.Goals as goal
+
+pub returns : goal.returns
+returns g c = rw (← c.self.view_is) refl
