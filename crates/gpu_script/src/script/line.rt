@@ -77,6 +77,21 @@ fn number(field: &[u8]) -> Option<u64> {
     if field.is_empty() { None } else { Some(value) }
 }
 
+/// What a field stands for, as one of these words.
+pub(crate) fn meaning_of<T: Copy>(
+    words: &[(&str, T)],
+    field: Option<&[u8]>,
+) -> Result<T, LineError> {
+    if let Some(field) = field {
+        for (word, meaning) in words {
+            if word.as_bytes() == field {
+                return Ok(*meaning);
+            }
+        }
+    }
+    Err(LineError::UnknownWord)
+}
+
 impl Fields<'_> {
     /// The next field as a number.
     pub(crate) fn next_u64(&mut self) -> Result<u64, LineError> {

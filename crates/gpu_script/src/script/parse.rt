@@ -5,7 +5,7 @@ ghost use Rattle.gpu_session.specs.Sound.{IsForRequired};
 
 use crate::script::Stop;
 use crate::script::fields::Fields;
-use crate::script::line::{LineError, LineStop};
+use crate::script::line::{LineError, LineStop, meaning_of};
 use crate::script::lines::Lines;
 use crate::script::setup::{Setup, SetupWord};
 use gpu_alloc::{Dedicated, Request, UsageFlags};
@@ -74,15 +74,14 @@ impl<A: Allocator + Copy> Script<A> {
         if let [b'#', ..] = first {
             return Ok(());
         }
-        match word_of(first) {
-            None => return Err(LineStop::Bad(LineError::UnknownWord)),
-            Some(Word::Setup(word)) => {
+        match meaning_of(&WORDS, Some(first))? {
+            Word::Setup(word) => {
                 if !self.commands.is_empty() {
                     return Err(LineStop::Bad(LineError::SetupAfterCommands));
                 }
                 self.setup.take_line(word, fields)?;
             }
-            Some(Word::Command(word)) => {
+            Word::Command(word) => {
                 let command = command(word, fields)?;
                 self.commands.push(command)?;
             }
@@ -91,21 +90,19 @@ impl<A: Allocator + Copy> Script<A> {
     }
 }
 
-fn word_of(field: &[u8]) -> Option<Word> {
-    match field {
-        b"config" => Some(Word::Setup(SetupWord::Config)),
-        b"heap" => Some(Word::Setup(SetupWord::Heap)),
-        b"type" => Some(Word::Setup(SetupWord::Type)),
-        b"limits" => Some(Word::Setup(SetupWord::Limits)),
-        b"atom" => Some(Word::Setup(SetupWord::Atom)),
-        b"address" => Some(Word::Setup(SetupWord::Address)),
-        b"refuse" => Some(Word::Setup(SetupWord::Refuse)),
-        b"required" => Some(Word::Command(CommandWord::Required)),
-        b"free" => Some(Word::Command(CommandWord::Free)),
-        b"counts" => Some(Word::Command(CommandWord::Counts)),
-        _ => None,
-    }
-}
+/// The words that lines begin with, and what they stand for.
+const WORDS: [(&str, Word); 10] = [
+    ("config", Word::Setup(SetupWord::Config)),
+    ("heap", Word::Setup(SetupWord::Heap)),
+    ("type", Word::Setup(SetupWord::Type)),
+    ("limits", Word::Setup(SetupWord::Limits)),
+    ("atom", Word::Setup(SetupWord::Atom)),
+    ("address", Word::Setup(SetupWord::Address)),
+    ("refuse", Word::Setup(SetupWord::Refuse)),
+    ("required", Word::Command(CommandWord::Required)),
+    ("free", Word::Command(CommandWord::Free)),
+    ("counts", Word::Command(CommandWord::Counts)),
+];
 
 /// The command of a line that begins with a command word.
 fn command<A: Allocator>(word: CommandWord, mut fields: Fields<'_>) -> Result<Command<A>, LineError>

@@ -6,7 +6,7 @@ ghost use Rattle.gpu_script.specs.declared.sim.question.Cause.TheVariants.{Faile
 ghost use Rattle.gpu_script.specs.declared.sim.question.Question.TheVariants.{Map};
 
 use crate::script::fields::Fields;
-use crate::script::line::{LineError, LineStop};
+use crate::script::line::{LineError, LineStop, meaning_of};
 use crate::sim::{Cause, Question};
 use gpu_alloc::{Config, DeviceProperties, MemoryHeap, MemoryPropertyFlags, MemoryType};
 use std::alloc::Allocator;
@@ -121,11 +121,11 @@ impl<A: Allocator + Copy> Setup<A> {
 
 /// A default configuration by its name.
 fn read_named_config(fields: &mut Fields<'_>) -> Result<Config, LineError> {
-    match fields.next() {
-        Some(b"potato") => Ok(Config::i_am_potato()),
-        Some(b"prototyping") => Ok(Config::i_am_prototyping()),
-        _ => Err(LineError::UnknownWord),
-    }
+    let configs = [
+        ("potato", Config::i_am_potato()),
+        ("prototyping", Config::i_am_prototyping()),
+    ];
+    meaning_of(&configs, fields.next())
 }
 
 /// A configuration by its seven numbers.
@@ -152,24 +152,34 @@ fn read_memory_type(fields: &mut Fields<'_>) -> Result<MemoryType, LineError> {
     Ok(MemoryType { heap, props })
 }
 
+/// The kinds of questions that may be refused.
+const KINDS: [(&str, Question); 4] = [
+    ("allocate", Question::Allocate),
+    ("map", Question::Map),
+    ("flush", Question::Flush),
+    ("invalidate", Question::Invalidate),
+];
+
+/// Why they may be refused.
+const CAUSES: [(&str, Cause); 3] = [
+    ("device", Cause::Device),
+    ("host", Cause::Host),
+    ("failed", Cause::Failed),
+];
+
 /// A kind of question, how many of it come up to this one, and the cause. Only a map may fail.
 fn read_refusal(fields: &mut Fields<'_>) -> Result<Refusal, LineError> {
-    let kind = match fields.next() {
-        Some(b"allocate") => Question::Allocate,
-        Some(b"map") => Question::Map,
-        Some(b"flush") => Question::Flush,
-        Some(b"invalidate") => Question::Invalidate,
-        _ => return Err(LineError::UnknownWord),
-    };
+    let kind = meaning_of(&KINDS, fields.next())?;
     let nth = fields.next_u64()?;
     if nth == 0 {
         return Err(LineError::BadNumber);
     }
-    let cause = match (fields.next(), kind) {
-        (Some(b"device"), _) => Cause::Device,
-        (Some(b"host"), _) => Cause::Host,
-        (Some(b"failed"), Question::Map) => Cause::Failed,
-        _ => return Err(LineError::UnknownWord),
-    };
+    let cause = meaning_of(&CAUSES, fields.next())?;
+    match (cause, kind) {
+        (Cause::Failed, Question::Allocate | Question::Flush | Question::Invalidate) => {
+            return Err(LineError::UnknownWord);
+        }
+        _ => {}
+    }
     Ok(Refusal { kind, nth, cause })
 }
