@@ -19,6 +19,7 @@ pub mod FreeListSizes
 pub mod FreeRuns
 pub mod GoneChunks
 pub mod Grants
+pub mod HandedOn
 pub mod HasBuddies
 pub mod HasLists
 pub mod HeapLists

@@ -1,10 +1,10 @@
-use Rattle.std.proofs.Common.{ℕ, ◌≡◌, ◌⊎◌, ◌+◌, ◌<◌, [], Bool, true, false, cond, IfSome, IsTrue, refl, sym, ap, ◌∙◌, arith, subst}
+use Rattle.std.proofs.Common.{◌≡◌, ◌⊎◌, ◌+◌, [], IfSome, refl, sym, ap, ◌∙◌, subst}
 use Rattle.std.proofs.lemmas.List.{get_or-set_same}
 use Rattle.std.proofs.Math.ListN.{set}
 use Rattle.std.specs.FinMap as finite
 use Rattle.std.specs.FinSet as set_of
 use Rattle.std.specs.Option.{IsSome, is_some}
-use Rattle.gpu_alloc_types.specs.Flags.{allocation_bits, has_bit}
+use Rattle.gpu_alloc_types.specs.Flags.{allocation_bits}
 use Rattle.gpu_alloc_types.specs.Properties.{Properties}
 use Rattle.gpu_alloc.specs.Buddy.{account}
 use Rattle.gpu_alloc.specs.Inside.{state_in, with_chunk_of, span_of_leaf, place_of_leaf}
@@ -21,14 +21,8 @@ use Rattle.gpu_alloc.proofs.SharedAnswers.{Given, span_is_free, IsServed, object
 use Rattle.gpu_alloc.proofs.SharedGrants.{serves, counted_before, bounded_before, consistent_refused, state_refused}
 use Rattle.gpu_alloc.proofs.SharedRefusals.{first_tries, refused_tries, nothing_made, nothing_granted}
 use Rattle.gpu_alloc.proofs.allocator.GpuAllocator.try_buddy.Given.{Over}
+use Rattle.gpu_alloc.proofs.HandedOn.{below, address_there}
 use Rattle.gpu_alloc.proofs.allocator.GpuAllocator.try_buddy.Goals as goal
-
-below : {a b m n : ℕ} → a ≡ b → m ≡ n → b < n → a < m
-below e k h = omega arith
-
-address_there : (bits : ℕ) (has device : Bool) → bits ≡ cond has 1 0 → device ≡ has → IsTrue (has_bit bits 1) → IsTrue device
-address_there bits true device e is asked = is
-address_there bits false device e is asked = let none : IsTrue (has_bit 0 1) = subst (λ n. IsTrue (has_bit n 1)) e asked in absurd (cc)
 
 -- Before anything is asked of the device.
 

@@ -1,8 +1,8 @@
-use Rattle.std.proofs.Common.{ℕ, ◌≡◌, ◌+◌, ◌^◌, ◌<◌, [], Bool, true, false, cond, IsTrue, refl, sym, ap, ◌∙◌, arith, subst}
+use Rattle.std.proofs.Common.{◌≡◌, ◌+◌, ◌^◌, ◌<◌, [], refl, sym, ap, ◌∙◌, subst}
 use Rattle.std.proofs.Math.ListN.{set}
 use Rattle.std.specs.FinMap as finite
 use Rattle.std.specs.FinSet as set_of
-use Rattle.gpu_alloc_types.specs.Flags.{allocation_bits, has_bit}
+use Rattle.gpu_alloc_types.specs.Flags.{allocation_bits}
 use Rattle.gpu_alloc_types.specs.Properties.{Properties}
 use Rattle.gpu_alloc.specs.FreeListAllocator.{account}
 use Rattle.gpu_alloc.specs.Inside.{state_in, with_chunk_of_slot, span_of_slot, no_place}
@@ -21,15 +21,9 @@ use Rattle.gpu_alloc.proofs.ListServing.{ServesList, first_open}
 use Rattle.gpu_alloc.proofs.OwnObjects.{consistent-room}
 use Rattle.gpu_alloc.proofs.SharedRefusals.{nothing_made, nothing_granted}
 use Rattle.gpu_alloc.proofs.allocator.GpuAllocator.try_free_list.Given.{Over}
+use Rattle.gpu_alloc.proofs.HandedOn.{below, address_there}
 use Rattle.gpu_alloc.proofs.allocator.GpuAllocator.try_free_list.Goals as goal
 use Rattle.gpu_alloc.proofs.TypeLists.{serves_own}
-
-below : {a b m n : ℕ} → a ≡ b → m ≡ n → b < n → a < m
-below e k h = omega arith
-
-address_there : (bits : ℕ) (has device : Bool) → bits ≡ cond has 1 0 → device ≡ has → IsTrue (has_bit bits 1) → IsTrue device
-address_there bits true device e is asked = is
-address_there bits false device e is asked = let none : IsTrue (has_bit 0 1) = subst (λ n. IsTrue (has_bit n 1)) e asked in absurd (cc)
 
 -- Before anything is asked of the device.
 

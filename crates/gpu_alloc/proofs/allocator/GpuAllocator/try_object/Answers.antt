@@ -1,6 +1,5 @@
-use Rattle.std.proofs.Common.{◌≡◌, ◌≢◌, ℕ, Bool, true, false, cond, IsTrue, Option, OnOk, List, Result, ◌-◌, ◌<◌, ◌∷◌, [], ◌^◌, None, Ok, Err, refl, sym, ap, ◌∙◌, arith, subst, inl, inr, length, vec_len}
+use Rattle.std.proofs.Common.{◌≡◌, ◌≢◌, ℕ, Bool, true, false, cond, IsTrue, Option, List, ◌-◌, ◌<◌, ◌∷◌, [], ◌^◌, None, Ok, Err, refl, sym, ap, ◌∙◌, arith, subst, inl, inr, length, vec_len}
 use Rattle.std.proofs.Math.ListN.{set}
-use Rattle.std.specs.Result.{is_err}
 use Rattle.std.proofs.lemmas.Grind.{common_steps}
 use Rattle.std.specs.FinMap as finite
 use Rattle.std.specs.FinSet as set_of
@@ -24,6 +23,7 @@ use Rattle.gpu_alloc.proofs.Grants.{own_object, state_held, decides_granted, gra
 use Rattle.gpu_alloc.proofs.HeapLists.{properties_kept}
 use Rattle.gpu_alloc.proofs.OwnObjects.{consistent-room, consistent-held}
 use Rattle.gpu_alloc.proofs.allocator.GpuAllocator.try_object.Given.{Over}
+use Rattle.gpu_alloc.proofs.BuddyGrants.{when_ok}
 use Rattle.gpu_alloc.proofs.allocator.GpuAllocator.try_object.Goals as goal
 
 positive : (n : ℕ) → n ≢ 0 → 0 < n
@@ -267,9 +267,5 @@ allocate_memory-answer-requires g c =
 pub overflow_sub-self : goal.overflow_sub-self
 overflow_sub-self g c = positive c.self.inside.allocations_remains c.if-self-eq0.false
 
-room_made : {T E : Type 0} (r : Result T E) (P : Type 0) → OnOk r P → false ≡ is_err r → P
-room_made (Ok x) P room no_error = room
-room_made (Err e) P room no_error = absurd (cc)
-
 pub insert-key-requires-clause-room : goal.insert-key-requires-clause-room
-insert-key-requires-clause-room g c = room_made _ _ c.reserve.ensures.room c.if-is_err.ensures.value
+insert-key-requires-clause-room g c = when_ok _ (sym c.if-is_err.ensures.value) c.reserve.ensures.room
