@@ -33,7 +33,7 @@ use std::alloc::{AllocError, Allocator, Global};
 use std::marker::Model;
 
 /// Which way a memory type serves a request.
-#[derive(Clone, Copy, Debug, PartialEq, Eq)]
+#[derive(Clone, Copy)]
 enum Strategy {
     /// By an object of the block's own.
     OwnObject,

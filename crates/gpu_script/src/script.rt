@@ -72,11 +72,20 @@ pub fn run_script<R: Read, W: Write, A: Allocator + Copy>(
 fn answer<R: Read, A: Allocator + Copy>(alloc: A, input: &mut R) -> Result<String<A>, Stop> {
     let text = read_all(alloc, input)?;
     let script = parse(alloc, text.as_slice())?;
+    let printed = answer_to(alloc, &script);
+    drop(script);
+    printed
+}
+
+/// What a script answers whose lines are good.
+fn answer_to<A: Allocator + Copy>(alloc: A, script: &Script<A>) -> Result<String<A>, Stop>
+    requires required { All IsForRequired script.now.commands.items }
+{
     if !script.setup.properties().is_usable() {
         let after = script.lines.saturating_add(1);
         return Err(Stop::BadLine(after, LineError::BadProperties));
     }
-    Ok(run(alloc, &script)?)
+    Ok(run(alloc, script)?)
 }
 
 /// The bytes of a reader.
@@ -105,7 +114,12 @@ fn run<A: Allocator + Copy>(alloc: A, script: &Script<A>) -> Result<String<A>, A
 {
     let session = open(alloc, &script.setup)?;
     let (replies, device) = run_and_finish(session, script.commands.as_slice());
-    print_replies(alloc, replies?.as_slice(), &device)
+    let printed = match replies {
+        Ok(replies) => print_replies(alloc, replies.as_slice(), &device),
+        Err(e) => Err(e),
+    };
+    drop(device);
+    printed
 }
 
 /// Runs commands as one list, and finishes the session: the replies, and the device at the end.
@@ -129,7 +143,10 @@ pub(crate) fn open<A: Allocator + Copy>(
     let device = device(alloc, setup)?;
     match Session::new(alloc, setup.config, setup.properties(), device) {
         Ok(session) => Ok(session),
-        Err(SessionOpenError { device: _device }) => Err(AllocError),
+        Err(SessionOpenError { device }) => {
+            drop(device);
+            Err(AllocError)
+        }
     }
 }
 
@@ -139,7 +156,13 @@ fn device<A: Allocator + Copy>(alloc: A, setup: &Setup<A>) -> Result<Sim<A>, All
 {
     let mut device = Sim::new(alloc, setup.properties())?;
     for refusal in &setup.refusals {
-        device.refuse(refusal.kind, refusal.nth, refusal.cause)?;
+        if device
+            .refuse(refusal.kind, refusal.nth, refusal.cause)
+            .is_err()
+        {
+            drop(device);
+            return Err(AllocError);
+        }
     }
     Ok(device)
 }

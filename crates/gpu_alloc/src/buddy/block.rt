@@ -6,7 +6,7 @@ use gpu_alloc_types::MemoryObject;
 use std::marker::Model;
 
 /// What a live block of a buddy allocator is known by.
-#[derive(Clone, Copy, Debug, PartialEq, Eq)]
+#[derive(Clone, Copy, PartialEq, Eq)]
 pub(crate) struct Leaf {
     /// The name of its chunk's object.
     pub(crate) object: u64,

@@ -120,7 +120,7 @@ fn place_of<M: MemoryObject, L: Ledger>(
 }
 
 /// A run that stands in place of those from index `from` to before `to`.
-#[derive(Clone, Copy, Debug, PartialEq, Eq)]
+#[derive(Clone, Copy)]
 struct Joint {
     from: usize,
     to: usize,

@@ -59,8 +59,13 @@ impl OneType {
         requires { CanRefuse cause kind }
     {
         let mut device = OneType::new(alloc)?;
-        device.sim.refuse(kind, nth, cause)?;
-        Ok(device)
+        match device.sim.refuse(kind, nth, cause) {
+            Ok(()) => Ok(device),
+            Err(e) => {
+                drop(device);
+                Err(e)
+            }
+        }
     }
 
     // How many objects it holds.
@@ -155,6 +160,7 @@ fn a_refused_question_uses_no_name(rt: HostRuntime) -> Result<(), Fail> {
             (9, Ok(2), 2),
         ],
     );
+    drop(device);
     Ok(())
 }
 
@@ -163,6 +169,7 @@ fn a_name_is_given_once(rt: HostRuntime) -> Result<(), Fail> {
     let mut device = OneType::new(rt.alloc())?;
     compare_return(&rt, &mut device, 1);
     compare_answers(&rt, &mut device, &[(8, Ok(2), 1)]);
+    drop(device);
     Ok(())
 }
 
@@ -177,6 +184,7 @@ fn a_question_is_counted_and_told(rt: HostRuntime) -> Result<(), Fail> {
     );
     let flags = AllocationFlags::from_bits_retain(0);
     compare_questions(&rt, &device, 2, Some((16, 0, flags)));
+    drop(device);
     Ok(())
 }
 
@@ -184,6 +192,7 @@ fn a_question_is_counted_and_told(rt: HostRuntime) -> Result<(), Fail> {
 fn a_plan_for_a_map_refuses_no_allocation(rt: HostRuntime) -> Result<(), Fail> {
     let mut device = OneType::that_refuses(rt.alloc(), Question::Map, 1, Cause::Failed)?;
     compare_answers(&rt, &mut device, &[(8, Ok(1), 1)]);
+    drop(device);
     Ok(())
 }
 
@@ -200,6 +209,7 @@ fn compare_map(
     assert_eq!(rt; device.map_new(rt, 8), Ok(answer), "{cause:?}");
     assert_eq!(rt; device.asked(Question::Map), maps, "{cause:?}");
     assert_eq!(rt; device.asked(Question::Allocate), 1, "{cause:?}");
+    drop(device);
     Ok(())
 }
 

@@ -136,9 +136,14 @@ impl<A: Allocator + Copy> Bench<A> {
         if offered.memory_heaps.is_empty() {
             panic!(rt; "no heap");
         }
-        let device = Sim::new(alloc, again(&offered))?;
         let blocks = Vec::with_capacity(alloc, 8)?;
-        Bench::over(alloc, offered, device, blocks)
+        match Sim::new(alloc, again(&offered)) {
+            Ok(device) => Bench::over(alloc, offered, device, blocks),
+            Err(e) => {
+                blocks.destroy_empty();
+                Err(Fail::from(e))
+            }
+        }
     }
 
     /// One over a fresh device that offers this, with room for blocks.
@@ -161,6 +166,7 @@ impl<A: Allocator + Copy> Bench<A> {
             }),
             Err(_) => {
                 blocks.destroy_empty();
+                drop(device);
                 Err(Fail::from("no memory for an allocator"))
             }
         }
@@ -324,9 +330,10 @@ impl<A: Allocator + Copy> Bench<A> {
     fn close(self, rt: &impl Abort) {
         let Bench {
             allocator,
-            device: _,
+            device,
             blocks,
         } = self;
+        drop(device);
         assert!(rt; allocator.held_objects() == 0);
         assert!(rt; blocks.is_empty());
         blocks.destroy_empty();
@@ -353,22 +360,23 @@ pub(super) fn compare_grants<A: Allocator + Copy>(
 fn compare_refusal<A: Allocator + Copy>(
     rt: &impl Abort,
     bench: &mut Bench<A>,
+    at: usize,
     request: Request,
     hint: Option<Dedicated>,
     error: AllocationError,
     asked: u64,
 ) {
     let before = bench.counts();
-    assert_eq!(rt; bench.ask(rt, request, hint), Err(error), "{request:?}");
+    assert_eq!(rt; bench.ask(rt, request, hint), Err(error), "step {at}");
     let after = Counts {
         asked: before.asked.saturating_add(asked),
         ..before
     };
-    assert_eq!(rt; bench.counts(), after, "{request:?}");
+    assert_eq!(rt; bench.counts(), after, "step {at}");
 }
 
 /// What is done with a bench, and what has to come of it.
-#[derive(Clone, Copy, Debug)]
+#[derive(Clone, Copy)]
 pub(super) enum Step {
     /// A request is granted there.
     Grant(Request, Option<Dedicated>, Place),
@@ -399,27 +407,27 @@ pub(super) fn asked_for(size: u64, memory_type: u32) -> Step {
     Step::Asked(size, memory_type, AllocationFlags::empty())
 }
 
-/// Takes one step, and compares what comes of it.
-fn take_step(rt: &impl Abort, bench: &mut Bench, step: Step) {
+/// Takes one step, and compares what comes of it. The number tells which one it is.
+fn take_step(rt: &impl Abort, bench: &mut Bench, at: usize, step: Step) {
     match step {
         Step::Grant(request, hint, place) => {
-            assert_eq!(rt; bench.ask(rt, request, hint), Ok(place), "{step:?}");
+            assert_eq!(rt; bench.ask(rt, request, hint), Ok(place), "step {at}");
         }
         Step::Refuse(request, hint, error, asked) => {
-            compare_refusal(rt, bench, request, hint, error, asked);
+            compare_refusal(rt, bench, at, request, hint, error, asked);
         }
         Step::Return(object, offset) => bench.give_back(rt, object, offset),
         Step::Cleanup => bench.cleanup(),
         Step::Asked(size, memory_type, flags) => {
             let asked = bench.last_allocation();
-            assert_eq!(rt; asked, Some((size, memory_type, flags)), "{step:?}");
+            assert_eq!(rt; asked, Some((size, memory_type, flags)), "step {at}");
         }
         Step::Held(objects, remaining, used) => {
             let counts = bench.counts();
             assert_eq!(rt;
                 (counts.objects, counts.remaining, counts.used),
                 (objects, remaining, used),
-                "{step:?}"
+                "step {at}"
             );
         }
     }
@@ -427,8 +435,8 @@ fn take_step(rt: &impl Abort, bench: &mut Bench, step: Step) {
 
 /// Takes the steps in their order, and ends the bench.
 pub(super) fn play(rt: &impl Abort, mut bench: Bench, steps: &[Step]) {
-    for step in steps {
-        take_step(rt, &mut bench, *step);
+    for (at, step) in steps.iter().enumerate() {
+        take_step(rt, &mut bench, at, *step);
     }
     bench.end(rt);
 }

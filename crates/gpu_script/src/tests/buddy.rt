@@ -76,14 +76,19 @@ impl Chunks {
             buffer_device_address: false,
         };
         let device = Sim::new(alloc, offered)?;
-        let allocator = BuddyAllocator::new(alloc, 1, 8192, 0, props, 0)?;
-        Ok(Chunks {
-            allocator,
-            device,
-            heap: Heap::new(1 << 20),
-            remaining: most,
-            most,
-        })
+        match BuddyAllocator::new(alloc, 1, 8192, 0, props, 0) {
+            Ok(allocator) => Ok(Chunks {
+                allocator,
+                device,
+                heap: Heap::new(1 << 20),
+                remaining: most,
+                most,
+            }),
+            Err(e) => {
+                drop(device);
+                Err(Fail::from(e))
+            }
+        }
     }
 
     /// Has the device refuse its first question of a kind.
@@ -160,11 +165,12 @@ impl Chunks {
     fn end(self, rt: &impl Abort) {
         let Chunks {
             allocator,
-            device: _,
+            device,
             heap: _,
             remaining,
             most,
         } = self;
+        drop(device);
         assert!(rt; remaining == most);
         allocator.close();
     }

@@ -98,6 +98,7 @@ fn compare_refusal(
             allocator.close();
         }
     }
+    drop(device);
     Ok(())
 }
 
@@ -260,10 +261,11 @@ impl Chunks {
     fn end(self, rt: &impl Abort) {
         let Chunks {
             allocator,
-            device: _,
+            device,
             heap: _,
             remaining,
         } = self;
+        drop(device);
         assert_eq!(rt; remaining, 4096);
         allocator.close();
     }

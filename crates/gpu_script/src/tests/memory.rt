@@ -95,7 +95,9 @@ impl<'a> LocalSession<'a> {
     fn end(self, rt: &impl Abort, hole: usize) {
         let LocalSession { session } = self;
         let device = session.finish();
-        assert_eq!(rt; device.objects(), 0, "with {hole}");
+        let objects = device.objects();
+        drop(device);
+        assert_eq!(rt; objects, 0, "with {hole}");
     }
 }
 
