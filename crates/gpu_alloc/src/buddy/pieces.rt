@@ -10,7 +10,7 @@ ghost use Rattle.gpu_alloc.specs.declared.buddy.pieces.Piece.{Piece as PieceReco
 use std::alloc::Allocator;
 
 /// 2^order bytes of a chunk. Orders are at most 63, and a piece ends at 2^63 at most.
-#[derive(Clone, Copy)]
+#[derive(Clone, Copy, PartialEq, Eq)]
 pub(super) struct Piece {
     /// The key of the chunk.
     pub(super) chunk: usize,

@@ -6,7 +6,7 @@ use gpu_alloc_types::MemoryObject;
 use std::marker::Model;
 
 /// What a live block of a free list is known by.
-#[derive(Clone, Copy)]
+#[derive(Clone, Copy, PartialEq, Eq)]
 pub(crate) struct Slot {
     /// The name of its chunk's object.
     pub(crate) object: u64,

@@ -206,10 +206,13 @@ fn compare_map(
     maps: u64,
 ) -> Result<(), AllocError> {
     let mut device = OneType::that_refuses(alloc, Question::Map, nth, cause)?;
-    assert_eq!(rt; device.map_new(rt, 8), Ok(answer), "{cause:?}");
-    assert_eq!(rt; device.asked(Question::Map), maps, "{cause:?}");
-    assert_eq!(rt; device.asked(Question::Allocate), 1, "{cause:?}");
+    let found = device.map_new(rt, 8);
+    let asked = (
+        device.asked(Question::Map),
+        device.asked(Question::Allocate),
+    );
     drop(device);
+    assert_eq!(rt; (found, asked), (Ok(answer), (maps, 1)), "{cause:?}");
     Ok(())
 }
 

@@ -94,33 +94,37 @@ fn are_tried(
     trial.compare(rt, alloc, refusal)
 }
 
+/// Usages and masks, with the types that are tried.
+const MASKED: [(u8, u32, &[u32]); 6] = [
+    (0x00, 0b110, &[1, 2]),
+    (0x10, 0b101, &[2, 0]),
+    (0x06, 0b011, &[1]),
+    (0x02, 0b001, &[]),
+    (0x01, 0, &[]),
+    (0x01, 0xffff_fff8, &[]),
+];
+
 #[test]
 fn only_types_whose_bit_is_set_are_tried(rt: HostRuntime) -> Result<(), Fail> {
-    let cases: [(u8, u32, &[u32]); 6] = [
-        (0x00, 0b110, &[1, 2]),
-        (0x10, 0b101, &[2, 0]),
-        (0x06, 0b011, &[1]),
-        (0x02, 0b001, &[]),
-        (0x01, 0, &[]),
-        (0x01, 0xffff_fff8, &[]),
-    ];
-    for (usage, mask, want) in cases {
+    for (usage, mask, want) in MASKED {
         are_tried(&rt, rt.alloc(), THREE_TYPES, usage, mask, want)?;
     }
     let most = "type 0 1\n".repeat(rt.alloc(), 32)?;
     are_tried(&rt, rt.alloc(), most.as_str(), 0x10, 0x8000_0001, &[0, 31])
 }
 
+/// Usages, with the types that are tried where all are permitted.
+const UNMASKED: [(u8, &[u32]); 5] = [
+    (0x00, &[0, 1, 2]),
+    (0x40, &[0, 1, 2]),
+    (0x04, &[2, 1]),
+    (0x08, &[1, 2]),
+    (0x10, &[1, 2, 0]),
+];
+
 #[test]
 fn what_a_usage_means_is_tried(rt: HostRuntime) -> Result<(), Fail> {
-    let cases: [(u8, &[u32]); 5] = [
-        (0x00, &[0, 1, 2]),
-        (0x40, &[0, 1, 2]),
-        (0x04, &[2, 1]),
-        (0x08, &[1, 2]),
-        (0x10, &[1, 2, 0]),
-    ];
-    for (usage, want) in cases {
+    for (usage, want) in UNMASKED {
         are_tried(&rt, rt.alloc(), THREE_TYPES, usage, u32::MAX, want)?;
     }
     Ok(())

@@ -77,7 +77,13 @@ fn compare_refusal(
         buffer_device_address: false,
     };
     let mut device = Sim::new(alloc, offered)?;
-    device.refuse(kind, 1, cause)?;
+    match device.refuse(kind, 1, cause) {
+        Ok(()) => {}
+        Err(e) => {
+            drop(device);
+            return Err(Fail::from(e));
+        }
+    }
     let mut heap = Heap::new(1 << 20);
     let mut remaining = case.remaining;
     let mut allocator = FreeListAllocator::new(alloc, 8192, 32768, 0, case.props, 0);

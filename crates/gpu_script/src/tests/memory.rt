@@ -278,23 +278,25 @@ fn a_program_without_memory_says_so_alone(rt: HostRuntime) -> Result<(), Fail> {
     Ok(())
 }
 
+/// What is printed of each fault.
+const FAULTS: [(Fault, &str); 12] = [
+    (Fault::NameInUse, "fault 1 NameInUse"),
+    (Fault::UnknownName, "fault 2 UnknownName"),
+    (Fault::BadSize, "fault 3 BadSize"),
+    (Fault::BadAlignment, "fault 4 BadAlignment"),
+    (Fault::NoDeviceAddress, "fault 5 NoDeviceAddress"),
+    (Fault::BadRange, "fault 6 BadRange"),
+    (Fault::BadType, "fault 7 BadType"),
+    (Fault::NoRemaining, "fault 8 NoRemaining"),
+    (Fault::TooManyRemaining, "fault 9 TooManyRemaining"),
+    (Fault::BadImportEnd, "fault 10 BadImportEnd"),
+    (Fault::NotMapped, "fault 11 NotMapped"),
+    (Fault::NoMemory, "fault 12 NoMemory"),
+];
+
 #[test]
 fn faults_print_their_numbers_and_names(rt: HostRuntime) -> Result<(), Fail> {
-    let rows = [
-        (Fault::NameInUse, "fault 1 NameInUse"),
-        (Fault::UnknownName, "fault 2 UnknownName"),
-        (Fault::BadSize, "fault 3 BadSize"),
-        (Fault::BadAlignment, "fault 4 BadAlignment"),
-        (Fault::NoDeviceAddress, "fault 5 NoDeviceAddress"),
-        (Fault::BadRange, "fault 6 BadRange"),
-        (Fault::BadType, "fault 7 BadType"),
-        (Fault::NoRemaining, "fault 8 NoRemaining"),
-        (Fault::TooManyRemaining, "fault 9 TooManyRemaining"),
-        (Fault::BadImportEnd, "fault 10 BadImportEnd"),
-        (Fault::NotMapped, "fault 11 NotMapped"),
-        (Fault::NoMemory, "fault 12 NoMemory"),
-    ];
-    for (fault, line) in rows {
+    for (fault, line) in FAULTS {
         let mut text = String::new(rt.alloc());
         print_reply(&mut text, &Reply::Fault(fault))?;
         assert_eq!(rt; text.as_str(), line);

@@ -56,7 +56,6 @@ fn empty_scripts_and_unusable_properties(rt: HostRuntime) {
 
 #[test]
 fn blocks_are_whole_objects_of_the_best_type(rt: HostRuntime) {
-    let base = "heap 1048576\ntype 0 1\n";
     compare(
         &rt,
         rt.alloc(),
@@ -130,7 +129,11 @@ fn blocks_are_whole_objects_of_the_best_type(rt: HostRuntime) {
                 "block type 1 object 1 offset 0 size 100\nblock type 1 object 2 offset 0 size 100\nblock type 0 object 3 offset 0 size 100\nend objects 0 allocations 3\n",
                 0,
             ),
-            (base, "end objects 0 allocations 0\n", 0),
+            (
+                "heap 1048576\ntype 0 1\n",
+                "end objects 0 allocations 0\n",
+                0,
+            ),
         ],
     );
 }
@@ -197,17 +200,19 @@ fn bad_lines_are_told_by_their_number(rt: HostRuntime) {
     );
 }
 
+/// What `counts` alone prints.
+const NOTHING: &str = "counts remaining 4096 held 0 used\nend objects 0 allocations 0\n";
+
 #[test]
 fn blanks_and_line_ends(rt: HostRuntime) {
-    let nothing = "counts remaining 4096 held 0 used\nend objects 0 allocations 0\n";
     compare(
         &rt,
         rt.alloc(),
         &[
-            ("counts\r\n", nothing, 0),
-            ("counts\r", nothing, 0),
-            ("counts \r\n", nothing, 0),
-            (" \t counts\t ", nothing, 0),
+            ("counts\r\n", NOTHING, 0),
+            ("counts\r", NOTHING, 0),
+            ("counts \r\n", NOTHING, 0),
+            (" \t counts\t ", NOTHING, 0),
             ("counts\r \n", "line 1: unknown word\n", 2),
             ("counts\r\r\n", "line 1: unknown word\n", 2),
             ("#\n \t\n\r\n  # heap\n", "end objects 0 allocations 0\n", 0),

@@ -1,7 +1,7 @@
 //! Transient requests: from which free run a block is taken, which chunk is asked for, and which chunks go back.
 
 use super::bench::{
-    Bench, HEAPS, Place, Step, TYPES, asked_for, bytes, offering, one_type, place_in, play_on,
+    HEAPS, Place, Step, TYPES, asked_for, bytes, offering, one_type, place_in, play_on,
     play_refused,
 };
 use crate::sim::{Cause, Question};
@@ -248,25 +248,39 @@ const ORDERS: [[usize; 4]; 24] = [
     [3, 2, 1, 0],
 ];
 
+/// The return of one of them.
+fn return_of(which: usize) -> Step {
+    match FOUR.get(which) {
+        Some((_, object, offset)) => Step::Return(*object, *offset),
+        None => Step::Return(0, 0),
+    }
+}
+
 /// Grants the four blocks, returns them in this order, and compares what later requests get.
 fn compare_order(rt: &impl Abort, alloc: Global, order: [usize; 4]) -> Result<(), Fail> {
-    let mut bench = Bench::new(rt, alloc, one_type())?;
-    for (size, object, offset) in FOUR {
-        let granted = bench.ask(rt, transient(size), None);
-        assert_eq!(rt; granted, Ok(place_in(object, offset, size)), "{order:?}");
-    }
-    for at in order {
-        if let Some((_, object, offset)) = FOUR.get(at) {
-            bench.give_back(rt, *object, *offset);
-        }
-    }
-    assert_eq!(rt; bench.counts().objects, 1, "{order:?}");
-    for (size, offset) in [(2000, 14384), (9000, 5384), (5384, 0)] {
-        let granted = bench.ask(rt, transient(size), None);
-        assert_eq!(rt; granted, Ok(place_in(2, offset, size)), "{order:?}");
-    }
-    bench.end(rt);
-    Ok(())
+    let [a, b, c, d] = order;
+    let [first, second, third, fourth] = FOUR.map(|(size, object, offset)| {
+        grant(size, place_in(object, offset, size))
+    });
+    play_on(
+        rt,
+        alloc,
+        one_type(),
+        &[
+            first,
+            second,
+            third,
+            fourth,
+            return_of(a),
+            return_of(b),
+            return_of(c),
+            return_of(d),
+            Step::Held(1, 4095, 16384),
+            grant(2000, place_in(2, 14384, 2000)),
+            grant(9000, place_in(2, 5384, 9000)),
+            grant(5384, place_in(2, 0, 5384)),
+        ],
+    )
 }
 
 /// The order of returns does not show in later answers.

@@ -26,7 +26,7 @@ alloc-requires-clause-alignment g c = record { power = refl; bound = omega arith
 
 pub alloc-requires-clause-agrees : goal.alloc-requires-clause-agrees
 alloc-requires-clause-agrees g c =
-    rw (c.new-allocator.ensures.opened, c.in_ok-refuse.ensures.ok, c.in_ok-device.ensures)
+    rw (c.new-allocator.ensures.opened, c.in-Ok.ensures.ok, c.in_ok-device.ensures)
     (record {
       known = omega arith;
       props = refl;
@@ -40,4 +40,4 @@ alloc-requires-clause-counted g c =
     rw (c.new-allocator.ensures.opened, c.new-heap.ensures) (record { chunks = omega (arith, nothing); objects = omega (arith, none, c.requires.count) })
 
 pub close-requires : goal.close-requires
-close-requires g c = ap (λ (l : Listing). map.len l.space.chunks) (c.in-Err.ensures.refused.0 ∙ c.new-allocator.ensures.opened) ∙ map.len-empty nat_cmp Chunk
+close-requires g c = ap (λ (l : Listing). map.len l.space.chunks) (c.in-Err-alloc.ensures.refused.0 ∙ c.new-allocator.ensures.opened) ∙ map.len-empty nat_cmp Chunk
