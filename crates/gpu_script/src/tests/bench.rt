@@ -172,29 +172,6 @@ impl<A: Allocator + Copy> Bench<A> {
         }
     }
 
-    /// One over a device that refuses its first question of this kind.
-    pub(super) fn that_refuses(
-        rt: &impl Abort,
-        alloc: A,
-        offered: DeviceProperties<'_>,
-        kind: Question,
-        cause: Cause,
-    ) -> Result<Self, Fail>
-        requires { CanRefuse cause kind }
-    {
-        let mut bench = Bench::new(rt, alloc, offered)?;
-        let planned = bench.refuse(kind, cause);
-        assert_eq!(rt; planned, Ok(()));
-        Ok(bench)
-    }
-
-    /// Has the device refuse its first question of a kind.
-    fn refuse(&mut self, kind: Question, cause: Cause) -> Result<(), AllocError>
-        requires { CanRefuse cause kind }
-    {
-        self.device.refuse(kind, 1, cause)
-    }
-
     /// Asks for a block. Where it is granted it is kept, for which no memory is taken.
     pub(super) fn ask(
         &mut self,
@@ -220,25 +197,6 @@ impl<A: Allocator + Copy> Bench<A> {
         Ok(place)
     }
 
-    /// Gives back the block that starts there.
-    pub(super) fn give_back(&mut self, rt: &impl Abort, object: u64, offset: u64) {
-        let mut found = None;
-        for (at, block) in self.blocks.iter().enumerate() {
-            if block.memory().object() == object && block.offset() == offset {
-                found = Some(at);
-            }
-        }
-        match found {
-            Some(at) => {
-                assert!(rt; at < self.blocks.len());
-                let block = self.blocks.swap_remove(at);
-                assert!(rt; self.allocator.owns(&block));
-                self.allocator.dealloc(&mut self.device, block);
-            }
-            None => panic!(rt; "no block at {offset} of {object}"),
-        }
-    }
-
     /// Gives back what free lists keep without a block.
     pub(super) fn cleanup(&mut self) {
         self.allocator.cleanup(&mut self.device);
@@ -253,47 +211,6 @@ impl<A: Allocator + Copy> Bench<A> {
             }
             None => panic!(rt; "no block"),
         }
-    }
-
-    /// Whether its allocator says that the latest block of another is live.
-    pub(super) fn owns_latest_of(&self, rt: &impl Abort, other: &Bench<A>) -> bool {
-        match other.blocks.last() {
-            Some(block) => self.allocator.owns(block),
-            None => panic!(rt; "no block"),
-        }
-    }
-
-    /// What the latest block tells of its memory type.
-    pub(super) fn latest_props(&self, rt: &impl Abort) -> MemoryPropertyFlags {
-        match self.blocks.last() {
-            Some(block) => block.props(),
-            None => panic!(rt; "no block"),
-        }
-    }
-
-    /// Swaps its latest block for the first one of another. That becomes the latest of either.
-    pub(super) fn swap_with_first_of(&mut self, rt: &impl Abort, other: &mut Bench<A>) {
-        assert!(rt; !other.blocks.is_empty());
-        let theirs = other.blocks.swap_remove(0);
-        match self.blocks.pop() {
-            Some(ours) => {
-                assert!(rt; other.blocks.len() < other.blocks.capacity());
-                other.blocks.push_reserved(ours);
-            }
-            None => panic!(rt; "no block"),
-        }
-        assert!(rt; self.blocks.len() < self.blocks.capacity());
-        self.blocks.push_reserved(theirs);
-    }
-
-    /// The limit that the device set to the size of an object.
-    pub(super) fn max_allocation_size(&self) -> u64 {
-        self.allocator.max_allocation_size()
-    }
-
-    /// How many objects the allocator says that it holds.
-    pub(super) fn held_objects(&self) -> u32 {
-        self.allocator.held_objects()
     }
 
     pub(super) fn counts(&self) -> Counts {
@@ -341,12 +258,93 @@ impl<A: Allocator + Copy> Bench<A> {
     }
 }
 
+impl Bench {
+    /// One over a device that refuses its first question of this kind.
+    pub(super) fn that_refuses(
+        rt: &impl Abort,
+        alloc: Global,
+        offered: DeviceProperties<'_>,
+        kind: Question,
+        cause: Cause,
+    ) -> Result<Self, Fail>
+        requires { CanRefuse cause kind }
+    {
+        let mut bench = Bench::new(rt, alloc, offered)?;
+        let planned = bench.refuse(kind, cause);
+        assert_eq!(rt; planned, Ok(()));
+        Ok(bench)
+    }
+
+    /// Has the device refuse its first question of a kind.
+    fn refuse(&mut self, kind: Question, cause: Cause) -> Result<(), AllocError>
+        requires { CanRefuse cause kind }
+    {
+        self.device.refuse(kind, 1, cause)
+    }
+
+    /// Gives back the block that starts there.
+    pub(super) fn give_back(&mut self, rt: &impl Abort, object: u64, offset: u64) {
+        let mut found = None;
+        for (at, block) in self.blocks.iter().enumerate() {
+            if block.memory().object() == object && block.offset() == offset {
+                found = Some(at);
+            }
+        }
+        match found {
+            Some(at) => {
+                assert!(rt; at < self.blocks.len());
+                let block = self.blocks.swap_remove(at);
+                assert!(rt; self.allocator.owns(&block));
+                self.allocator.dealloc(&mut self.device, block);
+            }
+            None => panic!(rt; "no block at {offset} of {object}"),
+        }
+    }
+
+    /// Whether its allocator says that the latest block of another is live.
+    pub(super) fn owns_latest_of(&self, rt: &impl Abort, other: &Bench) -> bool {
+        match other.blocks.last() {
+            Some(block) => self.allocator.owns(block),
+            None => panic!(rt; "no block"),
+        }
+    }
+
+    /// What the latest block tells of its memory type.
+    pub(super) fn latest_props(&self, rt: &impl Abort) -> MemoryPropertyFlags {
+        match self.blocks.last() {
+            Some(block) => block.props(),
+            None => panic!(rt; "no block"),
+        }
+    }
+
+    /// Swaps its latest block for the first one of another. That becomes the latest of either.
+    pub(super) fn swap_with_first_of(&mut self, rt: &impl Abort, other: &mut Bench) {
+        assert!(rt; !other.blocks.is_empty());
+        let theirs = other.blocks.swap_remove(0);
+        match self.blocks.pop() {
+            Some(ours) => {
+                assert!(rt; other.blocks.len() < other.blocks.capacity());
+                other.blocks.push_reserved(ours);
+            }
+            None => panic!(rt; "no block"),
+        }
+        assert!(rt; self.blocks.len() < self.blocks.capacity());
+        self.blocks.push_reserved(theirs);
+    }
+
+    /// The limit that the device set to the size of an object.
+    pub(super) fn max_allocation_size(&self) -> u64 {
+        self.allocator.max_allocation_size()
+    }
+
+    /// How many objects the allocator says that it holds.
+    pub(super) fn held_objects(&self) -> u32 {
+        self.allocator.held_objects()
+    }
+}
+
 /// Asks for as many bytes as each pair says, and compares the places.
-pub(super) fn compare_grants<A: Allocator + Copy>(
-    rt: &impl Abort,
-    bench: &mut Bench<A>,
-    rows: &[(u64, Place)],
-) {
+pub(super) fn compare_grants(rt: &impl Abort, bench: &mut Bench, rows: &[(u64, Place)]) {
     for (size, place) in rows {
         assert_eq!(rt;
             bench.ask(rt, bytes(*size), None),
@@ -357,9 +355,9 @@ pub(super) fn compare_grants<A: Allocator + Copy>(
 }
 
 /// Compares a refusal, and how often the device is asked for it. What is held stays as it was.
-fn compare_refusal<A: Allocator + Copy>(
+fn compare_refusal(
     rt: &impl Abort,
-    bench: &mut Bench<A>,
+    bench: &mut Bench,
     at: usize,
     request: Request,
     hint: Option<Dedicated>,
