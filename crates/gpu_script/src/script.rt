@@ -73,6 +73,7 @@ fn answer<R: Read, A: Allocator + Copy>(alloc: A, input: &mut R) -> Result<Strin
     let text = read_all(alloc, input)?;
     let script = parse(alloc, text.as_slice())?;
     let printed = answer_to(alloc, &script);
+    // By a call, as each device below, so that its parts are taken apart in `drop` and not here.
     drop(script);
     printed
 }

@@ -62,6 +62,7 @@ impl OneType {
         match device.sim.refuse(kind, nth, cause) {
             Ok(()) => Ok(device),
             Err(e) => {
+                // By a call, so that its parts are taken apart in `drop` and not here.
                 drop(device);
                 Err(e)
             }

@@ -166,6 +166,7 @@ impl<A: Allocator + Copy> Bench<A> {
             }),
             Err(_) => {
                 blocks.destroy_empty();
+                // By a call, so that its parts are taken apart in `drop` and not here.
                 drop(device);
                 Err(Fail::from("no memory for an allocator"))
             }
