@@ -12,8 +12,8 @@ use Rattle.gpu_alloc.specs.Agreement.{Agrees, IsThere, IsCounted, IsInside, IsMa
 use Rattle.gpu_alloc.specs.Allocation.{HasOneMore, holding}
 use Rattle.gpu_alloc.specs.declared.block.Kind.{Kind}
 use Rattle.gpu_alloc.specs.declared.block.Kind.TheVariants.{Dedicated, Imported, BuddyChunk, FreeListChunk}
-use Rattle.gpu_alloc.proofs.Maps.{name_test}
-use Rattle.gpu_alloc.proofs.LiveSpans.{live_before, live_other}
+use Rattle.gpu_alloc_base.proofs.Maps.{name_test}
+use Rattle.gpu_alloc.proofs.Tables.LiveSpans.{live_before, live_other}
 
 -- the spans of an object that are live were live
 abbrev pub IsOlder : State → State → ℕ → Type 0

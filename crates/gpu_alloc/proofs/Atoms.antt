@@ -7,8 +7,8 @@ use Rattle.std.proofs.lemmas.Nat.Bits.{and_pow}
 use Rattle.std.specs.Int.{bit_at, is_power_of_two}
 use Rattle.std.specs.Int.Bits.{bit_and}
 use Rattle.gpu_alloc_types.specs.Flags.{has_bit, has_all_bits}
-use Rattle.gpu_alloc.specs.Sizes.{atom_where}
-use Rattle.gpu_alloc.proofs.PowersOfTwo.{bit_of_power, power_of_bit}
+use Rattle.gpu_alloc_base.specs.Sizes.{atom_where}
+use Rattle.gpu_alloc_base.proofs.PowersOfTwo.{bit_of_power, power_of_bit}
 
 -- a mask of one bit
 pub one_bit-all : (bits k : ℕ) → has_all_bits bits (2 ^ k) ≡ has_bit bits (2 ^ k)

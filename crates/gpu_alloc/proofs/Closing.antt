@@ -6,16 +6,17 @@ use Rattle.std.proofs.Math.Seq.{get_or-append_seam}
 use Rattle.std.specs.FinMap as finite
 use Rattle.std.specs.List.{slice_get, All}
 use Rattle.std.specs.Ordering.{nat_cmp}
-use Rattle.gpu_alloc.specs.BuddyState.{Chunk, Buddy}
-use Rattle.gpu_alloc.specs.FreeListState.{Listing}
+use Rattle.gpu_alloc_buddy.specs.BuddyState.{Buddy}
+use Rattle.gpu_alloc_base.specs.Chunks.{Chunk}
+use Rattle.gpu_alloc_freelist.specs.FreeListState.{Listing}
 use Rattle.gpu_alloc.specs.Inside.{HasBuddies, HasLists}
 use Rattle.gpu_alloc.specs.Opening.{AreFirstBuddies}
 use Rattle.gpu_alloc.specs.Spans.{Table}
 use Rattle.gpu_alloc.specs.State.{HeldObject}
-use Rattle.gpu_alloc.specs.declared.config.Config.{Config}
+use Rattle.gpu_alloc_base.specs.declared.config.Config.{Config}
 use Rattle.gpu_alloc_types.specs.Properties.{Properties}
 use Rattle.gpu_alloc.proofs.Ledgers.{Held}
-use Rattle.gpu_alloc.proofs.Maps.{name_test, eq-true}
+use Rattle.gpu_alloc_base.proofs.Maps.{name_test, eq-true}
 
 -- Maps.
 

@@ -13,10 +13,11 @@ use Rattle.gpu_alloc.specs.Spans.{Table}
 use Rattle.gpu_alloc.specs.Inside.{IsBooked, IsKnown, IsOfObject, IsLiveIn, AreSmall, AreLedgers, offer_of, whole_span}
 use Rattle.gpu_alloc.specs.declared.block.Kind.{Kind}
 use Rattle.gpu_alloc.specs.declared.block.Kind.TheVariants.{Dedicated, Imported, BuddyChunk, FreeListChunk}
-use Rattle.gpu_alloc.specs.declared.heap.Heap.{Heap}
-use Rattle.gpu_alloc.proofs.Ledgers.{ledger-bound, Held, sum_by-insert, sum_by-remove, small-insert, small-remove, len_more, len_less}
-use Rattle.gpu_alloc.proofs.Maps.{name_test, eq-true, eq-false}
-use Rattle.gpu_alloc.proofs.LiveSpans.{live_new, live_still, live_before, live_kept, live_other}
+use Rattle.gpu_alloc_base.specs.declared.heap.Heap.{Heap}
+use Rattle.gpu_alloc.proofs.Ledgers.{ledger-bound, Held, small-insert, small-remove}
+use Rattle.gpu_alloc_base.proofs.Sums.{sum_by-insert, sum_by-remove, len_more, len_less}
+use Rattle.gpu_alloc_base.proofs.Maps.{name_test, eq-true, eq-false}
+use Rattle.gpu_alloc.proofs.Tables.LiveSpans.{live_new, live_still, live_before, live_kept, live_other}
 use Rattle.gpu_alloc.proofs.HeapLists.{heap_inside, ledger_at, ledgers_set}
 
 test-same : (a b n : ℕ) → a ≡ b → cond (a == b) n 0 ≡ n

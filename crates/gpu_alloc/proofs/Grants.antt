@@ -9,18 +9,18 @@ use Rattle.std.specs.FinMap as finite
 use Rattle.std.specs.FinSet as set_of
 use Rattle.gpu_alloc.specs.Allocation.{DecidesBy, IsGranted, asked, holding, whole_block}
 use Rattle.gpu_alloc.specs.declared.allocator.Strategy.TheVariants.{OwnObject}
-use Rattle.gpu_alloc.specs.BuddyState.{Buddy}
-use Rattle.gpu_alloc.specs.FreeListState.{Listing}
+use Rattle.gpu_alloc_buddy.specs.BuddyState.{Buddy}
+use Rattle.gpu_alloc_freelist.specs.FreeListState.{Listing}
 use Rattle.gpu_alloc.specs.Inside.{state_in}
 use Rattle.gpu_alloc.specs.Spans.{Table}
 use Rattle.gpu_alloc.specs.State.{State, HeldObject, Span, Block, IsLive, span_of, total}
 use Rattle.gpu_alloc.specs.declared.limits.Limits.{Limits}
 use Rattle.gpu_alloc.specs.declared.block.Kind.TheVariants.{Dedicated as DedicatedObject}
-use Rattle.gpu_alloc.specs.declared.heap.Heap.{Heap}
+use Rattle.gpu_alloc_base.specs.declared.heap.Heap.{Heap}
 use Rattle.gpu_alloc.specs.declared.request.Request.{Request}
 use Rattle.gpu_alloc.proofs.HeapLists.{state_kept}
-use Rattle.gpu_alloc.proofs.Ledgers.{len_more}
-use Rattle.gpu_alloc.proofs.LiveSpans.{live_new}
+use Rattle.gpu_alloc_base.proofs.Sums.{len_more}
+use Rattle.gpu_alloc.proofs.Tables.LiveSpans.{live_new}
 
 -- the object of a block that is an object of its own
 abbrev pub own_object : ℕ → ℕ → HeldObject

@@ -8,14 +8,14 @@ use Rattle.gpu_alloc_types.specs.Properties.{Properties, IsUsable, heap_at, heap
 use Rattle.gpu_alloc_types.specs.declared.types.MemoryType.{MemoryType}
 use Rattle.gpu_alloc.specs.State.{share}
 use Rattle.gpu_alloc.specs.Spans.{Table}
-use Rattle.gpu_alloc.specs.BuddyState.{Buddy}
-use Rattle.gpu_alloc.specs.FreeListState.{Listing}
+use Rattle.gpu_alloc_buddy.specs.BuddyState.{Buddy}
+use Rattle.gpu_alloc_freelist.specs.FreeListState.{Listing}
 use Rattle.gpu_alloc.specs.Inside.{properties_in, state_in, types_in, lists_in, AreLedgers, offer_of}
-use Rattle.gpu_alloc.specs.Heap.{unused}
-use Rattle.gpu_alloc.specs.Sizes.{first_types}
+use Rattle.gpu_alloc_base.specs.Heap.{unused}
+use Rattle.gpu_alloc.specs.FirstTypes.{first_types}
 use Rattle.gpu_alloc.specs.declared.limits.Limits.{Limits}
 use Rattle.gpu_alloc_types.specs.declared.types.MemoryHeap.{MemoryHeap}
-use Rattle.gpu_alloc.specs.declared.heap.Heap.{Heap}
+use Rattle.gpu_alloc_base.specs.declared.heap.Heap.{Heap}
 use Rattle.gpu_alloc.proofs.Ledgers.{Entries}
 
 -- Heaps, as one of them changes.

@@ -11,20 +11,23 @@ use Rattle.gpu_alloc_types.specs.Flags.{property_bits}
 use Rattle.gpu_alloc_types.specs.Properties.{Properties, IsUsable, heap_size, props_at, atom_of, atom_for, size_of, heap_of, bits_of}
 use Rattle.gpu_alloc_types.specs.declared.types.MemoryType.{MemoryType}
 use Rattle.gpu_alloc_types.specs.declared.types.MemoryHeap.{MemoryHeap}
-use Rattle.gpu_alloc.specs.Buddy as buddy
-use Rattle.gpu_alloc.specs.BuddySound.{IsSound}
-use Rattle.gpu_alloc.specs.BuddyState.{Buddy, leaf_cmp}
-use Rattle.gpu_alloc.specs.FreeListAllocator as list
-use Rattle.gpu_alloc.specs.FreeListSound.{IsSound as IsSoundListing}
-use Rattle.gpu_alloc.specs.FreeListState.{Listing, slot_cmp}
-use Rattle.gpu_alloc.specs.Heap.{unused}
+use Rattle.gpu_alloc_buddy.specs.Buddy as buddy
+use Rattle.gpu_alloc_buddy.specs.BuddySound.{IsSound}
+use Rattle.gpu_alloc_buddy.specs.BuddyState.{Buddy}
+use Rattle.gpu_alloc_base.specs.Leaves.{leaf_cmp}
+use Rattle.gpu_alloc_freelist.specs.FreeListAllocator as list
+use Rattle.gpu_alloc_freelist.specs.FreeListSound.{IsSound as IsSoundListing}
+use Rattle.gpu_alloc_freelist.specs.FreeListState.{Listing}
+use Rattle.gpu_alloc_base.specs.Slots.{slot_cmp}
+use Rattle.gpu_alloc_base.specs.Heap.{unused}
 use Rattle.gpu_alloc.specs.Inside.{IsConsistent, IsBooked, IsBuddyOf, IsListOf, IsKnown, IsLinked, IsListLinked, IsLiveIn, AreSmall, types_in, lists_in}
 use Rattle.gpu_alloc.specs.Opening.{first_buddy, AreFirstBuddies, first_listing, AreFirstListings}
-use Rattle.gpu_alloc.specs.Sizes.{minimal_size, initial_size, starting_size, final_size, first_type_state, first_types}
+use Rattle.gpu_alloc_base.specs.Sizes.{minimal_size, initial_size, starting_size, final_size}
+use Rattle.gpu_alloc.specs.FirstTypes.{first_type_state, first_types}
 use Rattle.gpu_alloc.specs.Spans.{Table}
 use Rattle.gpu_alloc.specs.State.{HeldObject, Span, TypeState, span_cmp, share}
-use Rattle.gpu_alloc.specs.declared.config.Config.{Config}
-use Rattle.gpu_alloc.specs.declared.heap.Heap.{Heap}
+use Rattle.gpu_alloc_base.specs.declared.config.Config.{Config}
+use Rattle.gpu_alloc_base.specs.declared.heap.Heap.{Heap}
 use Rattle.gpu_alloc.proofs.Ledgers.{Entries, Held}
 
 -- A memory type's first buddy allocator and its first free list.

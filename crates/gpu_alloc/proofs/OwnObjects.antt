@@ -4,21 +4,21 @@ use Rattle.std.proofs.Math.ListN.{set}
 use Rattle.std.specs.Cmp.{nat_cmp_total}
 use Rattle.std.specs.FinMap as finite
 use Rattle.gpu_alloc_types.specs.Properties.{Properties, heap_at}
-use Rattle.gpu_alloc.specs.BuddyState.{Buddy}
-use Rattle.gpu_alloc.specs.FreeListState.{Listing}
+use Rattle.gpu_alloc_buddy.specs.BuddyState.{Buddy}
+use Rattle.gpu_alloc_freelist.specs.FreeListState.{Listing}
 use Rattle.gpu_alloc.specs.Inside.{IsKnown, IsOfObject, IsChunkOf, IsLinked, IsBuddyOf, IsNumberedChunk, IsListLinked, IsListOf, IsConsistent, offer_of}
 use Rattle.gpu_alloc.specs.Sound.{is_list_chunk}
 use Rattle.gpu_alloc.specs.Spans.{Place, Table}
 use Rattle.gpu_alloc.specs.State.{HeldObject, Span}
 use Rattle.gpu_alloc.specs.declared.block.Kind.{Kind}
 use Rattle.gpu_alloc.specs.declared.block.Kind.TheVariants.{Dedicated, BuddyChunk}
-use Rattle.gpu_alloc.specs.declared.config.Config.{Config}
-use Rattle.gpu_alloc.specs.declared.heap.Heap.{Heap}
+use Rattle.gpu_alloc_base.specs.declared.config.Config.{Config}
+use Rattle.gpu_alloc_base.specs.declared.heap.Heap.{Heap}
 use Rattle.gpu_alloc.proofs.Consistency.{HoldsMore, HoldsFewer, booked-held, booked-gone}
-use Rattle.gpu_alloc.proofs.HasBuddies.{IsNoChunk, beside_more, beside_fewer, buddies_beside}
-use Rattle.gpu_alloc.proofs.HasLists.{IsNoListChunk, lists_beside}
-use Rattle.gpu_alloc.proofs.Links.{IsBeside}
-use Rattle.gpu_alloc.proofs.Maps.{other_inserted, kept_other, gone, name_test, eq-true}
+use Rattle.gpu_alloc.proofs.Buddies.HasBuddies.{IsNoChunk, beside_more, beside_fewer, buddies_beside}
+use Rattle.gpu_alloc.proofs.FreeLists.HasLists.{IsNoListChunk, lists_beside}
+use Rattle.gpu_alloc.proofs.Buddies.Links.{IsBeside}
+use Rattle.gpu_alloc_base.proofs.Maps.{other_inserted, kept_other, gone, name_test, eq-true}
 use Rattle.gpu_alloc.proofs.Ledgers.{Held}
 
 some_also : {X : Type 0} (P Q : X → Type 0) (o : Option X) → ((x : X) → P x → Q x) → IfSome o P → IfSome o Q

@@ -5,18 +5,18 @@ use Rattle.std.specs.FinMap as finite
 use Rattle.std.specs.FinSet as set_of
 use Rattle.gpu_alloc.specs.State.{State, HeldObject, Span, Block, IsOwned, is_shared, span_of, total}
 use Rattle.gpu_alloc.specs.Spans.{Table, held_of, span_at}
-use Rattle.gpu_alloc.specs.BuddyState.{Buddy}
-use Rattle.gpu_alloc.specs.FreeListState.{Listing}
+use Rattle.gpu_alloc_buddy.specs.BuddyState.{Buddy}
+use Rattle.gpu_alloc_freelist.specs.FreeListState.{Listing}
 use Rattle.gpu_alloc.specs.Inside.{state_in, properties_in, whole_span, IsBooked}
 use Rattle.gpu_alloc.specs.Release.{GoesWith, without_span, without_all}
 use Rattle.gpu_alloc.specs.declared.limits.Limits.{Limits}
 use Rattle.gpu_alloc.specs.declared.block.Kind.{Kind}
 use Rattle.gpu_alloc.specs.declared.block.Kind.TheVariants.{Dedicated}
-use Rattle.gpu_alloc.specs.declared.heap.Heap.{Heap}
+use Rattle.gpu_alloc_base.specs.declared.heap.Heap.{Heap}
 use Rattle.gpu_alloc.specs.declared.spans.HeldRow.{HeldRow}
 use Rattle.gpu_alloc.proofs.Consistency.{HoldsFewer, known_object, whole_last}
 use Rattle.gpu_alloc.proofs.HeapLists.{state_kept}
-use Rattle.gpu_alloc.proofs.Ledgers.{len_less}
+use Rattle.gpu_alloc_base.proofs.Sums.{len_less}
 
 -- the state without a block that was an object of its own
 abbrev pub returned : State → Block → State

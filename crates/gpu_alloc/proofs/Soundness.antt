@@ -4,23 +4,24 @@ use Rattle.std.proofs.lemmas.Bool.{cases_eq}
 use Rattle.std.proofs.lemmas.Nat.{pow_pos}
 use Rattle.std.specs.FinMap as map
 use Rattle.gpu_alloc_types.specs.Properties.{Properties}
-use Rattle.gpu_alloc.specs.BuddyState.{Chunk, Buddy, IsLiveLeaf}
-use Rattle.gpu_alloc.specs.FreeListState.{Listing, IsLiveSlot}
-use Rattle.gpu_alloc.specs.ListSharing.{IsListChunk, latest_number}
-use Rattle.gpu_alloc.specs.Sizes.{first_types, first_type_state}
+use Rattle.gpu_alloc_buddy.specs.BuddyState.{Buddy, IsLiveLeaf}
+use Rattle.gpu_alloc_base.specs.Chunks.{Chunk}
+use Rattle.gpu_alloc_freelist.specs.FreeListState.{Listing, IsLiveSlot}
+use Rattle.gpu_alloc.specs.FreeListSharing.{IsListChunk, latest_number}
+use Rattle.gpu_alloc.specs.FirstTypes.{first_types, first_type_state}
 use Rattle.gpu_alloc.specs.Inside.{state_in, properties_in, types_in, span_of_leaf, leaf_at, span_of_slot, slot_at, whole_span, IsLiveIn, IsChunkOf, IsNumberedChunk, IsKnown, IsBuddyOf, IsListOf, IsConsistent}
 use Rattle.gpu_alloc.specs.Sound.{IsSound, is_list_chunk}
 use Rattle.gpu_alloc.specs.Spans.{Place, Table}
 use Rattle.gpu_alloc.specs.State.{HeldObject, Span, State, AreApart, is_shared}
 use Rattle.gpu_alloc.specs.declared.block.Kind.TheVariants.{Dedicated, BuddyChunk, FreeListChunk}
-use Rattle.gpu_alloc.specs.declared.config.Config.{Config}
-use Rattle.gpu_alloc.specs.declared.heap.Heap.{Heap}
+use Rattle.gpu_alloc_base.specs.declared.config.Config.{Config}
+use Rattle.gpu_alloc_base.specs.declared.heap.Heap.{Heap}
 use Rattle.gpu_alloc.specs.declared.limits.Limits.{Limits}
 use Rattle.gpu_alloc.proofs.Consistency.{chunk_kinds}
-use Rattle.gpu_alloc.proofs.ServedBlocks.{ranges_apart}
+use Rattle.gpu_alloc.proofs.Buddies.Served.{ranges_apart}
 use Rattle.std.proofs.lemmas.List.{length-map}
-use Rattle.gpu_alloc.proofs.ListStates.{list_latest_at, types_within}
-use Rattle.gpu_alloc.proofs.Maps.{one_value}
+use Rattle.gpu_alloc.proofs.FreeLists.States.{list_latest_at, types_within}
+use Rattle.gpu_alloc_base.proofs.Maps.{one_value}
 
 -- what holds of each element that is there holds of one
 element : {X : Type 0} (P : X → Type 0) (xs : List X) (i : ℕ) → i < length xs → IfSome (slice_get xs i) P → (x : X) × P x

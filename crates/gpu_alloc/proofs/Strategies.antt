@@ -5,7 +5,7 @@ use Rattle.std.specs.Prelude.{min}
 use Rattle.gpu_alloc_types.specs.Flags.{usage_bits, has_bit, has_all_bits}
 use Rattle.gpu_alloc_types.specs.Properties.{heap_size}
 use Rattle.gpu_alloc.specs.Allocation.{unhinted, is_small, fits_a_chunk}
-use Rattle.gpu_alloc.specs.Sizes.{transient_threshold}
+use Rattle.gpu_alloc_base.specs.Sizes.{transient_threshold}
 use Rattle.gpu_alloc.specs.State.{State}
 use Rattle.gpu_alloc.specs.declared.allocator.Strategy.TheVariants.{OwnObject, InBuddyChunk, InFreeList}
 use Rattle.gpu_alloc.specs.declared.request.Request.{Request}

@@ -4,8 +4,8 @@ use Rattle.std.proofs.Math.ListN.{drop_of_length-le}
 use Rattle.gpu_alloc_types.specs.Device.{Event}
 use Rattle.gpu_alloc.specs.State.{State, Block}
 use Rattle.gpu_alloc.specs.Allocation.{IsPassed, Decides, TriesAll}
-use Rattle.gpu_alloc.specs.declared.error.AllocationError.{AllocationError}
-use Rattle.gpu_alloc.specs.declared.error.AllocationError.TheVariants.{OutOfDeviceMemory}
+use Rattle.gpu_alloc_base.specs.declared.error.AllocationError.{AllocationError}
+use Rattle.gpu_alloc_base.specs.declared.error.AllocationError.TheVariants.{OutOfDeviceMemory}
 use Rattle.gpu_alloc.specs.declared.request.Request.{Request}
 use Rattle.gpu_alloc.specs.declared.request.Dedicated.{Dedicated}
 

@@ -13,18 +13,18 @@ use Rattle.gpu_alloc.specs.declared.allocator.Strategy.{Strategy}
 use Rattle.gpu_alloc.specs.declared.allocator.Strategy.TheVariants.{OwnObject, InBuddyChunk, InFreeList}
 use Rattle.gpu_alloc.specs.declared.block.Kind.{Kind}
 use Rattle.gpu_alloc.specs.declared.block.Kind.TheVariants.{Dedicated as DedicatedObject, Imported, BuddyChunk, FreeListChunk}
-use Rattle.gpu_alloc.specs.declared.error.AllocationError.{AllocationError}
-use Rattle.gpu_alloc.specs.declared.error.AllocationError.TheVariants.{OutOfDeviceMemory, OutOfHostMemory, NoCompatibleMemoryTypes, TooManyObjects}
+use Rattle.gpu_alloc_base.specs.declared.error.AllocationError.{AllocationError}
+use Rattle.gpu_alloc_base.specs.declared.error.AllocationError.TheVariants.{OutOfDeviceMemory, OutOfHostMemory, NoCompatibleMemoryTypes, TooManyObjects}
 use Rattle.gpu_alloc.specs.declared.request.Request.{Request}
 use Rattle.gpu_alloc.specs.declared.request.Dedicated.{Dedicated}
 use Rattle.gpu_alloc.specs.declared.request.Dedicated.TheVariants.{Required, Preferred}
-use Rattle.gpu_alloc.specs.FreeSpace.{IsMultipleOf, IsPowerOfTwo}
-use Rattle.gpu_alloc.specs.NewChunk.{flags_of, HasOneChunkMore}
-use Rattle.gpu_alloc.specs.ListSharing.{list_size, list_alignment, list_question, IsPassedByFreeList, DecidesInFreeList}
+use Rattle.gpu_alloc_base.specs.FreeSpace.{IsMultipleOf, IsPowerOfTwo}
+use Rattle.gpu_alloc_base.specs.NewChunk.{flags_of, HasOneChunkMore}
+use Rattle.gpu_alloc.specs.FreeListSharing.{list_size, list_alignment, list_question, IsPassedByFreeList, DecidesInFreeList}
 use Rattle.gpu_alloc.specs.Ranking.{candidates}
 use Rattle.gpu_alloc.specs.Request.{is_required}
-use Rattle.gpu_alloc.specs.Sharing.{buddy_size, buddy_question, IsPassedByBuddy, DecidesInBuddyChunk}
-use Rattle.gpu_alloc.specs.Sizes.{up, preferred_threshold, transient_threshold, final_size}
+use Rattle.gpu_alloc.specs.BuddySharing.{buddy_size, buddy_question, IsPassedByBuddy, DecidesInBuddyChunk}
+use Rattle.gpu_alloc_base.specs.Sizes.{up, preferred_threshold, transient_threshold, final_size}
 use Rattle.gpu_alloc.specs.State.{HeldObject, Span, Block, span_of, State, IsLive, IsOwned, AreApart, is_shared}
 
 -- Which way a candidate is served.

@@ -7,15 +7,21 @@ use Rattle.std.specs.Ordering.{nat_cmp}
 use Rattle.gpu_alloc_types.specs.Codes.{properties_code}
 use Rattle.gpu_alloc_types.specs.Properties.{Properties}
 use Rattle.gpu_alloc.specs.State.{HeldObject, Span, span_cmp, Block, span_of, TypeState, State}
-use Rattle.gpu_alloc.specs.BuddyState.{Chunk, Buddy, leaf_cmp}
-use Rattle.gpu_alloc.specs.FreeListState.{Space, Store, Listing, slot_cmp}
+use Rattle.gpu_alloc_buddy.specs.BuddyState.{Buddy}
+use Rattle.gpu_alloc_base.specs.Leaves.{leaf_cmp}
+use Rattle.gpu_alloc_base.specs.Chunks.{Chunk}
+use Rattle.gpu_alloc_freelist.specs.FreeListState.{Space, Store, Listing}
+use Rattle.gpu_alloc_base.specs.Slots.{slot_cmp}
+pub use Rattle.gpu_alloc_base.specs.Codes.{config_code, leaf_code, chunk_code, slot_code}
+pub use Rattle.gpu_alloc_buddy.specs.Codes.{buddy_code}
+pub use Rattle.gpu_alloc_freelist.specs.Codes.{space_code, store_code, listing_code}
 use Rattle.gpu_alloc.specs.Spans.{Place, Table}
 use Rattle.gpu_alloc.specs.declared.block.Kind.{Kind}
 use Rattle.gpu_alloc.specs.declared.block.Kind.TheVariants.{Dedicated, Imported, BuddyChunk, FreeListChunk}
 use Rattle.gpu_alloc.specs.declared.block.Mapping.{Mapping}
-use Rattle.gpu_alloc.specs.declared.buddy.block.Leaf.{Leaf}
-use Rattle.gpu_alloc.specs.declared.config.Config.{Config}
-use Rattle.gpu_alloc.specs.declared.freelist.block.Slot.{Slot}
+use Rattle.gpu_alloc_base.specs.declared.buddy_block.Leaf.{Leaf}
+use Rattle.gpu_alloc_base.specs.declared.config.Config.{Config}
+use Rattle.gpu_alloc_base.specs.declared.free_list_block.Slot.{Slot}
 
 -- a kind as a number and the number of its chunk
 abbrev pub kind_numbers : Kind → ℕ × ℕ
@@ -65,24 +71,6 @@ type_state_code =
     (λ t. (t.next_chunk, (t.list_chunk, t.number)))
     (λ c. record { next_chunk = c.0; list_chunk = c.1.0; number = c.1.1 }) (λ _. refl)
 
-abbrev pub config_code : Coded Config
-config_code =
-    code_by ((ℕ × (ℕ × ℕ)) × ((ℕ × ℕ) × (ℕ × ℕ))) (coded× (coded× coded_ℕ (coded× coded_ℕ coded_ℕ)) (coded× (coded× coded_ℕ coded_ℕ) (coded× coded_ℕ coded_ℕ)))
-    (λ c. (
-      (c.dedicated_threshold, (c.preferred_dedicated_threshold, c.transient_dedicated_threshold)),
-      ((c.starting_free_list_chunk, c.final_free_list_chunk), (c.minimal_buddy_size, c.initial_buddy_dedicated_size)),
-    ))
-    (λ n. record {
-      dedicated_threshold = n.0.0;
-      preferred_dedicated_threshold = n.0.1.0;
-      transient_dedicated_threshold = n.0.1.1;
-      starting_free_list_chunk = n.1.0.0;
-      final_free_list_chunk = n.1.0.1;
-      minimal_buddy_size = n.1.1.0;
-      initial_buddy_dedicated_size = n.1.1.1;
-    })
-    (λ _. refl)
-
 abbrev pub state_code : Coded State
 state_code =
     code_by (map.FinMap nat_cmp HeldObject × (set.FinSet span_cmp × ((ℕ × List TypeState) × (Config × Properties))))
@@ -100,61 +88,3 @@ table_code =
     (coded× (map.code coded_ℕ held_code) (coded× (set.code span_code) (coded× (map.code span_code place_code) coded_ℕ)))
     (λ t. (t.held, (t.live, (t.places, t.room))))
     (λ c. record { held = c.0; live = c.1.0; places = c.1.1.0; room = c.1.1.1 }) (λ _. refl)
-
--- of the buddy allocator
-
-abbrev pub leaf_code : Coded Leaf
-leaf_code =
-    code_by (ℕ × (ℕ × (ℕ × (ℕ × ℕ)))) (coded× coded_ℕ (coded× coded_ℕ (coded× coded_ℕ (coded× coded_ℕ coded_ℕ))))
-    (λ b. (b.object, (b.chunk, (b.offset, (b.size, b.index)))))
-    (λ c. record { object = c.0; chunk = c.1.0; offset = c.1.1.0; size = c.1.1.1.0; index = c.1.1.1.1 }) (λ _. refl)
-
-abbrev pub chunk_code : Coded Chunk
-chunk_code = code_by (ℕ × ℕ) (coded× coded_ℕ coded_ℕ) (λ c. (c.object, c.size)) (λ c. record { object = c.0; size = c.1 }) (λ _. refl)
-
-abbrev pub buddy_code : Coded Buddy
-buddy_code =
-    code_by (map.FinMap nat_cmp Chunk × (set.FinSet leaf_cmp × ((ℕ × ℕ) × (ℕ × (ℕ × ℕ)))))
-    (coded× (map.code coded_ℕ chunk_code) (coded× (set.code leaf_code) (coded× (coded× coded_ℕ coded_ℕ) (coded× coded_ℕ (coded× coded_ℕ coded_ℕ)))))
-    (λ b. (b.chunks, (b.live, ((b.next_chunk, b.minimal), (b.memory_type, (b.props, b.atom))))))
-    (λ c. record {
-      chunks = c.0;
-      live = c.1.0;
-      next_chunk = c.1.1.0.0;
-      minimal = c.1.1.0.1;
-      memory_type = c.1.1.1.0;
-      props = c.1.1.1.1.0;
-      atom = c.1.1.1.1.1;
-    })
-    (λ _. refl)
-
--- of the free list
-
-abbrev pub slot_code : Coded Slot
-slot_code =
-    code_by (ℕ × (ℕ × (ℕ × ℕ))) (coded× coded_ℕ (coded× coded_ℕ (coded× coded_ℕ coded_ℕ)))
-    (λ b. (b.object, (b.chunk, (b.offset, b.size))))
-    (λ c. record { object = c.0; chunk = c.1.0; offset = c.1.1.0; size = c.1.1.1 }) (λ _. refl)
-
-abbrev pub space_code : Coded Space
-space_code =
-    code_by (map.FinMap nat_cmp Chunk × (set.FinSet slot_cmp × ℕ)) (coded× (map.code coded_ℕ chunk_code) (coded× (set.code slot_code) coded_ℕ))
-    (λ s. (s.chunks, (s.live, s.latest)))
-    (λ c. record { chunks = c.0; live = c.1.0; latest = c.1.1 }) (λ _. refl)
-
-abbrev pub store_code : Coded Store
-store_code = code_by (Space × ℕ) (coded× space_code coded_ℕ) (λ s. (s.space, s.room)) (λ c. record { space = c.0; room = c.1 }) (λ _. refl)
-
-abbrev pub listing_code : Coded Listing
-listing_code =
-    code_by (Space × ((ℕ × ℕ) × (ℕ × (ℕ × ℕ)))) (coded× space_code (coded× (coded× coded_ℕ coded_ℕ) (coded× coded_ℕ (coded× coded_ℕ coded_ℕ))))
-    (λ l. (l.space, ((l.next_chunk, l.final_chunk), (l.memory_type, (l.props, l.atom)))))
-    (λ c. record {
-      space = c.0;
-      next_chunk = c.1.0.0;
-      final_chunk = c.1.0.1;
-      memory_type = c.1.1.0;
-      props = c.1.1.1.0;
-      atom = c.1.1.1.1;
-    })
-    (λ _. refl)

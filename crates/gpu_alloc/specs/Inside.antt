@@ -7,15 +7,17 @@ use Rattle.gpu_alloc_types.specs.Properties.{Properties, IsUsable, heap_size, pr
 use Rattle.gpu_alloc_types.specs.declared.types.MemoryHeap.{MemoryHeap}
 use Rattle.gpu_alloc.specs.declared.limits.Limits.{Limits}
 use Rattle.gpu_alloc.specs.declared.block.Kind.TheVariants.{Dedicated, BuddyChunk, FreeListChunk}
-use Rattle.gpu_alloc.specs.declared.buddy.block.Leaf.{Leaf}
-use Rattle.gpu_alloc.specs.declared.config.Config.{Config}
-use Rattle.gpu_alloc.specs.declared.freelist.block.Slot.{Slot}
-use Rattle.gpu_alloc.specs.declared.heap.Heap.{Heap}
-use Rattle.gpu_alloc.specs.BuddySound.{IsSound}
-use Rattle.gpu_alloc.specs.BuddyState.{Chunk, Buddy, IsLiveLeaf}
-use Rattle.gpu_alloc.specs.FreeListSound as list
-use Rattle.gpu_alloc.specs.FreeListState.{Listing, IsLiveSlot}
-use Rattle.gpu_alloc.specs.Sizes.{first_types, minimal_size, final_size}
+use Rattle.gpu_alloc_base.specs.declared.buddy_block.Leaf.{Leaf}
+use Rattle.gpu_alloc_base.specs.declared.config.Config.{Config}
+use Rattle.gpu_alloc_base.specs.declared.free_list_block.Slot.{Slot}
+use Rattle.gpu_alloc_base.specs.declared.heap.Heap.{Heap}
+use Rattle.gpu_alloc_buddy.specs.BuddySound.{IsSound}
+use Rattle.gpu_alloc_buddy.specs.BuddyState.{Buddy, IsLiveLeaf}
+use Rattle.gpu_alloc_base.specs.Chunks.{Chunk}
+use Rattle.gpu_alloc_freelist.specs.FreeListSound as list
+use Rattle.gpu_alloc_freelist.specs.FreeListState.{Listing, IsLiveSlot}
+use Rattle.gpu_alloc_base.specs.Sizes.{minimal_size, final_size}
+use Rattle.gpu_alloc.specs.FirstTypes.{first_types}
 use Rattle.gpu_alloc.specs.Spans.{Place, Table}
 use Rattle.gpu_alloc.specs.State.{HeldObject, Span, TypeState, State, share, is_shared}
 

@@ -3,15 +3,16 @@ use Rattle.std.specs.Prelude.{◌≡◌, ℕ, List, IfSome, slice_get}
 use Rattle.std.specs.FinMap as map
 use Rattle.std.specs.FinSet as set
 use Rattle.gpu_alloc_types.specs.Properties.{Properties, heap_size, props_at, atom_of}
-use Rattle.gpu_alloc.specs.Buddy as buddy
-use Rattle.gpu_alloc.specs.BuddySound.{IsSound}
-use Rattle.gpu_alloc.specs.BuddyState.{Buddy}
-use Rattle.gpu_alloc.specs.FreeListAllocator as list
-use Rattle.gpu_alloc.specs.FreeListSound as list_sound
-use Rattle.gpu_alloc.specs.FreeListState.{Listing}
+use Rattle.gpu_alloc_buddy.specs.Buddy as buddy
+use Rattle.gpu_alloc_buddy.specs.BuddySound.{IsSound}
+use Rattle.gpu_alloc_buddy.specs.BuddyState.{Buddy}
+use Rattle.gpu_alloc_freelist.specs.FreeListAllocator as list
+use Rattle.gpu_alloc_freelist.specs.FreeListSound as list_sound
+use Rattle.gpu_alloc_freelist.specs.FreeListState.{Listing}
 use Rattle.gpu_alloc.specs.State.{State}
-use Rattle.gpu_alloc.specs.Sizes.{first_types, minimal_size, initial_size, starting_size, final_size}
-use Rattle.gpu_alloc.specs.declared.config.Config.{Config}
+use Rattle.gpu_alloc_base.specs.Sizes.{minimal_size, initial_size, starting_size, final_size}
+use Rattle.gpu_alloc.specs.FirstTypes.{first_types}
+use Rattle.gpu_alloc_base.specs.declared.config.Config.{Config}
 
 -- nothing is held or live, as many objects may be held as the device allows, and the chunk sizes are the first ones
 abbrev pub opened : Config → Properties → State

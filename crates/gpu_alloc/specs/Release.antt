@@ -8,10 +8,10 @@ use Rattle.gpu_alloc_types.specs.Device.{Object, Event, put}
 use Rattle.gpu_alloc_types.specs.Device.Event.{Deallocated}
 use Rattle.gpu_alloc.specs.declared.block.Kind.{Kind}
 use Rattle.gpu_alloc.specs.declared.block.Kind.TheVariants.{Dedicated, Imported, BuddyChunk, FreeListChunk}
-use Rattle.gpu_alloc.specs.declared.freelist.region.FreeListRegion.{FreeListRegion}
-use Rattle.gpu_alloc.specs.FreeListAllocator.{AreRisingNumbers}
-use Rattle.gpu_alloc.specs.FreeRuns.{IsLastRun}
-use Rattle.gpu_alloc.specs.ListSharing.{IsListChunk, IsFreeInChunk}
+use Rattle.gpu_alloc_base.specs.declared.region.FreeListRegion.{FreeListRegion}
+use Rattle.gpu_alloc_freelist.specs.FreeListAllocator.{AreRisingNumbers}
+use Rattle.gpu_alloc_base.specs.FreeRuns.{IsLastRun}
+use Rattle.gpu_alloc.specs.FreeListSharing.{IsListChunk, IsFreeInChunk}
 use Rattle.gpu_alloc.specs.Sound.{is_list_chunk}
 use Rattle.gpu_alloc.specs.State.{HeldObject, Span, span_of, Block, State, IsLive}
 

@@ -2,14 +2,10 @@
 use Rattle.std.specs.Prelude.{ℕ, ◌+◌, ◌<◌, ◌≤◌, ◌^◌, Bool, true, false, Option, Some, None, IsTrue}
 use Rattle.std.specs.Int.{is_power_of_two}
 use Rattle.gpu_alloc_types.specs.Flags.{usage_bits, has_bit}
+use Rattle.gpu_alloc_base.specs.AlignMasks.{IsAlignMask}
 use Rattle.gpu_alloc.specs.declared.request.Request.{Request}
 use Rattle.gpu_alloc.specs.declared.request.Dedicated.{Dedicated}
 use Rattle.gpu_alloc.specs.declared.request.Dedicated.TheVariants.{Required, Preferred}
-
--- one more than an alignment mask is a power of two of at most 2^63
-pub record IsAlignMask (mask : ℕ) : Type 0 where
-  pub power : IsTrue (is_power_of_two (mask + 1))
-  pub bound : mask + 1 ≤ 2 ^ 63
 
 -- some bytes, an alignment, and the address usage only where the device has the feature
 pub record IsAskable (address : Bool) (r : Request) : Type 0 where

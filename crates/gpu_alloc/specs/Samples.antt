@@ -2,9 +2,9 @@
 use Rattle.std.specs.Prelude.{ℕ, List, [], ◌∷◌, false}
 use Rattle.gpu_alloc_types.specs.Properties.{Properties}
 use Rattle.gpu_alloc_types.specs.declared.types.MemoryType.{MemoryType}
-use Rattle.gpu_alloc.specs.declared.config.Config.{Config}
+use Rattle.gpu_alloc_base.specs.declared.config.Config.{Config}
 use Rattle.gpu_alloc.specs.declared.request.Request.{Request}
-use Rattle.gpu_alloc.specs.Config.{potato}
+use Rattle.gpu_alloc_base.specs.Config.{potato}
 use Rattle.gpu_alloc.specs.Opening.{opened}
 use Rattle.gpu_alloc.specs.State.{State}
 

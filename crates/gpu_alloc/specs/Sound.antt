@@ -3,7 +3,7 @@ use Rattle.std.specs.Prelude.{◌≡◌, ◌≢◌, ℕ, ◌+◌, ◌<◌, ◌�
 use Rattle.std.specs.FinMap as map
 use Rattle.gpu_alloc.specs.declared.block.Kind.{Kind}
 use Rattle.gpu_alloc.specs.declared.block.Kind.TheVariants.{Dedicated, Imported, BuddyChunk, FreeListChunk}
-use Rattle.gpu_alloc.specs.ListSharing.{IsListChunk, latest_number}
+use Rattle.gpu_alloc.specs.FreeListSharing.{IsListChunk, latest_number}
 use Rattle.gpu_alloc.specs.State.{HeldObject, Span, State, IsLive, AreApart}
 
 -- whether an object is held for a free list, which may keep a chunk in which nothing is live

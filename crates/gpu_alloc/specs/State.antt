@@ -9,7 +9,7 @@ use Rattle.gpu_alloc_types.specs.Properties.{Properties, heap_at}
 use Rattle.gpu_alloc.specs.declared.block.Kind.{Kind}
 use Rattle.gpu_alloc.specs.declared.block.Kind.TheVariants.{Dedicated, Imported, BuddyChunk, FreeListChunk}
 use Rattle.gpu_alloc.specs.declared.block.Mapping.{Mapping}
-use Rattle.gpu_alloc.specs.declared.config.Config.{Config}
+use Rattle.gpu_alloc_base.specs.declared.config.Config.{Config}
 
 -- whether many blocks may lie in an object that is held so
 abbrev pub is_shared : Kind → Bool

@@ -4,25 +4,32 @@ ghost use Rattle.std.specs.Prelude.{◌≡◌, ◌-◌, ◌<◌, ◌≤◌, ◌^
 ghost use Rattle.gpu_alloc_types.specs.declared.types.MemoryType.{MemoryType};
 ghost use Rattle.gpu_alloc.specs.Allocation.{strategy};
 ghost use Rattle.gpu_alloc.specs.declared.allocator.Strategy.TheVariants.{OwnObject, InBuddyChunk, InFreeList};
-ghost use Rattle.gpu_alloc.specs.Buddy.{opened as empty_buddy, wanted, rounded, chunk_size};
-ghost use Rattle.gpu_alloc.specs.BuddyState.{Buddy, IsFreeAt};
-ghost use Rattle.gpu_alloc.specs.Config.{potato, prototyping};
-ghost use Rattle.gpu_alloc.specs.FreeSpace.{IsIn, IsPlace, IsFreePiece, IsFreeByte};
-ghost use Rattle.gpu_alloc.specs.FreeList.{HasPlace};
-ghost use Rattle.gpu_alloc.specs.FreeListState.{Space, IsFreeIn};
-ghost use Rattle.gpu_alloc.specs.FreeRuns.{IsFreeRun, IsSpaced, HasRoom, tail_start};
-ghost use Rattle.gpu_alloc.specs.ListSharing.{IsFreeInChunk, HasListPlace, list_size, list_alignment, list_question};
-ghost use Rattle.gpu_alloc.specs.declared.freelist.region.FreeListRegion.{FreeListRegion};
-ghost use Rattle.gpu_alloc.specs.Pieces.{IsCanonical};
+ghost use Rattle.gpu_alloc_buddy.specs.Buddy.{opened as empty_buddy, rounded, chunk_size};
+ghost use Rattle.gpu_alloc_base.specs.Wanted.{wanted};
+ghost use Rattle.gpu_alloc_buddy.specs.BuddyState.{Buddy, IsFreeAt};
+ghost use Rattle.gpu_alloc_base.specs.Config.{potato, prototyping};
+ghost use Rattle.gpu_alloc_base.specs.FreeSpace.{IsIn, IsPlace, IsFreePiece};
+ghost use Rattle.gpu_alloc.specs.FreeBytes.{IsFreeByte};
+ghost use Rattle.gpu_alloc_freelist.specs.FreeList.{HasPlace};
+ghost use Rattle.gpu_alloc_freelist.specs.FreeListState.{Space, IsFreeIn};
+ghost use Rattle.gpu_alloc_base.specs.FreeRuns.{IsFreeRun, IsSpaced, HasRoom, tail_start};
+ghost use Rattle.gpu_alloc.specs.FreeListSharing.{IsFreeInChunk, HasListPlace, list_size, list_alignment, list_question};
+ghost use Rattle.gpu_alloc_base.specs.declared.region.FreeListRegion.{FreeListRegion};
+ghost use Rattle.gpu_alloc_base.specs.Pieces.{IsCanonical};
 ghost use Rattle.gpu_alloc.specs.Ranking.{IsRanking, IsRankingWithin, ranking, candidates, implied};
-ghost use Rattle.gpu_alloc.specs.Request.{IsAlignMask};
+ghost use Rattle.gpu_alloc_base.specs.AlignMasks.{IsAlignMask};
 ghost use Rattle.gpu_alloc.specs.Samples.{one_type, three_types, over, bytes_for, buddy_config};
-ghost use Rattle.gpu_alloc.specs.Sharing.{buddy_size, buddy_question, with_buddy_chunk};
-ghost use Rattle.gpu_alloc.specs.Sizes.{IsNextPowerOfTwo, next_power_of_two, minimal_size, initial_size, starting_size, final_size, first_types, grown_chunk, IsLeastProduct, doubled_chunk};
+ghost use Rattle.gpu_alloc.specs.BuddySharing.{buddy_size, buddy_question, with_buddy_chunk};
+ghost use Rattle.gpu_alloc_base.specs.Sizes.{IsNextPowerOfTwo, next_power_of_two, minimal_size, initial_size, starting_size, final_size, grown_chunk, IsLeastProduct, doubled_chunk};
+ghost use Rattle.gpu_alloc.specs.FirstTypes.{first_types};
 ghost use Rattle.gpu_alloc.specs.State.{State};
 ghost use Rattle.gpu_alloc.specs.declared.block.Kind.{Kind};
-ghost use Rattle.gpu_alloc.specs.declared.buddy.pieces.Piece.{Piece};
+ghost use Rattle.gpu_alloc_base.specs.declared.piece.Piece.{Piece};
 ghost use Rattle.gpu_alloc.specs.declared.request.Dedicated.TheVariants.{Required, Preferred};
+
+pub use gpu_alloc_base::laws::{
+    align_masks_of_powers, free_list_chunk_is_least, next_power_of_two_is_least,
+};
 
 /// A ranking has exactly the types that may serve the usage, by key and then by index, and nothing else has.
 pub fn ranking_is_exact_and_sorted()
@@ -76,16 +83,9 @@ pub fn regions_are_the_free_runs()
     ensures place_in_state { (s : State) (memory_type : ℕ) (regions : List FreeListRegion) → IsSpaced (IsFreeInChunk s memory_type) (Contains regions) → (size order : ℕ) → 0 < size → HasListPlace s memory_type size (2 ^ order) ↔ ((r : FreeListRegion) × Contains regions r × HasRoom size (2 ^ order) r.start r.end) }
 {}
 
-/// A chunk for a block that is no larger than the largest chunk holds it, and is the least that does so of the next chunk's
-/// size, its double, and so on, each cut at the largest. No other number is.
-pub fn free_list_chunk_is_least()
-    ensures is { (next final size : ℕ) → 0 < next → next ≤ final → final ≤ 2 ^ 62 → size ≤ final → IsLeastProduct next final size (grown_chunk next final size) }
-    ensures only { (next final size chunk other : ℕ) → IsLeastProduct next final size chunk → IsLeastProduct next final size other → chunk ≡ other }
-{}
-
 /// Chunks of free lists and the tails that blocks are, for a first chunk of 8192 bytes: the next chunk, one that has to be
 /// larger, one that is cut at the largest; a tail, and one at a multiple of 256.
-#[tactic(auto, unfolding(crate::specs::Sizes::doubled_up))]
+#[tactic(auto, unfolding(gpu_alloc_base::specs::Sizes::doubled_up))]
 pub fn free_list_chunks_of_samples()
     ensures first { grown_chunk 8192 32768 100 ≡ 8192 }
     ensures as_large { grown_chunk 8192 32768 8192 ≡ 8192 }
@@ -104,7 +104,7 @@ pub fn free_list_chunks_of_samples()
 
 /// Sizes of buddy blocks and of the chunks for them, over a least block of 1 and a first chunk of 8192, with an atom, and
 /// with a least block that is larger.
-#[tactic(auto, unfolding(crate::specs::Sizes::doubled_up))]
+#[tactic(auto, unfolding(gpu_alloc_base::specs::Sizes::doubled_up))]
 pub fn buddy_sizes_of_samples()
     ensures small { rounded (empty_buddy 1 8192 0 1 1) (wanted 100 0 0) ≡ 128 }
     ensures small_chunk { chunk_size (empty_buddy 1 8192 0 1 1) 128 ≡ 8192 }
@@ -119,7 +119,7 @@ pub fn buddy_sizes_of_samples()
 
 /// Blocks of shared chunks and the questions for such chunks as an allocator's state tells them: at first, and after a
 /// larger chunk was made.
-#[tactic(auto, unfolding(crate::specs::Sizes::doubled_up, crate::specs::Sharing::with_next_chunk))]
+#[tactic(auto, unfolding(gpu_alloc_base::specs::Sizes::doubled_up, crate::specs::BuddySharing::with_next_chunk))]
 pub fn shared_chunks_of_samples()
     ensures small { buddy_size (over 1048576 1 1) (bytes_for 100 0) 0 ≡ 128 }
     ensures small_chunk { (buddy_question (over 1048576 1 1) 0 128).size ≡ 8192 }
@@ -131,18 +131,8 @@ pub fn shared_chunks_of_samples()
     ensures unseen { (buddy_question (over 1048576 1 1) 0 128).visible ≡ false }
 {}
 
-/// The next power of two is the least one that is not below.
-pub fn next_power_of_two_is_least()
-    ensures { (x : ℕ) → x ≤ 2 ^ 64 → IsNextPowerOfTwo x (next_power_of_two x) }
-{}
-
-/// One less than each power of two from 1 to 2^63 is an alignment mask.
-pub fn align_masks_of_powers()
-    ensures { (k : ℕ) → k ≤ 63 → IsAlignMask (2 ^ k - 1) }
-{}
-
 /// First chunk sizes: of both defaults, of a small heap with an atom, and of a minimum above the initial size.
-#[tactic(auto, unfolding(crate::specs::Sizes::doubled_up))]
+#[tactic(auto, unfolding(gpu_alloc_base::specs::Sizes::doubled_up))]
 pub fn first_sizes_of_samples()
     ensures potato { first_types potato (one_type 1048576 1 1) ≡ record { next_chunk = 8192; list_chunk = 8192; number = 0 } ∷ [] }
     ensures potato_final { final_size potato 1048576 1 ≡ 32768 }

@@ -4,23 +4,18 @@
 mod allocator;
 mod block;
 pub mod buddy;
-mod config;
-mod error;
 pub mod freelist;
 pub mod heap;
 pub mod laws;
 mod limits;
-mod new_chunk;
 mod request;
-mod sizes;
 pub mod spans;
 pub mod steps;
 mod usage;
 
 pub use allocator::GpuAllocator;
 pub use block::{Mapping, MemoryBlock};
-pub use config::Config;
-pub use error::{AllocationError, MapError};
+pub use gpu_alloc_base::{AllocationError, Config, MapError};
 pub use gpu_alloc_types::{
     AllocationFlags, DeviceMapError, DeviceProperties, FreeRange, MemoryDevice, MemoryHeap,
     MemoryObject, MemoryPropertyFlags, MemoryType, OutOfMemory, UsageFlags,

@@ -95,7 +95,7 @@ impl<A: Allocator> Model for Spans<A> {
 
     ghost coded = { table_code };
 
-    ghost use Rattle.gpu_alloc.specs.SlabViews.{HasOneKeyEach};
+    ghost use Rattle.gpu_alloc_base.specs.SlabViews.{HasOneKeyEach};
     ghost use Rattle.gpu_alloc.specs.Spans.{table_in, span_in, room_in};
 
     ghost view = { λ t. table_in t.spans t.objects.entries (room_in t.spans t.objects) };

@@ -4,8 +4,8 @@ use Rattle.std.proofs.lemmas.Bool.Decides.{nat_tests}
 use Rattle.gpu_alloc_types.specs.Device.{Event, Chain}
 use Rattle.gpu_alloc.specs.Agreement.{Agrees}
 use Rattle.gpu_alloc.specs.State.{State}
-use Rattle.gpu_script.specs.Sim.{SimState, SimStep, objects_of}
-use Rattle.gpu_script.specs.SimLaws.{step_keeps_properties}
+use Rattle.gpu_sim.specs.Sim.{SimState, SimStep, objects_of}
+use Rattle.gpu_sim.specs.SimLaws.{step_keeps_properties}
 
 pub chain_keeps_properties : (old : SimState) (es : List Event) (new : SimState) → Chain SimStep old es new → new.properties ≡ old.properties
 chain_keeps_properties old [] new c = ap (λ s. s.properties) c

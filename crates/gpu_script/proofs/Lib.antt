@@ -2,6 +2,4 @@ mod EmptyMaps
 mod KeptHeaps
 mod LiveLeaves
 mod LiveSlots
-mod NumberedEntries
 mod OneChunk
-mod SimNames

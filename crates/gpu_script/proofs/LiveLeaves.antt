@@ -2,11 +2,12 @@
 use Rattle.std.proofs.Common.{◌≡◌, inl, inr, ◌<◌, List, Ok, refl, sym, subst, arith}
 use Rattle.std.proofs.lemmas.Nat.{pow_pos}
 use Rattle.gpu_alloc_types.specs.Device.{Event}
-use Rattle.gpu_alloc.specs.Buddy.{Account, Wanted, Allocates, Frees, IsGranted}
+use Rattle.gpu_alloc.specs.Buddy.{Account, Allocates, Frees, IsGranted}
+use Rattle.gpu_alloc.specs.Wanted.{Wanted}
 use Rattle.gpu_alloc.specs.BuddyState.{Buddy, IsLiveLeaf}
 use Rattle.gpu_alloc.specs.FreeSpace.{IsIn}
-use Rattle.gpu_alloc.specs.declared.buddy.block.Leaf.{Leaf}
-use Rattle.gpu_alloc.proofs.BuddyLeaves.{leaf_inserted, leaf_removed}
+use Rattle.gpu_alloc.specs.Types.Leaf.{Leaf}
+use Rattle.gpu_alloc_base.proofs.Leaves.{leaf_inserted, leaf_removed}
 
 -- a granted block was not live, since its first byte was free
 pub was_not_live : (old : Buddy) (w : Wanted) (new : Buddy) (leaf : Leaf) → IsGranted old w new leaf → IsLiveLeaf old leaf → ⊥

@@ -1,12 +1,12 @@
 -- Which blocks of a free-list allocator are live after a call.
 use Rattle.std.proofs.Common.{◌≡◌, inl, inr, ◌<◌, List, Ok, refl, sym, subst, arith}
 use Rattle.gpu_alloc_types.specs.Device.{Event}
-use Rattle.gpu_alloc.specs.Buddy.{Wanted}
+use Rattle.gpu_alloc.specs.Wanted.{Wanted}
 use Rattle.gpu_alloc.specs.FreeListAllocator.{Account, Allocates, Frees, IsGranted}
 use Rattle.gpu_alloc.specs.FreeListState.{Listing, IsLiveSlot}
 use Rattle.gpu_alloc.specs.FreeSpace.{IsIn}
-use Rattle.gpu_alloc.specs.declared.freelist.block.Slot.{Slot}
-use Rattle.gpu_alloc.proofs.Slots.{slot_inserted, slot_removed}
+use Rattle.gpu_alloc.specs.Types.Slot.{Slot}
+use Rattle.gpu_alloc_base.proofs.Slots.{slot_inserted, slot_removed}
 
 -- a granted block was not live, since its first byte was free
 pub was_not_live : (old : Listing) (w : Wanted) (new : Listing) (slot : Slot) → 0 < w.size → IsGranted old w new slot → IsLiveSlot old.space slot → ⊥

@@ -2,12 +2,12 @@
 use Rattle.std.proofs.Common.{◌≡◌, ◌+◌, ℕ, Some, inl, refl, sym, ◌∙◌, ap, subst, arith}
 use Rattle.std.specs.FinMap as map
 use Rattle.std.specs.Ordering.{nat_cmp}
-use Rattle.gpu_alloc.specs.BuddyState.{Chunk}
+use Rattle.gpu_alloc.specs.Chunks.{Chunk}
 use Rattle.gpu_alloc.specs.FreeList.{no_space, with_slot, with_chunk, without_chunk}
 use Rattle.gpu_alloc.specs.FreeListState.{Space, IsLiveSlot}
-use Rattle.gpu_alloc.specs.declared.freelist.block.Slot.{Slot}
-use Rattle.gpu_alloc.proofs.Slots.{slot_inserted}
-use Rattle.gpu_session.proofs.Names.{len_put, len_removed}
+use Rattle.gpu_alloc.specs.Types.Slot.{Slot}
+use Rattle.gpu_alloc_base.proofs.Slots.{slot_inserted}
+use Rattle.gpu_alloc_base.proofs.Names.{len_put, len_removed}
 
 -- the first chunk is the only one
 pub first_is_only : (before after : Space) (object size : ℕ) (slot : Slot) → before ≡ no_space → after ≡ with_slot (with_chunk before object size) slot → map.len after.chunks ≡ 1

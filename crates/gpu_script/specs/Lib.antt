@@ -1,5 +1,3 @@
-pub mod Question
 pub mod Setup
-pub mod Sim
-pub mod SimCode
-pub mod SimLaws
+pub use Rattle.gpu_sim.specs.Question
+pub use Rattle.gpu_sim.specs.Sim

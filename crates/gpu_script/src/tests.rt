@@ -12,4 +12,5 @@ mod grants;
 mod memory;
 mod refusals;
 mod scripts;
+mod sim;
 mod transient;

@@ -16,7 +16,7 @@ use Rattle.gpu_session.specs.Faults.{where_true, is_alignment, fault_of_request}
 use Rattle.gpu_session.specs.Sound.{IsKept}
 use Rattle.gpu_session.specs.declared.command.Fault.{Fault}
 use Rattle.gpu_session.specs.declared.command.Fault.TheVariants.{NameInUse, BadSize, BadAlignment, NoDeviceAddress}
-use Rattle.gpu_session.proofs.Names.{get_entries}
+use Rattle.gpu_alloc_base.proofs.Names.{get_entries}
 
 is_absent : {X : Type 0} (o : Option X) → is_some o ≡ false → o ≡ None
 is_absent None e = refl

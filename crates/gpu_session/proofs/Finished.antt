@@ -11,7 +11,7 @@ use Rattle.gpu_alloc_types.specs.Properties.{Properties}
 use Rattle.gpu_alloc.specs.State.{State, Block, HeldObject}
 use Rattle.gpu_alloc.specs.declared.block.Kind.TheVariants.{Dedicated as DedicatedObject}
 use Rattle.gpu_session.specs.Sound.{IsBlock, IsSound, AreWholeObjects, HoldsWholeObjects, ReturnsAll}
-use Rattle.gpu_session.proofs.Names.{one_or_two, here, is_there, absent_or_there, empty_from, len_removed}
+use Rattle.gpu_alloc_base.proofs.Names.{one_or_two, here, is_there, absent_or_there, empty_from, len_removed}
 use Rattle.gpu_session.proofs.Returns.{Returns, after_other, gone_after, held_other, held_no_more}
 
 -- From its first state on, nothing but objects that were held went back, each once, and the others are still held.

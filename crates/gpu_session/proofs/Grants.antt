@@ -7,15 +7,15 @@ use Rattle.gpu_alloc_types.specs.Device.{Event, Object, IsFresh, put}
 use Rattle.gpu_alloc_types.specs.Objects.{put-same, put-other}
 use Rattle.gpu_alloc.specs.Agreement.{Agrees}
 use Rattle.gpu_alloc.specs.Allocation.{Allocates, TriesAll, Refuses, candidates_of, IsGranted, HasOneMore, ObjectsWith, ObjectsAfter, whole_block, holding}
-use Rattle.gpu_alloc.specs.declared.error.AllocationError.{AllocationError}
-use Rattle.gpu_alloc.specs.declared.error.AllocationError.TheVariants.{OutOfDeviceMemory, NoCompatibleMemoryTypes, TooManyObjects}
+use Rattle.gpu_alloc.specs.Types.AllocationError.{AllocationError}
+use Rattle.gpu_alloc.specs.Types.AllocationError.TheVariants.{OutOfDeviceMemory, NoCompatibleMemoryTypes, TooManyObjects}
 use Rattle.gpu_alloc.specs.State.{Span, span_of, HeldObject, Block, State, IsLive}
 use Rattle.gpu_alloc.specs.declared.block.Kind.TheVariants.{Dedicated as DedicatedObject}
 use Rattle.gpu_alloc.specs.declared.request.Request.{Request}
 use Rattle.gpu_alloc.specs.declared.request.Dedicated.TheVariants.{Required}
-use Rattle.gpu_alloc.proofs.LiveSpans.{live_still, live_before}
+use Rattle.gpu_alloc.proofs.Tables.LiveSpans.{live_still, live_before}
 use Rattle.gpu_session.specs.Sound.{IsBlock, IsSound, AreWholeObjects, HoldsWholeObjects, IsKept}
-use Rattle.gpu_session.proofs.Names.{one_or_two, here, wherever, put-cases, get_put, get_put-other}
+use Rattle.gpu_alloc_base.proofs.Names.{one_or_two, here, wherever, put-cases, get_put, get_put-other}
 
 -- an object of its own, held with the block in it
 abbrev pub owned_object : ℕ → ℕ → HeldObject

@@ -8,9 +8,9 @@ use Rattle.gpu_alloc_types.specs.Properties.{Properties}
 use Rattle.gpu_alloc_types.specs.Device.{Object}
 use Rattle.gpu_alloc.specs.Opening.{opened}
 use Rattle.gpu_alloc.specs.State.{Span, span_cmp, Block}
-use Rattle.gpu_alloc.specs.declared.config.Config.{Config}
+use Rattle.gpu_alloc.specs.Types.Config.{Config}
 use Rattle.gpu_session.specs.Sound.{IsKept}
-use Rattle.gpu_session.proofs.Names.{wherever}
+use Rattle.gpu_alloc_base.proofs.Names.{wherever}
 
 none_at : {X : Type 0} (P : ℕ → X → Type 0) (q : ℕ) → IfSome (finite.get (finite.empty {X = X} {R = nat_cmp}) q) (P q)
 none_at {X} P q = wherever (finite.get (finite.empty {X = X} {R = nat_cmp}) q) (P q) (λ x at. let none = finite.get-empty {X = X} nat_cmp q in absurd (cc))

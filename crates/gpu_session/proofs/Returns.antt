@@ -12,9 +12,9 @@ use Rattle.gpu_alloc.specs.Release.{Frees, GoesWith, ObjectsFreed, without_objec
 use Rattle.gpu_alloc.specs.State.{Span, span_of, Block, State, IsLive}
 use Rattle.gpu_alloc.specs.declared.block.Kind.{Kind}
 use Rattle.gpu_alloc.specs.declared.block.Kind.TheVariants.{Dedicated as DedicatedObject}
-use Rattle.gpu_alloc.proofs.LiveSpans.{live_kept as span_kept, live_other}
+use Rattle.gpu_alloc.proofs.Tables.LiveSpans.{live_kept as span_kept, live_other}
 use Rattle.gpu_session.specs.Sound.{IsBlock, IsSound, AreWholeObjects, HoldsWholeObjects, IsKept}
-use Rattle.gpu_session.proofs.Names.{one_or_two, here, wherever, removed-cases, get_removed, get_removed-other}
+use Rattle.gpu_alloc_base.proofs.Names.{one_or_two, here, wherever, removed-cases, get_removed, get_removed-other}
 
 -- one object is held no more, and its block is live no more
 abbrev pub letting_go : State → Block → State

@@ -1,18 +1,30 @@
-//! What each memory type has: a buddy allocator and a free list, opened and closed.
+//! What each heap and each memory type has: a ledger, a buddy allocator and a free list, opened and closed.
 
-ghost use Rattle.std.specs.Prelude.{◌≡◌, ◌<◌, length, All, IfOk};
+ghost use Rattle.std.specs.Prelude.{◌≡◌, ◌<◌, length, map as map_list, All, IfOk};
 ghost use Rattle.std.specs.FinMap as map;
 ghost use Rattle.gpu_alloc_types.specs.Properties.{IsUsable, properties_of};
-ghost use Rattle.gpu_alloc.specs.BuddySound.{IsSound};
-ghost use Rattle.gpu_alloc.specs.FreeListSound.{IsSound as IsSoundListing};
+ghost use Rattle.gpu_alloc_base.specs.Heap.{unused};
+ghost use Rattle.gpu_alloc_buddy.specs.BuddySound.{IsSound};
+ghost use Rattle.gpu_alloc_freelist.specs.FreeListSound.{IsSound as IsSoundListing};
 ghost use Rattle.gpu_alloc.specs.Opening.{first_buddy, AreFirstBuddies, first_listing, AreFirstListings};
 
-use crate::Config;
-use crate::buddy::BuddyAllocator;
-use crate::freelist::FreeListAllocator;
 use crate::limits::atom_of;
-use gpu_alloc_types::{DeviceProperties, MemoryObject};
+use gpu_alloc_base::Config;
+use gpu_alloc_base::heap::Heap;
+use gpu_alloc_buddy::BuddyAllocator;
+use gpu_alloc_freelist::FreeListAllocator;
+use gpu_alloc_types::{DeviceProperties, MemoryHeap, MemoryObject};
 use std::alloc::{AllocError, Allocator};
+
+/// The heaps that a device offers, of which nothing is held.
+pub fn unused_heaps<A: Allocator + Copy>(
+    alloc: A,
+    heaps: &[MemoryHeap],
+) -> Result<Vec<Heap, A>, AllocError>
+    ensures { IfOk result (λ all. all.items ≡ map_list (λ heap. unused heap.size) heaps.now) }
+{
+    heaps.iter().map(|heap| Heap::new(heap.size)).collect(alloc)
+}
 
 /// A buddy allocator for each memory type, with no chunk.
 pub(super) fn empty_buddies<M: MemoryObject, A: Allocator + Copy>(

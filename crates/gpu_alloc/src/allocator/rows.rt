@@ -7,9 +7,8 @@ ghost use Rattle.gpu_alloc.specs.Inside.{span_of_leaf, place_of_leaf, leaf_at, w
 ghost use Rattle.gpu_alloc.specs.Spans.{span_in, place_in};
 
 use crate::block::Kind;
-use crate::buddy::Leaf;
-use crate::freelist::Slot;
 use crate::spans::{HeldRow, LiveSpan, Spans};
+use gpu_alloc_base::{Leaf, Slot};
 use std::alloc::Allocator;
 
 /// Adds the span of a buddy allocator's block, and its chunk where it was not held yet, into room that was made.

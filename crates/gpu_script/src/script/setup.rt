@@ -2,8 +2,8 @@
 
 ghost use Rattle.std.specs.Prelude.{◌≡◌};
 ghost use Rattle.gpu_alloc_types.specs.Properties.{properties_of};
-ghost use Rattle.gpu_script.specs.declared.sim.question.Cause.TheVariants.{Failed};
-ghost use Rattle.gpu_script.specs.declared.sim.question.Question.TheVariants.{Map};
+ghost use Rattle.gpu_sim.specs.declared.sim.question.Cause.TheVariants.{Failed};
+ghost use Rattle.gpu_sim.specs.declared.sim.question.Question.TheVariants.{Map};
 
 use crate::script::fields::Fields;
 use crate::script::line::{LineError, LineStop, meaning_of};

@@ -2,7 +2,7 @@
 
 ghost use Rattle.std.specs.Prelude.{◌≡◌, ◌<◌, length, vec_len};
 ghost use Rattle.gpu_alloc_types.specs.Properties.{IsUsable, properties_of};
-ghost use Rattle.gpu_script.specs.Question.{CanRefuse};
+ghost use Rattle.gpu_sim.specs.Question.{CanRefuse};
 
 use crate::sim::{Cause, Question, Sim, SimMemory};
 use gpu_alloc::{
@@ -116,7 +116,7 @@ pub(super) struct Bench<A: Allocator + Copy = Global> {
 impl<A: Allocator + Copy> Model for Bench<A> {
     ghost use Rattle.std.specs.Prelude.{ℕ, ◌<◌, length, vec_len};
     ghost use Rattle.gpu_alloc.specs.Agreement.{Agrees};
-    ghost use Rattle.gpu_script.specs.Sim.{objects_of};
+    ghost use Rattle.gpu_sim.specs.Sim.{objects_of};
 
     ghost Value = { ℕ };
 

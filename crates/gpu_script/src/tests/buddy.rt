@@ -2,9 +2,9 @@
 
 ghost use Rattle.std.specs.Prelude.{◌≤◌, ◌≢◌};
 ghost use Rattle.gpu_alloc.specs.BuddyState.{IsLiveLeaf};
-ghost use Rattle.gpu_alloc.specs.Request.{IsAlignMask};
-ghost use Rattle.gpu_alloc.specs.declared.buddy.block.Leaf.{Leaf};
-ghost use Rattle.gpu_script.specs.Question.{CanRefuse};
+ghost use Rattle.gpu_alloc.specs.AlignMasks.{IsAlignMask};
+ghost use Rattle.gpu_alloc.specs.Types.Leaf.{Leaf};
+ghost use Rattle.gpu_sim.specs.Question.{CanRefuse};
 
 use crate::sim::{Cause, Question, Sim, SimMemory};
 use gpu_alloc::buddy::{BuddyAllocator, BuddyBlock};
@@ -52,7 +52,7 @@ impl Model for Chunks {
     ghost use Rattle.gpu_alloc.specs.Buddy.{Agrees, IsCounted, account, chunks_and_remaining};
     ghost use Rattle.gpu_alloc.specs.BuddyState.{Buddy};
     ghost use Rattle.gpu_alloc.specs.Codes.{buddy_code};
-    ghost use Rattle.gpu_script.specs.Sim.{objects_of};
+    ghost use Rattle.gpu_sim.specs.Sim.{objects_of};
 
     ghost Value = { Buddy };
 

@@ -3,8 +3,8 @@
 ghost use Rattle.std.specs.Prelude.{◌≡◌, ◌≤◌, ◌<◌, ◌≢◌};
 ghost use Rattle.std.specs.FinMap as map;
 ghost use Rattle.gpu_alloc.specs.FreeListState.{IsLiveSlot};
-ghost use Rattle.gpu_alloc.specs.declared.freelist.block.Slot.{Slot};
-ghost use Rattle.gpu_script.specs.Question.{CanRefuse};
+ghost use Rattle.gpu_alloc.specs.Types.Slot.{Slot};
+ghost use Rattle.gpu_sim.specs.Question.{CanRefuse};
 
 use crate::sim::{Cause, Question, Sim, SimMemory};
 use gpu_alloc::freelist::{FreeList, FreeListAllocator, FreeListBlock, FreeListRegion};
@@ -177,7 +177,7 @@ impl Model for Chunks {
     ghost use Rattle.gpu_alloc.specs.Codes.{listing_code};
     ghost use Rattle.gpu_alloc.specs.FreeListAllocator.{Agrees, IsCounted, account, chunks_and_remaining};
     ghost use Rattle.gpu_alloc.specs.FreeListState.{Listing};
-    ghost use Rattle.gpu_script.specs.Sim.{objects_of};
+    ghost use Rattle.gpu_sim.specs.Sim.{objects_of};
 
     ghost Value = { Listing };
 

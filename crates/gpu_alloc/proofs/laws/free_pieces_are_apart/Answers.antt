@@ -1,6 +1,6 @@
-use Rattle.gpu_alloc.specs.BuddyState.{IsFreeAt}
-use Rattle.gpu_alloc.specs.FreeSpace.{IsFreeByte}
-use Rattle.gpu_alloc.proofs.ExactPieces.{one_free_piece}
+use Rattle.gpu_alloc_buddy.specs.BuddyState.{IsFreeAt}
+use Rattle.gpu_alloc.specs.FreeBytes.{IsFreeByte}
+use Rattle.gpu_alloc_base.proofs.ExactPieces.{one_free_piece}
 use Rattle.gpu_alloc.proofs.laws.free_pieces_are_apart.Goals as goal
 
 pub returns-clause-in_chunks : goal.returns-clause-in_chunks

@@ -1,7 +1,7 @@
 use Rattle.std.specs.List.{Contains}
-use Rattle.gpu_alloc.specs.BuddyState.{IsFreeAt}
-use Rattle.gpu_alloc.specs.FreeSpace.{IsFreeByte}
-use Rattle.gpu_alloc.proofs.ExactPieces.{kept_is_free_piece, free_piece_is_kept, piece_for_place}
+use Rattle.gpu_alloc_buddy.specs.BuddyState.{IsFreeAt}
+use Rattle.gpu_alloc.specs.FreeBytes.{IsFreeByte}
+use Rattle.gpu_alloc_base.proofs.ExactPieces.{kept_is_free_piece, free_piece_is_kept, piece_for_place}
 use Rattle.gpu_alloc.proofs.laws.kept_pieces_are_the_free_pieces.Goals as goal
 
 pub returns-clause-exact : goal.returns-clause-exact

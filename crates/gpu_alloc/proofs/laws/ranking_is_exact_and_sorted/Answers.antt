@@ -1,4 +1,4 @@
-use Rattle.gpu_alloc.proofs.RankingOrder.{ranking_IsRanking, ranking-only}
+use Rattle.gpu_alloc.proofs.Ranking.Order.{ranking_IsRanking, ranking-only}
 use Rattle.gpu_alloc.proofs.laws.ranking_is_exact_and_sorted.Goals as goal
 
 pub returns-clause-is : goal.returns-clause-is

@@ -1,10 +1,10 @@
 use Rattle.std.proofs.Common.{◌<◌, ◌^◌, ℕ, List, Contains}
 use Rattle.std.proofs.lemmas.Nat.{pow_pos}
-use Rattle.gpu_alloc.specs.declared.freelist.region.FreeListRegion.{FreeListRegion}
-use Rattle.gpu_alloc.specs.FreeRuns.{IsSpaced, IsListPlace, HasRoom, tail_start}
-use Rattle.gpu_alloc.specs.FreeListState.{IsFreeIn}
-use Rattle.gpu_alloc.specs.ListSharing.{IsFreeInChunk}
-use Rattle.gpu_alloc.proofs.FreeRuns.{region_is_run, run_is_region, place_has_run, run_has_place}
+use Rattle.gpu_alloc_base.specs.declared.region.FreeListRegion.{FreeListRegion}
+use Rattle.gpu_alloc_base.specs.FreeRuns.{IsSpaced, IsListPlace, HasRoom, tail_start}
+use Rattle.gpu_alloc_freelist.specs.FreeListState.{IsFreeIn}
+use Rattle.gpu_alloc.specs.FreeListSharing.{IsFreeInChunk}
+use Rattle.gpu_alloc_base.proofs.FreeRuns.{region_is_run, run_is_region, place_has_run, run_has_place}
 use Rattle.gpu_alloc.proofs.laws.regions_are_the_free_runs.Goals as goal
 
 module _ (F : ℕ → ℕ → Type 0) (regions : List FreeListRegion) (spaced : IsSpaced F (Contains regions)) (size order : ℕ) (some : 0 < size) where

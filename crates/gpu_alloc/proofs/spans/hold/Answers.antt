@@ -1,6 +1,6 @@
 use Rattle.std.proofs.Common.{ap, ◌∙◌, sym}
 use Rattle.gpu_alloc.specs.Spans.{objects_in, with_new}
-use Rattle.gpu_alloc.proofs.HeldObjects.{objects_put}
+use Rattle.gpu_alloc.proofs.Tables.HeldObjects.{objects_put}
 use Rattle.gpu_alloc.proofs.spans.hold.Goals as goal
 
 pub returns-in-Some-clause-held : goal.returns-in-Some-clause-held

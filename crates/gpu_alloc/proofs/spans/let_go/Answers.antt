@@ -1,7 +1,7 @@
 use Rattle.std.proofs.Common.{None, ap, ◌∙◌, sym, cond, option_map}
 use Rattle.std.specs.FinMap as finite
 use Rattle.gpu_alloc.specs.Spans.{held_of, objects_in, without_old}
-use Rattle.gpu_alloc.proofs.HeldObjects.{objects_get, objects_removed}
+use Rattle.gpu_alloc.proofs.Tables.HeldObjects.{objects_get, objects_removed}
 use Rattle.gpu_alloc.proofs.spans.let_go.Goals as goal
 
 pub returns-then-asked-clause-object : goal.returns-then-asked-clause-object

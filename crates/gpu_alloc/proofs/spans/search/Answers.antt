@@ -1,6 +1,6 @@
 use Rattle.std.proofs.Common.{◌≡◌, true, ap, inl, inr, ◌∙◌}
 use Rattle.slab.proofs.SlabLemmas.{Contains-cons, Contains-cons_cases, Contains-entries}
-use Rattle.gpu_alloc.proofs.Lists.{contains_head}
+use Rattle.gpu_alloc_base.proofs.Lists.{contains_head}
 use Rattle.gpu_alloc.specs.Spans.{span_in}
 use Rattle.gpu_alloc.proofs.spans.search.Goals as goal
 

@@ -1,7 +1,7 @@
 use Rattle.std.proofs.Common.{◌≡◌, length, ◌++◌, arith}
 use Rattle.gpu_alloc_types.specs.Chains.{chain_append}
 use Rattle.gpu_alloc.specs.Release.{AreAllGone}
-use Rattle.gpu_alloc.proofs.ListCleanups.{cleaning_goes_on, all_gone, left_is}
+use Rattle.gpu_alloc.proofs.FreeLists.Cleanups.{cleaning_goes_on, all_gone, left_is}
 use Rattle.gpu_alloc.proofs.allocator.GpuAllocator.cleanup.Given.{Over}
 use Rattle.gpu_alloc.proofs.allocator.GpuAllocator.cleanup.Goals as goal
 

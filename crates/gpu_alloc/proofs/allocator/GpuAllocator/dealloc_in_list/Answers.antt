@@ -1,6 +1,6 @@
 use Rattle.std.proofs.Common.{refl, subst, arith}
 use Rattle.gpu_alloc.specs.Release.{GoesWith, LetsGo, without_span}
-use Rattle.gpu_alloc.proofs.ListReturns.{goes_with_list}
+use Rattle.gpu_alloc.proofs.FreeLists.Returns.{goes_with_list}
 use Rattle.gpu_alloc.proofs.allocator.GpuAllocator.dealloc_in_list.Given.{Over}
 use Rattle.gpu_alloc.proofs.allocator.GpuAllocator.dealloc_in_list.Goals as goal
 use Rattle.gpu_alloc.proofs.Agreeing.{agrees_without_span}

@@ -7,11 +7,11 @@ use Rattle.gpu_alloc.specs.Agreement.{Agrees}
 use Rattle.gpu_alloc.specs.Inside.{state_in}
 use Rattle.gpu_alloc.specs.Spans.{held_of, span_at}
 use Rattle.gpu_alloc.specs.State.{State, HeldObject, Span, IsOwned, span_of, total}
-use Rattle.gpu_alloc.specs.declared.heap.Heap.{Heap}
+use Rattle.gpu_alloc_base.specs.declared.heap.Heap.{Heap}
 use Rattle.gpu_alloc.proofs.Agreeing.{agrees_returned}
 use Rattle.gpu_alloc.proofs.Consistency.{covers, fits_again}
 use Rattle.gpu_alloc.proofs.HeapLists.{properties_kept}
-use Rattle.gpu_alloc.proofs.LiveSpans.{live_other}
+use Rattle.gpu_alloc.proofs.Tables.LiveSpans.{live_other}
 use Rattle.gpu_alloc.proofs.OwnObjects.{consistent-gone}
 use Rattle.gpu_alloc.proofs.Returns.{IsWholeBlock, returned, goes_with, owned_whole, let_go, state_returned, total_returned}
 use Rattle.gpu_alloc.proofs.allocator.GpuAllocator.dealloc_object.Given.{Over}

@@ -1,7 +1,7 @@
 use Rattle.std.proofs.Common.{◌≡◌, List}
 use Rattle.std.specs.FinMap as map
 use Rattle.gpu_alloc_types.specs.Device.{Event, Chain}
-use Rattle.gpu_alloc.proofs.ListGoing.{IsGivingBack}
+use Rattle.gpu_alloc.proofs.FreeLists.Going.{IsGivingBack}
 use Rattle.gpu_alloc.proofs.allocator.GpuAllocator.give_back.Given as goal
 
 -- some chunks went, and those that may go yet come after them

@@ -1,12 +1,12 @@
 use Rattle.std.proofs.Common.{◌≡◌, ◌<◌, ◌^◌, sym, ap, ◌∙◌, map, subst, List}
 use Rattle.gpu_alloc_types.specs.Properties.{Properties, properties_of}
 use Rattle.gpu_alloc_types.specs.declared.types.MemoryType.{MemoryType}
-use Rattle.gpu_alloc.specs.declared.heap.Heap.{Heap}
-use Rattle.gpu_alloc.specs.Heap.{unused}
+use Rattle.gpu_alloc_base.specs.declared.heap.Heap.{Heap}
+use Rattle.gpu_alloc_base.specs.Heap.{unused}
 use Rattle.gpu_alloc.specs.Inside.{offer_of, types_in, lists_in, IsConsistent}
 use Rattle.gpu_alloc.specs.Opening.{opened}
 use Rattle.gpu_alloc.specs.Ranking.{IsTable}
-use Rattle.gpu_alloc.specs.Sizes.{first_types}
+use Rattle.gpu_alloc.specs.FirstTypes.{first_types}
 use Rattle.gpu_alloc.proofs.Closing.{first_chunkless}
 use Rattle.gpu_alloc.proofs.HeapLists.{unused-offers}
 use Rattle.gpu_alloc.proofs.Opened.{consistent-opened, first_types_kept, first_lists_kept}

@@ -6,20 +6,20 @@ use Rattle.std.specs.FinSet as set_of
 use Rattle.std.specs.Option.{IsSome, is_some}
 use Rattle.gpu_alloc_types.specs.Flags.{allocation_bits}
 use Rattle.gpu_alloc_types.specs.Properties.{Properties}
-use Rattle.gpu_alloc.specs.Buddy.{account}
+use Rattle.gpu_alloc_buddy.specs.Buddy.{account}
 use Rattle.gpu_alloc.specs.Inside.{state_in, with_chunk_of, span_of_leaf, place_of_leaf}
-use Rattle.gpu_alloc.specs.Sharing.{buddy_block, GivesInChunk, GivesInNewChunk}
+use Rattle.gpu_alloc.specs.BuddySharing.{buddy_block, GivesInChunk, GivesInNewChunk}
 use Rattle.gpu_alloc.specs.Spans.{Table}
 use Rattle.gpu_alloc.specs.State.{State, HeldObject, Block, total}
 use Rattle.gpu_alloc.specs.declared.block.Kind.TheVariants.{BuddyChunk}
-use Rattle.gpu_alloc.proofs.BuddyGrants.{when_ok}
+use Rattle.gpu_alloc_base.proofs.Outcomes.{when_ok}
 use Rattle.gpu_alloc.proofs.Consistency.{heap_there}
 use Rattle.gpu_alloc.proofs.OwnObjects.{consistent-room}
-use Rattle.gpu_alloc.proofs.ServedBlocks.{buddy_agrees}
-use Rattle.gpu_alloc.proofs.Serving.{Serves, first_open, rounded_is}
-use Rattle.gpu_alloc.proofs.SharedAnswers.{Given, span_is_free, IsServed, objects_served, served}
-use Rattle.gpu_alloc.proofs.SharedGrants.{serves, counted_before, bounded_before, consistent_refused, state_refused}
-use Rattle.gpu_alloc.proofs.SharedRefusals.{first_tries, refused_tries, nothing_made, nothing_granted}
+use Rattle.gpu_alloc.proofs.Buddies.Served.{buddy_agrees}
+use Rattle.gpu_alloc.proofs.Buddies.Serving.{Serves, first_open, rounded_is}
+use Rattle.gpu_alloc.proofs.Buddies.Answers.{Given, span_is_free, IsServed, objects_served, served}
+use Rattle.gpu_alloc.proofs.Buddies.Grants.{serves, counted_before, bounded_before, consistent_refused, state_refused}
+use Rattle.gpu_alloc.proofs.Buddies.Refusals.{first_tries, refused_tries, nothing_made, nothing_granted}
 use Rattle.gpu_alloc.proofs.allocator.GpuAllocator.try_buddy.Given.{Over}
 use Rattle.gpu_alloc.proofs.HandedOn.{below, address_there}
 use Rattle.gpu_alloc.proofs.allocator.GpuAllocator.try_buddy.Goals as goal

@@ -4,26 +4,26 @@ use Rattle.std.specs.FinMap as finite
 use Rattle.std.specs.FinSet as set_of
 use Rattle.gpu_alloc_types.specs.Flags.{allocation_bits}
 use Rattle.gpu_alloc_types.specs.Properties.{Properties}
-use Rattle.gpu_alloc.specs.FreeListAllocator.{account}
+use Rattle.gpu_alloc_freelist.specs.FreeListAllocator.{account}
 use Rattle.gpu_alloc.specs.Inside.{state_in, with_chunk_of_slot, span_of_slot, no_place}
-use Rattle.gpu_alloc.specs.ListSharing.{list_block}
+use Rattle.gpu_alloc.specs.FreeListSharing.{list_block}
 use Rattle.gpu_alloc.specs.Spans.{Table}
 use Rattle.gpu_alloc.specs.State.{State, HeldObject, Block, total}
 use Rattle.gpu_alloc.specs.declared.block.Kind.TheVariants.{FreeListChunk}
-use Rattle.gpu_alloc.specs.declared.freelist.block.Slot.{Slot}
-use Rattle.gpu_alloc.proofs.BuddyGrants.{when_ok}
+use Rattle.gpu_alloc_base.specs.declared.free_list_block.Slot.{Slot}
+use Rattle.gpu_alloc_base.proofs.Outcomes.{when_ok}
 use Rattle.gpu_alloc.proofs.Consistency.{heap_there}
-use Rattle.gpu_alloc.proofs.ListAnswers.{Given, slot_fits, slot_is_free, IsServed, list_objects_served, list_served, gives_wanted}
-use Rattle.gpu_alloc.proofs.ListGrants.{fits_list, counted_before, bounded_before, consistent_refused, state_refused}
-use Rattle.gpu_alloc.proofs.ListRefusals.{first_tries, refused_tries}
-use Rattle.gpu_alloc.proofs.ListServed.{list_agrees}
-use Rattle.gpu_alloc.proofs.ListServing.{ServesList, first_open}
+use Rattle.gpu_alloc.proofs.FreeLists.Answers.{Given, slot_fits, slot_is_free, IsServed, list_objects_served, list_served, gives_wanted}
+use Rattle.gpu_alloc.proofs.FreeLists.Grants.{fits_list, counted_before, bounded_before, consistent_refused, state_refused}
+use Rattle.gpu_alloc.proofs.FreeLists.Refusals.{first_tries, refused_tries}
+use Rattle.gpu_alloc.proofs.FreeLists.Served.{list_agrees}
+use Rattle.gpu_alloc.proofs.FreeLists.Serving.{ServesList, first_open}
 use Rattle.gpu_alloc.proofs.OwnObjects.{consistent-room}
-use Rattle.gpu_alloc.proofs.SharedRefusals.{nothing_made, nothing_granted}
+use Rattle.gpu_alloc.proofs.Buddies.Refusals.{nothing_made, nothing_granted}
 use Rattle.gpu_alloc.proofs.allocator.GpuAllocator.try_free_list.Given.{Over}
 use Rattle.gpu_alloc.proofs.HandedOn.{below, address_there}
 use Rattle.gpu_alloc.proofs.allocator.GpuAllocator.try_free_list.Goals as goal
-use Rattle.gpu_alloc.proofs.TypeLists.{serves_own}
+use Rattle.gpu_alloc.proofs.FreeLists.Types.{serves_own}
 
 -- Before anything is asked of the device.
 

@@ -10,12 +10,12 @@ use Rattle.gpu_alloc_types.specs.Properties.{Properties}
 use Rattle.gpu_alloc.specs.Agreement.{Agrees}
 use Rattle.gpu_alloc.specs.Allocation.{HasOneMore, ObjectsWith, whole_block, holding, asked}
 use Rattle.gpu_alloc.specs.Inside.{state_in, properties_in, whole_span, IsLiveIn, IsOfObject}
-use Rattle.gpu_alloc.specs.NewChunk.{flags_of}
+use Rattle.gpu_alloc_base.specs.NewChunk.{flags_of}
 use Rattle.gpu_alloc.specs.Spans.{Table, span_at}
 use Rattle.gpu_alloc.specs.State.{State, HeldObject, Span, Block, total}
-use Rattle.gpu_alloc.specs.BuddyState.{Buddy}
-use Rattle.gpu_alloc.specs.FreeListState.{Listing}
-use Rattle.gpu_alloc.specs.declared.heap.Heap.{Heap}
+use Rattle.gpu_alloc_buddy.specs.BuddyState.{Buddy}
+use Rattle.gpu_alloc_freelist.specs.FreeListState.{Listing}
+use Rattle.gpu_alloc_base.specs.declared.heap.Heap.{Heap}
 use Rattle.gpu_alloc.specs.declared.limits.Limits.{Limits}
 use Rattle.gpu_alloc.proofs.Agreeing.{agrees_granted, not_held}
 use Rattle.gpu_alloc.proofs.Consistency.{HoldsMore, heap_there, ledger-room}
@@ -23,7 +23,7 @@ use Rattle.gpu_alloc.proofs.Grants.{own_object, state_held, decides_granted, gra
 use Rattle.gpu_alloc.proofs.HeapLists.{properties_kept}
 use Rattle.gpu_alloc.proofs.OwnObjects.{consistent-room, consistent-held}
 use Rattle.gpu_alloc.proofs.allocator.GpuAllocator.try_object.Given.{Over}
-use Rattle.gpu_alloc.proofs.BuddyGrants.{when_ok}
+use Rattle.gpu_alloc_base.proofs.Outcomes.{when_ok}
 use Rattle.gpu_alloc.proofs.allocator.GpuAllocator.try_object.Goals as goal
 
 positive : (n : ℕ) → n ≢ 0 → 0 < n

@@ -3,11 +3,11 @@ use Rattle.gpu_alloc_types.specs.Device.{Event}
 use Rattle.gpu_alloc_types.specs.Flags.{usage_bits, has_bit}
 use Rattle.gpu_alloc_types.specs.Properties.{heap_size}
 use Rattle.gpu_alloc.specs.Allocation.{strategy, unhinted, is_small, fits_a_chunk, IsPassedBy, DecidesBy, TriesBy, Tries}
-use Rattle.gpu_alloc.specs.Sizes.{preferred_threshold, transient_threshold}
+use Rattle.gpu_alloc_base.specs.Sizes.{preferred_threshold, transient_threshold}
 use Rattle.gpu_alloc.specs.State.{State, Block}
 use Rattle.gpu_alloc.specs.declared.allocator.Strategy.{Strategy}
 use Rattle.gpu_alloc.specs.declared.allocator.Strategy.TheVariants.{OwnObject, InBuddyChunk, InFreeList}
-use Rattle.gpu_alloc.specs.declared.error.AllocationError.{AllocationError}
+use Rattle.gpu_alloc_base.specs.declared.error.AllocationError.{AllocationError}
 use Rattle.gpu_alloc.specs.declared.request.Dedicated.{Dedicated}
 use Rattle.gpu_alloc.specs.declared.request.Dedicated.TheVariants.{Required, Preferred}
 use Rattle.gpu_alloc.specs.declared.request.Request.{Request}

@@ -1,7 +1,7 @@
 use Rattle.std.proofs.Common.{◌≡◌, ◌/◌, sym, ◌∙◌}
 use Rattle.std.specs.Prelude.{min}
 use Rattle.gpu_alloc_types.specs.Properties.{heap_size}
-use Rattle.gpu_alloc.specs.Sizes.{transient_threshold}
+use Rattle.gpu_alloc_base.specs.Sizes.{transient_threshold}
 use Rattle.gpu_alloc.proofs.Strategies.{small_lasting, large_lasting, small_fitting, small_unfitting, large_transient}
 use Rattle.gpu_alloc.proofs.allocator.GpuAllocator.unhinted.Goals as goal
 use Rattle.gpu_alloc.proofs.allocator.GpuAllocator.unhinted.Goals.{else-request-min-via-then-request-min+else-fits_a_chunk, else-request-min-via-else-request-min}

@@ -3,11 +3,11 @@ use Rattle.std.proofs.lemmas.Bool.Decides.{nat_tests}
 use Rattle.std.proofs.lemmas.Option.{slice_get-get_or}
 use Rattle.std.specs.Int.{is_power_of_two}
 use Rattle.gpu_alloc_types.specs.Properties.{properties_of}
-use Rattle.gpu_alloc.specs.Sizes.{cut, down}
+use Rattle.gpu_alloc_base.specs.Sizes.{cut, down}
 use Rattle.gpu_alloc.proofs.Atoms.{atom_power, one_more}
 use Rattle.gpu_alloc.proofs.Opened.{first_listing_is}
 use Rattle.gpu_alloc.proofs.allocator.by_type.empty_free_list.Goals as goal
-use Rattle.gpu_alloc.proofs.FreeListSizes.{cut_whole, starting_fits}
+use Rattle.gpu_alloc_base.proofs.ChunkSizes.{cut_whole, starting_fits}
 
 -- an atom is no larger than the device's
 atom_below : (size atom : ℕ) (b : Bool) → size ≤ 2 ^ 62 → atom ≡ cond b size 1 → atom ≤ 2 ^ 62

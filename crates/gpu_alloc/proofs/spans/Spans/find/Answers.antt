@@ -1,6 +1,6 @@
 use Rattle.std.proofs.Common.{sym}
 use Rattle.gpu_alloc.specs.Spans.{span_at}
-use Rattle.gpu_alloc.proofs.Tables.{under_live, under_row, under_place, nowhere_dead, nowhere_placeless}
+use Rattle.gpu_alloc.proofs.Tables.Rows.{under_live, under_row, under_place, nowhere_dead, nowhere_placeless}
 use Rattle.gpu_alloc.proofs.spans.Spans.find.Goals as goal
 
 pub returns-in-Some-clause-live : goal.returns-in-Some-clause-live

@@ -1,6 +1,6 @@
 use Rattle.std.proofs.Common.{◌∙◌, sym, ap, option_map}
 use Rattle.gpu_alloc.specs.Spans.{held_of}
-use Rattle.gpu_alloc.proofs.HeldObjects.{objects_get}
+use Rattle.gpu_alloc.proofs.Tables.HeldObjects.{objects_get}
 use Rattle.gpu_alloc.proofs.spans.Spans.held.Goals as goal
 
 pub returns : goal.returns

@@ -1,5 +1,5 @@
 use Rattle.std.proofs.Common.{◌∙◌, sym}
-use Rattle.gpu_alloc.proofs.HeldObjects.{objects_len}
+use Rattle.gpu_alloc.proofs.Tables.HeldObjects.{objects_len}
 use Rattle.gpu_alloc.proofs.spans.Spans.len.Goals as goal
 
 pub returns : goal.returns

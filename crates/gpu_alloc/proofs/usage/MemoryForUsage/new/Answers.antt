@@ -3,7 +3,7 @@ use Rattle.std.proofs.lemmas.Bool.{cases_eq}
 use Rattle.std.proofs.lemmas.List.{get_or-set_same, get_or-set_other, map-set, length-map, length-set}
 use Rattle.gpu_alloc.specs.Ranking.{named, ranking}
 use Rattle.gpu_alloc.specs.Ranked.{ranked_types}
-use Rattle.gpu_alloc.proofs.Candidates.{named-below}
+use Rattle.gpu_alloc.proofs.Ranking.Candidates.{named-below}
 use Rattle.gpu_alloc.proofs.usage.MemoryForUsage.new.Goals as goal
 
 -- with row n set as wanted, one row more is as wanted

@@ -1,7 +1,7 @@
 use Rattle.std.proofs.Common.{[], None, refl, sym, ◌∙◌, inl, inr}
 use Rattle.gpu_session.proofs.Conditions.{unnamed, in_use, without_fault, faultless_is_askable}
 use Rattle.gpu_session.proofs.Grants.{from_allocates, grant_is_kept}
-use Rattle.gpu_session.proofs.Names.{put_by_name}
+use Rattle.gpu_alloc_base.proofs.Names.{put_by_name}
 use Rattle.gpu_session.proofs.session.Session.dedicated.Goals as goal
 
 pub returns-then-contains_key-clause-step : goal.returns-then-contains_key-clause-step

@@ -7,7 +7,7 @@ use Rattle.gpu_alloc_types.specs.Device.{Chain}
 use Rattle.gpu_alloc_types.specs.Device.Event.{Deallocated}
 use Rattle.gpu_session.specs.Sound.{IsBlock}
 use Rattle.gpu_session.proofs.Finished.{none_returned, one_more, nothing_held, all_returned, all_absent}
-use Rattle.gpu_session.proofs.Names.{here, get_last, removed_by_name, none_to_take}
+use Rattle.gpu_alloc_base.proofs.Names.{here, get_last, removed_by_name, none_to_take}
 use Rattle.gpu_session.proofs.Returns.{Returns, from_frees, return_is_sound, return_is_whole, return_holds_whole, properties_kept, from_objects}
 use Rattle.gpu_session.proofs.session.Session.finish.Goals as goal
 

@@ -4,7 +4,7 @@ use Rattle.std.specs.FinMap as map
 use Rattle.gpu_alloc.specs.declared.block.Kind.TheVariants.{Dedicated}
 use Rattle.gpu_session.specs.Faults.{fault_of_block}
 use Rattle.gpu_session.specs.Sound.{IsBlock}
-use Rattle.gpu_session.proofs.Names.{here, get_entries, removed_by_name}
+use Rattle.gpu_alloc_base.proofs.Names.{here, get_entries, removed_by_name}
 use Rattle.gpu_session.proofs.Returns.{from_frees, return_is_kept, from_objects}
 use Rattle.gpu_session.proofs.session.Session.free.Goals as goal
 

@@ -3,7 +3,7 @@ use Rattle.std.proofs.lemmas.Grind.{common_steps}
 use Rattle.std.proofs.lemmas.List.{append_assoc}
 use Rattle.gpu_alloc_types.specs.Flags.{usage_bits}
 use Rattle.gpu_alloc.specs.KeyByKey.{of_key}
-use Rattle.gpu_alloc.proofs.RankingSteps.{of_key-more, of_key-room}
+use Rattle.gpu_alloc.proofs.Ranking.Steps.{of_key-more, of_key-room}
 use Rattle.gpu_alloc.proofs.usage.ranked.MemoryForOneUsage.add_key.Goals as goal
 
 pub loop-index-init : goal.loop-index-init

@@ -2,7 +2,7 @@ use Rattle.std.proofs.Common.{◌≡◌, ◌+◌, ◌*◌, ◌^◌, ◌%◌, ◌
 use Rattle.std.proofs.lemmas.Grind.{common_steps}
 use Rattle.std.proofs.lemmas.List.{take_more_set}
 use Rattle.gpu_alloc.specs.Masks.{with_bits}
-use Rattle.gpu_alloc.proofs.Masks.{with_bits-more, shifted_one}
+use Rattle.gpu_alloc.proofs.Ranking.Masks.{with_bits-more, shifted_one}
 use Rattle.gpu_alloc.proofs.usage.ranked.MemoryForOneUsage.add_where.Goals as goal
 
 pub invariant_of-self : goal.invariant_of-self

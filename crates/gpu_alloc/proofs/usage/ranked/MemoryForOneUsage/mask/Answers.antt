@@ -1,6 +1,6 @@
 use Rattle.std.proofs.Common.{sym, subst, take}
 use Rattle.gpu_alloc.specs.Ranking.{IsMaskOf}
-use Rattle.gpu_alloc.proofs.Masks.{with_bits_IsMaskOf}
+use Rattle.gpu_alloc.proofs.Ranking.Masks.{with_bits_IsMaskOf}
 use Rattle.gpu_alloc.proofs.usage.ranked.MemoryForOneUsage.mask.Goals as goal
 
 pub returns : goal.returns

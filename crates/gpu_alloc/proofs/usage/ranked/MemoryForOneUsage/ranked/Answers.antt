@@ -2,8 +2,8 @@ use Rattle.std.proofs.Common.{◌+◌, ◌≡◌, ◌∙◌, refl, rules, arith}
 use Rattle.std.proofs.lemmas.Grind.{common_steps}
 use Rattle.gpu_alloc_types.specs.Flags.{usage_bits}
 use Rattle.gpu_alloc.specs.KeyByKey.{below_key}
-use Rattle.gpu_alloc.proofs.RankingOrder.{ranking-from_keys}
-use Rattle.gpu_alloc.proofs.RankingSteps.{length-below_key-le, below_key-more}
+use Rattle.gpu_alloc.proofs.Ranking.Order.{ranking-from_keys}
+use Rattle.gpu_alloc.proofs.Ranking.Steps.{length-below_key-le, below_key-more}
 use Rattle.gpu_alloc.proofs.usage.ranked.MemoryForOneUsage.ranked.Goals as goal
 
 pub loop-key-init : goal.loop-key-init

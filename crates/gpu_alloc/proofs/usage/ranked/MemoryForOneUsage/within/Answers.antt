@@ -3,8 +3,8 @@ use Rattle.std.proofs.lemmas.Grind.{common_steps}
 use Rattle.std.proofs.lemmas.List.Elements.{filter_more}
 use Rattle.std.proofs.lemmas.Nat.Bits.{shr_and_one}
 use Rattle.gpu_alloc.specs.Ranking.{is_allowed}
-use Rattle.gpu_alloc.proofs.Rising.{length-filter-le}
-use Rattle.gpu_alloc.proofs.Masks.{below_32}
+use Rattle.gpu_alloc.proofs.Ranking.Rising.{length-filter-le}
+use Rattle.gpu_alloc.proofs.Ranking.Masks.{below_32}
 use Rattle.gpu_alloc.proofs.usage.ranked.MemoryForOneUsage.within.Goals as goal
 
 pub overflow_shr-mask : goal.overflow_shr-mask

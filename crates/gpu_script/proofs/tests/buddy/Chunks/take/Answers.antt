@@ -1,5 +1,5 @@
 use Rattle.std.proofs.Common.{refl, arith}
-use Rattle.gpu_alloc.specs.Buddy.{wanted}
+use Rattle.gpu_alloc.specs.Wanted.{wanted}
 use Rattle.gpu_alloc_types.specs.Flags.{allocation_bits}
 use Rattle.gpu_script.proofs.LiveLeaves.{was_not_live, live_after_grant}
 use Rattle.gpu_script.proofs.tests.buddy.Chunks.take.Goals as goal

@@ -1,7 +1,7 @@
 use Rattle.std.proofs.Common.{refl, arith}
 use Rattle.std.specs.FinMap as map
 use Rattle.std.specs.Ordering.{nat_cmp}
-use Rattle.gpu_alloc.specs.BuddyState.{Chunk}
+use Rattle.gpu_alloc.specs.Chunks.{Chunk}
 use Rattle.gpu_script.proofs.EmptyMaps.{nothing_added}
 use Rattle.gpu_script.proofs.tests.freelist.Chunks.new.Goals as goal
 

@@ -1,0 +1,10 @@
+-- Each memory type's buddy allocator, as the whole allocator's state tells of it.
+pub mod Answers
+pub mod Grants
+pub mod HasBuddies
+pub mod Links
+pub mod Refusals
+pub mod Returns
+pub mod Served
+pub mod Serving
+pub mod States

@@ -1,0 +1,254 @@
+-- The blocks of a memory type's buddy allocator in the whole allocator's state, and on the device.
+use Rattle.std.proofs.Common.{◌≡◌, ◌≢◌, ◌⊎◌, inl, inr, ℕ, ◌+◌, ◌%◌, ◌<◌, ◌≤◌, ◌^◌, cond, List, length, get_or, Option, Some, None, Ok, IfSome, IsTrue, refl, sym, ◌∙◌, ap, subst, arith}
+use Rattle.std.proofs.lemmas.Bool.{cases_eq, cases_lt}
+use Rattle.std.proofs.lemmas.Nat.{pow_pos}
+use Rattle.std.specs.Prelude.{MatchOption, sum_by}
+use Rattle.std.specs.FinMap as map
+use Rattle.std.specs.FinSet as set
+use Rattle.gpu_alloc_types.specs.Device.{Object, HeldWith}
+use Rattle.gpu_alloc_types.specs.Flags.{has_bit}
+use Rattle.gpu_alloc_types.specs.Properties.{Properties, heap_at, props_at, is_host_visible}
+use Rattle.gpu_alloc.specs.Agreement as agreement
+use Rattle.gpu_alloc.specs.Allocation.{ObjectsWith, IsGranted}
+use Rattle.gpu_alloc_buddy.specs.Buddy.{account, IsFront, BeginsChunk, IsUnusedChunk, without_leaf, ObjectsAfter, sees_chunks, chunk_bytes}
+use Rattle.gpu_alloc_base.specs.Wanted.{wanted}
+use Rattle.gpu_alloc_buddy.specs.Buddy as buddy
+use Rattle.gpu_alloc_base.specs.Chunks as chunks
+use Rattle.gpu_alloc_buddy.specs.BuddyState.{Buddy, IsLiveLeaf}
+use Rattle.gpu_alloc_base.specs.Chunks.{Chunk}
+use Rattle.gpu_alloc_base.specs.FreeSpace.{IsIn}
+use Rattle.gpu_alloc.specs.Inside.{IsOfObject, IsChunkOf, IsBooked, chunk_object, span_of_leaf, place_of_leaf, leaf_at}
+use Rattle.gpu_alloc_base.specs.NewChunk.{flags_of, HasOneChunkMore}
+use Rattle.gpu_alloc.specs.Release.{IsUnused, without_span}
+use Rattle.gpu_alloc.specs.BuddySharing.{buddy_question, buddy_block, with_span, with_buddy_chunk}
+use Rattle.gpu_alloc.specs.Spans.{Place}
+use Rattle.gpu_alloc.specs.State.{HeldObject, Span, span_cmp, span_of, Block, State, IsLive, IsOwned, AreApart, share}
+use Rattle.gpu_alloc.specs.declared.block.Kind.TheVariants.{BuddyChunk}
+use Rattle.gpu_alloc_base.specs.declared.buddy_block.Leaf.{Leaf}
+use Rattle.gpu_alloc_base.specs.declared.heap.Heap.{Heap}
+use Rattle.gpu_alloc.specs.declared.request.Request.{Request}
+use Rattle.gpu_alloc.proofs.Agreeing.{not_held, there_kept, agrees_more}
+use Rattle.gpu_alloc_base.proofs.Leaves.{leaf_removed}
+use Rattle.gpu_alloc.proofs.Ledgers.{sum_by-small}
+use Rattle.gpu_alloc_base.proofs.Sums.{sum_by-within, len-within}
+use Rattle.gpu_alloc_base.proofs.Maps.{eq-true, one_value}
+use Rattle.gpu_alloc.proofs.Tables.LiveSpans.{live_before, live_kept, live_other}
+use Rattle.gpu_alloc.proofs.Buddies.Serving.{table_of, Serves, question_is}
+use Rattle.gpu_alloc.proofs.HeapLists.{ledger_at}
+
+-- two ranges with no byte in both are apart
+pub ranges_apart : (a m b n : ℕ) → 0 < m → 0 < n → ((at : ℕ) → IsIn a m at → IsIn b n at → ⊥) → (a + m ≤ b) ⊎ (b + n ≤ a)
+ranges_apart a m b n some also clash = elim (cases_lt a (b + n)) [
+  | inl before ↦ elim (cases_lt b (a + m)) [
+    | inl after ↦ elim (cases_lt a b) [
+      | inl later ↦ absurd (clash b (record { from = omega (arith, later); to = after }) (record { from = omega arith; to = omega (arith, also) }))
+      | inr earlier ↦ absurd (clash a (record { from = omega arith; to = omega (arith, some) }) (record { from = earlier; to = before }))
+    ]
+    | inr past ↦ inl past
+  ]
+  | inr past ↦ inr past
+]
+
+module _ (s : State) (places : map.FinMap span_cmp Place) (room index : ℕ) (b : Buddy) (serves : Serves s places room index b) where
+  -- What both tell.
+
+  -- a chunk's object is held as one
+  chunk_held : (key : ℕ) (c : Chunk) → map.get b.chunks key ≡ Some c → IsChunkOf (table_of s places room) b.memory_type c.object (chunk_object b c)
+  chunk_held key c is = record { held = serves.of.linked.chunks key c is; of_kind = refl; of_type = refl }
+
+  -- a live span of a chunk's object is a live block of the chunk
+  span_is_leaf : (key : ℕ) (c : Chunk) (span : Span) → map.get b.chunks key ≡ Some c → span.object ≡ c.object → IsLive s span
+      → (leaf : Leaf) × (span_of_leaf leaf ≡ span) × IsLiveLeaf b leaf × (leaf.chunk ≡ key)
+  span_is_leaf key c span is named live =
+      let held = subst (λ o. IsChunkOf (table_of s places room) b.memory_type o (chunk_object b c)) (sym named) (chunk_held key c is) in
+      let l = serves.of.linked.spans span (chunk_object b c) live held in
+      let lies = serves.of.sound.inside (leaf_at span l.0) l.1.1 in
+      (leaf_at span l.0, refl, l.1.1, serves.of.sound.one_object l.0.chunk key lies.chunk c lies.held is (sym lies.object ∙ named))
+
+  -- live blocks of the same span are one
+  one_place : (x y : Leaf) → IsLiveLeaf b x → IsLiveLeaf b y → span_of_leaf x ≡ span_of_leaf y → x ≡ y
+  one_place x y live also same =
+      let at = ap (λ (span : Span). map.get places span) same in
+      let place : place_of_leaf x ≡ place_of_leaf y = one_value _ _ _ (serves.of.linked.leaves x live).1 (at ∙ (serves.of.linked.leaves y also).1) in
+      λ i. leaf_at (same i) (place i)
+
+  -- Returns.
+
+  -- a chunk is left unused exactly where its object is
+  pub unused_is : (leaf : Leaf) (block : Block) → IsLiveLeaf b leaf → span_of block ≡ span_of_leaf leaf → IsUnusedChunk (without_leaf b leaf) leaf.chunk → IsUnused (without_span s block) leaf.object
+  unused_is leaf block live is unused span still named =
+      let was = live_other s.live (span_of block) span still in
+      let lies = serves.of.sound.inside leaf live in
+      let of = span_is_leaf leaf.chunk lies.chunk span lies.held (named ∙ lies.object) was.1 in
+      let other : of.0 ≡ leaf → ⊥ = λ same. was.0 (sym of.1 ∙ ap span_of_leaf same ∙ sym is) in
+      unused of.0 ((leaf_removed b.live leaf of.0).1 (other, of.2)) of.3
+
+  pub unused_was : (leaf : Leaf) (block : Block) → IsLiveLeaf b leaf → span_of block ≡ span_of_leaf leaf → IsUnused (without_span s block) leaf.object → IsUnusedChunk (without_leaf b leaf) leaf.chunk
+  unused_was leaf block live is unused other still named =
+      let was = (leaf_removed b.live leaf other).0 still in
+      let of = serves.of.linked.leaves other was.1 in
+      let lies = serves.of.sound.inside other was.1 in
+      let own = serves.of.sound.inside leaf live in
+      let chunk : lies.chunk ≡ own.chunk = one_value _ lies.chunk own.chunk lies.held (ap (λ k. map.get b.chunks k) named ∙ own.held) in
+      unused (span_of_leaf other) (live_kept s.live (span_of block) (span_of_leaf other) (λ same. was.0 (one_place other leaf was.1 live (same ∙ is))) of.0)
+      (lies.object ∙ ap (λ (c : Chunk). c.object) chunk ∙ sym own.object)
+
+  -- Blocks.
+
+  -- the front of a free piece is apart from each live span of its object
+  front_apart : (leaf : Leaf) (span : Span) → 0 < leaf.size → IsFront b leaf.size leaf → span.object ≡ leaf.object → IsLive s span
+      → (span.offset + span.size ≤ leaf.offset) ⊎ (leaf.offset + leaf.size ≤ span.offset)
+  front_apart leaf span nonempty front same live =
+      let of = span_is_leaf leaf.chunk front.chunk span front.held (same ∙ front.object) live in
+      let power = (serves.of.sound.inside of.0 of.2).power in
+      let size : of.0.size ≡ span.size = ap (λ (x : Span). x.size) of.1 in
+      let offset : of.0.offset ≡ span.offset = ap (λ (x : Span). x.offset) of.1 in
+      let some : 0 < span.size = omega (arith, size, power.1, pow_pos power.0) in
+      ranges_apart span.offset span.size leaf.offset leaf.size some nonempty
+      (λ at also inside. (front.piece.place.free at (record { from = inside.from; to = omega (arith, inside.to, front.enough) })).unused of.0 of.2 of.3
+      (record { from = omega (arith, offset, also.from); to = omega (arith, offset, size, also.to) }))
+
+  -- bytes of live blocks of the same object that are not shared are spans that are apart
+  pub apart_is : (leaf : Leaf) → ((span : Span) → IsLive s span → IsOfObject (table_of s places room) span) → 0 < leaf.size
+      → (BeginsChunk b leaf.size leaf × (map.get s.held leaf.object ≡ None)) ⊎ IsFront b leaf.size leaf
+      → (span : Span) → IsLive s span → AreApart span (span_of_leaf leaf)
+  apart_is leaf spans nonempty comes span live = elim (cases_eq span.object leaf.object) [
+    | inl same ↦ elim (comes) [
+      | inl new ↦
+          let of = spans span live in
+          let none : map.get s.held span.object ≡ None = ap (λ n. map.get s.held n) same ∙ new.1 in
+          let some : map.get s.held span.object ≡ Some of.object = of.held in
+          absurd (cc)
+      | inr front ↦ inr (front_apart leaf span nonempty front same live)
+    ]
+    | inr other ↦ inl other
+  ]
+
+  -- The device.
+
+  -- the spans of another object are no more than before
+  older_but : (live : set.FinSet span_cmp) (leaf : Leaf) (name : ℕ) → name ≢ leaf.object → (span : Span) → IsTrue (set.contains (set.insert live (span_of_leaf leaf)) span) → span.object ≡ name
+      → IsTrue (set.contains live span)
+  older_but live leaf name other span now named = elim (live_before live (span_of_leaf leaf) span now) [
+    | inl new ↦ absurd (other (sym named ∙ ap (λ (x : Span). x.object) new))
+    | inr was ↦ was
+  ]
+
+  pub buddy_agrees : (p : Properties) (objects : ℕ → Option Object) → index < length s.properties.memory_types → agreement.Agrees s p objects → buddy.Agrees b p objects
+  buddy_agrees p objects known agrees = record {
+    known = subst (λ t. t < length p.memory_types) (sym serves.of.for_type.memory_type) is_known;
+    props = ap (λ (q : Properties). props_at q b.memory_type) agrees.properties ∙ at_type;
+    holds = λ key. held key (map.get b.chunks key) refl;
+  }
+    where
+      is_known : index < length p.memory_types
+      is_known = subst (λ (q : Properties). index < length q.memory_types) (sym agrees.properties) known
+
+      at_type : props_at s.properties b.memory_type ≡ b.props
+      at_type = ap (props_at s.properties) serves.of.for_type.memory_type ∙ sym serves.of.for_type.props
+
+      held : (key : ℕ) (v : Option Chunk) → map.get b.chunks key ≡ v → IfSome v (λ chunk. HeldWith objects chunk.object (chunks.IsThere b.memory_type (sees_chunks b) chunk))
+      held key None none = tt
+      held key (Some c) is =
+          let h = subst (λ (v : Option HeldObject). IfSome v (λ h. HeldWith objects c.object (agreement.IsThere s c.object h))) (serves.of.linked.chunks key c is) (agrees.holds c.object) in (
+            h.0,
+            h.1,
+            record {
+              of_type = h.2.of_type;
+              of_size = h.2.of_size.0;
+              mapped = λ visible. h.2.of_size.1 (ap (is_host_visible s.properties) h.2.of_type ∙ ap (λ bits. has_bit bits 2) at_type ∙ visible);
+            },
+          )
+
+  pub objects_are : (p : Properties) (old new : ℕ → Option Object) (size : ℕ) (leaf : Leaf) (block : Block) → agreement.Agrees s p old → block ≡ buddy_block s index (span_of_leaf leaf)
+      → ObjectsAfter b size (flags_of s.properties) (Ok leaf) old new → ObjectsWith BuddyChunk s block old new
+  objects_are p old new size leaf block agrees is after = subst (λ x. ObjectsWith BuddyChunk s x old new) (sym is) (elim (after) [
+    | inl begins ↦
+        let more = subst (λ q. HasOneChunkMore q leaf.object old new) (question_is s places room index b serves size) begins.1 in
+        subst (λ (v : Option HeldObject). MatchOption v (HasOneChunkMore (buddy_question s index leaf.size) leaf.object old new) (λ _. new ≡ old)) (sym (not_held s p old leaf.object agrees begins.1.0))
+        (subst (λ n. HasOneChunkMore (buddy_question s index n) leaf.object old new) (sym begins.0.of_size) more)
+    | inr front ↦
+        let held : map.get s.held leaf.object ≡ Some (chunk_object b front.0.chunk) = ap (λ n. map.get s.held n) front.0.object ∙ serves.of.linked.chunks leaf.chunk front.0.chunk front.0.held in
+        subst (λ (v : Option HeldObject). MatchOption v (HasOneChunkMore (buddy_question s index leaf.size) leaf.object old new) (λ _. new ≡ old)) (sym held) front.1
+  ])
+
+  -- after a block more
+  pub agrees_with_span : (p : Properties) (objects : ℕ → Option Object) (leaf : Leaf) (chunk : Chunk) → map.get b.chunks leaf.chunk ≡ Some chunk → leaf.object ≡ chunk.object
+      → agreement.Agrees s p objects → agreement.Agrees (with_span s (span_of_leaf leaf)) p objects
+  agrees_with_span p objects leaf chunk is object agrees = record {
+    properties = agrees.properties;
+    holds = λ name. held name (map.get s.held name) refl (agrees.holds name);
+  }
+    where
+      there : (name : ℕ) (h : HeldObject) (o : Object) → map.get s.held name ≡ Some h → agreement.IsThere s name h o → agreement.IsThere (with_span s (span_of_leaf leaf)) name h o
+      there name h o is_held was = elim (cases_eq name leaf.object) [
+        | inl here ↦
+            let same : h ≡ chunk_object b chunk = one_value _ h _ is_held (ap (λ n. map.get s.held n) (here ∙ object) ∙ serves.of.linked.chunks leaf.chunk chunk is) in
+            subst (λ x. agreement.IsThere s name x o → agreement.IsThere (with_span s (span_of_leaf leaf)) name x o) (sym same) (λ t. record { of_type = t.of_type; of_size = t.of_size }) was
+        | inr other ↦ there_kept s (with_span s (span_of_leaf leaf)) name h o refl (older_but s.live leaf name other) was
+      ]
+
+      held : (name : ℕ) (v : Option HeldObject) → map.get s.held name ≡ v → IfSome v (λ h. HeldWith objects name (agreement.IsThere s name h))
+          → IfSome v (λ h. HeldWith objects name (agreement.IsThere (with_span s (span_of_leaf leaf)) name h))
+      held name None none was = tt
+      held name (Some h) is_held was = (was.0, was.1, there name h was.0 is_held was.2)
+
+  -- after a chunk more with a block in it
+  pub agrees_with_chunk : (p : Properties) (old new : ℕ → Option Object) (size : ℕ) (leaf : Leaf) → agreement.Agrees s p old
+      → HasOneChunkMore (buddy_question s index size) leaf.object old new
+      → agreement.Agrees (with_span (with_buddy_chunk s index leaf.object (buddy_question s index size).size) (span_of_leaf leaf)) p new
+  agrees_with_chunk p old new size leaf agrees more =
+      let now : State = with_span (with_buddy_chunk s index leaf.object (buddy_question s index size).size) (span_of_leaf leaf) in
+      let h : HeldObject = record { memory_type = index; counted = (buddy_question s index size).size; kind = BuddyChunk } in
+      let made = more.1.1 in
+      subst (λ f. agreement.Agrees now p f) (sym more.1.2)
+      (agrees_more s now p old leaf.object h more.1.0 agrees refl refl (older_but s.live leaf)
+      (record {
+        of_type = made.of_type;
+        of_size = (
+          made.of_size,
+          λ visible. made.mapped ∙ ap (λ v. cond v (Some (0, (buddy_question s index size).size)) None) (sym (ap (is_host_visible s.properties) made.of_type) ∙ visible) ∙ ap (λ n. Some (0, n)) (sym made.of_size),
+        );
+      }))
+
+  -- The ledger and the count.
+
+  pub buddy_counted : (heaps : List Heap) (i : ℕ) (heap : Heap) → IsBooked s.properties heaps (table_of s places room) s.remaining → i ≡ heap_at s.properties index → i < length heaps → heap ≡ get_or heaps i heap
+      → buddy.IsCounted (account b heap s.remaining)
+  buddy_counted heaps i heap booked here inside at = record {
+    chunks = subst (λ n. chunk_bytes b ≤ n) (sym (ledger_at s.properties heaps i heap (map.entries s.held) booked.ledgers inside at)) bytes;
+    objects = omega (arith, booked.count, count);
+  }
+    where
+      share_is : (c : Chunk) → c.size ≤ share s.properties i (c.object, chunk_object b c)
+      share_is c =
+          let at_heap : heap_at s.properties b.memory_type ≡ i = ap (heap_at s.properties) serves.of.for_type.memory_type ∙ sym here in
+          rw (eq-true (heap_at s.properties b.memory_type) i at_heap) (omega arith)
+
+      bytes : chunk_bytes b ≤ sum_by (share s.properties i) (map.entries s.held)
+      bytes = sum_by-within (λ (c : Chunk). c.object) (λ (e : ℕ × Chunk). e.1.size) (share s.properties i) b.chunks s.held
+          (λ k c is. (chunk_object b c, serves.of.linked.chunks k c is, share_is c)) serves.of.sound.one_object
+
+      count : map.len b.chunks ≤ map.len s.held
+      count = len-within (λ (c : Chunk). c.object) b.chunks s.held (λ k c is. (chunk_object b c, serves.of.linked.chunks k c is)) serves.of.sound.one_object
+
+  pub ledger_bounded : (heaps : List Heap) (i : ℕ) (heap : Heap) → IsBooked s.properties heaps (table_of s places room) s.remaining → i < length heaps → heap ≡ get_or heaps i heap → heap.used ≤ 2 ^ 127
+  ledger_bounded heaps i heap booked inside at =
+      omega (arith, ledger_at s.properties heaps i heap (map.entries s.held) booked.ledgers inside at, sum_by-small s.properties i (map.entries s.held) booked.small, map.len-entries s.held, booked.count)
+
+  -- What is told of a granted block.
+
+  -- the held object of the block's chunk counts the chunk's size
+  pub granted_is : (r : Request) (flags : ℕ) (after : Buddy) (new : State) (leaf : Leaf) (chunk : Chunk) (h : HeldObject) → buddy.IsGranted b (wanted r.size r.align_mask flags) after leaf
+      → map.get after.chunks leaf.chunk ≡ Some chunk → map.get new.held leaf.object ≡ Some h → h.counted ≡ chunk.size
+      → IsOwned new (buddy_block s index (span_of_leaf leaf)) → ((span : Span) → IsLive s span → AreApart span (span_of_leaf leaf)) → IsGranted s r new (buddy_block s index (span_of_leaf leaf))
+  granted_is r flags after new leaf chunk h granted chunk_is held counted owned apart = record {
+    enough = granted.enough;
+    aligned = granted.aligned;
+    whole_atoms = λ _. subst (λ atom. (leaf.offset % atom ≡ 0) × (leaf.size % atom ≡ 0)) serves.of.for_type.atom granted.whole_atoms;
+    buddy = λ _. (granted.power, granted.front);
+    inside = (h, held, omega (arith, granted.inside.2.1, ap (λ (c : Chunk). c.size) (one_value _ granted.inside.0 chunk granted.inside.1 chunk_is), counted));
+    unmapped = refl;
+    owned = owned;
+    was_free = apart;
+  }

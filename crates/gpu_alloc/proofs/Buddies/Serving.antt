@@ -1,0 +1,186 @@
+-- A memory type's buddy allocator in the whole allocator's state: both tell the same of chunks, free bytes and blocks.
+use Rattle.std.proofs.Common.{◌≡◌, ◌≢◌, inl, inr, ℕ, ◌*◌, ◌^◌, ◌<◌, List, [], Some, None, Err, slice_get, refl, sym, ◌∙◌, ap, subst, arith}
+use Rattle.std.proofs.lemmas.Nat.{pow_pos}
+use Rattle.std.specs.Prelude.{max}
+use Rattle.std.specs.FinMap as map
+use Rattle.gpu_alloc_types.specs.Device.{Event}
+use Rattle.gpu_alloc_types.specs.Flags.{has_bit}
+use Rattle.gpu_alloc_types.specs.Properties.{props_at}
+use Rattle.gpu_alloc_buddy.specs.Buddy.{Account, account, rounded, question, Fits, HasPlace, IsFront, AsksForChunk, Answers, RefusesFirst}
+use Rattle.gpu_alloc_base.specs.Wanted.{wanted}
+use Rattle.gpu_alloc_buddy.specs.BuddyState.{Buddy, IsFreeAt}
+use Rattle.gpu_alloc_base.specs.Chunks.{Chunk}
+use Rattle.gpu_alloc_base.specs.FreeSpace.{IsPlace, IsFreePiece}
+use Rattle.gpu_alloc.specs.FreeBytes.{IsFreeByte}
+use Rattle.gpu_alloc.specs.Inside.{IsBuddyOf, chunk_object, span_of_leaf, leaf_at}
+use Rattle.gpu_alloc_base.specs.NewChunk.{flags_of, LacksDeviceMemory, LacksHostMemory, IsGivenBack}
+use Rattle.gpu_alloc.specs.BuddySharing.{buddy_size, buddy_question, next_chunk_of, HasBuddyPlace, IsPieceFront, AsksForBuddyChunk, IsPassedByBuddy, DecidesInBuddyChunk}
+use Rattle.gpu_alloc.specs.Spans.{Place, Table}
+use Rattle.gpu_alloc.specs.State.{HeldObject, span_cmp, State}
+use Rattle.gpu_alloc.specs.declared.block.Kind.TheVariants.{BuddyChunk}
+use Rattle.gpu_alloc_base.specs.declared.buddy_block.Leaf.{Leaf}
+use Rattle.gpu_alloc_base.specs.declared.error.AllocationError.{AllocationError}
+use Rattle.gpu_alloc_base.specs.declared.error.AllocationError.TheVariants.{OutOfDeviceMemory, OutOfHostMemory, NoCompatibleMemoryTypes, TooManyObjects}
+use Rattle.gpu_alloc_base.specs.declared.heap.Heap.{Heap}
+use Rattle.gpu_alloc.specs.declared.request.Request.{Request}
+
+-- a state's table, with the places of blocks
+abbrev pub table_of : State → map.FinMap span_cmp Place → ℕ → Table
+table_of s places room = record { held = s.held; live = s.live; places = places; room = room }
+
+-- the memory type's buddy allocator, whose next chunk is as the state tells
+pub record Serves (s : State) (places : map.FinMap span_cmp Place) (room index : ℕ) (b : Buddy) : Type 0 where
+  pub of : IsBuddyOf s.config s.properties (table_of s places room) index b
+  pub next : next_chunk_of (slice_get s.types index) ≡ b.next_chunk
+
+-- Two ways to tell of free bytes that tell the same of one object, whatever name each has for it.
+
+module _ (F G : ℕ → ℕ → Type 0) (x y : ℕ) (to : (at : ℕ) → F x at → G y at) where
+  place_to : (start length : ℕ) → IsPlace F x start length → IsPlace G y start length
+  place_to start length place = record { power = place.power; aligned = place.aligned; free = λ at i. to at (place.free at i) }
+
+module _ (F G : ℕ → ℕ → Type 0) (x y : ℕ) (to : (at : ℕ) → F x at → G y at) (from : (at : ℕ) → G y at → F x at) where
+  piece_to : (start length : ℕ) → IsFreePiece F x start length → IsFreePiece G y start length
+  piece_to start length piece = record {
+    place = place_to F G x y to start length piece.place;
+    longest = λ start' length' place before after. piece.longest start' length' (place_to G F y x from start' length' place) before after;
+  }
+
+-- a place has a first byte
+first_byte : (F : ℕ → ℕ → Type 0) (x start length : ℕ) → IsPlace F x start length → F x start
+first_byte F x start length place =
+    let some : 0 < 2 ^ place.power.0 = pow_pos place.power.0 in
+    place.free start (record { from = omega arith; to = omega (arith, some, place.power.1) })
+
+module _ (s : State) (places : map.FinMap span_cmp Place) (room index : ℕ) (b : Buddy) (serves : Serves s places room index b) where
+  -- Bytes and pieces.
+
+  pub free_byte : (key at : ℕ) (chunk : Chunk) → map.get b.chunks key ≡ Some chunk → IsFreeAt b key at → IsFreeByte s index BuddyChunk chunk.object at
+  free_byte key at chunk is free =
+      let linked = serves.of.linked in
+      let sound = serves.of.sound in
+      let h : HeldObject = chunk_object b chunk in
+      let held : map.get s.held chunk.object ≡ Some h = linked.chunks key chunk is in
+      let same : free.held ≡ chunk = (let is_free = free.is in cc) in
+      record {
+        chunk = h;
+        held = held;
+        of_type = serves.of.for_type.memory_type;
+        of_kind = refl;
+        inside = omega (arith, free.inside, ap (λ (c : Chunk). c.size) same);
+        unused = λ span live of_it i.
+            let there = linked.spans span h live (record { held = subst (λ n. map.get s.held n ≡ Some h) (sym of_it) held; of_kind = refl; of_type = refl }) in
+            let leaf : Leaf = leaf_at span there.0 in
+            let lies = sound.inside leaf there.1.1 in
+            free.unused leaf there.1.1 (sound.one_object leaf.chunk key lies.chunk chunk lies.held is (sym lies.object ∙ of_it)) i;
+      }
+
+  pub free_at : (key at : ℕ) (chunk : Chunk) → map.get b.chunks key ≡ Some chunk → IsFreeByte s index BuddyChunk chunk.object at → IsFreeAt b key at
+  free_at key at chunk is free =
+      let linked = serves.of.linked in
+      let held : map.get s.held chunk.object ≡ Some (chunk_object b chunk) = linked.chunks key chunk is in
+      let same : free.chunk ≡ chunk_object b chunk = (let is_free = free.held in cc) in
+      record {
+        held = chunk;
+        is = is;
+        inside = omega (arith, free.inside, ap (λ (h : HeldObject). h.counted) same);
+        unused = λ leaf live in_chunk i.
+            let lies = serves.of.sound.inside leaf live in
+            let there : map.get b.chunks key ≡ Some lies.chunk = subst (λ k. map.get b.chunks k ≡ Some lies.chunk) in_chunk lies.held in
+            let one : lies.chunk ≡ chunk = cc in
+            free.unused (span_of_leaf leaf) (linked.leaves leaf live).0 (lies.object ∙ ap (λ (c : Chunk). c.object) one) i;
+      }
+
+  -- a place or a piece in a chunk is one in its object
+  place_in_object : (key start length : ℕ) (chunk : Chunk) → map.get b.chunks key ≡ Some chunk → IsPlace (IsFreeAt b) key start length → IsPlace (IsFreeByte s index BuddyChunk) chunk.object start length
+  place_in_object key start length chunk is = place_to (IsFreeAt b) (IsFreeByte s index BuddyChunk) key chunk.object (λ at. free_byte key at chunk is) start length
+
+  place_in_chunk : (key start length : ℕ) (chunk : Chunk) → map.get b.chunks key ≡ Some chunk → IsPlace (IsFreeByte s index BuddyChunk) chunk.object start length → IsPlace (IsFreeAt b) key start length
+  place_in_chunk key start length chunk is = place_to (IsFreeByte s index BuddyChunk) (IsFreeAt b) chunk.object key (λ at. free_at key at chunk is) start length
+
+  piece_in_object : (key start length : ℕ) (chunk : Chunk) → map.get b.chunks key ≡ Some chunk → IsFreePiece (IsFreeAt b) key start length → IsFreePiece (IsFreeByte s index BuddyChunk) chunk.object start length
+  piece_in_object key start length chunk is = piece_to (IsFreeAt b) (IsFreeByte s index BuddyChunk) key chunk.object (λ at. free_byte key at chunk is) (λ at. free_at key at chunk is) start length
+
+  piece_in_chunk : (key start length : ℕ) (chunk : Chunk) → map.get b.chunks key ≡ Some chunk → IsFreePiece (IsFreeByte s index BuddyChunk) chunk.object start length → IsFreePiece (IsFreeAt b) key start length
+  piece_in_chunk key start length chunk is = piece_to (IsFreeByte s index BuddyChunk) (IsFreeAt b) chunk.object key (λ at. free_at key at chunk is) (λ at. free_byte key at chunk is) start length
+
+  -- an object with a free byte is a chunk
+  chunk_with : (object at : ℕ) → IsFreeByte s index BuddyChunk object at → (key : ℕ) × (chunk : Chunk) × ((map.get b.chunks key ≡ Some chunk) × (object ≡ chunk.object))
+  chunk_with object at free =
+      let there = serves.of.linked.objects object free.chunk (record { held = free.held; of_kind = free.of_kind; of_type = free.of_type ∙ sym serves.of.for_type.memory_type }) in
+      (there.0, record { object = object; size = free.chunk.counted }, (there.1, refl))
+
+  -- a place is a place
+  pub place_is : (size : ℕ) → HasPlace b size → HasBuddyPlace s index size
+  place_is size (key, start, place) =
+      let free = first_byte (IsFreeAt b) key start size place in
+      (free.held.object, start, place_in_object key start size free.held free.is place)
+
+  pub place_was : (size : ℕ) → HasBuddyPlace s index size → HasPlace b size
+  place_was size (object, start, place) =
+      let w = chunk_with object start (first_byte (IsFreeByte s index BuddyChunk) object start size place) in
+      (w.0, start, place_in_chunk w.0 start size w.1 w.2.0 (subst (λ n. IsPlace (IsFreeByte s index BuddyChunk) n start size) w.2.1 place))
+
+  -- the front of a piece is the front of a piece
+  pub front_is : (size : ℕ) (leaf : Leaf) → IsFront b size leaf → IsPieceFront s index size (span_of_leaf leaf)
+  front_is size leaf front = record {
+    of_size = front.of_size;
+    length = front.length;
+    piece = subst (λ n. IsFreePiece (IsFreeByte s index BuddyChunk) n leaf.offset front.length) (sym front.object) (piece_in_object leaf.chunk leaf.offset front.length front.chunk front.held front.piece);
+    enough = front.enough;
+    shortest = λ object start other piece enough.
+        let w = chunk_with object start (first_byte (IsFreeByte s index BuddyChunk) object start other piece.place) in
+        front.shortest w.0 start other (piece_in_chunk w.0 start other w.1 w.2.0 (subst (λ n. IsFreePiece (IsFreeByte s index BuddyChunk) n start other) w.2.1 piece)) enough;
+  }
+
+  -- Sizes and questions.
+
+  pub rounded_is : (r : Request) (flags : ℕ) → rounded b (wanted r.size r.align_mask flags) ≡ buddy_size s r index
+  rounded_is r flags =
+      let atom = serves.of.for_type.atom in
+      let minimal = serves.of.for_type.minimal in
+      rw (atom, minimal) refl
+
+  pub question_is : (size : ℕ) → question b size (flags_of s.properties) ≡ buddy_question s index size
+  question_is size =
+      let next : b.next_chunk ≡ next_chunk_of (slice_get s.types index) = sym serves.next in
+      let type : b.memory_type ≡ index = serves.of.for_type.memory_type in
+      let props : b.props ≡ props_at s.properties index = serves.of.for_type.props in
+      λ i. record { size = max (next i) (2 * size); memory_type = type i; flags = flags_of s.properties; visible = has_bit (props i) 2 }
+
+  pub asks_is : (size : ℕ) (heap : Heap) → AsksForChunk (account b heap s.remaining) size → AsksForBuddyChunk s index size
+  asks_is size heap (fits, (none, more)) = (fits, (λ place. none (place_was size place), more))
+
+  -- What is refused.
+
+  module _ (heap : Heap) (size : ℕ) (es : List Event) (after : Account) where
+    pub answered_passed : Answers (account b heap s.remaining) size (flags_of s.properties) es (Err OutOfDeviceMemory) after → IsPassedByBuddy s index size es
+    answered_passed (same, inl passed) = inl passed
+    answered_passed (same, inr (asks, lacks)) = inr (asks_is size heap asks, subst (λ q. LacksDeviceMemory q es) (question_is size) lacks)
+
+    pub answered_refused : (e : AllocationError) → e ≢ OutOfDeviceMemory → Answers (account b heap s.remaining) size (flags_of s.properties) es (Err e) after → DecidesInBuddyChunk s index size es (Err e) s
+    answered_refused OutOfDeviceMemory other answers = absurd (other refl)
+    answered_refused NoCompatibleMemoryTypes other answers = absurd answers
+    answered_refused TooManyObjects other (same, (none_asked, (fits, (none, no_more)))) = (refl, (none_asked, (fits, (λ place. none (place_was size place), no_more))))
+    answered_refused OutOfHostMemory other (same, inl (fits, (none_asked, inl place))) = (refl, inl (none_asked, (fits, inl (place_is size place))))
+    answered_refused OutOfHostMemory other (same, inl (fits, (none_asked, inr asks))) = (refl, inl (none_asked, (fits, inr asks.1.1)))
+    answered_refused OutOfHostMemory other (same, inr (asks, inl lacks)) = (refl, inr (asks_is size heap asks, inl (subst (λ q. LacksHostMemory q es) (question_is size) lacks)))
+    answered_refused OutOfHostMemory other (same, inr (asks, inr back)) = (refl, inr (asks_is size heap asks, inr (subst (λ q. IsGivenBack q es) (question_is size) back)))
+
+  -- before anything is asked
+  module _ (heap : Heap) (r : Request) (flags : ℕ) where
+    pub first_passed : RefusesFirst (account b heap s.remaining) (wanted r.size r.align_mask flags) (Some OutOfDeviceMemory) → IsPassedByBuddy s index (buddy_size s r index) []
+    first_passed first = inl (λ fits. first (subst Fits (sym (rounded_is r flags)) fits), refl)
+
+    pub first_refused : (e : AllocationError) → e ≢ OutOfDeviceMemory → RefusesFirst (account b heap s.remaining) (wanted r.size r.align_mask flags) (Some e)
+        → DecidesInBuddyChunk s index (buddy_size s r index) [] (Err e) s
+    first_refused OutOfDeviceMemory other first = absurd (other refl)
+    first_refused OutOfHostMemory other first = absurd first
+    first_refused NoCompatibleMemoryTypes other first = absurd first
+    first_refused TooManyObjects other (fits, (none, no_more)) =
+        let e = rounded_is r flags in
+        (refl, (refl, (subst Fits e fits, (λ place. none (subst (HasPlace b) (sym e) (place_was (buddy_size s r index) place)), no_more))))
+
+    pub first_open : RefusesFirst (account b heap s.remaining) (wanted r.size r.align_mask flags) None → DecidesInBuddyChunk s index (buddy_size s r index) [] (Err OutOfHostMemory) s
+    first_open (fits, inl place) = let e = rounded_is r flags in (refl, inl (refl, (subst Fits e fits, inl (place_is (buddy_size s r index) (subst (HasPlace b) e place)))))
+    first_open (fits, inr more) = (refl, inl (refl, (subst Fits (rounded_is r flags) fits, inr more)))

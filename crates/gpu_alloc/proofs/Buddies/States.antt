@@ -1,0 +1,49 @@
+-- The chunk sizes of each memory type, as one buddy allocator changes.
+use Rattle.std.proofs.Common.{◌≡◌, ℕ, zero, suc, ◌<◌, List, [], ◌∷◌, length, get_or, Some, slice_get, refl, ◌∙◌, ap, arith}
+use Rattle.std.proofs.Math.ListN.{set}
+use Rattle.gpu_alloc_buddy.specs.BuddyState.{Buddy}
+use Rattle.gpu_alloc_freelist.specs.FreeListState.{Listing}
+use Rattle.gpu_alloc.specs.Inside.{types_in, lists_in}
+use Rattle.gpu_alloc.specs.BuddySharing.{next_chunk_of, with_next_chunk}
+use Rattle.gpu_alloc.specs.State.{TypeState}
+
+-- its next chunk will be as large at least
+pub types_set : (types : List TypeState) (buddies : List Buddy) (i : ℕ) (b : Buddy) → i < length buddies → i < length types
+    → types_in types (set buddies i b) ≡ with_next_chunk (types_in types buddies) i b.next_chunk
+unfolding with_next_chunk
+types_set [] buddies i b lt within = absurd (omega (arith, within))
+types_set (type ∷ types) [] i b lt within = absurd (omega (arith, lt))
+types_set (type ∷ types) (y ∷ buddies) zero b lt within = refl
+types_set (type ∷ types) (y ∷ buddies) (suc i) b lt within = ap (λ ts. record type { next_chunk = y.next_chunk } ∷ ts) (types_set types buddies i b (omega (arith, lt)) (omega (arith, within)))
+
+-- its next chunk is as it was
+pub types_kept : (types : List TypeState) (buddies : List Buddy) (i : ℕ) (b old : Buddy) → old ≡ get_or buddies i old → b.next_chunk ≡ old.next_chunk
+    → types_in types (set buddies i b) ≡ types_in types buddies
+types_kept [] buddies i b old at same = refl
+types_kept (type ∷ types) [] i b old at same = refl
+types_kept (type ∷ types) (y ∷ buddies) zero b old at same = ap (λ n. record type { next_chunk = n } ∷ types_in types buddies) (same ∙ ap (λ (x : Buddy). x.next_chunk) at)
+types_kept (type ∷ types) (y ∷ buddies) (suc i) b old at same = ap (λ ts. record type { next_chunk = y.next_chunk } ∷ ts) (types_kept types buddies i b old at same)
+
+-- what the next chunk of a memory type is
+pub next_at : (types : List TypeState) (buddies : List Buddy) (i : ℕ) (b : Buddy) → slice_get buddies i ≡ Some b → i < length types → next_chunk_of (slice_get (types_in types buddies) i) ≡ b.next_chunk
+next_at [] buddies i b at within = absurd (omega (arith, within))
+next_at (type ∷ types) [] i b at within = absurd (cc)
+next_at (type ∷ types) (y ∷ buddies) zero b at within = let same : y ≡ b = cc in ap (λ (x : Buddy). x.next_chunk) same
+next_at (type ∷ types) (y ∷ buddies) (suc i) b at within = next_at types buddies i b at (omega (arith, within))
+
+-- The free lists' part of it, beside the buddy allocators'.
+
+-- the next buddy chunk is the same with it
+pub lists_next : (types : List TypeState) (lists : List Listing) (i size : ℕ) → lists_in (with_next_chunk types i size) lists ≡ with_next_chunk (lists_in types lists) i size
+unfolding with_next_chunk
+lists_next [] lists i size = refl
+lists_next (type ∷ types) [] zero size = refl
+lists_next (type ∷ types) [] (suc i) size = refl
+lists_next (type ∷ types) (l ∷ lists) zero size = refl
+lists_next (type ∷ types) (l ∷ lists) (suc i) size = ap (λ ts. record type { list_chunk = l.next_chunk; number = l.space.latest } ∷ ts) (lists_next types lists i size)
+
+pub lists_next_at : (types : List TypeState) (lists : List Listing) (i : ℕ) → i < length lists → next_chunk_of (slice_get (lists_in types lists) i) ≡ next_chunk_of (slice_get types i)
+lists_next_at [] lists i inside = refl
+lists_next_at (type ∷ types) [] i inside = absurd (omega (arith, inside))
+lists_next_at (type ∷ types) (l ∷ lists) zero inside = refl
+lists_next_at (type ∷ types) (l ∷ lists) (suc i) inside = lists_next_at types lists i (omega (arith, inside))

@@ -1,0 +1,14 @@
+-- Each memory type's free list, as the whole allocator's state tells of it.
+pub mod Answers
+pub mod Cleanups
+pub mod Going
+pub mod Gone
+pub mod Grants
+pub mod HasLists
+pub mod Links
+pub mod Refusals
+pub mod Returns
+pub mod Served
+pub mod Serving
+pub mod States
+pub mod Types

@@ -1,0 +1,158 @@
+-- What goes of each memory type's free list as all of them are cleaned up in turn.
+use Rattle.std.proofs.Common.{◌≡◌, inl, inr, ℕ, zero, suc, ◌+◌, ◌<◌, ◌↔◌, false, List, [], ◌∷◌, ◌++◌, length, Option, Some, None, IfSome, Contains, refl, sym, ◌∙◌, ap, subst, arith}
+use Rattle.std.proofs.lemmas.Bool.{cases_eq}
+use Rattle.std.proofs.lemmas.List.Elements.{Contains-append_left, Contains-append_right, Contains-append_cases}
+use Rattle.std.proofs.Math.Numerals.{add-one}
+use Rattle.std.specs.Cmp.{nat_cmp_total}
+use Rattle.std.specs.FinMap as finite
+use Rattle.std.specs.FinMap.{nat_cmp-IsAntisymmetric}
+use Rattle.std.specs.Ordering.{nat_cmp}
+use Rattle.std.specs.Prelude.{sum_by}
+use Rattle.gpu_alloc_types.specs.Device.{Event, Object}
+use Rattle.gpu_alloc_types.specs.Properties.{Properties}
+use Rattle.gpu_alloc.specs.Agreement.{Agrees}
+use Rattle.gpu_alloc_buddy.specs.BuddyState.{Buddy}
+use Rattle.gpu_alloc_freelist.specs.FreeListState.{Listing}
+use Rattle.gpu_alloc.specs.Inside.{state_in, properties_in, IsConsistent}
+use Rattle.gpu_alloc.specs.FreeListSharing.{IsListChunk}
+use Rattle.gpu_alloc.specs.Release.{AreObjectsOf, AreChunksGone, AreAllGone, LetsGo, IsCleanedUp, IsUnused, without_all, without_objects}
+use Rattle.gpu_alloc.specs.Sound.{is_list_chunk, HasLiveSpan, IsSound}
+use Rattle.gpu_alloc.specs.Spans.{Table}
+use Rattle.gpu_alloc.specs.State.{HeldObject, Span, State, IsLive, share, ledger, total}
+use Rattle.gpu_alloc.specs.declared.block.Kind.{Kind}
+use Rattle.gpu_alloc.specs.declared.block.Kind.TheVariants.{Dedicated, Imported, BuddyChunk, FreeListChunk}
+use Rattle.gpu_alloc_base.specs.declared.heap.Heap.{Heap}
+use Rattle.gpu_alloc.specs.declared.limits.Limits.{Limits}
+use Rattle.gpu_alloc.proofs.Consistency.{known_object}
+use Rattle.gpu_alloc.proofs.Ledgers.{Held}
+use Rattle.gpu_alloc.proofs.FreeLists.Going.{objects_more, lets_more}
+use Rattle.gpu_alloc.proofs.FreeLists.Gone.{AgreeOnType, agree_back, agree_after, gone_agrees, kept_was, kept_is}
+use Rattle.gpu_alloc_base.proofs.Lists.{contains_head, contains_later, contains_cases, contains_none}
+use Rattle.gpu_alloc_base.proofs.Maps.{one_value}
+use Rattle.gpu_alloc.proofs.Soundness.{sound_is}
+
+-- The way of the loop: what may go of the memory types before this one went.
+pub record IsCleaning (s : State) (objects : ℕ → Option Object) (t : ℕ) (gone : List ℕ) (es : List Event) (now : State) (p : Properties) (objects_now : ℕ → Option Object) : Type 0 where
+  pub all : AreAllGone s t gone
+  pub lets : LetsGo s gone es now
+  pub objects_are : objects_now ≡ without_objects objects gone
+  pub agrees : Agrees now p objects_now
+  pub whole : total now ≡ total s
+
+-- one memory type more
+pub cleaning_goes_on : (s now after : State) (p q : Properties) (objects objects_now objects_after : ℕ → Option Object) (t : ℕ) (gone own : List ℕ) (es fs : List Event) → IsCleaning s objects t gone es now p objects_now
+    → AreChunksGone now t false own → LetsGo now own fs after → objects_after ≡ without_objects objects_now own → Agrees after q objects_after → total after ≡ total now
+    → IsCleaning s objects (t + 1) (gone ++ own) (es ++ fs) after q objects_after
+cleaning_goes_on s now after p q objects objects_now objects_after t gone own es fs w chunks lets objects_are agrees whole = record {
+  all = subst (λ n. AreAllGone s n (gone ++ own)) (sym (add-one t)) (gone, own, refl, w.all, gone_agrees now s t (agree_back s now t same_type) false own chunks);
+  lets = lets_more s now after gone own es fs w.lets lets;
+  objects_are = objects_are ∙ ap (λ f. without_objects f own) w.objects_are ∙ sym (objects_more objects gone own);
+  agrees = agrees;
+  whole = whole ∙ w.whole;
+}
+  where
+    same_type : AgreeOnType s now t
+    same_type = agree_after s now t gone w.all (ap (λ (x : State). x.held) w.lets.1) (ap (λ (x : State). x.live) w.lets.1)
+
+-- Where no block is live, all is gone.
+
+-- what went of a memory type is among what went of all
+among_all : (s : State) (n t : ℕ) (gone : List ℕ) → t < n → AreAllGone s n gone → (own : List ℕ) × AreChunksGone s t false own × ((name : ℕ) → Contains own name → Contains gone name)
+among_all s zero t gone lt all = absurd (omega (arith, lt))
+among_all s (suc n) t gone lt (earlier, own, both, all, chunks) = elim (cases_eq t n) [
+  | inl last ↦ (own, subst (λ k. AreChunksGone s k false own) (sym last) chunks, λ name has. subst (λ xs. Contains xs name) (sym both) (Contains-append_right earlier own name has))
+  | inr before ↦
+      let rest = among_all s n t earlier (omega (arith, lt, before)) all in
+      (rest.0, rest.1, λ name has. subst (λ xs. Contains xs name) (sym both) (Contains-append_left earlier own name (rest.2 name has)))
+]
+
+-- each number that goes has its object among those that go
+object_at : (s : State) (t : ℕ) (numbers own : List ℕ) → AreObjectsOf s t numbers own → (number : ℕ) → Contains numbers number → (object : ℕ) × Contains own object × IsListChunk s t number object
+object_at s t [] own are number has = absurd (contains_none number has)
+object_at s t (n ∷ numbers) [] are number has = absurd are
+object_at s t (n ∷ numbers) (name ∷ own) are number has = elim (contains_cases n number numbers has) [
+  | inl same ↦ (name, contains_head name own, subst (λ k. IsListChunk s t k name) (sym same) are.0)
+  | inr rest ↦ let later = object_at s t numbers own are.1 number rest in (later.0, contains_later name later.0 own later.1, later.2)
+]
+
+-- and each object that goes has a number
+number_at : (s : State) (t : ℕ) (numbers own : List ℕ) → AreObjectsOf s t numbers own → (object : ℕ) → Contains own object → (number : ℕ) × Contains numbers number × IsListChunk s t number object
+number_at s t [] [] are object has = absurd (contains_none object has)
+number_at s t [] (name ∷ own) are object has = absurd are
+number_at s t (n ∷ numbers) [] are object has = absurd are
+number_at s t (n ∷ numbers) (name ∷ own) are object has = elim (contains_cases name object own has) [
+  | inl same ↦ (n, contains_head n numbers, subst (IsListChunk s t n) (sym same) are.0)
+  | inr rest ↦ let later = number_at s t numbers own are.1 object rest in (later.0, contains_later n later.0 numbers later.1, later.2)
+]
+
+-- an object that is held without a live span is a chunk of a free list
+list_kind : (kind : Kind) → (is_list_chunk kind ≡ false → ⊥) → (number : ℕ) × (kind ≡ FreeListChunk number)
+list_kind Dedicated none = absurd (none refl)
+list_kind Imported none = absurd (none refl)
+list_kind BuddyChunk none = absurd (none refl)
+list_kind (FreeListChunk number) none = (number, refl)
+
+-- nothing sums up to nothing
+no_sum : {X : Type 0} (f : X → ℕ) (xs : List X) → length xs ≡ 0 → sum_by f xs ≡ 0
+no_sum f [] none = refl
+no_sum f (x ∷ xs) none = absurd (omega (arith, none))
+
+module _ {A : Type 0} (l : Limits A) (heaps : List Heap) (buddies : List Buddy) (lists : List Listing) (t : Table) (remaining : ℕ) (is : IsConsistent l.config (properties_in l heaps) heaps buddies lists t remaining) where
+  abbrev s : State
+  s = state_in l heaps buddies lists t remaining
+
+  sound : IsSound s
+  sound = sound_is l heaps buddies lists t remaining is
+
+  module _ (gone : List ℕ) (all : AreAllGone s (length (properties_in l heaps).memory_types) gone) where
+    -- a free list's chunk in which nothing is live goes
+    cleaned_goes : (name : ℕ) (h : HeldObject) → finite.get t.held name ≡ Some h → IsCleanedUp s name h → Contains gone name
+    cleaned_goes name h found cleaned =
+        let known = known_object (properties_in l heaps) heaps t remaining is.books refl name h found in
+        let kind = list_kind h.kind (λ no_list. let both = cleaned.0 in cc) in
+        let chunk : IsListChunk s h.memory_type kind.0 name = record { chunk = h; held = found; of_type = refl; of_kind = kind.1 } in
+        let own = among_all s (length (properties_in l heaps).memory_types) h.memory_type gone known.of_type all in
+        let has = (own.1.1.1.0 kind.0).1 ((name, (chunk, cleaned.1)), λ kept. absurd (cc)) in
+        let object = object_at s h.memory_type own.1.0 own.0 own.1.1.1.1 kind.0 has in
+        own.2 name (subst (Contains own.0) (sound.numbers h.memory_type kind.0 object.0 name object.2 chunk) object.1)
+
+    -- and nothing else
+    is_cleaned : (n : ℕ) (some : List ℕ) → AreAllGone s n some → (name : ℕ) (h : HeldObject) → finite.get t.held name ≡ Some h → Contains some name → IsCleanedUp s name h
+    is_cleaned zero some none name h found has = absurd (contains_none name (subst (λ names. Contains names name) none has))
+    is_cleaned (suc n) some (earlier, own, both, before, chunks) name h found has =
+        elim (Contains-append_cases earlier own name (subst (λ names. Contains names name) both has)) [
+          | inl first ↦ is_cleaned n earlier before name h found first
+          | inr now ↦
+              let at = number_at s n chunks.0 own chunks.1.1.1 name now in
+              let of = at.2 in
+              let may = ((chunks.1.1.0 at.0).0 at.1).0 in
+              let same : h ≡ of.chunk = one_value _ h of.chunk found of.held in
+              (ap (λ (x : HeldObject). is_list_chunk x.kind) same ∙ ap is_list_chunk of.of_kind, subst (IsUnused s) (sound.numbers n at.0 may.0 name may.1.0 of) may.1.1)
+        ]
+
+    -- what stays is what was held and is not cleaned up
+    pub left_is : (now : State) (es : List Event) → LetsGo s gone es now → (name : ℕ) (h : HeldObject) → finite.get now.held name ≡ Some h ↔ ((finite.get t.held name ≡ Some h) × (IsCleanedUp s name h → ⊥))
+    left_is now es lets name h =
+        let held : now.held ≡ without_all t.held gone = ap (λ (x : State). x.held) lets.1 in (
+          λ still. let was = kept_was t.held gone name h (ap (λ (m : Held). finite.get m name) (sym held) ∙ still) in (was.1, λ cleaned. was.0 (cleaned_goes name h was.1 cleaned)),
+          λ (found, stays). ap (λ (m : Held). finite.get m name) held ∙ kept_is t.held gone name (λ has. stays (is_cleaned (length (properties_in l heaps).memory_types) gone all name h found has)) ∙ found,
+        )
+
+  module _ (unused : (span : Span) → IsLive s span → ⊥) (gone : List ℕ) (all : AreAllGone s (length (properties_in l heaps).memory_types) gone) where
+    held_goes : (name : ℕ) (h : HeldObject) → finite.get t.held name ≡ Some h → Contains gone name
+    held_goes name h found =
+        let used = subst (λ (o : Option HeldObject). IfSome o (λ x. is_list_chunk x.kind ≡ false → HasLiveSpan s name)) found (sound.used name) in
+        let kind = list_kind h.kind (λ no_list. let span = used no_list in unused span.0 span.1) in
+        cleaned_goes gone all name h found (ap is_list_chunk kind.1, λ span live named. unused span live)
+
+    none_held : (name : ℕ) (o : Option HeldObject) → finite.get (without_all t.held gone) name ≡ o → o ≡ None
+    none_held name None is = refl
+    none_held name (Some h) is = let was = kept_was t.held gone name h is in absurd (was.0 (held_goes name h was.1))
+
+    nothing_held : without_all t.held gone ≡ finite.empty
+    nothing_held = finite.same_map nat_cmp_total nat_cmp-IsAntisymmetric _ _ (λ name. none_held name (finite.get (without_all t.held gone) name) refl ∙ sym (finite.get-empty nat_cmp name))
+
+    pub all_gone : (now : State) (es : List Event) → LetsGo s gone es now → (now.held ≡ finite.empty) × ((heap : ℕ) → ledger now heap ≡ 0)
+    all_gone now es lets =
+        let held : now.held ≡ finite.empty = ap (λ (x : State). x.held) lets.1 ∙ nothing_held in
+        (held, λ heap. no_sum (share now.properties heap) (finite.entries now.held) (sym (finite.len-entries now.held) ∙ ap (λ (m : Held). finite.len m) held ∙ finite.len-empty nat_cmp HeldObject))

@@ -1,0 +1,177 @@
+-- A memory type's free list in the whole allocator's state: both tell the same of chunks, free bytes and blocks.
+use Rattle.std.proofs.Common.{◌≡◌, ◌≢◌, ◌⊎◌, inl, inr, ℕ, ◌+◌, List, [], Some, None, Err, refl, sym, ◌∙◌, ap, subst, arith}
+use Rattle.std.specs.Prelude.{max}
+use Rattle.std.specs.FinMap as map
+use Rattle.gpu_alloc_types.specs.Device.{Event}
+use Rattle.gpu_alloc_types.specs.Flags.{has_bit}
+use Rattle.gpu_alloc_types.specs.Properties.{props_at}
+use Rattle.gpu_alloc_base.specs.Wanted.{wanted}
+use Rattle.gpu_alloc_base.specs.Chunks.{Chunk}
+use Rattle.gpu_alloc_freelist.specs.FreeList.{HasPlace, HasNumber, IsTail}
+use Rattle.gpu_alloc_freelist.specs.FreeListAllocator.{Account, account, rounded, alignment, question, AsksForChunk, IsBarred, Answers, RefusesFirst}
+use Rattle.gpu_alloc_freelist.specs.FreeListState.{Listing, IsFreeIn}
+use Rattle.gpu_alloc.specs.Inside.{IsListOf, IsNumberedChunk, list_object, span_of_slot, slot_at}
+use Rattle.gpu_alloc.specs.FreeListSharing.{list_size, list_alignment, list_question, next_list_chunk, latest_number, largest_list_chunk, IsListChunk, IsFreeInChunk, HasListPlace, HasListNumber, IsRunTail, AsksForListChunk, IsPassedByFreeList, DecidesInFreeList}
+use Rattle.gpu_alloc_base.specs.NewChunk.{flags_of, LacksDeviceMemory, LacksHostMemory, IsGivenBack}
+use Rattle.gpu_alloc_base.specs.Sizes.{up, grown_chunk}
+use Rattle.gpu_alloc.specs.Spans.{Place}
+use Rattle.gpu_alloc.specs.State.{span_cmp, State}
+use Rattle.gpu_alloc_base.specs.declared.error.AllocationError.{AllocationError}
+use Rattle.gpu_alloc_base.specs.declared.error.AllocationError.TheVariants.{OutOfDeviceMemory, OutOfHostMemory, NoCompatibleMemoryTypes, TooManyObjects}
+use Rattle.gpu_alloc_base.specs.declared.free_list_block.Slot.{Slot}
+use Rattle.gpu_alloc_base.specs.declared.heap.Heap.{Heap}
+use Rattle.gpu_alloc.specs.declared.request.Request.{Request}
+use Rattle.gpu_alloc_base.proofs.Maps.{one_value}
+use Rattle.gpu_alloc_base.proofs.SameRuns.{AreSameBytes, same_back, place_same, last_room_same}
+use Rattle.gpu_alloc.proofs.Buddies.Serving.{table_of}
+
+-- the memory type's free list, whose next chunk and latest number are as the state tells
+pub record ServesList (s : State) (places : map.FinMap span_cmp Place) (room index : ℕ) (l : Listing) : Type 0 where
+  pub of : IsListOf s.config s.properties (table_of s places room) index l
+  pub next : next_list_chunk s index ≡ l.next_chunk
+  pub number : latest_number s index ≡ l.space.latest
+
+module _ (s : State) (places : map.FinMap span_cmp Place) (room index : ℕ) (l : Listing) (serves : ServesList s places room index l) where
+  -- Chunks and bytes.
+
+  -- a chunk's object is held as one
+  pub numbered_held : (number : ℕ) (chunk : Chunk) → map.get l.space.chunks number ≡ Some chunk → IsNumberedChunk (table_of s places room) l.memory_type number chunk.object (list_object l number chunk)
+  numbered_held number chunk is = record { held = serves.of.linked.chunks number chunk is; of_kind = refl; of_type = refl }
+
+  pub list_chunk_is : (number : ℕ) (chunk : Chunk) → map.get l.space.chunks number ≡ Some chunk → IsListChunk s index number chunk.object
+  list_chunk_is number chunk is = record {
+    chunk = list_object l number chunk;
+    held = serves.of.linked.chunks number chunk is;
+    of_type = serves.of.for_type.memory_type;
+    of_kind = refl;
+  }
+
+  -- and an object that is held as one is a chunk's
+  pub list_chunk_was : (number object : ℕ) (is : IsListChunk s index number object) → map.get l.space.chunks number ≡ Some (record { object = object; size = is.chunk.counted })
+  list_chunk_was number object is =
+      serves.of.linked.objects number object is.chunk (record { held = is.held; of_kind = is.of_kind; of_type = is.of_type ∙ sym serves.of.for_type.memory_type })
+
+  pub free_byte : (number at : ℕ) → IsFreeIn l.space number at → IsFreeInChunk s index number at
+  free_byte number at free =
+      let own = numbered_held number free.held free.is in (
+        free.held.object,
+        record {
+          chunk = list_object l number free.held;
+          held = own.held;
+          of_type = serves.of.for_type.memory_type;
+          of_kind = refl;
+          inside = free.inside;
+          unused = λ span live of_it i.
+              let there = subst (λ o. IsNumberedChunk (table_of s places room) l.memory_type number o (list_object l number free.held)) (sym of_it) own in
+              free.unused (slot_at span number) (serves.of.linked.spans span number (list_object l number free.held) live there) refl i;
+        },
+      )
+
+  pub free_in : (number at : ℕ) → IsFreeInChunk s index number at → IsFreeIn l.space number at
+  free_in number at (object, free) =
+      let held : Chunk = record { object = object; size = free.chunk.counted } in
+      let is : map.get l.space.chunks number ≡ Some held = list_chunk_was number object (record { chunk = free.chunk; held = free.held; of_type = free.of_type; of_kind = free.of_kind }) in
+      record {
+        held = held;
+        is = is;
+        inside = free.inside;
+        unused = λ slot live in_chunk i.
+            let lies = serves.of.sound.space.inside slot live in
+            let one : lies.chunk ≡ held = one_value _ lies.chunk held lies.held (ap (map.get l.space.chunks) in_chunk ∙ is) in
+            free.unused (span_of_slot slot) (serves.of.linked.slots slot live) (lies.object ∙ ap (λ (c : Chunk). c.object) one) i;
+      }
+
+  -- both tell of the same free bytes
+  pub same_bytes : AreSameBytes (IsFreeIn l.space) (IsFreeInChunk s index)
+  same_bytes = record { to = free_byte; from = free_in }
+
+  -- a place is a place
+  pub place_is : (size alignment : ℕ) → HasPlace l.space size alignment → HasListPlace s index size alignment
+  place_is size alignment (number, start, place) = (number, start, place_same same_bytes size alignment number start place)
+
+  pub place_was : (size alignment : ℕ) → HasListPlace s index size alignment → HasPlace l.space size alignment
+  place_was size alignment (number, start, place) = (number, start, place_same (same_back same_bytes) size alignment number start place)
+
+  -- the tail of the last run that has room is that tail
+  pub tail_is : (size alignment : ℕ) (slot : Slot) → IsTail l.space size alignment slot → IsRunTail s index size alignment slot.chunk (span_of_slot slot)
+  tail_is size alignment slot tail = record {
+    run = tail.run;
+    last = last_room_same same_bytes size alignment tail.run tail.last;
+    in_chunk = sym tail.chunk;
+    start = tail.start;
+    end = tail.end;
+    chunk = subst (IsListChunk s index slot.chunk) (sym tail.object.2) (list_chunk_is slot.chunk tail.object.0 tail.object.1);
+  }
+
+  -- Sizes and questions.
+
+  pub rounded_is : (r : Request) (flags : ℕ) → rounded l (wanted r.size r.align_mask flags) ≡ list_size s r index
+  rounded_is r flags = ap (up r.size) serves.of.for_type.atom
+
+  pub alignment_is : (r : Request) (flags : ℕ) → alignment l (wanted r.size r.align_mask flags) ≡ list_alignment s r index
+  alignment_is r flags = ap (max (r.align_mask + 1)) serves.of.for_type.atom
+
+  pub question_is : (size : ℕ) → question l size (flags_of s.properties) ≡ list_question s index size
+  question_is size =
+      let next : l.next_chunk ≡ next_list_chunk s index = sym serves.next in
+      let final : l.final_chunk ≡ largest_list_chunk s index = serves.of.for_type.final_chunk in
+      let type : l.memory_type ≡ index = serves.of.for_type.memory_type in
+      let props : l.props ≡ props_at s.properties index = serves.of.for_type.props in
+      λ i. record { size = grown_chunk (next i) (final i) size; memory_type = type i; flags = flags_of s.properties; visible = has_bit (props i) 2 }
+
+  pub number_is : HasNumber l.space → HasListNumber s index
+  number_is has = omega (arith, has, serves.number)
+
+  pub number_was : HasListNumber s index → HasNumber l.space
+  number_was has = omega (arith, has, serves.number)
+
+  pub asks_is : (size alignment : ℕ) (heap : Heap) → AsksForChunk (account l heap s.remaining) size alignment → AsksForListChunk s index size alignment
+  asks_is size alignment heap (none, (more, has)) = ((λ place. none (place_was size alignment place)), (more, number_is has))
+
+  -- no chunk may be asked for
+  pub barred_is : (heap : Heap) → IsBarred (account l heap s.remaining) → (s.remaining ≡ 0) ⊎ (HasListNumber s index → ⊥)
+  barred_is heap (inl spent) = inl spent
+  barred_is heap (inr none) = inr (λ has. none (number_was has))
+
+  -- What is refused.
+
+  module _ (heap : Heap) (size alignment : ℕ) (es : List Event) (after : Account) where
+    pub answered_passed : Answers (account l heap s.remaining) size alignment (flags_of s.properties) es (Err OutOfDeviceMemory) after → IsPassedByFreeList s index size alignment es
+    answered_passed (same, (asks, lacks)) = (asks_is size alignment heap asks, subst (λ q. LacksDeviceMemory q es) (question_is size) lacks)
+
+    pub answered_refused : (e : AllocationError) → e ≢ OutOfDeviceMemory → Answers (account l heap s.remaining) size alignment (flags_of s.properties) es (Err e) after
+        → DecidesInFreeList s index size alignment es (Err e) s
+    answered_refused OutOfDeviceMemory other answers = absurd (other refl)
+    answered_refused NoCompatibleMemoryTypes other answers = absurd answers
+    answered_refused TooManyObjects other (same, (none_asked, (none, barred))) = (refl, (none_asked, ((λ place. none (place_was size alignment place)), barred_is heap barred)))
+    answered_refused OutOfHostMemory other (same, inl (none_asked, inl place)) = (refl, inl (none_asked, inl (place_is size alignment place)))
+    answered_refused OutOfHostMemory other (same, inl (none_asked, inr asks)) = (refl, inl (none_asked, inr (asks_is size alignment heap asks).1))
+    answered_refused OutOfHostMemory other (same, inr (asks, inl lacks)) = (refl, inr (asks_is size alignment heap asks, inl (subst (λ q. LacksHostMemory q es) (question_is size) lacks)))
+    answered_refused OutOfHostMemory other (same, inr (asks, inr back)) = (refl, inr (asks_is size alignment heap asks, inr (subst (λ q. IsGivenBack q es) (question_is size) back)))
+
+  -- before anything is asked
+  module _ (heap : Heap) (r : Request) (flags : ℕ) where
+    abbrev asked_size : ℕ
+    asked_size = rounded l (wanted r.size r.align_mask flags)
+
+    abbrev asked_alignment : ℕ
+    asked_alignment = alignment l (wanted r.size r.align_mask flags)
+
+    wanted_place_is : HasPlace l.space asked_size asked_alignment → HasListPlace s index (list_size s r index) (list_alignment s r index)
+    wanted_place_is place = subst (λ n. HasListPlace s index (list_size s r index) n) (alignment_is r flags) (subst (λ n. HasListPlace s index n asked_alignment) (rounded_is r flags) (place_is asked_size asked_alignment place))
+
+    wanted_place_was : HasListPlace s index (list_size s r index) (list_alignment s r index) → HasPlace l.space asked_size asked_alignment
+    wanted_place_was place =
+        place_was asked_size asked_alignment (subst (λ n. HasListPlace s index n asked_alignment) (sym (rounded_is r flags)) (subst (λ n. HasListPlace s index (list_size s r index) n) (sym (alignment_is r flags)) place))
+
+    pub first_refused : (e : AllocationError) → RefusesFirst (account l heap s.remaining) (wanted r.size r.align_mask flags) (Some e)
+        → DecidesInFreeList s index (list_size s r index) (list_alignment s r index) [] (Err e) s
+    first_refused OutOfDeviceMemory first = absurd first
+    first_refused OutOfHostMemory first = absurd first
+    first_refused NoCompatibleMemoryTypes first = absurd first
+    first_refused TooManyObjects (none, barred) = (refl, (refl, ((λ place. none (wanted_place_was place)), barred_is heap barred)))
+
+    pub first_open : RefusesFirst (account l heap s.remaining) (wanted r.size r.align_mask flags) None
+        → DecidesInFreeList s index (list_size s r index) (list_alignment s r index) [] (Err OutOfHostMemory) s
+    first_open (inl place) = (refl, inl (refl, inl (wanted_place_is place)))
+    first_open (inr (more, has)) = (refl, inl (refl, inr (more, number_is has)))

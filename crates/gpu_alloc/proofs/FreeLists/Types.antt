@@ -1,0 +1,57 @@
+-- A memory type's free list among the allocator's fields, and the object of one of its chunks.
+use Rattle.std.proofs.Common.{◌≡◌, ◌≢◌, ℕ, ◌<◌, List, length, get_or, Option, Some, IfSome, None, refl, sym, ◌∙◌, subst, arith}
+use Rattle.std.proofs.lemmas.List.{length-map}
+use Rattle.std.proofs.lemmas.Option.{slice_get_read}
+use Rattle.std.specs.FinMap as finite
+use Rattle.std.specs.List.{slice_get}
+use Rattle.gpu_alloc_buddy.specs.BuddyState.{Buddy}
+use Rattle.gpu_alloc_freelist.specs.FreeListState.{Listing}
+use Rattle.gpu_alloc.specs.Inside.{state_in, properties_in, types_in, IsConsistent, IsListForType, IsListOf}
+use Rattle.gpu_alloc.specs.FirstTypes.{first_types, first_type_state}
+use Rattle.gpu_alloc.specs.Spans.{Table}
+use Rattle.gpu_alloc.specs.State.{HeldObject}
+use Rattle.gpu_alloc.specs.declared.block.Kind.TheVariants.{BuddyChunk, FreeListChunk}
+use Rattle.gpu_alloc_base.specs.declared.heap.Heap.{Heap}
+use Rattle.gpu_alloc.specs.declared.limits.Limits.{Limits}
+use Rattle.gpu_alloc.proofs.FreeLists.Serving.{ServesList}
+use Rattle.gpu_alloc.proofs.FreeLists.States.{list_next_at, list_latest_at, types_within}
+
+module _ {A : Type 0} (l : Limits A) (heaps : List Heap) (buddies : List Buddy) (lists : List Listing) (t : Table) (remaining index : ℕ) (fl : Listing)
+    (is : IsConsistent l.config (properties_in l heaps) heaps buddies lists t remaining) (known : index < length (properties_in l heaps).memory_types) (at : fl ≡ get_or lists index fl) where
+  there : slice_get lists index ≡ Some fl
+  there = slice_get_read lists (length lists) index fl refl (omega (arith, known, is.listed.count)) at
+
+  -- its memory type is one that the state has
+  pub typed_list : index < length (types_in (first_types l.config (properties_in l heaps)) buddies)
+  typed_list = types_within (first_types l.config (properties_in l heaps)) buddies index
+      (omega (arith, known, length-map (properties_in l heaps).memory_types (first_type_state l.config (properties_in l heaps)))) (omega (arith, known, is.shared.count))
+
+  pub own_listing : IsListOf l.config (properties_in l heaps) t index fl
+  own_listing = subst (λ (o : Option Listing). IfSome o (IsListOf l.config (properties_in l heaps) t index)) there (is.listed.each index)
+
+  pub serves_own : ServesList (state_in l heaps buddies lists t remaining) t.places t.room index fl
+  serves_own = record {
+    of = own_listing;
+    next = list_next_at (types_in (first_types l.config (properties_in l heaps)) buddies) lists index fl there typed_list;
+    number = list_latest_at (types_in (first_types l.config (properties_in l heaps)) buddies) lists index fl there typed_list;
+  }
+
+-- what it was given stays
+pub same_listing_for : {A : Type 0} (l : Limits A) (heaps : List Heap) (t : Table) (index : ℕ) (fl after : Listing) → IsListOf l.config (properties_in l heaps) t index fl
+    → after.memory_type ≡ fl.memory_type → after.props ≡ fl.props → after.atom ≡ fl.atom → after.final_chunk ≡ fl.final_chunk → IsListForType l.config (properties_in l heaps) index after
+same_listing_for l heaps t index fl after of memory_type props atom final =
+    let given = of.for_type in
+    record { memory_type = memory_type ∙ given.memory_type; props = props ∙ given.props; atom = atom ∙ given.atom; final_chunk = final ∙ given.final_chunk }
+
+-- A free-list chunk's object is of the list's memory type, and no buddy chunk.
+
+pub of_type_at : (t : Table) (index object : ℕ) (h : HeldObject) → finite.get t.held object ≡ Some h → h.memory_type ≡ index → IfSome (finite.get t.held object) (λ x. x.memory_type ≡ index)
+of_type_at t index object h found is = subst (λ (o : Option HeldObject). IfSome o (λ x. x.memory_type ≡ index)) (sym found) is
+
+pub no_buddy_at : (t : Table) (number object : ℕ) (h : HeldObject) → finite.get t.held object ≡ Some h → h.kind ≡ FreeListChunk number → IfSome (finite.get t.held object) (λ x. x.kind ≢ BuddyChunk)
+no_buddy_at t number object h found kind =
+    subst (λ (o : Option HeldObject). IfSome o (λ x. x.kind ≢ BuddyChunk)) (sym found) (λ buddy. let both = sym kind ∙ buddy in absurd (cc))
+
+-- an object that is not held is whatever is asked of it
+pub none_at : (t : Table) (object : ℕ) (P : HeldObject → Type 0) → finite.get t.held object ≡ None → IfSome (finite.get t.held object) P
+none_at t object P none = subst (λ (o : Option HeldObject). IfSome o P) (sym none) tt

@@ -1,8 +1,0 @@
-use Rattle.std.proofs.Common.{◌<◌, ℕ}
-use Rattle.gpu_alloc.specs.FreeListInside.{by_number, MayBeTaken}
-use Rattle.gpu_alloc.specs.declared.freelist.region.FreeListRegion.{FreeListRegion}
-use Rattle.gpu_alloc.proofs.freelist.list.first_whole.Given as goal
-
--- none so far may be taken
-abbrev pub invariant-loop-index : goal.invariant-loop-index
-invariant-loop-index g l = (k : ℕ) (d : FreeListRegion) → k < l.index → MayBeTaken (by_number (λ c. c.number) (λ c. c.size) l.chunks) l.regions l.keep_last d k → ⊥

@@ -1,5 +1,0 @@
-use Rattle.gpu_alloc.proofs.PowersOfTwo.{align_mask_of_power}
-use Rattle.gpu_alloc.proofs.laws.align_masks_of_powers.Goals as goal
-
-pub returns : goal.returns
-returns c = align_mask_of_power

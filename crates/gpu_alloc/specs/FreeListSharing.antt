@@ -1,0 +1,147 @@
+-- Blocks in the shared chunks of a memory type's free list, as the whole allocator's state tells of them.
+use Rattle.std.specs.Prelude.{◌≡◌, ◌⊎◌, ℕ, zero, suc, ◌+◌, ◌-◌, ◌<◌, ◌^◌, List, [], ◌∷◌, Option, Some, None, Result, Ok, Err, max, slice_get}
+use Rattle.std.specs.FinMap as map
+use Rattle.gpu_alloc_types.specs.Properties.{heap_size, props_at, atom_of, is_host_visible}
+use Rattle.gpu_alloc_types.specs.Device.{Event}
+use Rattle.gpu_alloc.specs.declared.block.Kind.TheVariants.{FreeListChunk}
+use Rattle.gpu_alloc_base.specs.declared.error.AllocationError.{AllocationError}
+use Rattle.gpu_alloc_base.specs.declared.error.AllocationError.TheVariants.{OutOfDeviceMemory, OutOfHostMemory, NoCompatibleMemoryTypes, TooManyObjects}
+use Rattle.gpu_alloc_base.specs.declared.region.FreeListRegion.{FreeListRegion}
+use Rattle.gpu_alloc.specs.declared.request.Request.{Request}
+use Rattle.gpu_alloc_base.specs.FreeRuns.{IsListPlace, IsLastWithRoom, tail_start}
+use Rattle.gpu_alloc.specs.FreeBytes.{IsFreeByte}
+use Rattle.gpu_alloc_base.specs.NewChunk.{ChunkQuestion, flags_of, made, LacksDeviceMemory, LacksHostMemory, IsGivenBack}
+use Rattle.gpu_alloc.specs.BuddySharing.{with_span}
+use Rattle.gpu_alloc_base.specs.Sizes.{up, final_size, grown_chunk, doubled_chunk}
+use Rattle.gpu_alloc.specs.State.{HeldObject, Span, Block, span_of, TypeState, State}
+
+-- the size that is looked for, in whole atoms
+abbrev pub list_size : State → Request → ℕ → ℕ
+list_size s r t = up r.size (atom_of s.properties t)
+
+-- the alignment that is used: the greater of the request's and the atom
+abbrev pub list_alignment : State → Request → ℕ → ℕ
+list_alignment s r t = max (r.align_mask + 1) (atom_of s.properties t)
+
+-- the object is held as the chunk of this number of the memory type's free list
+pub record IsListChunk (s : State) (t number object : ℕ) : Type 0 where
+  pub chunk : HeldObject
+  pub held : map.get s.held object ≡ Some chunk
+  pub of_type : chunk.memory_type ≡ t
+  pub of_kind : chunk.kind ≡ FreeListChunk number
+
+-- the byte of the chunk of this number is free
+abbrev pub IsFreeInChunk : State → ℕ → ℕ → ℕ → Type 0
+IsFreeInChunk s t number at = (object : ℕ) × IsFreeByte s t (FreeListChunk number) object at
+
+-- somewhere in a held free-list chunk of the memory type there is room for a block of this size, at a multiple of the alignment
+abbrev pub HasListPlace : State → ℕ → ℕ → ℕ → Type 0
+HasListPlace s t size alignment = (number start : ℕ) × IsListPlace (IsFreeInChunk s t) size alignment number start
+
+-- the span is the tail of the last run that has room: all from the last aligned start that leaves the size
+pub record IsRunTail (s : State) (t size alignment number : ℕ) (span : Span) : Type 0 where
+  pub run : FreeListRegion
+  pub last : IsLastWithRoom (IsFreeInChunk s t) size alignment run
+  pub in_chunk : run.chunk ≡ number
+  pub start : span.offset ≡ tail_start size alignment run.end
+  pub end : span.offset + span.size ≡ run.end
+  pub chunk : IsListChunk s t number span.object
+
+-- What a memory type's next free-list chunk has at least, and the number of its latest one; 0 where there is no such type.
+
+abbrev pub list_chunk_of : Option TypeState → ℕ
+list_chunk_of None = 0
+list_chunk_of (Some type) = type.list_chunk
+
+abbrev pub number_of : Option TypeState → ℕ
+number_of None = 0
+number_of (Some type) = type.number
+
+abbrev pub next_list_chunk : State → ℕ → ℕ
+next_list_chunk s t = list_chunk_of (slice_get s.types t)
+
+abbrev pub latest_number : State → ℕ → ℕ
+latest_number s t = number_of (slice_get s.types t)
+
+-- the largest free-list chunk of a memory type
+abbrev pub largest_list_chunk : State → ℕ → ℕ
+largest_list_chunk s t = final_size s.config (heap_size s.properties t) (atom_of s.properties t)
+
+-- what is asked for a chunk of which a block of this size is the tail
+abbrev pub list_question : State → ℕ → ℕ → ChunkQuestion
+list_question s t size = record {
+  size = grown_chunk (next_list_chunk s t) (largest_list_chunk s t) size;
+  memory_type = t;
+  flags = flags_of s.properties;
+  visible = is_host_visible s.properties t;
+}
+
+-- there is a number for one more chunk
+abbrev pub HasListNumber : State → ℕ → Type 0
+HasListNumber s t = latest_number s t + 1 < 2 ^ 64
+
+-- a chunk is asked for: there is no place, one more object may be held, and there is a number for it
+abbrev pub AsksForListChunk : State → ℕ → ℕ → ℕ → Type 0
+AsksForListChunk s t size alignment = (HasListPlace s t size alignment → ⊥) × ((0 < s.remaining) × HasListNumber s t)
+
+-- The candidate is passed: the device, asked exactly for a chunk, had no memory.
+abbrev pub IsPassedByFreeList : State → ℕ → ℕ → ℕ → List Event → Type 0
+IsPassedByFreeList s t size alignment es = AsksForListChunk s t size alignment × LacksDeviceMemory (list_question s t size) es
+
+-- an unmapped block of a free list's chunk
+abbrev pub list_block : State → ℕ → ℕ → Span → Block
+list_block s t number span = record {
+  object = span.object;
+  offset = span.offset;
+  size = span.size;
+  memory_type = t;
+  props = props_at s.properties t;
+  kind = FreeListChunk number;
+  mapping = None;
+}
+
+-- the tail of an object of which nothing is used
+abbrev pub tail_of : ℕ → ℕ → ℕ → ℕ → Span
+tail_of object whole size alignment = record { object = object; offset = tail_start size alignment whole; size = whole - tail_start size alignment whole }
+
+-- a memory type's next free-list chunk will have this size at least, and its latest one has the next number
+unfoldable pub with_next_list : List TypeState → ℕ → ℕ → List TypeState
+with_next_list [] t size = []
+with_next_list (type ∷ types) zero size = record type { list_chunk = size; number = type.number + 1 } ∷ types
+with_next_list (type ∷ types) (suc t) size = type ∷ with_next_list types t size
+
+-- one more free-list chunk is held
+abbrev pub with_list_chunk : State → ℕ → ℕ → ℕ → State
+with_list_chunk s t object size = record s {
+  held = map.insert s.held object (record { memory_type = t; counted = size; kind = FreeListChunk (latest_number s t + 1) });
+  remaining = s.remaining - 1;
+  types = with_next_list s.types t (doubled_chunk (largest_list_chunk s t) size);
+}
+
+-- the block lies in a chunk that was held: nothing is asked
+abbrev pub GivesInRun : State → ℕ → ℕ → ℕ → List Event → ℕ → Span → State → Type 0
+GivesInRun s t size alignment es number span new = IsRunTail s t size alignment number span × ((es ≡ []) × (new ≡ with_span s span))
+
+-- the block is the tail of a new chunk
+abbrev pub GivesInNewRun : State → ℕ → ℕ → ℕ → List Event → ℕ → Span → State → Type 0
+GivesInNewRun s t size alignment es number span new =
+    AsksForListChunk s t size alignment
+    × ((number ≡ latest_number s t + 1)
+    × ((span ≡ tail_of span.object (list_question s t size).size size alignment)
+    × ((es ≡ made (list_question s t size) span.object)
+    × (new ≡ with_span (with_list_chunk s t span.object (list_question s t size).size) span))))
+
+-- What a candidate that is not passed answers to a request for a block of the rounded size.
+abbrev pub DecidesInFreeList : State → ℕ → ℕ → ℕ → List Event → Result Block AllocationError → State → Type 0
+DecidesInFreeList s t size alignment es (Ok b) new =
+    (number : ℕ) × ((b ≡ list_block s t number (span_of b))
+    × (GivesInRun s t size alignment es number (span_of b) new ⊎ GivesInNewRun s t size alignment es number (span_of b) new))
+-- no more objects may be held, or the numbers are spent
+DecidesInFreeList s t size alignment es (Err TooManyObjects) new =
+    (new ≡ s) × ((es ≡ []) × ((HasListPlace s t size alignment → ⊥) × ((s.remaining ≡ 0) ⊎ (HasListNumber s t → ⊥))))
+-- host memory was refused: to the allocator, with a place or a chunk to be asked for, or to the device
+DecidesInFreeList s t size alignment es (Err OutOfHostMemory) new =
+    (new ≡ s) × (((es ≡ []) × (HasListPlace s t size alignment ⊎ ((0 < s.remaining) × HasListNumber s t)))
+    ⊎ (AsksForListChunk s t size alignment × (LacksHostMemory (list_question s t size) es ⊎ IsGivenBack (list_question s t size) es)))
+DecidesInFreeList s t size alignment es (Err OutOfDeviceMemory) new = ⊥
+DecidesInFreeList s t size alignment es (Err NoCompatibleMemoryTypes) new = ⊥

@@ -1,7 +1,0 @@
--- A heap with its ledger.
-use Rattle.std.specs.Prelude.{ℕ}
-use Rattle.gpu_alloc.specs.declared.heap.Heap.{Heap}
-
--- nothing is held of it
-abbrev pub unused : ℕ → Heap
-unused size = record { size = size; used = 0 }

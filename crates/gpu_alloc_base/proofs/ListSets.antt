@@ -1,0 +1,54 @@
+-- The set of a list's elements, as one is added or taken off.
+use Rattle.std.proofs.Common.{◌≡◌, Bool, true, false, ◌⊎◌, inl, inr, List, [], ◌∷◌, ◌++◌, refl, sym, ◌∙◌, subst, Equal}
+use Rattle.std.specs.declared.cmp.Ordering.{Ordering}
+use Rattle.std.specs.Bool.{Decides}
+use Rattle.std.specs.Cmp.{IsTotalOrder, Equal-is}
+use Rattle.std.specs.FinSet as set
+use Rattle.std.specs.List.{Contains}
+use Rattle.std.specs.Ordering.{eq_by_cmp}
+use Rattle.std.proofs.lemmas.Bool.Decides.{same_from_decides, Decides-and, Decides-not, Decides-or}
+use Rattle.std.proofs.lemmas.Cmp.{eq_by_cmp_equiv}
+use Rattle.std.proofs.lemmas.Map.Views.{Contains-from_any, list_any-from_Contains}
+use mathlib.Core.Bool.{true≢false}
+use Rattle.gpu_alloc_base.proofs.Lists.{IsLess}
+
+module _ {K : Type 0} (R : K → K → Ordering) (total : IsTotalOrder R) (exact : (a b : K) → R a b ≡ Equal → a ≡ b) where
+  pub key_test : (a b : K) → Decides (eq_by_cmp R a b) (a ≡ b)
+  key_test a b = (λ h. exact a b ((Equal-is (R a b)).0 h), λ h. subst (λ y. eq_by_cmp R a y ≡ true) h ((eq_by_cmp_equiv total).refl a))
+
+  -- a member of the set is an element of the list
+  pub in_set : (ks : List K) (q : K) → Decides (set.contains (set.from_list {R = R} ks) q) (Contains ks q)
+  in_set ks q =
+      let e = set.contains-from_list total ks q in
+      (λ t. Contains-from_any (λ x y h. (key_test x y).0 h) q ks (sym e ∙ t), λ h. e ∙ list_any-from_Contains (eq_by_cmp_equiv total) q ks h)
+
+  pub in_inserted : (s : set.FinSet R) (k q : K) → Decides (set.contains (set.insert s k) q) ((q ≡ k) ⊎ (set.contains s q ≡ true))
+  in_inserted s k q =
+      let e = set.contains-insert total s k q in
+      let d = Decides-or _ _ (key_test q k) ((λ t. t), λ t. t) in
+      (λ t. d.0 (sym e ∙ t), λ h. e ∙ d.1 h)
+
+  pub in_removed : (s : set.FinSet R) (k q : K) → Decides (set.contains (set.remove s k) q) ((q ≡ k → ⊥) × (set.contains s q ≡ true))
+  in_removed s k q =
+      let e = set.contains-remove total s k q in
+      let d = Decides-and _ _ (Decides-not _ (key_test q k)) ((λ t. t), λ t. t) in
+      (λ t. d.0 (sym e ∙ t), λ h. e ∙ d.1 h)
+
+  -- what was a member is what was removed, or is a member still
+  pub same_or_left : (s : set.FinSet R) (k q : K) → set.contains s q ≡ true → (q ≡ k) ⊎ (set.contains (set.remove s k) q ≡ true)
+  same_or_left s k q has = elim (eq_by_cmp R q k) as (λ b. eq_by_cmp R q k ≡ b → (q ≡ k) ⊎ (set.contains (set.remove s k) q ≡ true)) [
+    | true ↦ λ e. inl ((key_test q k).0 e)
+    | false ↦ λ e. inr ((in_removed s k q).1 ((λ same. true≢false (sym ((key_test q k).1 same) ∙ e)), has))
+  ] refl
+
+  -- an element that is pushed is inserted
+  pub set_push : (ks : List K) (k : K) → set.from_list {R = R} (ks ++ k ∷ []) ≡ set.insert (set.from_list ks) k
+  set_push ks k = set.from_list_push total exact ks k
+
+  -- one that is taken off the list is removed
+  pub set_less : (e : K → K → Bool) (xs ys : List K) (x : K) → (Contains ys x → ⊥) → IsLess e xs ys x → set.from_list {R = R} ys ≡ set.remove (set.from_list xs) x
+  set_less e xs ys x gone l = set.same_set total exact _ _ (λ q.
+      same_from_decides _ _ (in_set ys q) (
+        (λ t. let h = (in_removed (set.from_list xs) x q).0 t in elim (l.cases q ((in_set xs q).0 h.1)) [ inl is ↦ absurd (h.0 is) | inr has ↦ has ]),
+        (λ has. (in_removed (set.from_list xs) x q).1 ((λ is. gone (subst (Contains ys) is has)), (in_set xs q).1 (l.kept q has))),
+      ))

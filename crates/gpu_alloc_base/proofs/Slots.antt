@@ -1,0 +1,44 @@
+-- Live blocks of a free list in their order, and the set of a list of them.
+use Rattle.std.proofs.Common.{◌≡◌, Bool, true, ◌⊎◌, List, Equal}
+use Rattle.std.specs.Bool.{Decides}
+use Rattle.std.specs.Cmp.{IsTotalOrder}
+use Rattle.std.specs.Cmp.Lexicographic.{on_texts}
+use Rattle.std.specs.FinMap.{nat_cmp-IsAntisymmetric, slice_cmp-IsAntisymmetric}
+use Rattle.std.specs.List.{Contains}
+use Rattle.std.specs.Ordering.{eq_by_cmp}
+use Rattle.gpu_alloc_base.specs.Slots.{slot_numbers, slot_cmp}
+use Rattle.gpu_alloc_base.specs.declared.free_list_block.Slot.{Slot}
+use Rattle.gpu_alloc_base.proofs.ListSets.{key_test, in_set, in_inserted, in_removed, same_or_left, set_less}
+use Rattle.gpu_alloc_base.proofs.Lists.{IsLess}
+use Rattle.std.specs.FinSet as set
+
+pub slot_total : IsTotalOrder slot_cmp
+slot_total = on_texts slot_numbers
+
+pub slot_exact : (a b : Slot) → slot_cmp a b ≡ Equal → a ≡ b
+slot_exact a b e =
+    let same : slot_numbers a ≡ slot_numbers b = slice_cmp-IsAntisymmetric nat_cmp-IsAntisymmetric (slot_numbers a) (slot_numbers b) e in
+    let object : a.object ≡ b.object = cc in
+    let chunk : a.chunk ≡ b.chunk = cc in
+    let offset : a.offset ≡ b.offset = cc in
+    let size : a.size ≡ b.size = cc in
+    λ i. record { object = object i; chunk = chunk i; offset = offset i; size = size i }
+
+pub slot_test : (a b : Slot) → Decides (eq_by_cmp slot_cmp a b) (a ≡ b)
+slot_test a b = key_test slot_cmp slot_total slot_exact a b
+
+-- a slot is live exactly where it is in the list
+pub in_slots : (slots : List Slot) (q : Slot) → Decides (set.contains (set.from_list {R = slot_cmp} slots) q) (Contains slots q)
+in_slots slots q = in_set slot_cmp slot_total slot_exact slots q
+
+pub slot_inserted : (s : set.FinSet slot_cmp) (k q : Slot) → Decides (set.contains (set.insert s k) q) ((q ≡ k) ⊎ (set.contains s q ≡ true))
+slot_inserted s k q = in_inserted slot_cmp slot_total slot_exact s k q
+
+pub slot_removed : (s : set.FinSet slot_cmp) (k q : Slot) → Decides (set.contains (set.remove s k) q) ((q ≡ k → ⊥) × (set.contains s q ≡ true))
+slot_removed s k q = in_removed slot_cmp slot_total slot_exact s k q
+
+pub slot_same_or_left : (s : set.FinSet slot_cmp) (k q : Slot) → set.contains s q ≡ true → (q ≡ k) ⊎ (set.contains (set.remove s k) q ≡ true)
+slot_same_or_left s k q has = same_or_left slot_cmp slot_total slot_exact s k q has
+
+pub slots_less : (e : Slot → Slot → Bool) (xs ys : List Slot) (x : Slot) → (Contains ys x → ⊥) → IsLess e xs ys x → set.from_list {R = slot_cmp} ys ≡ set.remove (set.from_list xs) x
+slots_less e xs ys x gone l = set_less slot_cmp slot_total slot_exact e xs ys x gone l

@@ -1,0 +1,14 @@
+-- Chunks: shared objects that an allocator holds.
+use Rattle.std.specs.Prelude.{◌≡◌, ℕ, Bool, Some, IsTrue}
+use Rattle.gpu_alloc_types.specs.Device.{Object}
+
+-- a held chunk: its object's name, and its size
+pub record Chunk : Type 0 where
+  pub object : ℕ
+  pub size : ℕ
+
+-- the device holds a chunk: so large, of the memory type, and mapped whole where the host sees it
+pub record IsThere (memory_type : ℕ) (visible : Bool) (chunk : Chunk) (o : Object) : Type 0 where
+  pub of_type : o.memory_type ≡ memory_type
+  pub of_size : o.size ≡ chunk.size
+  pub mapped : IsTrue visible → o.mapped ≡ Some (0, o.size)

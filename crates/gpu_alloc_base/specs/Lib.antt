@@ -1,0 +1,15 @@
+pub mod AlignMasks
+pub mod Chunks
+pub mod Codes
+pub mod Config
+pub mod Errors
+pub mod FreeRuns
+pub mod FreeSpace
+pub mod Heap
+pub mod Leaves
+pub mod NewChunk
+pub mod Pieces
+pub mod Sizes
+pub mod SlabViews
+pub mod Slots
+pub mod Wanted

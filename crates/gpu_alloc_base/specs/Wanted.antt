@@ -1,0 +1,11 @@
+-- What is asked of an allocator of shared chunks.
+use Rattle.std.specs.Prelude.{ℕ}
+
+-- what is asked of an allocator: some bytes, at a multiple of the alignment, with these flags
+pub record Wanted : Type 0 where
+  pub size : ℕ
+  pub align_mask : ℕ
+  pub flags : ℕ
+
+abbrev pub wanted : ℕ → ℕ → ℕ → Wanted
+wanted size align_mask flags = record { size = size; align_mask = align_mask; flags = flags }

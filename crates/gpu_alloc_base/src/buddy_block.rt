@@ -1,0 +1,119 @@
+//! Blocks of a buddy allocator.
+
+ghost use Rattle.std.specs.Prelude.{◌≡◌};
+
+use gpu_alloc_types::MemoryObject;
+use std::marker::Model;
+
+/// What a live block of a buddy allocator is known by.
+#[derive(Clone, Copy, PartialEq, Eq)]
+pub struct Leaf {
+    /// The name of its chunk's object.
+    pub object: u64,
+
+    /// The key of its chunk.
+    pub chunk: usize,
+
+    /// Where it starts in the object, in bytes.
+    pub offset: u64,
+
+    /// Its size, in bytes.
+    pub size: u64,
+
+    /// Its place in the allocator's own store.
+    pub index: usize,
+}
+
+/// A block of a buddy allocator: a power of two of bytes of one of its chunks, at a multiple of its size. It cannot be let
+/// go, only given back to its allocator.
+pub struct BuddyBlock<M: MemoryObject> {
+    memory: M,
+    chunk: usize,
+    offset: u64,
+    size: u64,
+    index: usize,
+}
+
+impl<M: MemoryObject> Model for BuddyBlock<M> {
+    ghost use Rattle.gpu_alloc_base.specs.declared.buddy_block.Leaf.{Leaf};
+    ghost use Rattle.gpu_alloc_base.specs.Codes.{leaf_code};
+
+    ghost Value = { Leaf };
+
+    ghost coded = { leaf_code };
+
+    ghost view = { λ b. record { object = M.object b.memory; chunk = b.chunk; offset = b.offset; size = b.size; index = b.index } };
+}
+
+impl<M: MemoryObject> BuddyBlock<M> {
+    /// The block with this handle of its chunk's object.
+    pub fn new(memory: M, leaf: Leaf) -> Self
+        requires { leaf.object ≡ M.object memory }
+        ensures { result ≡ leaf }
+    {
+        BuddyBlock {
+            memory,
+            chunk: leaf.chunk,
+            offset: leaf.offset,
+            size: leaf.size,
+            index: leaf.index,
+        }
+    }
+
+    /// Takes the block apart, for its handle and what it was known by.
+    pub fn into_parts(self) -> (M, Leaf)
+        ensures handle { M.object result.0 ≡ self.object }
+        ensures leaf { result.1 ≡ self }
+    {
+        let BuddyBlock {
+            memory,
+            chunk,
+            offset,
+            size,
+            index,
+        } = self;
+        let leaf = Leaf {
+            object: memory.object(),
+            chunk,
+            offset,
+            size,
+            index,
+        };
+        (memory, leaf)
+    }
+
+    /// A handle of the chunk's memory object.
+    pub fn memory(&self) -> &M
+        ensures { M.object result.now ≡ self.now.object }
+    {
+        &self.memory
+    }
+
+    /// Where the block starts in its object, in bytes.
+    pub fn offset(&self) -> u64
+        ensures { result ≡ self.now.offset }
+    {
+        self.offset
+    }
+
+    /// The block's size, in bytes: a power of two.
+    pub fn size(&self) -> u64
+        ensures { result ≡ self.now.size }
+    {
+        self.size
+    }
+
+    /// The key of its chunk in its allocator.
+    pub fn chunk(&self) -> usize
+        ensures { result ≡ self.now.chunk }
+    {
+        self.chunk
+    }
+
+    /// Its place in its allocator's own store: 0, as long as that is a plain list.
+    pub fn index(&self) -> usize
+        ensures { result ≡ self.now.index }
+    {
+        self.index
+    }
+}

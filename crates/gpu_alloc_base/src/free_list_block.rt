@@ -1,0 +1,119 @@
+//! Blocks of a free list.
+
+ghost use Rattle.std.specs.Prelude.{◌≡◌};
+
+use gpu_alloc_types::MemoryObject;
+use std::marker::Model;
+
+/// What a live block of a free list is known by.
+#[derive(Clone, Copy, PartialEq, Eq)]
+pub struct Slot {
+    /// The name of its chunk's object.
+    pub object: u64,
+
+    /// The number of its chunk.
+    pub chunk: u64,
+
+    /// Where it starts in the object, in bytes.
+    pub offset: u64,
+
+    /// Its size, in bytes.
+    pub size: u64,
+}
+
+impl Slot {
+    /// Whether the block comes before another one: by chunk number, then by where each starts.
+    pub fn is_before(&self, other: &Slot) -> bool {
+        (self.chunk, self.offset) < (other.chunk, other.offset)
+    }
+}
+
+/// A block of a free list: the tail of what was a free run of one of its chunks. It cannot be let go, only given back to
+/// its list.
+pub struct FreeListBlock<M: MemoryObject> {
+    memory: M,
+    chunk: u64,
+    offset: u64,
+    size: u64,
+}
+
+impl<M: MemoryObject> Model for FreeListBlock<M> {
+    ghost use Rattle.gpu_alloc_base.specs.declared.free_list_block.Slot.{Slot};
+    ghost use Rattle.gpu_alloc_base.specs.Codes.{slot_code};
+
+    ghost Value = { Slot };
+
+    ghost coded = { slot_code };
+
+    ghost view = { λ b. record { object = M.object b.memory; chunk = b.chunk; offset = b.offset; size = b.size } };
+}
+
+impl<M: MemoryObject> FreeListBlock<M> {
+    /// The block with this handle of its chunk's object.
+    pub fn new(memory: M, slot: Slot) -> Self
+        requires { slot.object ≡ M.object memory }
+        ensures { result ≡ slot }
+    {
+        FreeListBlock {
+            memory,
+            chunk: slot.chunk,
+            offset: slot.offset,
+            size: slot.size,
+        }
+    }
+
+    /// Takes the block apart, for its handle and what it was known by.
+    pub fn into_parts(self) -> (M, Slot)
+        ensures handle { M.object result.0 ≡ self.object }
+        ensures slot { result.1 ≡ self }
+    {
+        let slot = self.slot();
+        let FreeListBlock {
+            memory,
+            chunk: _,
+            offset: _,
+            size: _,
+        } = self;
+        (memory, slot)
+    }
+
+    /// What the block is known by.
+    pub fn slot(&self) -> Slot
+        ensures { result ≡ self.now }
+    {
+        Slot {
+            object: self.memory.object(),
+            chunk: self.chunk,
+            offset: self.offset,
+            size: self.size,
+        }
+    }
+
+    /// A handle of the chunk's memory object.
+    pub fn memory(&self) -> &M
+        ensures { M.object result.now ≡ self.now.object }
+    {
+        &self.memory
+    }
+
+    /// The number of its chunk in its list: at least 1.
+    pub fn chunk(&self) -> u64
+        ensures { result ≡ self.now.chunk }
+    {
+        self.chunk
+    }
+
+    /// Where the block starts in its object, in bytes.
+    pub fn offset(&self) -> u64
+        ensures { result ≡ self.now.offset }
+    {
+        self.offset
+    }
+
+    /// The block's size, in bytes: at least what was asked for.
+    pub fn size(&self) -> u64
+        ensures { result ≡ self.now.size }
+    {
+        self.size
+    }
+}

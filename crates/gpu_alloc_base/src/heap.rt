@@ -1,0 +1,50 @@
+//! A heap's size, and the running ledger of what is held of it.
+
+ghost use Rattle.std.specs.Prelude.{◌≡◌, ◌+◌, ◌-◌, ◌≤◌, ◌<◌, ◌^◌};
+ghost use Rattle.gpu_alloc_base.specs.Heap.{unused};
+
+/// A heap of a device: its size, and how much of it is held.
+#[derive(Clone, Copy, Debug, PartialEq, Eq)]
+pub struct Heap {
+    size: u64,
+    used: u128,
+}
+
+impl Heap {
+    /// A heap of `size` bytes of which nothing is held.
+    pub fn new(size: u64) -> Heap
+        ensures { result ≡ unused size }
+    {
+        Heap { size, used: 0 }
+    }
+
+    /// The heap's size, in bytes.
+    pub fn size(&self) -> u64
+        ensures { result ≡ self.now.size }
+    {
+        self.size
+    }
+
+    /// How many bytes are held of it. They may be more than its size: the device decides what it gives.
+    pub fn used(&self) -> u128
+        ensures { result ≡ self.now.used }
+    {
+        self.used
+    }
+
+    /// Counts `size` bytes more as held. They may be more than the heap's size, and have to stay below 2^128 in all.
+    pub fn alloc(&mut self, size: u64)
+        requires { self.old.used + size < 2 ^ 128 }
+        ensures { self.new ≡ record self.old { used = self.old.used + size } }
+    {
+        self.used += u128::from(size);
+    }
+
+    /// Counts `size` bytes of those that are held as given back. No more than are held may be.
+    pub fn dealloc(&mut self, size: u64)
+        requires { size ≤ self.old.used }
+        ensures { self.new ≡ record self.old { used = self.old.used - size } }
+    {
+        self.used -= u128::from(size);
+    }
+}

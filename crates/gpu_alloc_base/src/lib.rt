@@ -1,0 +1,22 @@
+//! What the buddy allocator and the free list stand on: sizes, ledgers and refusals, the plain values of blocks and of free space,
+//! and new chunks of a device. Users find what is theirs of it in `gpu_alloc`.
+#![tactic(auto)]
+
+mod buddy_block;
+mod config;
+mod error;
+mod free_list_block;
+pub mod heap;
+pub mod laws;
+pub mod new_chunk;
+mod piece;
+mod region;
+pub mod sizes;
+pub mod steps;
+
+pub use buddy_block::{BuddyBlock, Leaf};
+pub use config::Config;
+pub use error::{AllocationError, MapError};
+pub use free_list_block::{FreeListBlock, Slot};
+pub use piece::Piece;
+pub use region::FreeListRegion;

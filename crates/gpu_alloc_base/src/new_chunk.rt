@@ -1,0 +1,82 @@
+//! New shared chunks: an object asked of the device, and mapped whole where the host sees it.
+
+ghost use Rattle.std.specs.Prelude.{◌≡◌, ◌∷◌, [], ◌<◌, List, IsTrue, IfErr};
+ghost use Rattle.std.specs.Result.{result_map_both};
+ghost use Rattle.gpu_alloc_types.specs.Flags.{allocation_bits};
+ghost use Rattle.gpu_alloc_types.specs.Properties.{is_host_visible};
+ghost use Rattle.gpu_alloc_types.specs.Device.{Event, Chain, IsAskable};
+ghost use Rattle.gpu_alloc_base.specs.NewChunk.{AsksChunk, ChunkAfter, AsksChunkTwice, ChunkAfterTwice, chunk_question, new_chunk_refusal};
+
+use crate::AllocationError;
+use gpu_alloc_types::{AllocationFlags, DeviceMapError, MemoryDevice, MemoryObject, OutOfMemory};
+
+/// A refused mapping of a new chunk, as a refusal of the chunk.
+fn refusal_of(cause: DeviceMapError) -> AllocationError
+    ensures { result ≡ new_chunk_refusal cause }
+{
+    match cause {
+        DeviceMapError::OutOfDeviceMemory => AllocationError::OutOfDeviceMemory,
+        DeviceMapError::OutOfHostMemory | DeviceMapError::MapFailed => {
+            AllocationError::OutOfHostMemory
+        }
+    }
+}
+
+/// A new object, mapped whole where `visible` says that the host sees its memory type. An object whose mapping is refused
+/// is given back, so that after a refusal the device holds what it held: `OutOfDeviceMemory` where the device answered so
+/// to the question or to the mapping, and else `OutOfHostMemory`.
+pub fn new_chunk<M: MemoryObject, D: MemoryDevice<M>>(
+    device: &mut D,
+    size: u64,
+    memory_type: u32,
+    flags: AllocationFlags,
+    visible: bool,
+) -> Result<M, AllocationError>
+    requires askable { IsAskable (D.properties device.old) size memory_type (allocation_bits flags) }
+    requires visible { is_host_visible (D.properties device.old) memory_type ≡ visible }
+
+    ensures asks { (es : List Event) × Chain D.step device.old es device.new × AsksChunk (chunk_question size memory_type (allocation_bits flags) visible) es (result_map_both M.object (λ e. e) result) }
+    ensures objects { ChunkAfter (chunk_question size memory_type (allocation_bits flags) visible) (result_map_both M.object (λ e. e) result) (D.objects device.old) (D.objects device.new) }
+    ensures properties { D.properties device.new ≡ D.properties device.old }
+{
+    let memory = match device.allocate_memory(size, memory_type, flags) {
+        Ok(memory) => memory,
+        Err(refusal) => return Err(AllocationError::from(refusal)),
+    };
+    if !visible {
+        return Ok(memory);
+    }
+    match device.map_memory(&memory, 0, size) {
+        Ok(()) => Ok(memory),
+        Err(cause) => {
+            device.deallocate_memory(&memory);
+            Err(refusal_of(cause))
+        }
+    }
+}
+
+/// A new object as [`new_chunk`] makes it, with a second handle of it. Where there is no host memory for that handle the
+/// object is given back, and it is `OutOfHostMemory`.
+pub fn new_chunk_with_handle<M: MemoryObject, D: MemoryDevice<M>>(
+    device: &mut D,
+    size: u64,
+    memory_type: u32,
+    flags: AllocationFlags,
+    visible: bool,
+) -> Result<(M, M), AllocationError>
+    requires askable { IsAskable (D.properties device.old) size memory_type (allocation_bits flags) }
+    requires visible { is_host_visible (D.properties device.old) memory_type ≡ visible }
+
+    ensures asks { (es : List Event) × Chain D.step device.old es device.new × AsksChunkTwice (chunk_question size memory_type (allocation_bits flags) visible) es (result_map_both (λ handles. (M.object handles.0, M.object handles.1)) (λ e. e) result) }
+    ensures objects { ChunkAfterTwice (chunk_question size memory_type (allocation_bits flags) visible) (result_map_both (λ handles. (M.object handles.0, M.object handles.1)) (λ e. e) result) (D.objects device.old) (D.objects device.new) }
+    ensures properties { D.properties device.new ≡ D.properties device.old }
+{
+    let memory = new_chunk(device, size, memory_type, flags, visible)?;
+    match memory.duplicate() {
+        Ok(handle) => Ok((memory, handle)),
+        Err(_) => {
+            device.deallocate_memory(&memory);
+            Err(AllocationError::OutOfHostMemory)
+        }
+    }
+}

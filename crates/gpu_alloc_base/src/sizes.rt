@@ -1,0 +1,26 @@
+//! Powers of two.
+
+ghost use Rattle.std.specs.Prelude.{◌≡◌, ◌≤◌, ◌^◌, IsTrue};
+ghost use Rattle.std.specs.Int.{is_power_of_two};
+ghost use Rattle.gpu_alloc_base.specs.Sizes.{next_power_of_two};
+
+/// The exponent of the least power of two that is not below a number: at most 64.
+pub fn next_order(n: u64) -> u32
+    ensures least { next_power_of_two n ≡ 2 ^ result }
+    ensures bound { result ≤ 64 }
+{
+    let mut order = 0;
+    while order < 64 && (1u64 << order) < n {
+        order += 1;
+    }
+    order
+}
+
+/// The least power of two that is not below a number of at most 2^63.
+pub fn next_power_of_two(n: u64) -> u64
+    requires { n ≤ 2 ^ 63 }
+    ensures is { result ≡ next_power_of_two n }
+    ensures power { IsTrue (is_power_of_two result) }
+{
+    1 << next_order(n)
+}

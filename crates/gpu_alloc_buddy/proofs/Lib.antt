@@ -1,0 +1,9 @@
+pub mod BuddyAnswers
+pub mod BuddyCalls
+pub mod BuddyGrants
+pub mod BuddyReturns
+pub mod KeptPieces
+pub mod OtherHalves
+pub mod PieceHalves
+pub mod PieceReturns
+pub mod PieceSteps

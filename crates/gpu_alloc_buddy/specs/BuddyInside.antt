@@ -1,0 +1,41 @@
+-- What the fields of a buddy allocator keep.
+use Rattle.std.specs.Prelude.{ℕ, ◌+◌, ◌^◌, ◌≤◌, Bool, ◌&&◌, ◌==◌, List, length}
+use Rattle.std.specs.List.{IsDistinct}
+use Rattle.std.specs.FinMap as map
+use Rattle.std.specs.FinSet as set
+use Rattle.std.specs.Ordering.{nat_cmp, eq_by_cmp}
+use Rattle.gpu_alloc_base.specs.Pieces.{AreKept}
+use Rattle.gpu_alloc_buddy.specs.BuddyState.{Buddy, IsFreeAt}
+use Rattle.gpu_alloc_base.specs.Leaves.{leaf_cmp}
+use Rattle.gpu_alloc_base.specs.Chunks.{Chunk}
+use Rattle.gpu_alloc_base.specs.declared.buddy_block.Leaf.{Leaf}
+use Rattle.gpu_alloc_base.specs.declared.piece.Piece.{Piece}
+
+-- a list of live blocks as a set
+abbrev pub leaf_set : List Leaf → set.FinSet leaf_cmp
+leaf_set live = set.from_list live
+
+-- the fields as a contract sees them, the chunks as a map
+abbrev pub buddy_in : map.FinMap nat_cmp Chunk → List Leaf → ℕ → ℕ → ℕ → ℕ → ℕ → Buddy
+buddy_in chunks live next_order minimal memory_type props atom = record {
+  chunks = chunks;
+  live = leaf_set live;
+  next_chunk = 2 ^ next_order;
+  minimal = minimal;
+  memory_type = memory_type;
+  props = props;
+  atom = atom;
+}
+
+abbrev pub same_leaf : Leaf → Leaf → Bool
+same_leaf a b = eq_by_cmp leaf_cmp a b
+
+-- the same, field by field, as a list is searched
+abbrev pub same_fields : Leaf → Leaf → Bool
+same_fields a b = (a.object == b.object) && ((a.chunk == b.chunk) && ((a.offset == b.offset) && ((a.size == b.size) && (a.index == b.index))))
+
+-- the free pieces are kept, no live block stands twice in the list, and there is room for the piece of each return
+pub record IsStored (b : Buddy) (pieces : List Piece) (live : List Leaf) (capacity : ℕ) : Type 0 where
+  pub kept : AreKept pieces (IsFreeAt b)
+  pub once : IsDistinct same_leaf live
+  pub room : length pieces + length live ≤ capacity

@@ -1,0 +1,5 @@
+pub mod Buddy
+pub mod BuddyInside
+pub mod BuddySound
+pub mod BuddyState
+pub mod Codes

@@ -1,0 +1,438 @@
+//! The buddy allocator: shared chunks of one memory type, whose blocks are aligned powers of two.
+
+ghost use Rattle.std.specs.Prelude.{◌≡◌, ℕ, ◌+◌, ◌≤◌, ◌<◌, ◌≢◌, ◌↔◌, ◌^◌, ◌++◌, ◌∷◌, [], max, List, length, IfOk, IfErr, OnOk, OnErr, IfSome, IsSome, IsTrue, Some, None, slice_index_or, vec_len, vec_capacity};
+ghost use Rattle.std.specs.FinMap as map;
+ghost use Rattle.std.specs.FinSet as set;
+ghost use Rattle.gpu_alloc_types.specs.Flags.{allocation_bits, property_bits, has_bit};
+ghost use Rattle.gpu_alloc_types.specs.Device.{Event, Chain};
+ghost use Rattle.std.specs.Int.{is_power_of_two};
+ghost use Rattle.gpu_alloc_buddy.specs.Buddy.{opened, account, rounded, Allocates, Answers, AsksForChunk, BeginsChunk, HasPlace, TakesPlace, RefusesFirst, Frees, ObjectsFreed, IsGranted, with_leaf, with_chunk, in_new_chunk, chunk_size, Agrees, IsCounted, ObjectsAfter, chunks_and_remaining};
+ghost use Rattle.gpu_alloc_base.specs.Wanted.{wanted};
+ghost use Rattle.gpu_alloc_buddy.specs.BuddySound.{IsSound};
+ghost use Rattle.gpu_alloc_buddy.specs.BuddyState.{Buddy, IsLiveLeaf, IsFreeAt};
+ghost use Rattle.gpu_alloc_base.specs.Pieces.{AreKept};
+ghost use Rattle.slab.specs.Slab.{get, Updates, HasRoomFor, slab_len};
+ghost use Rattle.gpu_alloc_base.specs.AlignMasks.{IsAlignMask};
+
+mod pieces;
+mod space;
+
+use gpu_alloc_base::heap::Heap;
+use gpu_alloc_base::new_chunk::new_chunk_with_handle;
+use gpu_alloc_base::sizes::next_order;
+use gpu_alloc_base::{AllocationError, BuddyBlock, Leaf, Piece};
+use gpu_alloc_types::{AllocationFlags, MemoryDevice, MemoryObject, MemoryPropertyFlags};
+use pieces::{bytes, order_of, put_back, shortest, split, take_front};
+use slab::Slab;
+use space::{forget, leaf_of, make_room};
+use std::alloc::{Allocator, Global};
+use std::marker::Model;
+
+/// A held chunk: a handle of its object, and its size as a power of two.
+#[derive(Drop)]
+struct Chunk<M: MemoryObject> {
+    memory: M,
+    order: u32,
+}
+
+/// Gives out blocks of shared chunks of one memory type. It cannot be let go: [`close`](BuddyAllocator::close) ends it.
+///
+/// Between calls each held chunk is of an object of its own, of a power of two of at most 2^63 bytes, and some block in it is
+/// live. Each live block lies whole in its chunk, at a multiple of its size, and no two of them share a byte.
+pub struct BuddyAllocator<M: MemoryObject, A: Allocator = Global> {
+    chunks: Slab<Chunk<M>, A>,
+    pieces: Vec<Piece, A>,
+    live: Vec<Leaf, A>,
+    next_order: u32,
+    minimal_size: u64,
+    memory_type: u32,
+    props: MemoryPropertyFlags,
+    atom: u64,
+}
+
+impl<M: MemoryObject, A: Allocator> Model for BuddyAllocator<M, A> {
+    ghost use Rattle.gpu_alloc_buddy.specs.BuddyState.{Buddy};
+    ghost use Rattle.gpu_alloc_buddy.specs.Codes.{buddy_code};
+
+    ghost Value = { Buddy };
+
+    ghost coded = { buddy_code };
+
+    ghost use Rattle.std.specs.Prelude.{◌^◌, vec_capacity};
+    ghost use Rattle.std.specs.FinSet as set;
+    ghost use Rattle.gpu_alloc_types.specs.Flags.{property_bits};
+    ghost use Rattle.gpu_alloc_base.specs.SlabViews.{by_key};
+    ghost use Rattle.gpu_alloc_buddy.specs.BuddyInside.{IsStored, buddy_in};
+    ghost use Rattle.gpu_alloc_buddy.specs.BuddySound.{IsSound};
+
+    ghost view = { λ a. buddy_in (by_key (λ c. record { object = M.object c.memory; size = 2 ^ c.order }) a.chunks) a.live.items a.next_order a.minimal_size a.memory_type (property_bits a.props) a.atom };
+
+    ghost invariant = { λ a. let b = buddy_in (by_key (λ c. record { object = M.object c.memory; size = 2 ^ c.order }) a.chunks) a.live.items a.next_order a.minimal_size a.memory_type (property_bits a.props) a.atom in IsSound b × IsStored b a.pieces.items a.live.items (vec_capacity a.pieces) };
+}
+
+impl<M: MemoryObject, A: Allocator + Copy> BuddyAllocator<M, A> {
+    /// An allocator that holds nothing, for a memory type with these properties. Each size is in bytes and a power of two, as
+    /// the original crate asserts: no block is smaller than `minimal_size`, and the first chunk has at least the greater of
+    /// `minimal_size` and `initial_dedicated_size`, and at least twice its first block. Block sizes are multiples of
+    /// `atom_mask + 1`, a power of two of at most 2^62.
+    ///
+    /// `alloc` gives the memory of its lists. The only refusal is `OutOfHostMemory`.
+    pub fn new(
+        alloc: A,
+        minimal_size: u64,
+        initial_dedicated_size: u64,
+        memory_type: u32,
+        props: MemoryPropertyFlags,
+        atom_mask: u64,
+    ) -> Result<Self, AllocationError>
+        requires minimal { IsTrue (is_power_of_two minimal_size) }
+        requires initial { IsTrue (is_power_of_two initial_dedicated_size) }
+        requires atom { IsTrue (is_power_of_two (atom_mask + 1)) }
+        requires atom_bound { atom_mask + 1 ≤ 2 ^ 62 }
+        ensures opened { IfOk result (λ b. b ≡ opened minimal_size initial_dedicated_size memory_type (property_bits props) (atom_mask + 1)) }
+        ensures sound { IfOk result IsSound }
+        ensures refused { IfErr result (λ e. e ≡ AllocationError.OutOfHostMemory) }
+    {
+        Ok(BuddyAllocator::empty(
+            alloc,
+            minimal_size,
+            initial_dedicated_size,
+            memory_type,
+            props,
+            atom_mask,
+        ))
+    }
+
+    /// The allocator that `new` gives. It is not refused, since no memory is taken.
+    pub fn empty(
+        alloc: A,
+        minimal_size: u64,
+        initial_dedicated_size: u64,
+        memory_type: u32,
+        props: MemoryPropertyFlags,
+        atom_mask: u64,
+    ) -> Self
+        requires minimal { IsTrue (is_power_of_two minimal_size) }
+        requires initial { IsTrue (is_power_of_two initial_dedicated_size) }
+        requires atom { IsTrue (is_power_of_two (atom_mask + 1)) }
+        requires atom_bound { atom_mask + 1 ≤ 2 ^ 62 }
+        ensures opened { result ≡ opened minimal_size initial_dedicated_size memory_type (property_bits props) (atom_mask + 1) }
+        ensures sound { IsSound result }
+    {
+        BuddyAllocator {
+            chunks: Slab::new(alloc),
+            pieces: Vec::new(alloc),
+            live: Vec::new(alloc),
+            next_order: next_order(initial_dedicated_size.max(minimal_size)),
+            minimal_size,
+            memory_type,
+            props,
+            atom: atom_mask + 1,
+        }
+    }
+}
+
+impl<M: MemoryObject, A: Allocator> BuddyAllocator<M, A> {
+    /// Allocates a block of at least `size` bytes at a multiple of `align_mask + 1`: the front of a shortest free piece
+    /// that is long enough, or, where none is, of a new chunk that the device is asked for with these flags.
+    ///
+    /// The block's size is the least power of two that is not below the size, the alignment, the atom and the least block.
+    /// The block starts at a multiple of its size and lies whole in a held chunk, whose object is its own. A new chunk has
+    /// exactly the greater of twice the block and the size of the latest chunk that was made, which counts even where that
+    /// one is held no more. A chunk that the host sees is mapped whole.
+    /// `heap` is the ledger of the memory type's heap, to which a chunk is added, and `allocations_remains` how many more
+    /// objects may be held, which a chunk lowers.
+    ///
+    /// The size has to be at least 1, `align_mask + 1` a power of two of at most 2^63, the address flag set only where the
+    /// device has the feature, and the device the one that this allocator has served: it has the memory type with the
+    /// properties given to `new`, and each held chunk.
+    ///
+    /// Refusals, after which all is as before: `OutOfDeviceMemory` where a chunk would be of 2^64 bytes or more, and where
+    /// the device answers so; `TooManyObjects` where a chunk is wanted and no more objects may be held; `OutOfHostMemory`
+    /// where the host's memory is refused to the allocator or to the device, and where a chunk cannot be mapped for another
+    /// reason. A chunk that was made is given back then.
+    ///
+    /// `heap` has to count no less than the sum of the held chunks, and at most 2^127 bytes; what remains and the number of
+    /// held chunks have to fit 32 bits together. All but the bound of 2^127 bytes is so again after the call.
+    pub fn alloc<D: MemoryDevice<M>>(
+        &mut self,
+        device: &mut D,
+        size: u64,
+        align_mask: u64,
+        flags: AllocationFlags,
+        heap: &mut Heap,
+        allocations_remains: &mut u32,
+    ) -> Result<BuddyBlock<M>, AllocationError>
+        requires nonempty { 0 < size }
+        requires alignment { IsAlignMask align_mask }
+        requires address { IsTrue (has_bit (allocation_bits flags) 1) → IsTrue (D.properties device.old).buffer_device_address }
+        requires agrees { Agrees self.old (D.properties device.old) (D.objects device.old) }
+        requires counted { IsCounted (account self.old heap.old allocations_remains.old) }
+        requires bound { heap.old.used ≤ 2 ^ 127 }
+
+        // What was asked of the device, the answer, and what changed.
+        ensures allocates { (es : List Event) × Chain D.step device.old es device.new × Allocates (account self.old heap.old allocations_remains.old) (wanted size align_mask (allocation_bits flags)) es result (account self.new heap.new allocations_remains.new) }
+        ensures objects { ObjectsAfter self.old (rounded self.old (wanted size align_mask (allocation_bits flags))) (allocation_bits flags) result (D.objects device.old) (D.objects device.new) }
+        ensures agrees { Agrees self.new (D.properties device.new) (D.objects device.new) }
+        ensures properties { D.properties device.new ≡ D.properties device.old }
+
+        // What follows from it.
+        ensures granted { IfOk result (IsGranted self.old (wanted size align_mask (allocation_bits flags)) self.new) }
+        ensures refused { OnErr result ((self.new ≡ self.old) × ((heap.new ≡ heap.old) × (allocations_remains.new ≡ allocations_remains.old))) }
+        ensures sound { IsSound self.new }
+        ensures counted { IsCounted (account self.new heap.new allocations_remains.new) }
+        ensures total { chunks_and_remaining (account self.new heap.new allocations_remains.new) ≡ chunks_and_remaining (account self.old heap.old allocations_remains.old) }
+    {
+        let order = self.rounded_order(size, align_mask);
+        self.alloc_rounded(device, order, flags, heap, allocations_remains)
+    }
+
+    /// The refusal that `alloc` gives such a request before it takes any memory or asks anything:
+    /// `OutOfDeviceMemory` where a chunk for it would be of 2^64 bytes or more, `TooManyObjects` where a chunk is wanted and
+    /// no more objects may be held. None where it goes further. It takes no memory.
+    pub fn refuses(
+        &self,
+        size: u64,
+        align_mask: u64,
+        heap: &Heap,
+        allocations_remains: u32,
+    ) -> Option<AllocationError>
+        requires nonempty { 0 < size }
+        requires alignment { IsAlignMask align_mask }
+        ensures { (flags : ℕ) → RefusesFirst (account self.now heap.now allocations_remains) (wanted size align_mask flags) result }
+    {
+        let order = self.rounded_order(size, align_mask);
+        if order > 62 {
+            return Some(AllocationError::OutOfDeviceMemory);
+        }
+        if allocations_remains > 0 {
+            return None;
+        }
+        if self.has_place(order) {
+            return None;
+        }
+        Some(AllocationError::TooManyObjects)
+    }
+
+    /// Takes a block back. Free halves are joined, and a chunk in which no other block is live goes back to the device at
+    /// once: then `heap` is lowered by its size, and one more object may be held. It takes no memory and cannot fail.
+    ///
+    /// The block has to be live here, by its object, chunk, offset, size and index, and the device the one that this
+    /// allocator has served. `heap` has to count no less than
+    /// the sum of the held chunks; what remains and the number of held chunks have to fit 32 bits together. Both is so again
+    /// after the call.
+    pub fn dealloc<D: MemoryDevice<M>>(
+        &mut self,
+        device: &mut D,
+        block: BuddyBlock<M>,
+        heap: &mut Heap,
+        allocations_remains: &mut u32,
+    )
+        requires live { IsLiveLeaf self.old block }
+        requires agrees { Agrees self.old (D.properties device.old) (D.objects device.old) }
+        requires counted { IsCounted (account self.old heap.old allocations_remains.old) }
+
+        ensures frees { (es : List Event) × Chain D.step device.old es device.new × Frees (account self.old heap.old allocations_remains.old) block es (account self.new heap.new allocations_remains.new) }
+        ensures objects { ObjectsFreed self.old block (D.objects device.old) (D.objects device.new) }
+        ensures agrees { Agrees self.new (D.properties device.new) (D.objects device.new) }
+        ensures properties { D.properties device.new ≡ D.properties device.old }
+        ensures sound { IsSound self.new }
+        ensures counted { IsCounted (account self.new heap.new allocations_remains.new) }
+        ensures total { chunks_and_remaining (account self.new heap.new allocations_remains.new) ≡ chunks_and_remaining (account self.old heap.old allocations_remains.old) }
+    {
+        let (memory, leaf) = block.into_parts();
+        forget(&mut self.live, leaf);
+        let piece = Piece {
+            chunk: leaf.chunk,
+            start: leaf.offset,
+            order: order_of(leaf.size),
+        };
+        let limit = self.chunks[leaf.chunk].order;
+        if put_back(&mut self.pieces, piece, limit).is_some() {
+            let _ = self.chunks.remove(leaf.chunk);
+            device.deallocate_memory(&memory);
+            heap.dealloc(bytes(limit));
+            *allocations_remains += 1;
+        }
+    }
+
+    /// The size of a held chunk, in bytes.
+    pub fn chunk_size(&self, chunk: usize) -> u64
+        requires { IsSome (map.get self.now.chunks chunk) }
+        ensures { IfSome (map.get self.now.chunks chunk) (λ c. c.size ≡ result) }
+    {
+        bytes(self.chunks[chunk].order)
+    }
+
+    /// Ends an allocator that holds no chunk.
+    pub fn close(self)
+        requires { map.len self.chunks ≡ 0 }
+    {
+        let BuddyAllocator {
+            chunks: _,
+            pieces: _,
+            live: _,
+            next_order: _,
+            minimal_size: _,
+            memory_type: _,
+            props: _,
+            atom: _,
+        } = self;
+    }
+
+    /// The size of a block for a request, as the exponent of a power of two.
+    fn rounded_order(&self, size: u64, align_mask: u64) -> u32
+        requires { IsAlignMask align_mask }
+        ensures least { (flags : ℕ) → rounded self.now (wanted size align_mask flags) ≡ 2 ^ result }
+        ensures bound { result ≤ 64 }
+        ensures sound { IsSound self.now }
+    {
+        let aligned = size.max(align_mask + 1);
+        let least = self.atom.max(self.minimal_size);
+        next_order(aligned.max(least))
+    }
+
+    /// Allocates a block of 2^order bytes.
+    fn alloc_rounded<D: MemoryDevice<M>>(
+        &mut self,
+        device: &mut D,
+        order: u32,
+        flags: AllocationFlags,
+        heap: &mut Heap,
+        allocations_remains: &mut u32,
+    ) -> Result<BuddyBlock<M>, AllocationError>
+        requires address { IsTrue (has_bit (allocation_bits flags) 1) → IsTrue (D.properties device.old).buffer_device_address }
+        requires agrees { Agrees self.old (D.properties device.old) (D.objects device.old) }
+        requires counted { IsCounted (account self.old heap.old allocations_remains.old) }
+        requires bound { heap.old.used ≤ 2 ^ 127 }
+        ensures answers { (es : List Event) × Chain D.step device.old es device.new × Answers (account self.old heap.old allocations_remains.old) (2 ^ order) (allocation_bits flags) es result (account self.new heap.new allocations_remains.new) }
+        ensures objects { ObjectsAfter self.old (2 ^ order) (allocation_bits flags) result (D.objects device.old) (D.objects device.new) }
+        ensures properties { D.properties device.new ≡ D.properties device.old }
+    {
+        if order > 62 {
+            return Err(AllocationError::OutOfDeviceMemory);
+        }
+        match self.take_place(order) {
+            Ok(Some(block)) => return Ok(block),
+            Ok(None) => {}
+            Err(refusal) => return Err(refusal),
+        }
+        if *allocations_remains == 0 {
+            return Err(AllocationError::TooManyObjects);
+        }
+        self.take_chunk(device, order, flags, heap, allocations_remains)
+    }
+
+    /// Whether some free piece is as long as that.
+    fn has_place(&self, order: u32) -> bool
+        ensures { IsTrue result ↔ HasPlace self.now (2 ^ order) }
+    {
+        shortest(self.pieces.as_slice(), order).is_some()
+    }
+
+    /// Takes the front of a shortest free piece that is long enough: none where there is none. It fails only for want of
+    /// host memory.
+    fn take_place(&mut self, order: u32) -> Result<Option<BuddyBlock<M>>, AllocationError>
+        requires { order ≤ 62 }
+        ensures { TakesPlace self.old (2 ^ order) result self.new }
+    {
+        let Some(index) = shortest(self.pieces.as_slice(), order) else {
+            return Ok(None);
+        };
+        if make_room(&mut self.pieces, &mut self.live).is_err() {
+            return Err(AllocationError::OutOfHostMemory);
+        }
+        let memory = match self.chunks[self.pieces[index].chunk].memory.duplicate() {
+            Ok(memory) => memory,
+            Err(_) => return Err(AllocationError::OutOfHostMemory),
+        };
+        let front = take_front(&mut self.pieces, index, order);
+        let leaf = leaf_of(front, memory.object());
+        self.live.push_reserved(leaf);
+        Ok(Some(BuddyBlock::new(memory, leaf)))
+    }
+
+    /// Takes the front of a new chunk, where there is no place.
+    fn take_chunk<D: MemoryDevice<M>>(
+        &mut self,
+        device: &mut D,
+        order: u32,
+        flags: AllocationFlags,
+        heap: &mut Heap,
+        allocations_remains: &mut u32,
+    ) -> Result<BuddyBlock<M>, AllocationError>
+        requires short { order ≤ 62 }
+        requires asks { AsksForChunk (account self.old heap.old allocations_remains.old) (2 ^ order) }
+        requires address { IsTrue (has_bit (allocation_bits flags) 1) → IsTrue (D.properties device.old).buffer_device_address }
+        requires agrees { Agrees self.old (D.properties device.old) (D.objects device.old) }
+        requires counted { IsCounted (account self.old heap.old allocations_remains.old) }
+        requires bound { heap.old.used ≤ 2 ^ 127 }
+        ensures answers { (es : List Event) × Chain D.step device.old es device.new × Answers (account self.old heap.old allocations_remains.old) (2 ^ order) (allocation_bits flags) es result (account self.new heap.new allocations_remains.new) }
+        ensures objects { ObjectsAfter self.old (2 ^ order) (allocation_bits flags) result (D.objects device.old) (D.objects device.new) }
+        ensures properties { D.properties device.new ≡ D.properties device.old }
+    {
+        if make_room(&mut self.pieces, &mut self.live).is_err() {
+            return Err(AllocationError::OutOfHostMemory);
+        }
+        if self.chunks.reserve(1).is_err() {
+            return Err(AllocationError::OutOfHostMemory);
+        }
+        let chunk_order = self.next_order.max(order + 1);
+        let size = bytes(chunk_order);
+        let visible = self.props.intersects(MemoryPropertyFlags::HOST_VISIBLE);
+        let made = new_chunk_with_handle(device, size, self.memory_type, flags, visible);
+        let (memory, handle) = match made {
+            Ok(handles) => handles,
+            Err(refusal) => return Err(refusal),
+        };
+        let leaf = begin_chunk(
+            &mut self.chunks,
+            &mut self.pieces,
+            &mut self.live,
+            Chunk {
+                memory,
+                order: chunk_order,
+            },
+            order,
+        );
+        self.next_order = chunk_order;
+        heap.alloc(size);
+        *allocations_remains -= 1;
+        Ok(BuddyBlock::new(handle, leaf))
+    }
+}
+
+/// Holds a new chunk, and makes a block of its front. Room for both was made.
+fn begin_chunk<M: MemoryObject, A: Allocator>(
+    chunks: &mut Slab<Chunk<M>, A>,
+    pieces: &mut Vec<Piece, A>,
+    live: &mut Vec<Leaf, A>,
+    chunk: Chunk<M>,
+    order: u32,
+) -> Leaf
+    requires order { order < chunk.order }
+    requires bound { chunk.order ≤ 63 }
+    requires chunk_room { HasRoomFor chunks.old 1 }
+    requires room { vec_len pieces.old + 64 ≤ vec_capacity pieces.old }
+    requires live_room { vec_len live.old < vec_capacity live.old }
+    ensures leaf { result ≡ record { object = M.object chunk.memory; chunk = result.chunk; offset = 0; size = 2 ^ order; index = 0 } }
+    ensures key { get chunks.old result.chunk ≡ None }
+    ensures chunks { Updates chunks.old chunks.new result.chunk (Some chunk) }
+    ensures len { slab_len chunks.new ≡ slab_len chunks.old + 1 }
+    ensures kept { (b : Buddy) → map.get b.chunks result.chunk ≡ None → ((leaf : Leaf) → IsLiveLeaf b leaf → leaf.chunk ≢ result.chunk) → AreKept pieces.old.items (IsFreeAt b) → AreKept pieces.new.items (IsFreeAt (with_leaf (with_chunk b result (2 ^ chunk.order)) result)) }
+    ensures live { live.new.items ≡ live.old.items ++ result ∷ [] }
+    ensures count { vec_len pieces.new + order ≡ vec_len pieces.old + chunk.order }
+    ensures capacity { vec_capacity pieces.new ≡ vec_capacity pieces.old }
+{
+    let object = chunk.memory.object();
+    let chunk_order = chunk.order;
+    let key = chunks.insert_reserved(chunk);
+    let whole = Piece {
+        chunk: key,
+        start: 0,
+        order: chunk_order,
+    };
+    let leaf = leaf_of(split(pieces, whole, order), object);
+    live.push_reserved(leaf);
+    leaf
+}

@@ -1,0 +1,7 @@
+//! The buddy allocator of one memory type, on the device that is handed to its calls. Users find it in `gpu_alloc::buddy`.
+#![tactic(auto)]
+
+mod buddy;
+
+pub use buddy::BuddyAllocator;
+pub use gpu_alloc_base::BuddyBlock;

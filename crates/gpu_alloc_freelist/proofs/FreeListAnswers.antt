@@ -1,0 +1,431 @@
+-- What follows from a free list's answer to a request: what is sound stays so, agreement with the device, the totals, and what is
+-- known of the block.
+use Rattle.std.proofs.Common.{◌≡◌, inl, inr, ℕ, ◌+◌, ◌-◌, ◌%◌, ◌<◌, ◌≤◌, Bool, List, [], ◌∷◌, ◌++◌, Option, Some, None, Result, Ok, Err, refl, sym, ◌∙◌, ap, subst, arith}
+use Rattle.std.proofs.lemmas.Bool.{cases_lt, cases_eq}
+use Rattle.std.proofs.lemmas.Nat.{pow_pos}
+use Rattle.std.specs.Prelude.{IfSome, IfOk}
+use Rattle.std.specs.FinMap as map
+use Rattle.gpu_alloc_types.specs.Device.{Object, Event, HeldWith}
+use Rattle.gpu_alloc_types.specs.Device.Event.{Deallocated}
+use Rattle.gpu_alloc_types.specs.Properties.{Properties}
+use Rattle.gpu_alloc_base.specs.Wanted.{Wanted}
+use Rattle.gpu_alloc_base.specs.Chunks.{IsThere, Chunk}
+use Rattle.gpu_alloc_freelist.specs.FreeList.{HasPlace, IsTail, with_slot, with_chunk, first_tail}
+use Rattle.gpu_alloc_freelist.specs.FreeListAllocator.{Account, Agrees, Answers, AsksForChunk, ObjectsAfter, IsGranted, IsCounted, chunk_bytes, chunk_size, next_size, question, sees_chunks, listing_with_slot, rounded, alignment as alignment_of, chunks_and_remaining, IsBarred, RefusesFirst}
+use Rattle.gpu_alloc_freelist.specs.FreeListSound.{IsSound, IsSoundSpace, LiesInChunk}
+use Rattle.gpu_alloc_freelist.specs.FreeListState.{Space, Listing, IsLiveSlot, IsFreeIn}
+use Rattle.gpu_alloc_base.specs.FreeRuns.{AreFree, IsFreeRun, tail_start}
+use Rattle.gpu_alloc_base.specs.FreeSpace.{IsIn, IsMultipleOf, IsPowerOfTwo}
+use Rattle.gpu_alloc_base.specs.NewChunk.{ChunkQuestion, chunk_question, AsksChunk, LacksDeviceMemory, LacksHostMemory, made, HasOneChunkMore}
+use Rattle.gpu_alloc_base.specs.AlignMasks.{IsAlignMask}
+use Rattle.gpu_alloc_base.specs.declared.error.AllocationError.{AllocationError}
+use Rattle.gpu_alloc_base.specs.declared.error.AllocationError.TheVariants.{OutOfDeviceMemory, OutOfHostMemory, NoCompatibleMemoryTypes, TooManyObjects}
+use Rattle.gpu_alloc_base.specs.declared.free_list_block.Slot.{Slot}
+use Rattle.gpu_alloc_base.proofs.Outcomes.{if_some}
+use Rattle.gpu_alloc_freelist.proofs.FreeListSizes.{chunk_size_atoms, chunk_size_bound, chunk_size_enough, next_size_sound}
+use Rattle.gpu_alloc_base.proofs.ChunkSizes.{up_enough}
+use Rattle.gpu_alloc_base.proofs.Sums.{sum_by-insert, len_more}
+use Rattle.gpu_alloc_base.proofs.Maps.{one_value, own_inserted, inserted_cases}
+use Rattle.gpu_alloc_base.proofs.PowersOfTwo.{greater_power, power_of_bit}
+use Rattle.gpu_alloc_freelist.proofs.Spaces.{was_live, now_live, space_with_slot, next_is_new, none_in_next, space_with_chunk}
+use Rattle.gpu_alloc_base.proofs.Multiples.{multiple_down, multiple_from_mod, multiple_of_lower, multiple_rest, mod_from_multiple}
+use Rattle.gpu_alloc_base.proofs.FreeRuns.{tail_below, tail_ends}
+use Rattle.gpu_alloc_base.proofs.NewChunks.{still_held, new_is_there}
+
+-- A block more.
+
+-- the bytes of a block were free
+abbrev pub WasFree : Space → Slot → Type 0
+WasFree s slot = AreFree (IsFreeIn s) slot.chunk slot.offset (slot.offset + slot.size)
+
+-- a block begins and ends at whole atoms
+abbrev pub IsOfAtoms : ℕ → Slot → Type 0
+IsOfAtoms atom slot = IsMultipleOf atom slot.offset × IsMultipleOf atom slot.size
+
+pub sound_with_slot : (l : Listing) (slot : Slot) → IsSound l → LiesInChunk l.space slot → WasFree l.space slot → IsOfAtoms l.atom slot → IsSound (listing_with_slot l slot)
+sound_with_slot l slot s lies free atoms = record {
+  space = space_with_slot l.space slot s.space lies free;
+  one_object = s.one_object;
+  chunks = s.chunks;
+  slots = λ q live. elim (was_live l.space slot q live) [ inl is ↦ subst (IsOfAtoms l.atom) (sym is) atoms | inr was ↦ s.slots q was ];
+  next_chunk = s.next_chunk;
+  final_chunk = s.final_chunk;
+  atom = s.atom;
+}
+
+-- A chunk more.
+
+-- the allocator with one chunk more
+abbrev pub listing_with_chunk : Listing → ℕ → ℕ → Listing
+listing_with_chunk l object whole = record l { space = with_chunk l.space object whole; next_chunk = next_size l whole }
+
+-- no held chunk is of this object
+abbrev pub IsOther : Listing → ℕ → Type 0
+IsOther l object = (k : ℕ) (c : Chunk) → map.get l.space.chunks k ≡ Some c → c.object ≡ object → ⊥
+
+pub sound_with_chunk : (l : Listing) (object whole : ℕ) → IsSound l → IsOther l object → 0 < whole → whole ≤ l.final_chunk → IsMultipleOf l.atom whole → IsSound (listing_with_chunk l object whole)
+sound_with_chunk l object whole s other some fits atoms =
+    let m = l.space.chunks in
+    let number : ℕ = l.space.latest + 1 in
+    let v : Chunk = record { object = object; size = whole } in
+    record {
+      space = space_with_chunk l.space object whole s.space some (omega (arith, fits, s.final_chunk.1));
+      one_object = λ k n c d is_c is_d same. elim (inserted_cases m number v k c is_c) [
+        | inl new_c ↦ elim (inserted_cases m number v n d is_d) [
+          | inl new_d ↦ new_c.0 ∙ sym new_d.0
+          | inr old_d ↦ absurd (other n d old_d (sym same ∙ ap (λ (x : Chunk). x.object) (sym new_c.1)))
+        ]
+        | inr old_c ↦ elim (inserted_cases m number v n d is_d) [
+          | inl new_d ↦ absurd (other k c old_c (same ∙ ap (λ (x : Chunk). x.object) (sym new_d.1)))
+          | inr old_d ↦ s.one_object k n c d old_c old_d same
+        ]
+      ];
+      chunks = λ k c is. elim (inserted_cases m number v k c is) [ inl new ↦ subst (λ (x : Chunk). IsMultipleOf l.atom x.size × (x.size ≤ l.final_chunk)) new.1 (atoms, fits) | inr old ↦ s.chunks k c old ];
+      slots = s.slots;
+      next_chunk = next_size_sound l whole s atoms some;
+      final_chunk = s.final_chunk;
+      atom = s.atom;
+    }
+
+-- Tails.
+
+-- what may be asked of an allocator: a size and an alignment
+pub record IsAskable (l : Listing) (size alignment : ℕ) : Type 0 where
+  pub nonempty : 0 < size
+  pub fits : size ≤ l.final_chunk
+  pub power : IsPowerOfTwo alignment
+  pub aligned : l.atom ≤ alignment
+
+-- a tail starts at whole atoms
+tail_atoms : (l : Listing) (size alignment end : ℕ) → IsSound l → IsAskable l size alignment → IsMultipleOf l.atom (tail_start size alignment end)
+tail_atoms l size alignment end s asked = multiple_of_lower l.atom alignment (tail_start size alignment end) (s.atom.0, s.atom.1.1) asked.power asked.aligned (multiple_down (end - size) alignment)
+
+-- a free run ends at whole atoms: where its chunk does, or where a live block starts
+pub run_ends : (l : Listing) (chunk start end : ℕ) → IsSound l → IsFreeRun (IsFreeIn l.space) chunk start end → IsMultipleOf l.atom end
+run_ends l chunk start end s run =
+    let last = run.free (end - 1) (omega (arith, run.nonempty)) (omega (arith, run.nonempty)) in
+    let never : (end % l.atom ≡ 0 → ⊥) → ⊥ = λ odd.
+    let short : end < last.held.size = elim (cases_lt end last.held.size) [
+      | inl lt ↦ lt
+      | inr ge ↦
+          let same : end ≡ last.held.size = omega (arith, ge, last.inside) in
+          absurd (odd (ap (λ x. x % l.atom) same ∙ mod_from_multiple l.atom last.held.size (s.chunks chunk last.held last.is).0))
+    ] in
+    let next : IsFreeIn l.space chunk end = record {
+      held = last.held;
+      is = last.is;
+      inside = short;
+      unused = λ slot live same in_slot. elim (cases_lt slot.offset end) [
+        | inl before ↦ last.unused slot live same (record { from = omega (arith, before); to = omega (arith, in_slot.to) })
+        | inr not_before ↦
+            let here : end ≡ slot.offset = omega (arith, not_before, in_slot.from) in
+            odd (ap (λ x. x % l.atom) here ∙ mod_from_multiple l.atom slot.offset (s.slots slot live).0)
+      ];
+    } in
+    let longer = run.longest start (end + 1) (λ at from to. elim (cases_lt at end) [
+      | inl lt ↦ run.free at from lt
+      | inr ge ↦ let here : end ≡ at = omega (arith, ge, to) in subst (IsFreeIn l.space chunk) here next
+    ]) (omega arith) (omega arith) in
+    omega (arith, longer.1) in
+    elim (cases_eq (end % l.atom) 0) [
+      | inl none ↦ multiple_from_mod l.atom end none
+      | inr some ↦ absurd (never some)
+    ]
+
+-- the tail of a run
+
+pub tail_enough : (s : Space) (size alignment : ℕ) (slot : Slot) → IsTail s size alignment slot → size ≤ slot.size
+tail_enough s size alignment slot tail = omega (arith, tail.start, tail.end, tail_below size alignment tail.run.end, tail.last.room.enough)
+
+pub tail_free : (s : Space) (size alignment : ℕ) (slot : Slot) → IsTail s size alignment slot → WasFree s slot
+tail_free s size alignment slot tail at low high =
+    subst (λ k. IsFreeIn s k at) (sym tail.chunk) (tail.last.run.free at (omega (arith, low, tail.start, tail.last.room.from)) (omega (arith, high, tail.end)))
+
+pub tail_lies : (s : Space) (size alignment : ℕ) (slot : Slot) → 0 < size → IsTail s size alignment slot → LiesInChunk s slot
+tail_lies s size alignment slot some tail =
+    let enough = tail_enough s size alignment slot tail in
+    let last = tail_free s size alignment slot tail (slot.offset + slot.size - 1) (omega (arith, some, enough)) (omega (arith, some, enough)) in
+    let same = one_value _ last.held tail.object.0 last.is tail.object.1 in
+    record {
+      chunk = tail.object.0;
+      held = tail.object.1;
+      object = tail.object.2;
+      nonempty = omega (arith, some, enough);
+      inside = omega (arith, some, enough, last.inside, ap (λ (c : Chunk). c.size) same);
+    }
+
+pub tail_of_atoms : (l : Listing) (size alignment : ℕ) (slot : Slot) → IsSound l → IsAskable l size alignment → IsTail l.space size alignment slot → IsOfAtoms l.atom slot
+tail_of_atoms l size alignment slot s asked tail =
+    let start = subst (IsMultipleOf l.atom) (sym tail.start) (tail_atoms l size alignment tail.run.end s asked) in
+    (start, multiple_rest l.atom slot.offset slot.size start (subst (IsMultipleOf l.atom) (sym tail.end) (run_ends l tail.run.chunk tail.run.start tail.run.end s tail.last.run)))
+
+pub sound_with_tail : (l : Listing) (size alignment : ℕ) (slot : Slot) → IsSound l → IsAskable l size alignment → IsTail l.space size alignment slot → IsSound (listing_with_slot l slot)
+sound_with_tail l size alignment slot s asked tail =
+    sound_with_slot l slot s (tail_lies l.space size alignment slot asked.nonempty tail) (tail_free l.space size alignment slot tail) (tail_of_atoms l size alignment slot s asked tail)
+
+-- and of a new chunk
+
+module _ (s : Space) (object whole size alignment : ℕ) where
+  abbrev first : Slot
+  first = first_tail s object whole size alignment
+
+  pub first_enough : size ≤ whole → size ≤ first.size
+  first_enough fits = omega (arith, fits, tail_below size alignment whole)
+
+  pub first_free : IsSoundSpace s → WasFree (with_chunk s object whole) first
+  first_free k at low high = record {
+    held = record { object = object; size = whole };
+    is = own_inserted s.chunks (s.latest + 1) (record { object = object; size = whole });
+    inside = omega (arith, high, tail_below size alignment whole);
+    unused = λ q live same. absurd (none_in_next s k q live same);
+  }
+
+  pub first_lies : 0 < size → size ≤ whole → LiesInChunk (with_chunk s object whole) first
+  first_lies some fits = record {
+    chunk = record { object = object; size = whole };
+    held = own_inserted s.chunks (s.latest + 1) (record { object = object; size = whole });
+    object = refl;
+    nonempty = omega (arith, some, first_enough fits);
+    inside = omega (arith, tail_below size alignment whole);
+  }
+
+pub first_of_atoms : (l : Listing) (object whole size alignment : ℕ) → IsSound l → IsAskable l size alignment → IsMultipleOf l.atom whole → IsOfAtoms l.atom (first_tail l.space object whole size alignment)
+first_of_atoms l object whole size alignment s asked atoms =
+    let start = tail_atoms l size alignment whole s asked in
+    let end : tail_start size alignment whole + (whole - tail_start size alignment whole) ≡ whole = tail_ends size alignment whole in
+    (start, multiple_rest l.atom (tail_start size alignment whole) (whole - tail_start size alignment whole) start (subst (IsMultipleOf l.atom) (sym end) atoms))
+
+-- The object of a new chunk.
+
+-- it is no held chunk's
+pub other_objects : (l : Listing) (p : Properties) (objects : ℕ → Option Object) (object : ℕ) → Agrees l p objects → objects object ≡ None → IsOther l object
+other_objects l p objects object agrees none k c is same =
+    let there = if_some (λ chunk. HeldWith objects chunk.object (IsThere l.memory_type (sees_chunks l) chunk)) (map.get l.space.chunks k) c is (agrees.holds k) in
+    let here : objects object ≡ Some there.0 = subst (λ n. objects n ≡ Some there.0) same there.1 in
+    cc
+
+-- the allocator with a block in a new chunk
+abbrev pub listing_in_new_chunk : Listing → ℕ → ℕ → ℕ → Listing
+listing_in_new_chunk l object size alignment = listing_with_slot (listing_with_chunk l object (chunk_size l size)) (first_tail l.space object (chunk_size l size) size alignment)
+
+pub sound_in_new_chunk : (l : Listing) (object size alignment : ℕ) → IsSound l → IsOther l object → IsAskable l size alignment → IsSound (listing_in_new_chunk l object size alignment)
+sound_in_new_chunk l object size alignment s other asked =
+    let whole : ℕ = chunk_size l size in
+    let enough = chunk_size_enough l size s asked.nonempty asked.fits in
+    let atoms = chunk_size_atoms l size s in
+    sound_with_slot (listing_with_chunk l object whole) (first_tail l.space object whole size alignment)
+    (sound_with_chunk l object whole s other (omega (arith, enough, asked.nonempty)) (chunk_size_bound l size s) atoms)
+    (first_lies l.space object whole size alignment asked.nonempty enough)
+    (first_free l.space object whole size alignment s.space)
+    (first_of_atoms l object whole size alignment s asked atoms)
+
+-- a tail of a held chunk has not the number of a new one
+pub never_both : (s : Space) (size alignment : ℕ) (slot : Slot) → IsSoundSpace s → IsTail s size alignment slot → slot.chunk ≡ s.latest + 1 → ⊥
+never_both s size alignment slot k tail new = omega (arith, (k.numbers slot.chunk tail.object.0 tail.object.1).1, new)
+
+-- What is sound stays so.
+
+-- nothing changes where it is refused
+pub refused_keeps : (a new : Account) (size alignment flags : ℕ) (es : List Event) (e : AllocationError) → Answers a size alignment flags es (Err e) new → new ≡ a
+refused_keeps a new size alignment flags es OutOfDeviceMemory refused = refused.0
+refused_keeps a new size alignment flags es OutOfHostMemory refused = refused.0
+refused_keeps a new size alignment flags es NoCompatibleMemoryTypes refused = absurd refused
+refused_keeps a new size alignment flags es TooManyObjects refused = refused.0
+
+-- after every answer
+pub answers_sound : (a new : Account) (size alignment flags : ℕ) (es : List Event) (answer : Result Slot AllocationError) (p : Properties) (f g : ℕ → Option Object) → IsSound a.listing → Agrees a.listing p f
+    → IsAskable a.listing size alignment → Answers a size alignment flags es answer new → ObjectsAfter a.listing size alignment flags answer f g → IsSound new.listing
+answers_sound a new size alignment flags es (Ok slot) p f g s agrees asked (inl tail) objects =
+    rw (tail.1.1) (sound_with_tail a.listing size alignment slot s asked tail.0)
+answers_sound a new size alignment flags es (Ok slot) p f g s agrees asked (inr begins) (inl made) =
+    rw (begins.1.1.1) (sound_in_new_chunk a.listing slot.object size alignment s (other_objects a.listing p f slot.object agrees made.1.0) asked)
+answers_sound a new size alignment flags es (Ok slot) p f g s agrees asked (inr begins) (inr kept) = absurd (never_both a.listing.space size alignment slot s.space kept.0 (ap (λ (q : Slot). q.chunk) begins.1.0))
+answers_sound a new size alignment flags es (Err e) p f g s agrees asked refused objects = rw (refused_keeps a new size alignment flags es e refused) s
+
+-- Agreement with the device.
+
+-- it holds with a block more
+pub agrees_with_slot : (l : Listing) (slot : Slot) (p : Properties) (f : ℕ → Option Object) → Agrees l p f → Agrees (listing_with_slot l slot) p f
+agrees_with_slot l slot p f a = record { known = a.known; props = a.props; holds = a.holds }
+
+abbrev IsHeldChunk : Listing → (ℕ → Option Object) → Chunk → Type 0
+IsHeldChunk l g chunk = HeldWith g chunk.object (IsThere l.memory_type (sees_chunks l) chunk)
+
+-- and with a chunk more
+pub agrees_with_chunk : (l : Listing) (object size flags : ℕ) (p : Properties) (f g : ℕ → Option Object) → Agrees l p f → HasOneChunkMore (question l size flags) object f g → Agrees (listing_with_chunk l object (chunk_size l size)) p g
+agrees_with_chunk l object size flags p f g a more = record {
+  known = a.known;
+  props = a.props;
+  holds = λ k. all_held k (map.get (map.insert l.space.chunks (l.space.latest + 1) (record { object = object; size = chunk_size l size })) k) refl;
+}
+  where
+    all_held : (k : ℕ) (found : Option Chunk) → map.get (map.insert l.space.chunks (l.space.latest + 1) (record { object = object; size = chunk_size l size })) k ≡ found → IfSome found (IsHeldChunk l g)
+    all_held k None e = tt
+    all_held k (Some chunk) e = elim (inserted_cases l.space.chunks (l.space.latest + 1) (record { object = object; size = chunk_size l size }) k chunk e) [
+      | inl new ↦ subst (IsHeldChunk l g) new.1 (new_is_there (question l size flags) (record { object = object; size = chunk_size l size }) f g more refl)
+      | inr old ↦ still_held (question l size flags) object f g (IsThere l.memory_type (sees_chunks l) chunk) chunk.object more
+          (if_some (λ c. HeldWith f c.object (IsThere l.memory_type (sees_chunks l) c)) (map.get l.space.chunks k) chunk old (a.holds k))
+    ]
+
+-- after every answer
+pub answers_agree : (a new : Account) (size alignment flags : ℕ) (es : List Event) (answer : Result Slot AllocationError) (p now : Properties) (f g : ℕ → Option Object) → IsSound a.listing → Agrees a.listing p f → now ≡ p
+    → Answers a size alignment flags es answer new → ObjectsAfter a.listing size alignment flags answer f g → Agrees new.listing now g
+answers_agree a new size alignment flags es (Ok slot) p now f g s agrees same (inl tail) (inl made) = absurd (never_both a.listing.space size alignment slot s.space tail.0 made.0)
+answers_agree a new size alignment flags es (Ok slot) p now f g s agrees same (inl tail) (inr kept) =
+    rw (tail.1.1, same, kept.1) (agrees_with_slot a.listing slot p f agrees)
+answers_agree a new size alignment flags es (Ok slot) p now f g s agrees same (inr begins) (inl made) =
+    rw (begins.1.1.1, same) (agrees_with_slot (listing_with_chunk a.listing slot.object (chunk_size a.listing size)) (first_tail a.listing.space slot.object (chunk_size a.listing size) size alignment) p g
+    (agrees_with_chunk a.listing slot.object size flags p f g agrees made.1))
+answers_agree a new size alignment flags es (Ok slot) p now f g s agrees same (inr begins) (inr kept) = absurd (never_both a.listing.space size alignment slot s.space kept.0 (ap (λ (q : Slot). q.chunk) begins.1.0))
+answers_agree a new size alignment flags es (Err OutOfDeviceMemory) p now f g s agrees same refused kept = rw (refused.0, same, kept) agrees
+answers_agree a new size alignment flags es (Err OutOfHostMemory) p now f g s agrees same refused kept = rw (refused.0, same, kept) agrees
+answers_agree a new size alignment flags es (Err NoCompatibleMemoryTypes) p now f g s agrees same refused kept = absurd refused
+answers_agree a new size alignment flags es (Err TooManyObjects) p now f g s agrees same refused kept = rw (refused.0, same, kept) agrees
+
+-- Chunks and what remains.
+
+pub answers_total : (a new : Account) (size alignment flags : ℕ) (es : List Event) (answer : Result Slot AllocationError) → IsSound a.listing → Answers a size alignment flags es answer new
+    → chunks_and_remaining new ≡ chunks_and_remaining a
+answers_total a new size alignment flags es (Ok slot) s (inl tail) = ap chunks_and_remaining tail.1.1
+answers_total a new size alignment flags es (Ok slot) s (inr begins) =
+    let more = len_more a.listing.space.chunks (a.listing.space.latest + 1) (record { object = slot.object; size = chunk_size a.listing size }) (next_is_new a.listing.space s.space) in
+    ap chunks_and_remaining begins.1.1.1 ∙ omega (arith, more, begins.0.1.0)
+answers_total a new size alignment flags es (Err e) s refused = ap chunks_and_remaining (refused_keeps a new size alignment flags es e refused)
+
+-- the ledger counts each held chunk still
+answers_bytes : (a new : Account) (size alignment flags : ℕ) (es : List Event) (answer : Result Slot AllocationError) → IsSound a.listing → chunk_bytes a.listing ≤ a.heap.used → Answers a size alignment flags es answer new
+    → chunk_bytes new.listing ≤ new.heap.used
+answers_bytes a new size alignment flags es (Ok slot) s counted (inl tail) = rw (tail.1.1) counted
+answers_bytes a new size alignment flags es (Ok slot) s counted (inr begins) =
+    let more = sum_by-insert (λ e. e.1.size) a.listing.space.chunks (a.listing.space.latest + 1) (record { object = slot.object; size = chunk_size a.listing size }) (next_is_new a.listing.space s.space) in
+    rw (begins.1.1.1) (omega (arith, more, counted))
+answers_bytes a new size alignment flags es (Err e) s counted refused = rw (refused_keeps a new size alignment flags es e refused) counted
+
+pub answers_counted : (a new : Account) (size alignment flags : ℕ) (es : List Event) (answer : Result Slot AllocationError) → IsSound a.listing → IsCounted a → Answers a size alignment flags es answer new → IsCounted new
+answers_counted a new size alignment flags es answer s counted answers = record {
+  chunks = answers_bytes a new size alignment flags es answer s counted.chunks answers;
+  objects = omega (arith, answers_total a new size alignment flags es answer s answers, counted.objects);
+}
+
+-- What is known of the block.
+
+-- a size and an alignment are those of a request, rounded
+pub record IsRoundedTo (l : Listing) (w : Wanted) (size alignment : ℕ) : Type 0 where
+  pub enough : w.size ≤ size
+  pub power : IsPowerOfTwo (w.align_mask + 1)
+  pub aligned : w.align_mask + 1 ≤ alignment
+  pub asked : IsAskable l size alignment
+
+-- where a tail starts
+starts_aligned : (l : Listing) (w : Wanted) (size alignment end at : ℕ) → IsRoundedTo l w size alignment → at ≡ tail_start size alignment end → at % (w.align_mask + 1) ≡ 0
+starts_aligned l w size alignment end at r is =
+    mod_from_multiple (w.align_mask + 1) at
+    (subst (IsMultipleOf (w.align_mask + 1)) (sym is) (multiple_of_lower (w.align_mask + 1) alignment (tail_start size alignment end) r.power r.asked.power r.aligned (multiple_down (end - size) alignment)))
+
+-- what follows of a live block, once all is sound
+granted_now : (old : Listing) (w : Wanted) (now new : Listing) (slot : Slot) → new ≡ now → IsSound new → IsLiveSlot now.space slot → now.atom ≡ old.atom → w.size ≤ slot.size → slot.offset % (w.align_mask + 1) ≡ 0
+    → ((other : Slot) → IsLiveSlot old.space other → other.object ≡ slot.object → (at : ℕ) → IsIn other.offset other.size at → IsIn slot.offset slot.size at → ⊥)
+    → IsGranted old w new slot
+granted_now old w now new slot is sound live atom enough aligned was_free =
+    let s : IsSound now = subst IsSound is sound in
+    let there = s.space.inside slot live in
+    let atoms = subst (λ n. IsOfAtoms n slot) atom (s.slots slot live) in
+    rw is (record {
+      enough = enough;
+      aligned = aligned;
+      whole_atoms = (mod_from_multiple old.atom slot.offset atoms.0, mod_from_multiple old.atom slot.size atoms.1);
+      inside = (there.chunk, there.held, (there.object, there.inside));
+      live = live;
+      was_free = was_free;
+    })
+
+pub answers_granted : (a new : Account) (w : Wanted) (size alignment flags : ℕ) (es : List Event) (answer : Result Slot AllocationError) (p : Properties) (f g : ℕ → Option Object) → IsSound a.listing → Agrees a.listing p f
+    → IsRoundedTo a.listing w size alignment → Answers a size alignment flags es answer new → ObjectsAfter a.listing size alignment flags answer f g → IfOk answer (IsGranted a.listing w new.listing)
+answers_granted a new w size alignment flags es (Ok slot) p f g s agrees r (inl tail) objects =
+    let t = tail.0 in
+    let sound = answers_sound a new size alignment flags es (Ok slot) p f g s agrees r.asked (inl tail) objects in
+    granted_now a.listing w (listing_with_slot a.listing slot) new.listing slot (ap (λ (x : Account). x.listing) tail.1.1) sound (now_live a.listing.space slot) refl
+    (omega (arith, r.enough, tail_enough a.listing.space size alignment slot t)) (starts_aligned a.listing w size alignment t.run.end slot.offset r t.start)
+    (λ other live same at in_other in_slot.
+    let there = s.space.inside other live in
+    let chunk = s.one_object other.chunk slot.chunk there.chunk t.object.0 there.held t.object.1 (sym there.object ∙ same ∙ t.object.2) in
+    (tail_free a.listing.space size alignment slot t at in_slot.from in_slot.to).unused other live chunk in_other)
+answers_granted a new w size alignment flags es (Ok slot) p f g s agrees r (inr begins) (inl made) =
+    let whole : ℕ = chunk_size a.listing size in
+    let is = begins.1.0 in
+    let sound = answers_sound a new size alignment flags es (Ok slot) p f g s agrees r.asked (inr begins) (inl made) in
+    let first = first_tail a.listing.space slot.object whole size alignment in
+    let fits = chunk_size_enough a.listing size s r.asked.nonempty r.asked.fits in
+    granted_now a.listing w (listing_in_new_chunk a.listing slot.object size alignment) new.listing slot (ap (λ (x : Account). x.listing) begins.1.1.1) sound
+    (subst (IsLiveSlot (with_slot (with_chunk a.listing.space slot.object whole) first)) (sym is) (now_live (with_chunk a.listing.space slot.object whole) first)) refl
+    (omega (arith, r.enough, first_enough a.listing.space slot.object whole size alignment fits, ap (λ (q : Slot). q.size) is)) (starts_aligned a.listing w size alignment whole slot.offset r (ap (λ (q : Slot). q.offset) is))
+    (λ other live same at in_other in_slot.
+    let there = s.space.inside other live in
+    other_objects a.listing p f slot.object agrees made.1.0 other.chunk there.chunk there.held (sym there.object ∙ same))
+answers_granted a new w size alignment flags es (Ok slot) p f g s agrees r (inr begins) (inr kept) = absurd (never_both a.listing.space size alignment slot s.space kept.0 (ap (λ (q : Slot). q.chunk) begins.1.0))
+answers_granted a new w size alignment flags es (Err e) p f g s agrees r answers objects = tt
+
+-- What is looked for.
+
+pub askable : (l : Listing) (size mask : ℕ) → 0 < size → size ≤ l.final_chunk → IsAlignMask mask → l.atom ≤ mask + 1 → IsAskable l size (mask + 1)
+askable l size mask some fits is_mask aligned = record { nonempty = some; fits = fits; power = power_of_bit (mask + 1) is_mask.power; aligned = aligned }
+
+-- what a request is rounded to
+pub rounds : (l : Listing) (w : Wanted) (size alignment : ℕ) → size ≡ rounded l w → alignment ≡ alignment_of l w → IsSound l → 0 < w.size → rounded l w ≤ l.final_chunk → IsAlignMask w.align_mask → IsRoundedTo l w size alignment
+rounds l w size alignment size_is alignment_is s some fits mask =
+    let atom : IsPowerOfTwo l.atom = (s.atom.0, s.atom.1.1) in
+    let enough = up_enough w.size l.atom some (omega (arith, s.atom.1.1, pow_pos s.atom.0)) in
+    let power = power_of_bit (w.align_mask + 1) mask.power in
+    record {
+      enough = omega (arith, enough, size_is);
+      power = power;
+      aligned = omega (arith, alignment_is);
+      asked = record {
+        nonempty = omega (arith, some, enough, size_is);
+        fits = omega (arith, fits, size_is);
+        power = subst IsPowerOfTwo (sym alignment_is) (greater_power (w.align_mask + 1) l.atom power atom);
+        aligned = omega (arith, alignment_is);
+      };
+    }
+
+-- Refusals before anything is done.
+
+pub refuses_nothing : (a : Account) (w : Wanted) (size alignment : ℕ) → size ≡ rounded a.listing w → alignment ≡ alignment_of a.listing w → HasPlace a.listing.space size alignment → RefusesFirst a w None
+refuses_nothing a w size alignment size_is alignment_is place = inl (subst (HasPlace a.listing.space (rounded a.listing w)) alignment_is (subst (λ n. HasPlace a.listing.space n alignment) size_is place))
+
+pub refuses_count : (a : Account) (w : Wanted) (size alignment : ℕ) → size ≡ rounded a.listing w → alignment ≡ alignment_of a.listing w → (HasPlace a.listing.space size alignment → ⊥) → IsBarred a
+    → RefusesFirst a w (Some TooManyObjects)
+refuses_count a w size alignment size_is alignment_is none barred =
+    ((λ place. none (subst (λ n. HasPlace a.listing.space n alignment) (sym size_is) (subst (HasPlace a.listing.space (rounded a.listing w)) (sym alignment_is) place))), barred)
+
+-- A new chunk, step by step.
+
+-- what the device is asked for it
+pub question_is : (l : Listing) (size whole flags : ℕ) (visible : Bool) → whole ≡ chunk_size l size → visible ≡ sees_chunks l → chunk_question whole l.memory_type flags visible ≡ question l size flags
+question_is l size whole flags visible whole_is sees = λ i. record { size = whole_is i; memory_type = l.memory_type; flags = flags; visible = sees i }
+
+-- its refusal, as the answer to a request for a block in it
+pub refused_chunk : (a new : Account) (size alignment flags : ℕ) (es : List Event) (q : ChunkQuestion) (e : AllocationError) → q ≡ question a.listing size flags → new ≡ a → AsksForChunk a size alignment → AsksChunk q es (Err e)
+    → Answers a size alignment flags es (Err e) new
+refused_chunk a new size alignment flags es q OutOfDeviceMemory is same asks lacks = (same, (asks, subst (λ x. LacksDeviceMemory x es) is lacks))
+refused_chunk a new size alignment flags es q OutOfHostMemory is same asks lacks = (same, inr (asks, inl (subst (λ x. LacksHostMemory x es) is lacks)))
+refused_chunk a new size alignment flags es q NoCompatibleMemoryTypes is same asks lacks = absurd lacks
+refused_chunk a new size alignment flags es q TooManyObjects is same asks lacks = absurd lacks
+
+-- it is given back for want of a second handle
+pub handle_refused : (a new : Account) (size alignment flags object name : ℕ) (es : List Event) (q : ChunkQuestion) → q ≡ question a.listing size flags → new ≡ a → AsksForChunk a size alignment → es ≡ made q object → name ≡ object
+    → Answers a size alignment flags (es ++ Deallocated name ∷ []) (Err OutOfHostMemory) new
+handle_refused a new size alignment flags object name es q is same asks es_is name_is =
+    (same, inr (asks, inr (object, ap (λ x. es ++ Deallocated x ∷ []) name_is ∙ ap (λ xs. xs ++ Deallocated object ∷ []) (es_is ∙ ap (λ x. made x object) is))))
+
+-- the allocator with a block in it
+pub grown_is : (l : Listing) (s now : Space) (slot : Slot) (object whole next size alignment : ℕ) → s ≡ l.space → slot ≡ first_tail s object whole size alignment → now ≡ with_slot (with_chunk s object whole) slot
+    → whole ≡ chunk_size l size → next ≡ next_size l whole → record l { space = now; next_chunk = next } ≡ listing_in_new_chunk l object size alignment
+grown_is l s now slot object whole next size alignment s_is slot_is now_is whole_is next_is =
+    let space : now ≡ with_slot (with_chunk l.space object (chunk_size l size)) (first_tail l.space object (chunk_size l size) size alignment) =
+    now_is
+    ∙ ap (with_slot (with_chunk s object whole)) slot_is
+    ∙ ap (λ x. with_slot (with_chunk x object whole) (first_tail x object whole size alignment)) s_is
+    ∙ ap (λ n. with_slot (with_chunk l.space object n) (first_tail l.space object n size alignment)) whole_is in
+    let next_one : next ≡ next_size l (chunk_size l size) = next_is ∙ ap (next_size l) whole_is in
+    λ i. record l { space = space i; next_chunk = next_one i }

@@ -1,0 +1,59 @@
+-- A free list and its allocator that hold nothing.
+use Rattle.std.proofs.Common.{◌≡◌, ℕ, ◌<◌, ◌≤◌, ◌^◌, [], None, Some, arith}
+use Rattle.std.specs.FinMap as map
+use Rattle.std.specs.List.{IsDistinct}
+use Rattle.std.specs.Ordering.{nat_cmp}
+use Rattle.gpu_alloc_base.specs.FreeSpace.{IsPowerUpTo, IsMultipleOf}
+use Rattle.gpu_alloc_base.specs.Chunks.{Chunk}
+use Rattle.gpu_alloc_freelist.specs.FreeList.{no_space}
+use Rattle.gpu_alloc_freelist.specs.FreeListAllocator.{opened}
+use Rattle.gpu_alloc_freelist.specs.FreeListInside.{IsListed}
+use Rattle.gpu_alloc_freelist.specs.FreeListSound.{IsSoundSpace, IsSound}
+use Rattle.gpu_alloc_freelist.specs.FreeListState.{IsLiveSlot}
+use Rattle.gpu_alloc_base.specs.declared.free_list_block.Slot.{Slot}
+use Rattle.gpu_alloc_base.proofs.Lists.{contains_none}
+use Rattle.gpu_alloc_base.proofs.Slots.{in_slots}
+
+none_live : (slot : Slot) → IsLiveSlot no_space slot → ⊥
+none_live slot live = contains_none slot ((in_slots [] slot).0 live)
+
+none_held : (k : ℕ) (chunk : Chunk) → map.get no_space.chunks k ≡ Some chunk → ⊥
+none_held k chunk is = let none : map.get no_space.chunks k ≡ None = map.get-empty nat_cmp k in cc
+
+pub sound_space : IsSoundSpace no_space
+sound_space = record {
+  numbers = λ k c is. absurd (none_held k c is);
+  sizes = λ k c is. absurd (none_held k c is);
+  inside = λ slot live. absurd (none_live slot live);
+  apart = λ x y x_live y_live same at in_x in_y. absurd (none_live x x_live);
+}
+
+-- no byte is free, and there are no runs
+pub listed_none : (capacity : ℕ) → IsListed no_space [] [] capacity
+unfolding IsDistinct
+listed_none capacity = record {
+  sound = sound_space;
+  runs = record {
+    spaced = record {
+      nonempty = λ r has. absurd (contains_none r has);
+      apart = λ r s has_r has_s same from to. absurd (contains_none r has_r);
+      free = λ r has at from to. absurd (contains_none r has);
+      covers = λ chunk at free. absurd (none_held chunk free.held free.is);
+    };
+    rising = λ i j d less within. absurd (omega arith);
+  };
+  once = tt;
+  room = omega arith;
+}
+
+-- sizes of whole atoms, the largest of which is no less than the first
+pub sound_opened : (starting final t p atom : ℕ) → IsMultipleOf atom starting → 0 < starting → IsMultipleOf atom final → starting ≤ final → final ≤ 2 ^ 62 → IsPowerUpTo 62 atom → IsSound (opened starting final t p atom)
+sound_opened starting final t p atom whole some whole_final le bound power = record {
+  space = sound_space;
+  one_object = λ k n c d is_c is_d same. absurd (none_held k c is_c);
+  chunks = λ k c is. absurd (none_held k c is);
+  slots = λ slot live. absurd (none_live slot live);
+  next_chunk = ((whole, some), le);
+  final_chunk = (whole_final, bound);
+  atom = power;
+}

@@ -1,0 +1,12 @@
+pub mod FreeListAnswers
+pub mod FreeListEmpty
+pub mod FreeListGrants
+pub mod FreeListRanges
+pub mod FreeListReturns
+pub mod FreeListSizes
+pub mod GoneChunks
+pub mod LiveSlots
+pub mod NumberSearch
+pub mod NumberedRows
+pub mod RunLists
+pub mod Spaces

@@ -1,0 +1,108 @@
+use Rattle.std.proofs.Common.{◌≡◌, ℕ, ◌+◌, List, Result, Ok, Err, ap, subst, arith}
+use Rattle.std.specs.Result.{OnErr}
+use Rattle.gpu_alloc_types.specs.Device.{Event}
+use Rattle.gpu_alloc_types.specs.Flags.{allocation_bits}
+use Rattle.gpu_alloc_base.specs.Wanted.{Wanted, wanted}
+use Rattle.gpu_alloc_freelist.specs.FreeListAllocator.{Account, Answers, ObjectsAfter, account, alignment}
+use Rattle.gpu_alloc_freelist.specs.FreeListState.{Listing}
+use Rattle.gpu_alloc_base.specs.declared.error.AllocationError.{AllocationError}
+use Rattle.gpu_alloc_base.specs.declared.free_list_block.Slot.{Slot}
+use Rattle.gpu_alloc_freelist.proofs.FreeListAnswers.{IsRoundedTo, rounds, answers_agree, answers_granted, answers_sound, answers_total, answers_counted, refused_keeps}
+use Rattle.gpu_alloc_base.proofs.ChunkSizes.{greater_mask}
+use Rattle.gpu_alloc_freelist.proofs.freelist.FreeListAllocator.alloc.Given.{Over}
+use Rattle.gpu_alloc_freelist.proofs.freelist.FreeListAllocator.alloc.Goals.{After-alloc_rounded}
+use Rattle.gpu_alloc_freelist.proofs.freelist.FreeListAllocator.alloc.Goals as goal
+
+pub alloc_rounded-requires-clause-alignment : goal.alloc_rounded-requires-clause-alignment
+alloc_rounded-requires-clause-alignment g c = rw (c.max-align_mask.ensures) (greater_mask c.args.align_mask c.self.inside.atom_mask c.requires.alignment c.self.invariant.atom)
+
+-- what changes, before the call and after it
+abbrev old : (g : Over) → After-alloc_rounded g → Account
+old g c = account c.args.self.now c.args.heap.now c.args.allocations_remains.now
+
+abbrev new : (g : Over) → After-alloc_rounded g → Account
+new g c = account c.alloc_rounded.new.self c.alloc_rounded.new.heap c.alloc_rounded.new.allocations_remains
+
+-- what the request is rounded to
+rounded_to : (g : Over) (c : After-alloc_rounded g)
+    → IsRoundedTo c.args.self.now (wanted c.args.size c.args.align_mask (allocation_bits c.args.flags)) c.rounded_size-size.result (c.max-align_mask.result + 1)
+rounded_to g c =
+    rounds c.args.self.now (wanted c.args.size c.args.align_mask (allocation_bits c.args.flags)) c.rounded_size-size.result (c.max-align_mask.result + 1) c.rounded_size-size.ensures.is
+    (omega (arith, c.max-align_mask.ensures, ap (λ (l : Listing). l.atom) c.self.view_is)) c.alloc_rounded.ensures.sound c.requires.nonempty c.requires.fits c.requires.alignment
+
+pub returns-clause-agrees : goal.returns-clause-agrees
+returns-clause-agrees g c =
+    let told = c.alloc_rounded.ensures.answers in
+    answers_agree (old g c) (new g c) c.rounded_size-size.result (c.max-align_mask.result + 1) (allocation_bits c.args.flags) told.0 c.alloc_rounded.result
+    (g.D.MemoryDevice.properties c.args.device.now) (g.D.MemoryDevice.properties c.alloc_rounded.new.device) (g.D.MemoryDevice.objects c.args.device.now) (g.D.MemoryDevice.objects c.alloc_rounded.new.device)
+    c.alloc_rounded.ensures.sound c.requires.agrees c.alloc_rounded.ensures.properties told.2 c.alloc_rounded.ensures.objects
+
+pub returns-clause-granted : goal.returns-clause-granted
+returns-clause-granted g c =
+    let told = c.alloc_rounded.ensures.answers in
+    answers_granted (old g c) (new g c) (wanted c.args.size c.args.align_mask (allocation_bits c.args.flags)) c.rounded_size-size.result (c.max-align_mask.result + 1) (allocation_bits c.args.flags) told.0 c.alloc_rounded.result
+    (g.D.MemoryDevice.properties c.args.device.now) (g.D.MemoryDevice.objects c.args.device.now) (g.D.MemoryDevice.objects c.alloc_rounded.new.device)
+    c.alloc_rounded.ensures.sound c.requires.agrees (rounded_to g c) told.2 c.alloc_rounded.ensures.objects
+
+pub returns-clause-sound : goal.returns-clause-sound
+returns-clause-sound g c =
+    let told = c.alloc_rounded.ensures.answers in
+    answers_sound (old g c) (new g c) c.rounded_size-size.result (c.max-align_mask.result + 1) (allocation_bits c.args.flags) told.0 c.alloc_rounded.result
+    (g.D.MemoryDevice.properties c.args.device.now) (g.D.MemoryDevice.objects c.args.device.now) (g.D.MemoryDevice.objects c.alloc_rounded.new.device)
+    c.alloc_rounded.ensures.sound c.requires.agrees (rounded_to g c).asked told.2 c.alloc_rounded.ensures.objects
+
+pub returns-clause-counted : goal.returns-clause-counted
+returns-clause-counted g c =
+    let told = c.alloc_rounded.ensures.answers in
+    answers_counted (old g c) (new g c) c.rounded_size-size.result (c.max-align_mask.result + 1) (allocation_bits c.args.flags) told.0 c.alloc_rounded.result c.alloc_rounded.ensures.sound c.requires.counted told.2
+
+pub returns-clause-total : goal.returns-clause-total
+returns-clause-total g c =
+    let told = c.alloc_rounded.ensures.answers in
+    answers_total (old g c) (new g c) c.rounded_size-size.result (c.max-align_mask.result + 1) (allocation_bits c.args.flags) told.0 c.alloc_rounded.result c.alloc_rounded.ensures.sound told.2
+
+pub alloc_rounded-requires-clause-aligned : goal.alloc_rounded-requires-clause-aligned
+alloc_rounded-requires-clause-aligned g c = omega (arith, c.max-align_mask.ensures, ap (λ (l : Listing). l.atom) c.self.view_is)
+
+pub alloc_rounded-requires-clause-atoms : goal.alloc_rounded-requires-clause-atoms
+alloc_rounded-requires-clause-atoms g c = (_, c.rounded_size-size.ensures.is)
+
+pub alloc_rounded-requires-clause-fits : goal.alloc_rounded-requires-clause-fits
+alloc_rounded-requires-clause-fits g c = rw (c.rounded_size-size.ensures.is) c.requires.fits
+
+-- the alignment that is used
+alignment_is : (g : Over) (c : After-alloc_rounded g) → c.max-align_mask.result + 1 ≡ alignment c.args.self.now (wanted c.args.size c.args.align_mask (allocation_bits c.args.flags))
+alignment_is g c = omega (arith, c.max-align_mask.ensures, ap (λ (l : Listing). l.atom) c.self.view_is)
+
+pub returns-clause-allocates : goal.returns-clause-allocates
+returns-clause-allocates g c =
+    let told = c.alloc_rounded.ensures.answers in
+    let flags = allocation_bits c.args.flags in
+    let w : Wanted = wanted c.args.size c.args.align_mask flags in (
+      told.0,
+      told.1,
+      subst (λ n. Answers (old g c) n (alignment c.args.self.now w) flags told.0 c.alloc_rounded.result (new g c)) c.rounded_size-size.ensures.is
+          (subst (λ n. Answers (old g c) c.rounded_size-size.result n flags told.0 c.alloc_rounded.result (new g c)) (alignment_is g c) told.2),
+    )
+
+pub returns-clause-objects : goal.returns-clause-objects
+returns-clause-objects g c =
+    let flags = allocation_bits c.args.flags in
+    let w : Wanted = wanted c.args.size c.args.align_mask flags in
+    let before = g.D.MemoryDevice.objects c.args.device.now in
+    let after = g.D.MemoryDevice.objects c.alloc_rounded.new.device in
+    subst (λ n. ObjectsAfter c.args.self.now n (alignment c.args.self.now w) flags c.alloc_rounded.result before after) c.rounded_size-size.ensures.is
+    (subst (λ n. ObjectsAfter c.args.self.now c.rounded_size-size.result n flags c.alloc_rounded.result before after) (alignment_is g c) c.alloc_rounded.ensures.objects)
+
+-- a refusal changes nothing
+kept_when_refused : (a now : Account) (size alignment flags : ℕ) (es : List Event) (answer : Result Slot AllocationError) → Answers a size alignment flags es answer now
+    → OnErr answer ((now.listing ≡ a.listing) × ((now.heap ≡ a.heap) × (now.remaining ≡ a.remaining)))
+kept_when_refused a now size alignment flags es (Ok slot) told = tt
+kept_when_refused a now size alignment flags es (Err e) told =
+    let same = refused_keeps a now size alignment flags es e told in
+    (ap (λ (x : Account). x.listing) same, (ap (λ (x : Account). x.heap) same, ap (λ (x : Account). x.remaining) same))
+
+pub returns-clause-refused : goal.returns-clause-refused
+returns-clause-refused g c =
+    let told = c.alloc_rounded.ensures.answers in
+    kept_when_refused (old g c) (new g c) c.rounded_size-size.result (c.max-align_mask.result + 1) (allocation_bits c.args.flags) told.0 c.alloc_rounded.result told.2

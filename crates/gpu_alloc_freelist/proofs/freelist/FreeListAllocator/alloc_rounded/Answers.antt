@@ -1,0 +1,146 @@
+use Rattle.std.proofs.Common.{◌≡◌, ◌+◌, [], inl, inr, Ok, Err, refl, sym, ◌∙◌, ap, subst, arith}
+use Rattle.gpu_alloc_types.specs.Flags.{allocation_bits, property_bits}
+use Rattle.gpu_alloc_freelist.specs.FreeList.{HasNumber, IsTail}
+use Rattle.gpu_alloc_freelist.specs.FreeListAllocator.{Agrees, Answers, IsBarred, IsCounted, ObjectsAfter, account}
+use Rattle.gpu_alloc_freelist.specs.FreeListInside.{listing_in}
+use Rattle.gpu_alloc_freelist.specs.FreeListSound.{IsSound}
+use Rattle.gpu_alloc_freelist.specs.FreeListState.{Listing, Space}
+use Rattle.gpu_alloc_base.specs.declared.error.AllocationError.TheVariants.{OutOfHostMemory, TooManyObjects}
+use Rattle.gpu_alloc_freelist.specs.declared.freelist.FreeListAllocator.TheInside.{Inside}
+use Rattle.gpu_alloc_freelist.proofs.FreeListAnswers.{askable, sound_with_tail}
+use Rattle.gpu_alloc_freelist.proofs.freelist.FreeListAllocator.alloc_rounded.Given.{Over}
+use Rattle.gpu_alloc_freelist.proofs.freelist.FreeListAllocator.alloc_rounded.Goals.{then-allocations_remains-eq0-via-then-allocations_remains-eq0, then-allocations_remains-eq0-via-else-allocations_remains-eq0+then-not-has_number}
+use Rattle.gpu_alloc_freelist.proofs.freelist.FreeListAllocator.alloc_rounded.Goals as goal
+
+-- the listing, its space being this
+abbrev over : (g : Over) → Inside g.row.M.Denot g.row.A.Denot → Space → Listing
+over g a s = listing_in s a.chunk_size a.final_chunk_size a.memory_type (property_bits a.props) (a.atom_mask + 1)
+
+-- A block is cut from a held chunk.
+
+pub invariant_of-self : goal.invariant_of-self
+invariant_of-self g c =
+    let l : Listing = listing_in c.self.inside.freelist.space c.self.inside.chunk_size c.self.inside.final_chunk_size c.self.inside.memory_type (property_bits c.self.inside.props) (c.self.inside.atom_mask + 1) in
+    let fits = rw (← c.self.view_is) at c.requires.fits in
+    let aligned = rw (← c.self.view_is) at c.requires.aligned in
+    let took = rw (c.in-Ok-Some.field-0-is) at c.in-Ok-Some.ensures.takes in
+    let asked = askable l c.args.size c.args.align_mask c.requires.nonempty fits c.requires.alignment aligned in
+    subst (λ s. IsSound (listing_in s c.self.inside.chunk_size c.self.inside.final_chunk_size c.self.inside.memory_type (property_bits c.self.inside.props) (c.self.inside.atom_mask + 1))) (sym took.1)
+    (sound_with_tail l c.args.size (c.args.align_mask + 1) c.in-Ok-Some.block c.self.invariant asked took.0)
+
+pub returns-in-Ok-Some-clause-answers : goal.returns-in-Ok-Some-clause-answers
+returns-in-Ok-Some-clause-answers g c =
+    let took = rw (c.in-Ok-Some.field-0-is) at c.in-Ok-Some.ensures.takes in
+    let new : Listing = over g c.self.inside c.get_block.new.self.space in (
+      [],
+      refl,
+      subst (λ x. Answers (account x c.args.heap.now c.args.allocations_remains.now) c.args.size (c.args.align_mask + 1) (allocation_bits c.args.flags) [] (Ok c.in-Ok-Some.block) (account new c.args.heap.now c.args.allocations_remains.now))
+          c.self.view_is
+          (inl (took.0, (refl, ap (λ s. account (over g c.self.inside s) c.args.heap.now c.args.allocations_remains.now) took.1))),
+    )
+
+pub returns-in-Ok-Some-clause-objects : goal.returns-in-Ok-Some-clause-objects
+returns-in-Ok-Some-clause-objects g c =
+    let took = rw (c.in-Ok-Some.field-0-is) at c.in-Ok-Some.ensures.takes in
+    inr (subst (λ (x : Listing). IsTail x.space c.args.size (c.args.align_mask + 1) c.in-Ok-Some.block) c.self.view_is took.0, refl)
+
+pub returns-in-Ok-Some-clause-sound : goal.returns-in-Ok-Some-clause-sound
+returns-in-Ok-Some-clause-sound g c = subst IsSound c.self.view_is c.self.invariant
+
+-- There is a place, but no host memory.
+
+pub invariant_of-self-in-Err : goal.invariant_of-self-in-Err
+invariant_of-self-in-Err g c = rw (c.in-Err.ensures.takes.1) c.self.invariant
+
+pub returns-in-Err-clause-answers : goal.returns-in-Err-clause-answers
+returns-in-Err-clause-answers g c =
+    let took = c.in-Err.ensures.takes in
+    let new : Listing = over g c.self.inside c.get_block.new.self.space in (
+      [],
+      refl,
+      subst (λ x. Answers (account x c.args.heap.now c.args.allocations_remains.now) c.args.size (c.args.align_mask + 1) (allocation_bits c.args.flags) [] (Err OutOfHostMemory) (account new c.args.heap.now c.args.allocations_remains.now))
+          c.self.view_is
+          (ap (λ s. account (over g c.self.inside s) c.args.heap.now c.args.allocations_remains.now) took.1, inl (refl, inl took.0)),
+    )
+
+pub returns-in-Err-clause-sound : goal.returns-in-Err-clause-sound
+returns-in-Err-clause-sound g c = subst IsSound c.self.view_is c.self.invariant
+
+-- There is none, and no chunk may be asked for.
+
+pub invariant_of-self-then-allocations_remains-eq0 : goal.invariant_of-self-then-allocations_remains-eq0
+invariant_of-self-then-allocations_remains-eq0 g c =
+    let took = rw (c.in-Ok-None.field-0-is) at c.in-Ok-None.ensures.takes in
+    rw (took.1) c.self.invariant
+
+pub returns-then-allocations_remains-eq0-clause-answers : goal.returns-then-allocations_remains-eq0-clause-answers
+returns-then-allocations_remains-eq0-clause-answers g c =
+    let took = rw (c.in-Ok-None.field-0-is) at c.in-Ok-None.ensures.takes in
+    let old : Listing = over g c.self.inside c.self.inside.freelist.space in
+    let new : Listing = over g c.self.inside c.get_block.new.self.space in
+    let barred : IsBarred (account old c.args.heap.now c.args.allocations_remains.now) = elim c.then-allocations_remains-eq0.branch [
+      | then-allocations_remains-eq0-via-then-allocations_remains-eq0 w ↦ inl w.if-allocations_remains-eq0.true
+      | then-allocations_remains-eq0-via-else-allocations_remains-eq0+then-not-has_number w ↦ inr (λ number. absurd (cc (w.if-not-has_number.ensures.1 (subst HasNumber (sym took.1) number))))
+    ] in (
+      [],
+      refl,
+      subst (λ x. Answers (account x c.args.heap.now c.args.allocations_remains.now) c.args.size (c.args.align_mask + 1) (allocation_bits c.args.flags) [] (Err TooManyObjects) (account new c.args.heap.now c.args.allocations_remains.now))
+          c.self.view_is
+          (ap (λ s. account (over g c.self.inside s) c.args.heap.now c.args.allocations_remains.now) took.1, (refl, (took.0, barred))),
+    )
+
+pub returns-then-allocations_remains-eq0-clause-sound : goal.returns-then-allocations_remains-eq0-clause-sound
+returns-then-allocations_remains-eq0-clause-sound g c = subst IsSound c.self.view_is c.self.invariant
+
+-- A chunk is asked for.
+
+pub invariant_of-self-2 : goal.invariant_of-self-2
+invariant_of-self-2 g c =
+    let took = rw (c.in-Ok-None.field-0-is) at c.in-Ok-None.ensures.takes in
+    rw (took.1) c.self.invariant
+
+pub take_chunk-requires-clause-agrees : goal.take_chunk-requires-clause-agrees
+take_chunk-requires-clause-agrees g c =
+    let took = rw (c.in-Ok-None.field-0-is) at c.in-Ok-None.ensures.takes in
+    let same : over g c.self.inside c.get_block.new.self.space ≡ c.args.self.now = ap (over g c.self.inside) took.1 ∙ c.self.view_is in
+    subst (λ x. Agrees x (g.D.MemoryDevice.properties c.args.device.now) (g.D.MemoryDevice.objects c.args.device.now)) (sym same) c.requires.agrees
+
+pub take_chunk-requires-clause-aligned : goal.take_chunk-requires-clause-aligned
+take_chunk-requires-clause-aligned g c = rw (← c.self.view_is) at c.requires.aligned
+
+pub take_chunk-requires-clause-asks : goal.take_chunk-requires-clause-asks
+take_chunk-requires-clause-asks g c =
+    let took = rw (c.in-Ok-None.field-0-is) at c.in-Ok-None.ensures.takes in
+    (rw (took.1) took.0, (omega (arith, c.if-allocations_remains-eq0.false), c.has_number.ensures.0 c.if-not-has_number.false))
+
+pub take_chunk-requires-clause-atoms : goal.take_chunk-requires-clause-atoms
+take_chunk-requires-clause-atoms g c = rw (← c.self.view_is) at c.requires.atoms
+
+pub take_chunk-requires-clause-counted : goal.take_chunk-requires-clause-counted
+take_chunk-requires-clause-counted g c =
+    let took = rw (c.in-Ok-None.field-0-is) at c.in-Ok-None.ensures.takes in
+    let same : over g c.self.inside c.get_block.new.self.space ≡ c.args.self.now = ap (over g c.self.inside) took.1 ∙ c.self.view_is in
+    subst (λ x. IsCounted (account x c.args.heap.now c.args.allocations_remains.now)) (sym same) c.requires.counted
+
+pub take_chunk-requires-clause-fits : goal.take_chunk-requires-clause-fits
+take_chunk-requires-clause-fits g c = rw (← c.self.view_is) at c.requires.fits
+
+pub returns-clause-answers : goal.returns-clause-answers
+returns-clause-answers g c =
+    let took = rw (c.in-Ok-None.field-0-is) at c.in-Ok-None.ensures.takes in
+    let same : over g c.self.inside c.get_block.new.self.space ≡ c.args.self.now = ap (over g c.self.inside) took.1 ∙ c.self.view_is in
+    let told = c.take_chunk.ensures.answers in
+    let new = account c.take_chunk.new.self c.take_chunk.new.heap c.take_chunk.new.allocations_remains in (
+      told.0,
+      told.1,
+      subst (λ x. Answers (account x c.args.heap.now c.args.allocations_remains.now) c.args.size (c.args.align_mask + 1) (allocation_bits c.args.flags) told.0 c.take_chunk.result new) same told.2,
+    )
+
+pub returns-clause-objects : goal.returns-clause-objects
+returns-clause-objects g c =
+    let took = rw (c.in-Ok-None.field-0-is) at c.in-Ok-None.ensures.takes in
+    let same : over g c.self.inside c.get_block.new.self.space ≡ c.args.self.now = ap (over g c.self.inside) took.1 ∙ c.self.view_is in
+    subst (λ x. ObjectsAfter x c.args.size (c.args.align_mask + 1) (allocation_bits c.args.flags) c.take_chunk.result (g.D.MemoryDevice.objects c.args.device.now) (g.D.MemoryDevice.objects c.take_chunk.new.device)) same c.take_chunk.ensures.objects
+
+pub returns-clause-sound : goal.returns-clause-sound
+returns-clause-sound g c = subst IsSound c.self.view_is c.self.invariant

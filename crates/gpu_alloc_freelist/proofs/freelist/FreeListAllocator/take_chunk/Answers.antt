@@ -1,0 +1,195 @@
+use Rattle.std.proofs.Common.{arith, ◌≡◌, ℕ, ◌+◌, ◌-◌, List, Option, Ok, ◌++◌, ◌∷◌, [], None, inl, inr, refl, sym, ◌∙◌, ap, subst}
+use Rattle.std.proofs.lemmas.Result.{err_from_is_err_and}
+use Rattle.gpu_alloc_types.specs.Chains.{chain_more}
+use Rattle.gpu_alloc_types.specs.Device.{Object, Event, IsHeld, put}
+use Rattle.gpu_alloc_types.specs.Device.Event.{Deallocated}
+use Rattle.gpu_alloc_types.specs.Flags.{allocation_bits, has_bit, property_bits}
+use Rattle.gpu_alloc_freelist.specs.FreeList.{first_tail, with_chunk, with_slot}
+use Rattle.gpu_alloc_freelist.specs.FreeListAllocator.{AsksForChunk, Answers, ObjectsAfter, account, chunk_size, in_new_chunk, next_size, question}
+use Rattle.gpu_alloc_freelist.specs.FreeListInside.{listing_in}
+use Rattle.gpu_alloc_freelist.specs.FreeListSound.{IsSound}
+use Rattle.gpu_alloc_freelist.specs.FreeListState.{Listing, Space}
+use Rattle.gpu_alloc_base.specs.NewChunk.{ChunkQuestion, HasOneChunkMore, chunk_question, made}
+use Rattle.gpu_alloc_base.specs.declared.free_list_block.Slot.{Slot}
+use Rattle.gpu_alloc_base.specs.declared.heap.Heap.{Heap}
+use Rattle.gpu_alloc_base.proofs.Outcomes.{when_ok}
+use Rattle.gpu_alloc_freelist.proofs.FreeListAnswers.{IsOther, askable, grown_is, handle_refused, other_objects, question_is, refused_chunk, sound_in_new_chunk}
+use Rattle.gpu_alloc_base.proofs.NewChunks.{chunk_is_there, chunk_given_back}
+use Rattle.gpu_alloc_freelist.proofs.freelist.FreeListAllocator.take_chunk.Goals as goal
+
+pub returns-then-is_err-clause-answers : goal.returns-then-is_err-clause-answers
+returns-then-is_err-clause-answers g c =
+    let asks = rw (← c.self.view_is) at c.requires.asks in
+    rw (← c.self.view_is) ([], refl, (rw (c.reserve.ensures.kept) refl, inl (refl, inr asks)))
+
+pub returns-in_err-memory-clause-answers : goal.returns-in_err-memory-clause-answers
+returns-in_err-memory-clause-answers g c =
+    let p = err_from_is_err_and c.from_residual.result c.from_residual.ensures.1 in
+    let l = listing_in c.self.inside.freelist.space c.self.inside.chunk_size c.self.inside.final_chunk_size c.self.inside.memory_type (property_bits c.self.inside.props) (c.self.inside.atom_mask + 1) in
+    let asks = rw (← c.self.view_is) at c.requires.asks in
+    let told = c.in_err-memory.ensures.asks in
+    let flags = allocation_bits c.args.flags in
+    let q = chunk_question c.chunk_size_for-chunk_size.result c.self.inside.memory_type flags c.intersects-visible.result in
+    let is = question_is l c.args.size c.chunk_size_for-chunk_size.result flags c.intersects-visible.result c.chunk_size_for-chunk_size.ensures.is c.intersects-visible.ensures in
+    rw (← c.self.view_is, p.1, p.2) (
+      told.0,
+      told.1,
+      refused_chunk (account l c.args.heap.now c.args.allocations_remains.now) _ c.args.size (c.args.align_mask + 1) flags told.0 q _ is (rw (c.reserve.ensures.kept) refl) asks told.2,
+    )
+
+pub invariant_of-self-in-Ok : goal.invariant_of-self-in-Ok
+invariant_of-self-in-Ok g c =
+    let l : Listing = listing_in c.self.inside.freelist.space c.self.inside.chunk_size c.self.inside.final_chunk_size c.self.inside.memory_type (property_bits c.self.inside.props) (c.self.inside.atom_mask + 1) in
+    let object = g.M.MemoryObject.object c.in_ok-memory.memory in
+    let fits = rw (← c.self.view_is) at c.requires.fits in
+    let aligned = rw (← c.self.view_is) at c.requires.aligned in
+    let agrees = rw (← c.self.view_is) at c.requires.agrees in
+    let other : IsOther l object = other_objects l (g.D.MemoryDevice.properties c.args.device.now) (g.D.MemoryDevice.objects c.args.device.now) object agrees c.in_ok-memory.ensures.objects.0 in
+    let asked = askable l c.args.size c.args.align_mask c.requires.nonempty fits c.requires.alignment aligned in
+    let is = grown_is l c.reserve.new.self.space c.get_block_from_new_memory-made.new.self.space c.in-Ok.block object c.chunk_size_for-chunk_size.result c.min-self-inside.result c.args.size (c.args.align_mask + 1)
+    c.reserve.ensures.kept c.in-Ok.ensures.block c.in-Ok.ensures.chunk c.chunk_size_for-chunk_size.ensures.is c.min-self-inside.ensures in
+    subst IsSound (sym is) (sound_in_new_chunk l object c.args.size (c.args.align_mask + 1) c.self.invariant other asked)
+
+pub deallocate_memory-requires : goal.deallocate_memory-requires
+deallocate_memory-requires g c =
+    let q : ChunkQuestion = chunk_question c.chunk_size_for-chunk_size.result c.self.inside.memory_type (allocation_bits c.args.flags) c.intersects-visible.result in
+    subst (IsHeld (g.D.MemoryDevice.objects c.new_chunk.new.device)) (sym c.in-Err.ensures.refused.0)
+    (chunk_is_there q (g.D.MemoryDevice.objects c.args.device.now) (g.D.MemoryDevice.objects c.new_chunk.new.device) (g.M.MemoryObject.object c.in_ok-memory.memory) c.in_ok-memory.ensures.objects)
+
+pub returns-in-Err-clause-answers : goal.returns-in-Err-clause-answers
+returns-in-Err-clause-answers g c =
+    let l = listing_in c.self.inside.freelist.space c.self.inside.chunk_size c.self.inside.final_chunk_size c.self.inside.memory_type (property_bits c.self.inside.props) (c.self.inside.atom_mask + 1) in
+    let asks = rw (← c.self.view_is) at c.requires.asks in
+    let told = c.in_ok-memory.ensures.asks in
+    let flags = allocation_bits c.args.flags in
+    let q : ChunkQuestion = chunk_question c.chunk_size_for-chunk_size.result c.self.inside.memory_type flags c.intersects-visible.result in
+    let is = question_is l c.args.size c.chunk_size_for-chunk_size.result flags c.intersects-visible.result c.chunk_size_for-chunk_size.ensures.is c.intersects-visible.ensures in
+    let name = g.M.MemoryObject.object c.in-Err.memory in
+    rw (← c.self.view_is) (
+      told.0 ++ Deallocated name ∷ [],
+      chain_more g.D.MemoryDevice.step told.0 (Deallocated name) c.args.device.now c.new_chunk.new.device c.deallocate_memory.new.self told.1 c.deallocate_memory.ensures,
+      handle_refused (account l c.args.heap.now c.args.allocations_remains.now) _ c.args.size (c.args.align_mask + 1) flags (g.M.MemoryObject.object c.in_ok-memory.memory) name told.0 q is (rw (c.in-Err.ensures.refused.1, c.reserve.ensures.kept) refl) asks told.2 c.in-Err.ensures.refused.0,
+    )
+
+pub returns-in-Err-clause-objects : goal.returns-in-Err-clause-objects
+returns-in-Err-clause-objects g c =
+    let q : ChunkQuestion = chunk_question c.chunk_size_for-chunk_size.result c.self.inside.memory_type (allocation_bits c.args.flags) c.intersects-visible.result in
+    let gone = g.met.D.MemoryDevice.row _ _ _ c.deallocate_memory.ensures in
+    let object = g.M.MemoryObject.object c.in_ok-memory.memory in
+    chunk_given_back q (g.D.MemoryDevice.objects c.args.device.now) (g.D.MemoryDevice.objects c.new_chunk.new.device) (g.D.MemoryDevice.objects c.deallocate_memory.new.self) object c.in_ok-memory.ensures.objects
+    (gone ∙ ap (λ n. put (g.D.MemoryDevice.objects c.new_chunk.new.device) n None) c.in-Err.ensures.refused.0)
+
+pub invariant_of-self : goal.invariant_of-self
+invariant_of-self g c = rw (c.reserve.ensures.kept) c.self.invariant
+
+pub invariant_of-self-2 : goal.invariant_of-self-2
+invariant_of-self-2 g c = rw (c.reserve.ensures.kept) c.self.invariant
+
+pub invariant_of-self-in_err-memory : goal.invariant_of-self-in_err-memory
+invariant_of-self-in_err-memory g c = rw (c.reserve.ensures.kept) c.self.invariant
+
+pub invariant_of-self-in-Err : goal.invariant_of-self-in-Err
+invariant_of-self-in-Err g c = rw (c.in-Err.ensures.refused.1, c.reserve.ensures.kept) c.self.invariant
+
+pub chunk_size_for-chunk_size-requires-clause-fits : goal.chunk_size_for-chunk_size-requires-clause-fits
+chunk_size_for-chunk_size-requires-clause-fits g c = rw (← c.self.view_is) at c.requires.fits
+
+pub new_chunk-requires-clause-askable : goal.new_chunk-requires-clause-askable
+new_chunk-requires-clause-askable g c =
+    let agrees = rw (← c.self.view_is) at c.requires.agrees in
+    record { nonempty = omega (arith, c.requires.nonempty, c.chunk_size_for-chunk_size.ensures.enough); known = agrees.known; address = c.requires.address }
+
+pub new_chunk-requires-clause-visible : goal.new_chunk-requires-clause-visible
+new_chunk-requires-clause-visible g c =
+    let agrees = rw (← c.self.view_is) at c.requires.agrees in
+    ap (λ bits. has_bit bits 2) agrees.props ∙ sym c.intersects-visible.ensures
+
+pub get_block_from_new_memory-made-requires-clause-number : goal.get_block_from_new_memory-made-requires-clause-number
+get_block_from_new_memory-made-requires-clause-number g c =
+    let asks = rw (← c.self.view_is) at c.requires.asks in
+    rw (c.reserve.ensures.kept) asks.1.1
+
+pub overflow_mul-chunk_size : goal.overflow_mul-chunk_size
+overflow_mul-chunk_size g c = omega (arith, c.chunk_size_for-chunk_size.ensures.bound)
+
+pub alloc-requires : goal.alloc-requires
+alloc-requires g c = omega (arith, c.requires.bound, c.chunk_size_for-chunk_size.ensures.bound)
+
+pub overflow_sub-allocations_remains : goal.overflow_sub-allocations_remains
+overflow_sub-allocations_remains g c =
+    let asks = rw (← c.self.view_is) at c.requires.asks in
+    asks.1.0
+
+-- the answer where a block was cut from the new chunk
+grown_answers : (l : Listing) (heap now : Heap) (remaining size alignment flags object whole next : ℕ) (s grown : Space) (slot : Slot) (es : List Event) (q : ChunkQuestion) → s ≡ l.space → slot ≡ first_tail s object whole size alignment
+    → grown ≡ with_slot (with_chunk s object whole) slot → whole ≡ chunk_size l size → next ≡ next_size l whole → now ≡ record heap { used = heap.used + whole } → q ≡ question l size flags → es ≡ made q object
+    → AsksForChunk (account l heap remaining) size alignment → Answers (account l heap remaining) size alignment flags es (Ok slot) (account (record l { space = grown; next_chunk = next }) now (remaining - 1))
+grown_answers l heap now remaining size alignment flags object whole next s grown slot es q s_is slot_is grown_to whole_is next_is now_is q_is es_is asks =
+    let back : object ≡ slot.object = sym (ap (λ (x : Slot). x.object) slot_is) in
+    let tail : slot ≡ first_tail l.space object (chunk_size l size) size alignment = slot_is ∙ ap (λ x. first_tail x object whole size alignment) s_is ∙ ap (λ n. first_tail l.space object n size alignment) whole_is in
+    let listing = grown_is l s grown slot object whole next size alignment s_is slot_is grown_to whole_is next_is in
+    let ledger : now ≡ record heap { used = heap.used + chunk_size l size } = now_is ∙ ap (λ n. record heap { used = heap.used + n }) whole_is in
+    let after : account (record l { space = grown; next_chunk = next }) now (remaining - 1) ≡ in_new_chunk (account l heap remaining) object size alignment = λ i. account (listing i) (ledger i) (remaining - 1) in
+    inr (
+      asks,
+      (
+        tail ∙ ap (λ n. first_tail l.space n (chunk_size l size) size alignment) back,
+        (es_is ∙ ap (λ x. made x object) q_is ∙ ap (made (question l size flags)) back, after ∙ ap (λ n. in_new_chunk (account l heap remaining) n size alignment) back),
+      ),
+    )
+
+pub returns-in-Ok-clause-answers : goal.returns-in-Ok-clause-answers
+returns-in-Ok-clause-answers g c =
+    let l : Listing = listing_in c.self.inside.freelist.space c.self.inside.chunk_size c.self.inside.final_chunk_size c.self.inside.memory_type (property_bits c.self.inside.props) (c.self.inside.atom_mask + 1) in
+    let asks = rw (← c.self.view_is) at c.requires.asks in
+    let told = c.in_ok-memory.ensures.asks in
+    let flags = allocation_bits c.args.flags in
+    let q : ChunkQuestion = chunk_question c.chunk_size_for-chunk_size.result c.self.inside.memory_type flags c.intersects-visible.result in
+    let is = question_is l c.args.size c.chunk_size_for-chunk_size.result flags c.intersects-visible.result c.chunk_size_for-chunk_size.ensures.is c.intersects-visible.ensures in
+    let after = account (record l { space = c.get_block_from_new_memory-made.new.self.space; next_chunk = c.min-self-inside.result }) c.alloc.new.self (c.args.allocations_remains.now - 1) in (
+      told.0,
+      told.1,
+      subst (λ x. Answers (account x c.args.heap.now c.args.allocations_remains.now) c.args.size (c.args.align_mask + 1) flags told.0 (Ok c.in-Ok.block) after) c.self.view_is
+          (grown_answers l c.args.heap.now c.alloc.new.self c.args.allocations_remains.now c.args.size (c.args.align_mask + 1) flags (g.M.MemoryObject.object c.in_ok-memory.memory) c.chunk_size_for-chunk_size.result c.min-self-inside.result
+          c.reserve.new.self.space c.get_block_from_new_memory-made.new.self.space c.in-Ok.block told.0 q c.reserve.ensures.kept c.in-Ok.ensures.block c.in-Ok.ensures.chunk c.chunk_size_for-chunk_size.ensures.is c.min-self-inside.ensures
+          c.alloc.ensures is told.2 asks),
+    )
+
+-- and the device's objects
+grown_objects : (l : Listing) (size alignment flags object whole : ℕ) (s : Space) (slot : Slot) (q : ChunkQuestion) (f g : ℕ → Option Object) → s ≡ l.space → slot ≡ first_tail s object whole size alignment → q ≡ question l size flags
+    → HasOneChunkMore q object f g → ObjectsAfter l size alignment flags (Ok slot) f g
+grown_objects l size alignment flags object whole s slot q f g s_is slot_is q_is more =
+    let back : object ≡ slot.object = sym (ap (λ (x : Slot). x.object) slot_is) in
+    inl (ap (λ (x : Slot). x.chunk) slot_is ∙ ap (λ (x : Space). x.latest + 1) s_is, subst (λ n. HasOneChunkMore (question l size flags) n f g) back (subst (λ x. HasOneChunkMore x object f g) q_is more))
+
+pub returns-in-Ok-clause-objects : goal.returns-in-Ok-clause-objects
+returns-in-Ok-clause-objects g c =
+    let l : Listing = listing_in c.self.inside.freelist.space c.self.inside.chunk_size c.self.inside.final_chunk_size c.self.inside.memory_type (property_bits c.self.inside.props) (c.self.inside.atom_mask + 1) in
+    let flags = allocation_bits c.args.flags in
+    let q : ChunkQuestion = chunk_question c.chunk_size_for-chunk_size.result c.self.inside.memory_type flags c.intersects-visible.result in
+    let is = question_is l c.args.size c.chunk_size_for-chunk_size.result flags c.intersects-visible.result c.chunk_size_for-chunk_size.ensures.is c.intersects-visible.ensures in
+    let before = g.D.MemoryDevice.objects c.args.device.now in
+    let after = g.D.MemoryDevice.objects c.new_chunk.new.device in
+    subst (λ x. ObjectsAfter x c.args.size (c.args.align_mask + 1) flags (Ok c.in-Ok.block) before after) c.self.view_is
+    (grown_objects l c.args.size (c.args.align_mask + 1) flags (g.M.MemoryObject.object c.in_ok-memory.memory) c.chunk_size_for-chunk_size.result c.reserve.new.self.space c.in-Ok.block q before
+    after c.reserve.ensures.kept c.in-Ok.ensures.block is c.in_ok-memory.ensures.objects)
+
+pub returns-in_err-memory-clause-objects : goal.returns-in_err-memory-clause-objects
+returns-in_err-memory-clause-objects g c =
+    let p = err_from_is_err_and c.from_residual.result c.from_residual.ensures.1 in
+    rw (p.1) c.in_err-memory.ensures.objects
+
+pub returns-in_err-memory-clause-properties : goal.returns-in_err-memory-clause-properties
+returns-in_err-memory-clause-properties g c = c.in_err-memory.ensures.properties
+
+pub returns-in-Ok-clause-properties : goal.returns-in-Ok-clause-properties
+returns-in-Ok-clause-properties g c = c.in_ok-memory.ensures.properties
+
+pub returns-in-Err-clause-properties : goal.returns-in-Err-clause-properties
+returns-in-Err-clause-properties g c = g.met.D.MemoryDevice.keeps_properties _ _ _ c.deallocate_memory.ensures ∙ c.in_ok-memory.ensures.properties
+
+pub get_block_from_new_memory-made-requires-clause-room : goal.get_block_from_new_memory-made-requires-clause-room
+get_block_from_new_memory-made-requires-clause-room g c = when_ok c.reserve.result (sym c.is_err.ensures.value ∙ c.if-is_err.false) c.reserve.ensures.room
+
+pub get_block_from_new_memory-made-requires-clause-inside : goal.get_block_from_new_memory-made-requires-clause-inside
+get_block_from_new_memory-made-requires-clause-inside g c = c.chunk_size_for-chunk_size.ensures.enough

@@ -1,0 +1,33 @@
+-- How the values that contracts see are stored.
+use Rattle.std.specs.Prelude.{ℕ, refl}
+use Rattle.std.specs.Coded.{Coded, code_by, coded×, coded_ℕ}
+use Rattle.std.specs.FinMap as map
+use Rattle.std.specs.FinSet as set
+use Rattle.std.specs.Ordering.{nat_cmp}
+use Rattle.gpu_alloc_base.specs.Codes.{chunk_code, slot_code}
+use Rattle.gpu_alloc_base.specs.Chunks.{Chunk}
+use Rattle.gpu_alloc_freelist.specs.FreeListState.{Space, Store, Listing}
+use Rattle.gpu_alloc_base.specs.Slots.{slot_cmp}
+
+abbrev pub space_code : Coded Space
+space_code =
+    code_by (map.FinMap nat_cmp Chunk × (set.FinSet slot_cmp × ℕ)) (coded× (map.code coded_ℕ chunk_code) (coded× (set.code slot_code) coded_ℕ))
+    (λ s. (s.chunks, (s.live, s.latest)))
+    (λ c. record { chunks = c.0; live = c.1.0; latest = c.1.1 }) (λ _. refl)
+
+abbrev pub store_code : Coded Store
+store_code = code_by (Space × ℕ) (coded× space_code coded_ℕ) (λ s. (s.space, s.room)) (λ c. record { space = c.0; room = c.1 }) (λ _. refl)
+
+abbrev pub listing_code : Coded Listing
+listing_code =
+    code_by (Space × ((ℕ × ℕ) × (ℕ × (ℕ × ℕ)))) (coded× space_code (coded× (coded× coded_ℕ coded_ℕ) (coded× coded_ℕ (coded× coded_ℕ coded_ℕ))))
+    (λ l. (l.space, ((l.next_chunk, l.final_chunk), (l.memory_type, (l.props, l.atom)))))
+    (λ c. record {
+      space = c.0;
+      next_chunk = c.1.0.0;
+      final_chunk = c.1.0.1;
+      memory_type = c.1.1.0;
+      props = c.1.1.1.0;
+      atom = c.1.1.1.1;
+    })
+    (λ _. refl)

@@ -1,0 +1,81 @@
+-- What the calls of a free list do.
+use Rattle.std.specs.Prelude.{◌≡◌, ◌≢◌, ℕ, ◌+◌, ◌-◌, ◌^◌, ◌<◌, ◌≤◌, Bool, true, Option, Some, None, Result, Ok, Err, IsSome}
+use Rattle.std.specs.FinMap as map
+use Rattle.std.specs.FinSet as set
+use Rattle.gpu_alloc_base.specs.Chunks.{Chunk}
+use Rattle.gpu_alloc_freelist.specs.FreeListState.{Space, IsLiveSlot, IsFreeIn}
+use Rattle.gpu_alloc_base.specs.FreeRuns.{IsListPlace, IsLastWithRoom, IsLastRun, tail_start}
+use Rattle.gpu_alloc_base.specs.declared.free_list_block.Slot.{Slot}
+use Rattle.gpu_alloc_base.specs.declared.region.FreeListRegion.{FreeListRegion}
+
+abbrev pub no_space : Space
+no_space = record { chunks = map.empty; live = set.empty; latest = 0 }
+
+-- somewhere in a held chunk there is room for a block of this size at a multiple of the alignment
+abbrev pub HasPlace : Space → ℕ → ℕ → Type 0
+HasPlace s size alignment = (chunk start : ℕ) × IsListPlace (IsFreeIn s) size alignment chunk start
+
+-- the block is the tail of the last run that has room: all from the last aligned start that leaves the size
+pub record IsTail (s : Space) (size alignment : ℕ) (slot : Slot) : Type 0 where
+  pub run : FreeListRegion
+  pub last : IsLastWithRoom (IsFreeIn s) size alignment run
+  pub chunk : slot.chunk ≡ run.chunk
+  pub start : slot.offset ≡ tail_start size alignment run.end
+  pub end : slot.offset + slot.size ≡ run.end
+  pub object : (held : Chunk) × (map.get s.chunks slot.chunk ≡ Some held) × (slot.object ≡ held.object)
+
+-- one more block is live
+abbrev pub with_slot : Space → Slot → Space
+with_slot s slot = record s { live = set.insert s.live slot }
+
+-- one block less
+abbrev pub without_slot : Space → Slot → Space
+without_slot s slot = record s { live = set.remove s.live slot }
+
+-- a run that has room is looked for: a block in the last one, or none there, or no host memory for a block in one
+abbrev pub TakesTail : {E : Type 0} → Space → ℕ → ℕ → Result (Option Slot) E → Space → Type 0
+TakesTail s size alignment (Ok None) new = (HasPlace s size alignment → ⊥) × (new ≡ s)
+TakesTail s size alignment (Ok (Some slot)) new = IsTail s size alignment slot × (new ≡ with_slot s slot)
+TakesTail s size alignment (Err e) new = HasPlace s size alignment × (new ≡ s)
+
+-- one more chunk is held, under the next number
+abbrev pub with_chunk : Space → ℕ → ℕ → Space
+with_chunk s object size = record s {
+  chunks = map.insert s.chunks (s.latest + 1) (record { object = object; size = size });
+  latest = s.latest + 1;
+}
+
+-- the tail of a chunk under that number, of which nothing is used
+abbrev pub first_tail : Space → ℕ → ℕ → ℕ → ℕ → Slot
+first_tail s object whole size alignment = record {
+  object = object;
+  chunk = s.latest + 1;
+  offset = tail_start size alignment whole;
+  size = whole - tail_start size alignment whole;
+}
+
+-- there is a number for one more chunk
+abbrev pub HasNumber : Space → Type 0
+HasNumber s = s.latest + 1 < 2 ^ 64
+
+-- the chunk is held, and no block in it is live
+pub record IsWhollyFree (s : Space) (number : ℕ) : Type 0 where
+  pub held : IsSome (map.get s.chunks number)
+  pub unused : (slot : Slot) → IsLiveSlot s slot → slot.chunk ≢ number
+
+-- the last run lies in this chunk
+abbrev pub HasLastRun : Space → ℕ → Type 0
+HasLastRun s number = (r : FreeListRegion) × (IsLastRun (IsFreeIn s) r × (r.chunk ≡ number))
+
+-- the chunk may go: it is wholly free, and not that of the last run where this one is kept
+abbrev pub MayGo : Space → Bool → ℕ → Type 0
+MayGo s keep_last number = IsWhollyFree s number × (keep_last ≡ true → HasLastRun s number → ⊥)
+
+-- of those that may go it has the least number
+pub record IsFirstToGo (s : Space) (keep_last : Bool) (number : ℕ) : Type 0 where
+  pub goes : MayGo s keep_last number
+  pub least : (other : ℕ) → MayGo s keep_last other → number ≤ other
+
+-- one chunk less
+abbrev pub without_chunk : Space → ℕ → Space
+without_chunk s number = record s { chunks = map.remove s.chunks number }

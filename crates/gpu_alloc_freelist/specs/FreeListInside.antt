@@ -1,0 +1,101 @@
+-- What the fields of a free list and of its allocator keep.
+use Rattle.std.specs.Prelude.{◌≡◌, ◌⊎◌, ℕ, ◌+◌, ◌-◌, ◌/◌, ◌<◌, ◌≤◌, Bool, true, List, length, map, min, get_or, Some}
+use Rattle.std.specs.List.{IsDistinct}
+use Rattle.std.specs.FinMap as map_of
+use Rattle.std.specs.FinSet as set
+use Rattle.std.specs.Ordering.{nat_cmp, eq_by_cmp}
+use Rattle.gpu_alloc_base.specs.Chunks.{Chunk}
+use Rattle.gpu_alloc_freelist.specs.FreeListState.{Space, Store, Listing, IsFreeIn}
+use Rattle.gpu_alloc_base.specs.Slots.{slot_cmp}
+use Rattle.gpu_alloc_freelist.specs.FreeListSound.{IsSoundSpace}
+use Rattle.gpu_alloc_base.specs.FreeRuns.{AreRuns, HasRoom}
+use Rattle.gpu_alloc_base.specs.declared.free_list_block.Slot.{Slot}
+use Rattle.gpu_alloc_base.specs.declared.region.FreeListRegion.{FreeListRegion}
+
+-- rows as a finite map from their numbers to what they say
+abbrev pub by_number : {T X : Type 0} → (T → ℕ) → (T → X) → List T → map_of.FinMap nat_cmp X
+by_number number value rows = map_of.from_entries (map (λ row. (number row, value row)) rows)
+
+-- the numbers of the rows rise
+abbrev pub AreNumbered : {T : Type 0} → (T → ℕ) → List T → Type 0
+AreNumbered {T} number rows = (i j : ℕ) (d : T) → i < j → j < length rows → number (get_or rows i d) < number (get_or rows j d)
+
+-- a list of live blocks as a set
+abbrev pub slot_set : List Slot → set.FinSet slot_cmp
+slot_set live = set.from_list live
+
+abbrev pub same_slot : Slot → Slot → Bool
+same_slot a b = eq_by_cmp slot_cmp a b
+
+abbrev pub space_in : map_of.FinMap nat_cmp Chunk → List Slot → ℕ → Space
+space_in chunks live latest = record { chunks = chunks; live = slot_set live; latest = latest }
+
+-- For how many more chunks with a block each there is room, by what three lists can still take: each brings a chunk, a
+-- block and up to two regions.
+abbrev pub room_for : ℕ → ℕ → ℕ → ℕ
+room_for chunks live regions = min chunks (min live (regions / 2))
+
+abbrev pub store_in : Space → ℕ → Store
+store_in space room = record { space = space; room = room }
+
+-- The regions are the free runs, no live block stands twice in the list, and there is room for the region of each one
+-- that comes back, in both lists of regions.
+pub record IsListed (s : Space) (regions : List FreeListRegion) (live : List Slot) (capacity : ℕ) : Type 0 where
+  pub sound : IsSoundSpace s
+  pub runs : AreRuns regions (IsFreeIn s)
+  pub once : IsDistinct same_slot live
+  pub room : length regions + length live ≤ capacity
+
+abbrev pub listing_in : Space → ℕ → ℕ → ℕ → ℕ → ℕ → Listing
+listing_in space next_chunk final_chunk memory_type props atom = record {
+  space = space;
+  next_chunk = next_chunk;
+  final_chunk = final_chunk;
+  memory_type = memory_type;
+  props = props;
+  atom = atom;
+}
+
+-- How the runs are searched.
+
+-- the run comes before the block
+abbrev pub IsBeforeBlock : FreeListRegion → Slot → Type 0
+IsBeforeBlock r slot = (r.chunk < slot.chunk) ⊎ ((r.chunk ≡ slot.chunk) × (r.start < slot.offset))
+
+-- the last one that has room stands here
+pub record IsLastFit (regions : List FreeListRegion) (size alignment i : ℕ) (d : FreeListRegion) : Type 0 where
+  pub room : HasRoom size alignment (get_or regions i d).start (get_or regions i d).end
+  pub later : (j : ℕ) → i < j → j < length regions → HasRoom size alignment (get_or regions j d).start (get_or regions j d).end → ⊥
+
+-- the run before this place ends where the block starts
+abbrev pub TouchesBefore : List FreeListRegion → ℕ → FreeListRegion → FreeListRegion → Type 0
+TouchesBefore regions place block d = (0 < place) × (((get_or regions (place - 1) d).chunk ≡ block.chunk) × ((get_or regions (place - 1) d).end ≡ block.start))
+
+-- the run at this place starts where the block ends
+abbrev pub TouchesAfter : List FreeListRegion → ℕ → FreeListRegion → FreeListRegion → Type 0
+TouchesAfter regions place block d = (place < length regions) × (((get_or regions place d).chunk ≡ block.chunk) × ((get_or regions place d).start ≡ block.end))
+
+-- The block at this place is joined with the runs that it touches: the joint stands in place of those from one index on to
+-- before another.
+pub record IsJoint (regions : List FreeListRegion) (place : ℕ) (block d : FreeListRegion) (from to : ℕ) (joint : FreeListRegion) : Type 0 where
+  pub chunk : joint.chunk ≡ block.chunk
+  pub before :
+      (TouchesBefore regions place block d × ((from + 1 ≡ place) × (joint.start ≡ (get_or regions (place - 1) d).start)))
+      ⊎ ((TouchesBefore regions place block d → ⊥) × ((from ≡ place) × (joint.start ≡ block.start)))
+  pub after :
+      (TouchesAfter regions place block d × ((to ≡ place + 1) × (joint.end ≡ (get_or regions place d).end)))
+      ⊎ ((TouchesAfter regions place block d → ⊥) × ((to ≡ place) × (joint.end ≡ block.end)))
+
+-- the run is a whole chunk, by the sizes of chunks
+abbrev pub IsWholeRegion : map_of.FinMap nat_cmp ℕ → FreeListRegion → Type 0
+IsWholeRegion sizes r = (r.start ≡ 0) × (map_of.get sizes r.chunk ≡ Some r.end)
+
+-- the run at this place is a whole chunk, and not the last run where that is kept
+pub record MayBeTaken (sizes : map_of.FinMap nat_cmp ℕ) (regions : List FreeListRegion) (keep_last : Bool) (d : FreeListRegion) (i : ℕ) : Type 0 where
+  pub within : i < length regions
+  pub whole : IsWholeRegion sizes (get_or regions i d)
+  pub not_last : keep_last ≡ true → i + 1 < length regions
+
+pub record IsFirstWhole (sizes : map_of.FinMap nat_cmp ℕ) (regions : List FreeListRegion) (keep_last : Bool) (d : FreeListRegion) (i : ℕ) : Type 0 where
+  pub taken : MayBeTaken sizes regions keep_last d i
+  pub earlier : (j : ℕ) → j < i → MayBeTaken sizes regions keep_last d j → ⊥

@@ -1,0 +1,6 @@
+pub mod Codes
+pub mod FreeList
+pub mod FreeListAllocator
+pub mod FreeListInside
+pub mod FreeListSound
+pub mod FreeListState

@@ -1,0 +1,336 @@
+//! A free list: chunks of memory by number, their free runs, and the blocks that are live in them.
+
+ghost use Rattle.std.specs.Prelude.{◌≡◌, ◌≤◌, ◌<◌, ◌+◌, ◌↔◌, ℕ, length, slice_get, false, Some, None, IfSome, IfNone, IfOk, IfErr, OnOk, IsOk, IsSome, IsTrue, MatchOption, vec_len, vec_capacity};
+ghost use Rattle.std.specs.FinMap as map;
+ghost use Rattle.std.specs.FinSet as set;
+ghost use Rattle.std.specs.List.{Contains, IsDistinct};
+ghost use Rattle.gpu_alloc_freelist.specs.FreeList.{TakesTail, IsFirstToGo, MayGo, HasNumber, HasPlace, with_slot, without_slot, with_chunk, without_chunk, first_tail, no_space};
+ghost use Rattle.gpu_alloc_freelist.specs.FreeListInside.{by_number, IsWholeRegion, MayBeTaken, IsFirstWhole, same_slot, slot_set};
+ghost use Rattle.gpu_alloc_freelist.specs.FreeListSound.{IsSoundSpace};
+ghost use Rattle.gpu_alloc_freelist.specs.FreeListState.{IsLiveSlot, IsFreeIn};
+ghost use Rattle.gpu_alloc_base.specs.FreeRuns.{IsFreeRun, AreRising};
+ghost use Rattle.gpu_alloc_base.specs.AlignMasks.{IsAlignMask};
+ghost use Rattle.gpu_alloc_base.specs.declared.region.FreeListRegion.{FreeListRegion as Region};
+
+use super::regions::{insert, last_with_room, tail_of, take_tail};
+use gpu_alloc_base::steps::Steps;
+use gpu_alloc_base::{FreeListBlock, FreeListRegion, Slot};
+use gpu_alloc_types::MemoryObject;
+use std::alloc::{AllocError, Allocator, Global};
+use std::marker::Model;
+use std::sync::ledger::Ledger;
+
+/// A held chunk: its number, a handle of its object, and its size in bytes.
+#[derive(Drop)]
+struct ListChunk<M: MemoryObject> {
+    number: u64,
+    memory: M,
+    size: u64,
+}
+
+/// Chunks of memory, the free runs in them, and the blocks that are live. It cannot be let go:
+/// [`close`](FreeList::close) ends it.
+///
+/// Chunks are numbered from 1 on, and no number comes twice. Between calls the regions are exactly the free runs: the
+/// longest ranges of bytes that lie in a chunk and in no live block.
+pub struct FreeList<M: MemoryObject, A: Allocator = Global> {
+    chunks: Vec<ListChunk<M>, A>,
+    regions: Vec<FreeListRegion, A>,
+    // Into which an insertion copies the regions. Both have room for a region more with each live block.
+    spare: Vec<FreeListRegion, A>,
+    live: Vec<Slot, A>,
+    latest: u64,
+}
+
+impl<M: MemoryObject, A: Allocator> Model for FreeList<M, A> {
+    ghost use Rattle.gpu_alloc_freelist.specs.FreeListState.{Store};
+    ghost use Rattle.gpu_alloc_freelist.specs.Codes.{store_code};
+
+    ghost Value = { Store };
+
+    ghost coded = { store_code };
+
+    ghost use Rattle.std.specs.Prelude.{◌+◌, ◌-◌, min, length, vec_capacity};
+    ghost use Rattle.gpu_alloc_freelist.specs.FreeListInside.{by_number, space_in, store_in, room_for, AreNumbered, IsListed};
+
+    ghost view = { λ l. store_in (space_in (by_number (λ c. c.number) (λ c. record { object = M.object c.memory; size = c.size }) l.chunks.items) l.live.items l.latest) (room_for (vec_capacity l.chunks - length l.chunks.items) (vec_capacity l.live - length l.live.items) (min (vec_capacity l.regions) (vec_capacity l.spare) - (length l.regions.items + length l.live.items))) };
+
+    ghost invariant = { λ l. AreNumbered (λ c. c.number) l.chunks.items × IsListed (space_in (by_number (λ c. c.number) (λ c. record { object = M.object c.memory; size = c.size }) l.chunks.items) l.live.items l.latest) l.regions.items l.live.items (min (vec_capacity l.regions) (vec_capacity l.spare)) };
+}
+
+impl<M: MemoryObject, A: Allocator + Copy> FreeList<M, A> {
+    /// A list of no chunk. `alloc` gives the memory of its vectors, none of which is taken yet.
+    pub fn new(alloc: A) -> Self
+        ensures empty { result.space ≡ no_space }
+        ensures sound { IsSoundSpace result.space }
+    {
+        FreeList {
+            chunks: Vec::new(alloc),
+            regions: Vec::new(alloc),
+            spare: Vec::new(alloc),
+            live: Vec::new(alloc),
+            latest: 0,
+        }
+    }
+}
+
+impl<M: MemoryObject, A: Allocator> FreeList<M, A> {
+    /// Makes room for one more chunk with one more block: for their runs too, the front of the chunk now and the block when
+    /// it comes back. Whether there is room, contracts see as a number.
+    ///
+    /// The only refusal is want of memory. Nothing but the room changes, after a refusal too.
+    pub fn reserve(&mut self) -> Result<(), AllocError>
+        ensures room { OnOk result (0 < self.new.room) }
+        ensures succeeds { 0 < self.old.room → IsOk result }
+        ensures kept { self.new.space ≡ self.old.space }
+    {
+        let runs = self.live.len().checked_add(2).ok_or(AllocError)?;
+        self.chunks.reserve(1)?;
+        self.live.reserve(1)?;
+        self.regions.reserve(runs)?;
+        let all = self.regions.len().checked_add(runs).ok_or(AllocError)?;
+        self.spare.clear();
+        self.spare.reserve(all)
+    }
+
+    /// A block that is the tail of a new chunk: all from the last multiple of `align_mask + 1` on that leaves `size` bytes to
+    /// the chunk's end. The rest of the chunk is a free run. The chunk gets the next number.
+    ///
+    /// `memory` is the chunk's object, of `memory_size` bytes. The size has to be at least 1 and at most that,
+    /// `align_mask + 1` a power of two of at most 2^63, room has to be made (`reserve`), and the latest number below
+    /// 2^64 - 1.
+    ///
+    /// Where there is no host memory for a second handle of the object, the first is handed back and nothing has changed.
+    pub fn get_block_from_new_memory(
+        &mut self,
+        memory: M,
+        memory_size: u64,
+        align_mask: u64,
+        size: u64,
+    ) -> Result<FreeListBlock<M>, M>
+        requires room { 0 < self.old.room }
+        requires nonempty { 0 < size }
+        requires inside { size ≤ memory_size }
+        requires alignment { IsAlignMask align_mask }
+        requires number { HasNumber self.old.space }
+        ensures block { IfOk result (λ slot. slot ≡ first_tail self.old.space (M.object memory) memory_size size (align_mask + 1)) }
+        ensures chunk { IfOk result (λ slot. self.new.space ≡ with_slot (with_chunk self.old.space (M.object memory) memory_size) slot) }
+        ensures refused { IfErr result (λ back. (M.object back ≡ M.object memory) × (self.new ≡ self.old)) }
+        ensures sound { IsSoundSpace self.new.space }
+    {
+        let number = self.latest + 1;
+        let handle = match memory.duplicate() {
+            Ok(handle) => handle,
+            Err(_) => return Err(memory),
+        };
+        self.latest = number;
+        let whole = FreeListRegion {
+            chunk: number,
+            start: 0,
+            end: memory_size,
+        };
+        let slot = tail_of(whole, memory.object(), size, align_mask);
+        self.chunks.push_reserved(ListChunk {
+            number,
+            memory,
+            size: memory_size,
+        });
+        if slot.offset > 0 {
+            self.regions.push_reserved(FreeListRegion {
+                chunk: number,
+                start: 0,
+                end: slot.offset,
+            });
+        }
+        keep(&mut self.live, slot);
+        Ok(FreeListBlock::new(handle, slot))
+    }
+
+    /// A block that is the tail of the last free run with room for it: all from the last multiple of `align_mask + 1` on that
+    /// leaves `size` bytes to the run's end. None where no run has room. Runs are ordered by chunk number, then by start.
+    ///
+    /// The size has to be at least 1, and `align_mask + 1` a power of two of at most 2^63. It takes the room of `reserve`
+    /// itself, only once a run has room. The only refusal is want of host memory, for that room or for a second handle of
+    /// the chunk's object, and then the list is as it was.
+    pub fn get_block(
+        &mut self,
+        align_mask: u64,
+        size: u64,
+    ) -> Result<Option<FreeListBlock<M>>, AllocError>
+        requires nonempty { 0 < size }
+        requires alignment { IsAlignMask align_mask }
+        ensures takes { TakesTail self.old.space size (align_mask + 1) result self.new.space }
+        ensures none { IfOk result (λ block. IfNone block (self.new ≡ self.old)) }
+        ensures sound { IsSoundSpace self.new.space }
+    {
+        let Some(index) = last_with_room(self.regions.as_slice(), size, align_mask) else {
+            return Ok(None);
+        };
+        self.reserve()?;
+        let region = self.regions[index];
+        let chunk = chunk_at(self.chunks.as_slice(), region.chunk);
+        let memory = self.chunks[chunk].memory.duplicate()?;
+        let slot = tail_of(region, memory.object(), size, align_mask);
+        take_tail(&mut self.regions, index, slot.offset);
+        keep(&mut self.live, slot);
+        Ok(Some(FreeListBlock::new(memory, slot)))
+    }
+
+    /// Whether some free run has room for such a block, so that `get_block` answers none where it has not.
+    pub(crate) fn has_place(&self, align_mask: u64, size: u64) -> bool
+        requires nonempty { 0 < size }
+        requires alignment { IsAlignMask align_mask }
+        ensures { IsTrue result ↔ HasPlace self.now.space size (align_mask + 1) }
+    {
+        last_with_room(self.regions.as_slice(), size, align_mask).is_some()
+    }
+
+    /// Whether there is a number for one more chunk: not after 2^64 - 1 chunks.
+    pub(crate) fn has_number(&self) -> bool
+        ensures { IsTrue result ↔ HasNumber self.now.space }
+    {
+        self.latest < u64::MAX
+    }
+
+    /// Takes a block back, and joins it with the free runs beside it. It takes no memory and cannot fail.
+    ///
+    /// The block has to be live here, by its object, chunk, offset and size. `steps` counts the comparisons of a run with
+    /// the block.
+    pub fn insert_block<L: Ledger>(&mut self, block: FreeListBlock<M>, steps: &mut Steps<L>)
+        requires { IsLiveSlot self.old.space block }
+        ensures back { self.new.space ≡ without_slot self.old.space block }
+        ensures sound { IsSoundSpace self.new.space }
+    {
+        forget(&mut self.live, block.slot());
+        insert(&mut self.regions, &mut self.spare, &block, steps);
+        let _ = block.into_parts();
+    }
+
+    /// Takes the wholly free chunk of the least number out of the list: its memory, its size in bytes and its number. Where
+    /// `keep_last` says so, the chunk in which the last run lies is passed over. None where there is no such chunk. It takes
+    /// no memory.
+    pub fn take_whole(&mut self, keep_last: bool) -> Option<(M, u64, u64)>
+        ensures none { IfNone result (((number : ℕ) → MayGo self.old.space keep_last number → ⊥) × (self.new.space ≡ self.old.space)) }
+        ensures first { IfSome result (λ taken. IsFirstToGo self.old.space keep_last taken.2) }
+        ensures chunk { IfSome result (λ taken. map.get (self.old.space).chunks taken.2 ≡ Some (record { object = M.object taken.0; size = taken.1 })) }
+        ensures gone { IfSome result (λ taken. self.new.space ≡ without_chunk self.old.space taken.2) }
+        ensures sound { IsSoundSpace self.new.space }
+    {
+        let index = first_whole(self.regions.as_slice(), self.chunks.as_slice(), keep_last)?;
+        let region = self.regions.remove(index);
+        let chunk = chunk_at(self.chunks.as_slice(), region.chunk);
+        let ListChunk {
+            number,
+            memory,
+            size,
+        } = self.chunks.remove(chunk);
+        Some((memory, size, number))
+    }
+
+    /// The free runs, by chunk number, then by start.
+    pub fn regions(&self) -> &[FreeListRegion]
+        ensures runs { (r : Region) → Contains result.now r ↔ IsFreeRun (IsFreeIn self.now.space) r.chunk r.start r.end }
+        ensures rising { AreRising result.now }
+    {
+        self.regions.as_slice()
+    }
+
+    /// The name of a held chunk's object.
+    pub(crate) fn object_of(&self, number: u64) -> u64
+        requires { IsSome (map.get (self.now.space).chunks number) }
+        ensures { IfSome (map.get (self.now.space).chunks number) (λ c. c.object ≡ result) }
+    {
+        let chunk = chunk_at(self.chunks.as_slice(), number);
+        self.chunks[chunk].memory.object()
+    }
+
+    /// The allocator of its vectors.
+    pub(crate) fn allocator(&self) -> A
+    where
+        A: Copy,
+    {
+        *self.regions.allocator()
+    }
+
+    /// Ends a list that holds no chunk.
+    pub fn close(self)
+        requires { map.len (self.space).chunks ≡ 0 }
+    {
+        let FreeList {
+            chunks: _,
+            regions: _,
+            spare: _,
+            live: _,
+            latest: _,
+        } = self;
+    }
+}
+
+/// Where a held chunk stands.
+fn chunk_at<M: MemoryObject>(chunks: &[ListChunk<M>], number: u64) -> usize
+    requires { IsSome (map.get (by_number (λ c. c.number) (λ c. c.size) chunks.now) number) }
+    ensures within { result < length chunks.now }
+    ensures number { IfSome (slice_get chunks.now result) (λ c. c.number ≡ number) }
+    ensures size { IfSome (slice_get chunks.now result) (λ c. map.get (by_number (λ c. c.number) (λ c. c.size) chunks.now) number ≡ Some c.size) }
+{
+    match chunks.iter().position(|chunk| chunk.number == number) {
+        Some(at) => at,
+        None => unreachable!(),
+    }
+}
+
+/// Whether a run is a whole chunk.
+fn is_whole<M: MemoryObject>(chunks: &[ListChunk<M>], region: FreeListRegion) -> bool
+    requires { IsSome (map.get (by_number (λ c. c.number) (λ c. c.size) chunks.now) region.chunk) }
+    ensures { IsTrue result ↔ IsWholeRegion (by_number (λ c. c.number) (λ c. c.size) chunks.now) region }
+{
+    region.start == 0 && chunks[chunk_at(chunks, region.chunk)].size == region.end
+}
+
+/// Where the first run stands that is a whole chunk: the last run is passed over, where it is to be kept.
+fn first_whole<M: MemoryObject>(
+    regions: &[FreeListRegion],
+    chunks: &[ListChunk<M>],
+    keep_last: bool,
+) -> Option<usize>
+    requires { (r : Region) → Contains regions.now r → IsSome (map.get (by_number (λ c. c.number) (λ c. c.size) chunks.now) r.chunk) }
+    ensures some { IfSome result (λ i. (d : Region) → IsFirstWhole (by_number (λ c. c.number) (λ c. c.size) chunks.now) regions.now keep_last d i) }
+    ensures none { IfNone result ((i : ℕ) (d : Region) → MayBeTaken (by_number (λ c. c.number) (λ c. c.size) chunks.now) regions.now keep_last d i → ⊥) }
+{
+    let kept = usize::from(keep_last);
+    for index in 0..regions.len().saturating_sub(kept) {
+        if is_whole(chunks, regions[index]) {
+            return Some(index);
+        }
+    }
+    None
+}
+
+/// Adds a block to those that are live, in their order.
+fn keep<A: Allocator>(live: &mut Vec<Slot, A>, slot: Slot)
+    requires room { vec_len live.old < vec_capacity live.old }
+    ensures live { slot_set live.new.items ≡ set.insert (slot_set live.old.items) slot }
+    ensures once { IsDistinct same_slot live.old.items → set.contains (slot_set live.old.items) slot ≡ false → IsDistinct same_slot live.new.items }
+    ensures len { vec_len live.new ≡ vec_len live.old + 1 }
+    ensures capacity { vec_capacity live.old ≤ vec_capacity live.new }
+{
+    let after = live.iter().position(|other| slot.is_before(other));
+    let place = after.unwrap_or(live.len());
+    live.insert(place, slot).unwrap();
+}
+
+/// Takes a block off those that are live.
+fn forget<A: Allocator>(live: &mut Vec<Slot, A>, slot: Slot)
+    requires once { IsDistinct same_slot live.old.items }
+    requires live { IsTrue (set.contains (slot_set live.old.items) slot) }
+    ensures once { IsDistinct same_slot live.new.items }
+    ensures live { slot_set live.new.items ≡ set.remove (slot_set live.old.items) slot }
+    ensures len { vec_len live.new + 1 ≡ vec_len live.old }
+{
+    match live.iter().position(|other| *other == slot) {
+        Some(at) => {
+            let _ = live.remove(at);
+        }
+        None => unreachable!(),
+    }
+}

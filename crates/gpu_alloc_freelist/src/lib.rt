@@ -1,0 +1,8 @@
+//! The free list and its allocator for one memory type, on the device that is handed to its calls. Users find them in
+//! `gpu_alloc::freelist`.
+#![tactic(auto)]
+
+mod freelist;
+
+pub use freelist::{FreeList, FreeListAllocator};
+pub use gpu_alloc_base::{FreeListBlock, FreeListRegion};

@@ -1,7 +1,0 @@
-use Rattle.std.proofs.Common.{ap, sym, ◌∙◌}
-use Rattle.std.specs.FinMap.{len}
-use Rattle.gpu_script.proofs.NumberedEntries.{len-entries}
-use Rattle.gpu_script.proofs.sim.numbered.Numbered.len.Goals as goal
-
-pub returns : goal.returns
-returns g c = c.len.ensures.len ∙ sym (ap len (sym c.self.view_is) ∙ len-entries _ c.len.ensures.unique)

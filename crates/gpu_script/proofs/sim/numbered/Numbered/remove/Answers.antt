@@ -1,9 +1,0 @@
-use Rattle.std.proofs.Common.{ap, ◌∙◌}
-use Rattle.std.specs.FinMap.{remove}
-use Rattle.gpu_session.proofs.Names.{removed_by_name}
-use Rattle.gpu_script.proofs.sim.numbered.Numbered.remove.Goals as goal
-
-pub returns : goal.returns
-returns g c =
-    removed_by_name _ _ c.args.number c.swap_remove.ensures.updates.0
-    ∙ ap (λ m. remove m c.args.number) c.self.view_is

@@ -1,0 +1,2 @@
+pub mod NumberedEntries
+pub mod SimNames

@@ -1,0 +1,4 @@
+pub mod Question
+pub mod Sim
+pub mod SimCode
+pub mod SimLaws

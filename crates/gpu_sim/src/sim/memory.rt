@@ -1,0 +1,49 @@
+//! Handles of the simulated device's objects.
+
+ghost use Rattle.std.specs.Prelude.{◌≡◌, IfOk};
+
+use gpu_alloc_types::MemoryObject;
+use std::alloc::{AllocError, Allocator, Global};
+use std::marker::Model;
+
+/// A handle of an object of a [`Sim`](crate::Sim), seen in contracts as the object's name.
+///
+/// The name stands on the heap, so that the making of each further handle can find no memory.
+#[derive(Drop)]
+pub struct SimMemory<A: Allocator + Copy = Global> {
+    name: Box<u64, A>,
+}
+
+impl<A: Allocator + Copy> Model for SimMemory<A> {
+    ghost use Rattle.std.specs.Prelude.{ℕ};
+
+    ghost Value = { ℕ };
+
+    ghost view = { λ memory. memory.name.value };
+}
+
+impl<A: Allocator + Copy> SimMemory<A> {
+    /// A handle of the object of that name, whether or not a device holds it. It is public for tests of what happens where
+    /// no memory is left for handles; a program gets its handles from [`Sim`](crate::Sim).
+    ///
+    /// Takes memory for the name, and fails only for want of it.
+    pub fn new(alloc: A, name: u64) -> Result<SimMemory<A>, AllocError>
+        ensures { IfOk result (λ memory. memory ≡ name) }
+    {
+        Ok(SimMemory {
+            name: Box::new(alloc, name)?,
+        })
+    }
+}
+
+impl<A: Allocator + Copy> MemoryObject for SimMemory<A> {
+    ghost object = { λ memory. memory };
+
+    fn object(&self) -> u64 {
+        *self.name
+    }
+
+    fn duplicate(&self) -> Result<SimMemory<A>, AllocError> {
+        SimMemory::new(*Box::allocator(&self.name), *self.name)
+    }
+}
