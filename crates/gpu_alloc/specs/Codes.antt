@@ -7,11 +7,6 @@ use Rattle.std.specs.Ordering.{nat_cmp}
 use Rattle.gpu_alloc_types.specs.Codes.{properties_code}
 use Rattle.gpu_alloc_types.specs.Properties.{Properties}
 use Rattle.gpu_alloc.specs.State.{HeldObject, Span, span_cmp, Block, span_of, TypeState, State}
-use Rattle.gpu_alloc_buddy.specs.BuddyState.{Buddy}
-use Rattle.gpu_alloc_base.specs.Leaves.{leaf_cmp}
-use Rattle.gpu_alloc_base.specs.Chunks.{Chunk}
-use Rattle.gpu_alloc_freelist.specs.FreeListState.{Space, Store, Listing}
-use Rattle.gpu_alloc_base.specs.Slots.{slot_cmp}
 pub use Rattle.gpu_alloc_base.specs.Codes.{config_code, leaf_code, chunk_code, slot_code}
 pub use Rattle.gpu_alloc_buddy.specs.Codes.{buddy_code}
 pub use Rattle.gpu_alloc_freelist.specs.Codes.{space_code, store_code, listing_code}
@@ -19,9 +14,7 @@ use Rattle.gpu_alloc.specs.Spans.{Place, Table}
 use Rattle.gpu_alloc.specs.declared.block.Kind.{Kind}
 use Rattle.gpu_alloc.specs.declared.block.Kind.TheVariants.{Dedicated, Imported, BuddyChunk, FreeListChunk}
 use Rattle.gpu_alloc.specs.declared.block.Mapping.{Mapping}
-use Rattle.gpu_alloc_base.specs.declared.buddy_block.Leaf.{Leaf}
 use Rattle.gpu_alloc_base.specs.declared.config.Config.{Config}
-use Rattle.gpu_alloc_base.specs.declared.free_list_block.Slot.{Slot}
 
 -- a kind as a number and the number of its chunk
 abbrev pub kind_numbers : Kind → ℕ × ℕ

@@ -1,5 +1,5 @@
 -- Chunk sizes of memory types at first.
-use Rattle.std.specs.Prelude.{ℕ, List, map, max, slice_get}
+use Rattle.std.specs.Prelude.{List, map, max, slice_get}
 use Rattle.gpu_alloc_types.specs.Flags.{property_bits}
 use Rattle.gpu_alloc_types.specs.Properties.{Properties, size_of, atom_for}
 use Rattle.gpu_alloc_types.specs.declared.types.MemoryType.{MemoryType}

@@ -1,6 +1,5 @@
 -- What may be asked of an allocator.
-use Rattle.std.specs.Prelude.{ℕ, ◌+◌, ◌<◌, ◌≤◌, ◌^◌, Bool, true, false, Option, Some, None, IsTrue}
-use Rattle.std.specs.Int.{is_power_of_two}
+use Rattle.std.specs.Prelude.{◌<◌, Bool, true, false, Option, Some, None, IsTrue}
 use Rattle.gpu_alloc_types.specs.Flags.{usage_bits, has_bit}
 use Rattle.gpu_alloc_base.specs.AlignMasks.{IsAlignMask}
 use Rattle.gpu_alloc.specs.declared.request.Request.{Request}

@@ -5,7 +5,7 @@ ghost use Rattle.std.specs.Prelude.{◌≡◌};
 use gpu_alloc_types::MemoryObject;
 use std::marker::Model;
 
-/// What a live block of a buddy allocator is known by.
+/// What a live block of a buddy allocator is known by. It is public for the crates above: users have a [`BuddyBlock`].
 #[derive(Clone, Copy, PartialEq, Eq)]
 pub struct Leaf {
     /// The name of its chunk's object.
@@ -46,7 +46,8 @@ impl<M: MemoryObject> Model for BuddyBlock<M> {
 }
 
 impl<M: MemoryObject> BuddyBlock<M> {
-    /// The block with this handle of its chunk's object.
+    /// The block with this handle of its chunk's object. It is public for the crates above: users get their blocks from a
+    /// buddy allocator.
     pub fn new(memory: M, leaf: Leaf) -> Self
         requires { leaf.object ≡ M.object memory }
         ensures { result ≡ leaf }
@@ -60,7 +61,8 @@ impl<M: MemoryObject> BuddyBlock<M> {
         }
     }
 
-    /// Takes the block apart, for its handle and what it was known by.
+    /// Takes the block apart, for its handle and what it was known by. It is public for the crates above: users give their
+    /// blocks back.
     pub fn into_parts(self) -> (M, Leaf)
         ensures handle { M.object result.0 ≡ self.object }
         ensures leaf { result.1 ≡ self }

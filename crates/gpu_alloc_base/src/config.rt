@@ -85,6 +85,7 @@ impl Config {
     }
 
     /// From which size on an object of its own that is preferred is given, in bytes.
+    /// It is public for the allocator.
     pub fn preferred_threshold(&self) -> u64
         ensures { result ≡ preferred_threshold self.now }
     {
@@ -93,6 +94,7 @@ impl Config {
     }
 
     /// The size of a least buddy block, in bytes, for a memory type in a heap of this size.
+    /// It is public for the allocator.
     pub fn minimal_size(&self, heap: u64) -> u64
         ensures is { result ≡ minimal_size self.now heap }
         ensures power { IsTrue (is_power_of_two result) }
@@ -101,6 +103,7 @@ impl Config {
     }
 
     /// The least size of a first buddy chunk, in bytes, for a memory type in a heap of this size.
+    /// It is public for the allocator.
     pub fn initial_size(&self, heap: u64) -> u64
         ensures is { result ≡ initial_size self.now heap }
         ensures power { IsTrue (is_power_of_two result) }
@@ -109,6 +112,7 @@ impl Config {
     }
 
     /// From which size on a transient request gets an object of its own, in bytes.
+    /// It is public for the allocator.
     pub fn transient_threshold(&self) -> u64
         ensures { result ≡ transient_threshold self.now }
     {
@@ -117,6 +121,7 @@ impl Config {
     }
 
     /// The least size of a first free-list chunk, in bytes, for a memory type with this atom in a heap of this size.
+    /// It is public for the allocator.
     pub fn starting_size(&self, heap: u64, atom: u64) -> u64
         requires { 0 < atom }
         ensures { result ≡ starting_size self.now heap atom }
@@ -125,6 +130,7 @@ impl Config {
     }
 
     /// The size of a largest free-list chunk, in bytes, for a memory type with this atom in a heap of this size.
+    /// It is public for the allocator.
     pub fn final_size(&self, heap: u64, atom: u64) -> u64
         requires { 0 < atom }
         ensures { result ≡ final_size self.now heap atom }

@@ -5,7 +5,7 @@ ghost use Rattle.std.specs.Prelude.{◌≡◌};
 use gpu_alloc_types::MemoryObject;
 use std::marker::Model;
 
-/// What a live block of a free list is known by.
+/// What a live block of a free list is known by. It is public for the crates above: users have a [`FreeListBlock`].
 #[derive(Clone, Copy, PartialEq, Eq)]
 pub struct Slot {
     /// The name of its chunk's object.
@@ -22,7 +22,7 @@ pub struct Slot {
 }
 
 impl Slot {
-    /// Whether the block comes before another one: by chunk number, then by where each starts.
+    /// Whether the block comes before another one: by chunk number, then by where each starts. It is public for the free list.
     pub fn is_before(&self, other: &Slot) -> bool {
         (self.chunk, self.offset) < (other.chunk, other.offset)
     }
@@ -49,7 +49,8 @@ impl<M: MemoryObject> Model for FreeListBlock<M> {
 }
 
 impl<M: MemoryObject> FreeListBlock<M> {
-    /// The block with this handle of its chunk's object.
+    /// The block with this handle of its chunk's object. It is public for the crates above: users get their blocks from a free
+    /// list.
     pub fn new(memory: M, slot: Slot) -> Self
         requires { slot.object ≡ M.object memory }
         ensures { result ≡ slot }
@@ -62,7 +63,8 @@ impl<M: MemoryObject> FreeListBlock<M> {
         }
     }
 
-    /// Takes the block apart, for its handle and what it was known by.
+    /// Takes the block apart, for its handle and what it was known by. It is public for the crates above: users give their
+    /// blocks back.
     pub fn into_parts(self) -> (M, Slot)
         ensures handle { M.object result.0 ≡ self.object }
         ensures slot { result.1 ≡ self }
@@ -77,7 +79,7 @@ impl<M: MemoryObject> FreeListBlock<M> {
         (memory, slot)
     }
 
-    /// What the block is known by.
+    /// What the block is known by. It is public for the free list.
     pub fn slot(&self) -> Slot
         ensures { result ≡ self.now }
     {

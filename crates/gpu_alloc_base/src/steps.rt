@@ -36,7 +36,7 @@ impl<L: Ledger> Steps<L> {
         Steps { book, share }
     }
 
-    /// Counts one step.
+    /// Counts one step. It is public for what counts: a caller hands its counter in, and leaves the counting to the call.
     pub fn tick(&mut self)
         ensures { self.new ≡ self.old + 1 }
     {

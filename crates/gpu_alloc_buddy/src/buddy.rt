@@ -103,7 +103,8 @@ impl<M: MemoryObject, A: Allocator + Copy> BuddyAllocator<M, A> {
         ))
     }
 
-    /// The allocator that `new` gives. It is not refused, since no memory is taken.
+    /// The allocator that `new` gives. It is not refused, since no memory is taken, and is public for `gpu_alloc`, which opens one
+    /// for each memory type.
     pub fn empty(
         alloc: A,
         minimal_size: u64,
@@ -256,7 +257,7 @@ impl<M: MemoryObject, A: Allocator> BuddyAllocator<M, A> {
         }
     }
 
-    /// The size of a held chunk, in bytes.
+    /// The size of a held chunk, in bytes. It is public for `gpu_alloc`, which counts the chunk as an object.
     pub fn chunk_size(&self, chunk: usize) -> u64
         requires { IsSome (map.get self.now.chunks chunk) }
         ensures { IfSome (map.get self.now.chunks chunk) (λ c. c.size ≡ result) }

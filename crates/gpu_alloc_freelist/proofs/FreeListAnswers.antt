@@ -22,6 +22,7 @@ use Rattle.gpu_alloc_base.specs.declared.error.AllocationError.{AllocationError}
 use Rattle.gpu_alloc_base.specs.declared.error.AllocationError.TheVariants.{OutOfDeviceMemory, OutOfHostMemory, NoCompatibleMemoryTypes, TooManyObjects}
 use Rattle.gpu_alloc_base.specs.declared.free_list_block.Slot.{Slot}
 use Rattle.gpu_alloc_base.proofs.Outcomes.{if_some}
+use Rattle.gpu_alloc_freelist.proofs.ForCallers.{never_both}
 use Rattle.gpu_alloc_freelist.proofs.FreeListSizes.{chunk_size_atoms, chunk_size_bound, chunk_size_enough, next_size_sound}
 use Rattle.gpu_alloc_base.proofs.ChunkSizes.{up_enough}
 use Rattle.gpu_alloc_base.proofs.Sums.{sum_by-insert, len_more}
@@ -218,10 +219,6 @@ sound_in_new_chunk l object size alignment s other asked =
     (first_lies l.space object whole size alignment asked.nonempty enough)
     (first_free l.space object whole size alignment s.space)
     (first_of_atoms l object whole size alignment s asked atoms)
-
--- a tail of a held chunk has not the number of a new one
-pub never_both : (s : Space) (size alignment : ℕ) (slot : Slot) → IsSoundSpace s → IsTail s size alignment slot → slot.chunk ≡ s.latest + 1 → ⊥
-never_both s size alignment slot k tail new = omega (arith, (k.numbers slot.chunk tail.object.0 tail.object.1).1, new)
 
 -- What is sound stays so.
 

@@ -1,3 +1,4 @@
+pub mod ForCallers
 pub mod FreeListAnswers
 pub mod FreeListEmpty
 pub mod FreeListGrants

@@ -260,7 +260,8 @@ impl<M: MemoryObject, A: Allocator> FreeListAllocator<M, A> {
         self.give_back(device, false, heap, allocations_remains);
     }
 
-    /// Takes a block back, which has to be live here, and gives no chunk back.
+    /// Takes a block back, which has to be live here, and gives no chunk back. It is public for `gpu_alloc`, which lets chunks go
+    /// one by one.
     pub fn free(&mut self, block: FreeListBlock<M>)
         requires { IsLiveSlot (self.old).space block }
         ensures back { self.new ≡ listing_without self.old block }
@@ -270,7 +271,8 @@ impl<M: MemoryObject, A: Allocator> FreeListAllocator<M, A> {
     }
 
     /// Gives the oldest chunk in which no block is live back to the device, but not the one in which the last run lies where
-    /// this one is kept: the name of its object. None where there is no such chunk.
+    /// this one is kept: the name of its object. None where there is no such chunk. It is public for `gpu_alloc`, which takes that
+    /// object off its books.
     pub fn give_back_first<D: MemoryDevice<M>>(
         &mut self,
         device: &mut D,

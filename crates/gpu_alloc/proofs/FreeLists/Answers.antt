@@ -37,7 +37,7 @@ use Rattle.gpu_alloc.proofs.Tables.LiveSpans.{live_new}
 use Rattle.gpu_alloc_base.proofs.Maps.{own_inserted}
 use Rattle.gpu_alloc.proofs.FreeLists.Types.{own_listing, serves_own}
 use Rattle.gpu_alloc_base.proofs.FreeRuns.{tail_ends}
-use Rattle.gpu_alloc_freelist.proofs.FreeListAnswers.{never_both}
+use Rattle.gpu_alloc_freelist.proofs.ForCallers.{never_both}
 
 -- a span is not apart from itself
 apart_itself : (span : Span) → 0 < span.size → AreApart span span → ⊥

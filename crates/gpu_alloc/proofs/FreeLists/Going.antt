@@ -25,7 +25,7 @@ use Rattle.gpu_alloc.specs.declared.block.Kind.TheVariants.{BuddyChunk}
 use Rattle.gpu_alloc_base.specs.declared.heap.Heap.{Heap}
 use Rattle.gpu_alloc.specs.declared.limits.Limits.{Limits}
 use Rattle.gpu_alloc.proofs.Consistency.{heap_there, booked-let_go}
-use Rattle.gpu_alloc_freelist.proofs.GoneChunks.{IsOnItsWay, begins, goes_on, ends, held_before}
+use Rattle.gpu_alloc_freelist.proofs.ForCallers.{IsOnItsWay, begins, goes_on, ends, held_before}
 use Rattle.gpu_alloc.proofs.Buddies.HasBuddies.{buddies_beside}
 use Rattle.gpu_alloc.proofs.FreeLists.HasLists.{lists_set}
 use Rattle.gpu_alloc.proofs.HeapLists.{properties_kept, state_kept}

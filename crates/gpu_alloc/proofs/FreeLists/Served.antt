@@ -36,7 +36,7 @@ use Rattle.gpu_alloc.proofs.Buddies.Served.{ranges_apart}
 use Rattle.gpu_alloc.proofs.Buddies.Serving.{table_of}
 use Rattle.gpu_alloc_base.proofs.FreeRuns.{tail_ends}
 use Rattle.gpu_alloc_base.proofs.ChunkSizes.{grown_again}
-use Rattle.gpu_alloc_freelist.proofs.FreeListAnswers.{never_both}
+use Rattle.gpu_alloc_freelist.proofs.ForCallers.{never_both}
 
 -- With less to hold the two agree as before.
 

@@ -195,7 +195,20 @@ impl<M: MemoryObject, A: Allocator> FreeList<M, A> {
     /// Takes a block back, and joins it with the free runs beside it. It takes no memory and cannot fail.
     ///
     /// The block has to be live here, by its object, chunk, offset and size. `steps` counts the comparisons of a run with
-    /// the block.
+    /// the block. A caller who counts nothing makes a counter in a ledger that nothing else uses:
+    ///
+    /// ```text
+    /// put_back::<M, Brand>(&mut list, block, Blank::new(1));
+    ///
+    /// fn put_back<M: MemoryObject, L: Ledger>(list: &mut FreeList<M>, block: FreeListBlock<M>, blank: Blank)
+    ///     requires live { IsLiveSlot (list.old).space block }
+    ///     requires name { blank.name ≡ L.name }
+    ///     requires parts { blank.parts ≡ L.parts }
+    ///     requires some { 0 < blank.parts }
+    /// {
+    ///     list.insert_block(block, &mut Steps::<L>::new(blank));
+    /// }
+    /// ```
     pub fn insert_block<L: Ledger>(&mut self, block: FreeListBlock<M>, steps: &mut Steps<L>)
         requires { IsLiveSlot self.old.space block }
         ensures back { self.new.space ≡ without_slot self.old.space block }

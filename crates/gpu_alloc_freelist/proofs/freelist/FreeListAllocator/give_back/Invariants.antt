@@ -4,7 +4,7 @@ use Rattle.gpu_alloc_types.specs.Device.{Event, Chain}
 use Rattle.gpu_alloc_types.specs.Flags.{property_bits}
 use Rattle.gpu_alloc_freelist.specs.FreeListAllocator.{account}
 use Rattle.gpu_alloc_freelist.specs.FreeListInside.{listing_in}
-use Rattle.gpu_alloc_freelist.proofs.GoneChunks.{IsOnItsWay}
+use Rattle.gpu_alloc_freelist.proofs.ForCallers.{IsOnItsWay}
 use Rattle.gpu_alloc_freelist.proofs.freelist.FreeListAllocator.give_back.Given as goal
 
 -- some chunks went, and those that may go yet come after them

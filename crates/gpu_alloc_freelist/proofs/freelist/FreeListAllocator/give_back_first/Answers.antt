@@ -6,7 +6,7 @@ use Rattle.gpu_alloc_freelist.specs.FreeListAllocator.{Account, Agrees, IsCounte
 use Rattle.gpu_alloc_freelist.specs.FreeListInside.{listing_in}
 use Rattle.gpu_alloc_freelist.specs.FreeListState.{Listing, Space}
 use Rattle.gpu_alloc_freelist.specs.declared.freelist.FreeListAllocator.TheInside.{Inside}
-use Rattle.gpu_alloc_freelist.proofs.GoneChunks.{begins, is_counted, one_more_fits, goes_on_as}
+use Rattle.gpu_alloc_freelist.proofs.ForCallers.{begins, is_counted, one_more_fits, goes_on_as}
 use Rattle.gpu_alloc_freelist.proofs.freelist.FreeListAllocator.give_back_first.Given.{Over}
 use Rattle.gpu_alloc_freelist.proofs.freelist.FreeListAllocator.give_back_first.Goals as goal
 
