@@ -1,5 +1,6 @@
 //! What no contract says: what scripts print, that calls succeed with ample memory, and what is left where memory is refused.
-//! The tests of the allocator stand here, over the simulated device; those that need none stand in `gpu_session`.
+//! The tests of the allocator stand here, over the simulated device; the device's own in `gpu_sim`, and those that need none in
+//! `gpu_session`.
 
 mod allocator;
 mod bench;
@@ -12,5 +13,4 @@ mod grants;
 mod memory;
 mod refusals;
 mod scripts;
-mod sim;
 mod transient;

@@ -206,3 +206,6 @@ impl<A: Allocator + Copy> MemoryDevice<SimMemory<A>> for Sim<A> {
 
     ghost well_formed = { objects_are_well_formed };
 }
+
+#[cfg(test)]
+mod tests;

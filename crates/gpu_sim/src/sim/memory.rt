@@ -23,11 +23,8 @@ impl<A: Allocator + Copy> Model for SimMemory<A> {
 }
 
 impl<A: Allocator + Copy> SimMemory<A> {
-    /// A handle of the object of that name, whether or not a device holds it. It is public for tests of what happens where
-    /// no memory is left for handles; a program gets its handles from [`Sim`](crate::Sim).
-    ///
-    /// Takes memory for the name, and fails only for want of it.
-    pub fn new(alloc: A, name: u64) -> Result<SimMemory<A>, AllocError>
+    /// A handle of the object of that name.
+    pub(super) fn new(alloc: A, name: u64) -> Result<SimMemory<A>, AllocError>
         ensures { IfOk result (λ memory. memory ≡ name) }
     {
         Ok(SimMemory {

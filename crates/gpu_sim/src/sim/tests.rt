@@ -3,13 +3,9 @@
 ghost use Rattle.std.specs.Prelude.{◌<◌};
 ghost use Rattle.gpu_sim.specs.Question.{CanRefuse};
 
-use crate::sim::{Cause, Question, Sim, SimMemory};
-use gpu_alloc_types::{
-    AllocationFlags, DeviceMapError, DeviceProperties, MemoryDevice, MemoryHeap, MemoryObject,
-    MemoryPropertyFlags, MemoryType, OutOfMemory,
-};
+use super::*;
+use gpu_alloc_types::{MemoryHeap, MemoryPropertyFlags, MemoryType};
 use linked_list_allocator::LocalHeap;
-use std::alloc::{AllocError, Global};
 use std::marker::Model;
 use std::process::Abort;
 use std::test::Fail;
