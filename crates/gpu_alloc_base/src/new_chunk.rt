@@ -1,4 +1,4 @@
-//! New shared chunks: an object asked of the device, and mapped whole where the host sees it.
+//! New shared chunks: an object asked of the device, and mapped whole where the host sees it. It is public for the crates above.
 
 ghost use Rattle.std.specs.Prelude.{◌≡◌, ◌∷◌, [], ◌<◌, List, IsTrue, IfErr};
 ghost use Rattle.std.specs.Result.{result_map_both};
