@@ -10,7 +10,6 @@ pub mod HeapLists
 pub mod Ledgers
 pub mod Opened
 pub mod OwnObjects
-pub mod Ranking
 pub mod Returns
 pub mod Soundness
 pub mod Strategies

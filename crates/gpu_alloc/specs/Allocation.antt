@@ -21,7 +21,7 @@ use Rattle.gpu_alloc.specs.declared.request.Dedicated.TheVariants.{Required, Pre
 use Rattle.gpu_alloc_base.specs.FreeSpace.{IsMultipleOf, IsPowerOfTwo}
 use Rattle.gpu_alloc_base.specs.NewChunk.{flags_of, HasOneChunkMore}
 use Rattle.gpu_alloc.specs.FreeListSharing.{list_size, list_alignment, list_question, IsPassedByFreeList, DecidesInFreeList}
-use Rattle.gpu_alloc.specs.Ranking.{candidates}
+use Rattle.gpu_alloc_usage.specs.Ranking.{candidates}
 use Rattle.gpu_alloc.specs.Request.{is_required}
 use Rattle.gpu_alloc.specs.BuddySharing.{buddy_size, buddy_question, IsPassedByBuddy, DecidesInBuddyChunk}
 use Rattle.gpu_alloc_base.specs.Sizes.{up, preferred_threshold, transient_threshold, final_size}

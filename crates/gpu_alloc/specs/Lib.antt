@@ -6,11 +6,7 @@ pub mod FirstTypes
 pub mod FreeBytes
 pub mod FreeListSharing
 pub mod Inside
-pub mod KeyByKey
-pub mod Masks
 pub mod Opening
-pub mod Ranked
-pub mod Ranking
 pub mod Release
 pub mod Request
 pub mod Samples
@@ -38,3 +34,7 @@ pub use Rattle.gpu_alloc_freelist.specs.FreeList
 pub use Rattle.gpu_alloc_freelist.specs.FreeListAllocator
 pub use Rattle.gpu_alloc_freelist.specs.FreeListSound
 pub use Rattle.gpu_alloc_freelist.specs.FreeListState
+pub use Rattle.gpu_alloc_usage.specs.KeyByKey
+pub use Rattle.gpu_alloc_usage.specs.Masks
+pub use Rattle.gpu_alloc_usage.specs.Ranked
+pub use Rattle.gpu_alloc_usage.specs.Ranking

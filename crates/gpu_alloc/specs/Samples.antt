@@ -1,7 +1,6 @@
 -- Samples on which definitions are computed.
-use Rattle.std.specs.Prelude.{ℕ, List, [], ◌∷◌, false}
+use Rattle.std.specs.Prelude.{ℕ, [], ◌∷◌, false}
 use Rattle.gpu_alloc_types.specs.Properties.{Properties}
-use Rattle.gpu_alloc_types.specs.declared.types.MemoryType.{MemoryType}
 use Rattle.gpu_alloc_base.specs.declared.config.Config.{Config}
 use Rattle.gpu_alloc.specs.declared.request.Request.{Request}
 use Rattle.gpu_alloc_base.specs.Config.{potato}
@@ -18,14 +17,6 @@ one_type heap bits atom = record {
   non_coherent_atom_size = atom;
   buffer_device_address = false;
 }
-
--- types that are DEVICE_LOCAL, HOST_VISIBLE and HOST_COHERENT, and HOST_CACHED besides
-abbrev pub three_types : List MemoryType
-three_types =
-    record { heap = 0; props = record { bits = 1 } }
-    ∷ record { heap = 0; props = record { bits = 6 } }
-    ∷ record { heap = 0; props = record { bits = 14 } }
-    ∷ []
 
 -- the potato's allocator for a device with one type
 abbrev pub over : ℕ → ℕ → ℕ → State

@@ -1,7 +1,6 @@
 //! Laws of the definitions that contracts cite, and those definitions computed on samples. The functions do nothing.
 
 ghost use Rattle.std.specs.Prelude.{◌≡◌, ◌-◌, ◌<◌, ◌≤◌, ◌^◌, ◌↔◌, ℕ, List, [], ◌∷◌, Some, None, Contains, true, false};
-ghost use Rattle.gpu_alloc_types.specs.declared.types.MemoryType.{MemoryType};
 ghost use Rattle.gpu_alloc.specs.Allocation.{strategy};
 ghost use Rattle.gpu_alloc.specs.declared.allocator.Strategy.TheVariants.{OwnObject, InBuddyChunk, InFreeList};
 ghost use Rattle.gpu_alloc_buddy.specs.Buddy.{opened as empty_buddy, rounded, chunk_size};
@@ -16,9 +15,8 @@ ghost use Rattle.gpu_alloc_base.specs.FreeRuns.{IsFreeRun, IsSpaced, HasRoom, ta
 ghost use Rattle.gpu_alloc.specs.FreeListSharing.{IsFreeInChunk, HasListPlace, list_size, list_alignment, list_question};
 ghost use Rattle.gpu_alloc_base.specs.declared.region.FreeListRegion.{FreeListRegion};
 ghost use Rattle.gpu_alloc_base.specs.Pieces.{IsCanonical};
-ghost use Rattle.gpu_alloc.specs.Ranking.{IsRanking, IsRankingWithin, ranking, candidates, implied};
 ghost use Rattle.gpu_alloc_base.specs.AlignMasks.{IsAlignMask};
-ghost use Rattle.gpu_alloc.specs.Samples.{one_type, three_types, over, bytes_for, buddy_config};
+ghost use Rattle.gpu_alloc.specs.Samples.{one_type, over, bytes_for, buddy_config};
 ghost use Rattle.gpu_alloc.specs.BuddySharing.{buddy_size, buddy_question, with_buddy_chunk};
 ghost use Rattle.gpu_alloc_base.specs.Sizes.{IsNextPowerOfTwo, next_power_of_two, minimal_size, initial_size, starting_size, final_size, grown_chunk, IsLeastProduct, doubled_chunk};
 ghost use Rattle.gpu_alloc.specs.FirstTypes.{first_types};
@@ -30,32 +28,9 @@ ghost use Rattle.gpu_alloc.specs.declared.request.Dedicated.TheVariants.{Require
 pub use gpu_alloc_base::laws::{
     align_masks_of_powers, free_list_chunk_is_least, next_power_of_two_is_least,
 };
-
-/// A ranking has exactly the types that may serve the usage, by key and then by index, and nothing else has.
-pub fn ranking_is_exact_and_sorted()
-    ensures is { (usage : ℕ) (types : List MemoryType) → IsRanking usage types (ranking usage types) }
-    ensures only { (usage : ℕ) (types : List MemoryType) (ranked : List ℕ) → IsRanking usage types ranked → ranked ≡ ranking usage types }
-{}
-
-/// The candidates of a request are exactly the types that may serve what its usage means and whose bit is set in its
-/// mask, by key and then by index.
-pub fn candidates_are_exact_and_sorted()
-    ensures { (types : List MemoryType) (usage mask : ℕ) → IsRankingWithin (implied usage) types mask (candidates types usage mask) }
-{}
-
-/// Rankings of three types: DEVICE_LOCAL; HOST_VISIBLE and HOST_COHERENT; and these with HOST_CACHED. A usage with
-/// unnamed bits alone is tried as an empty one.
-#[tactic(auto, unfolding(crate::specs::Ranking::put_in, crate::specs::Ranking::in_order))]
-pub fn rankings_of_samples()
-    ensures none { ranking 0 three_types ≡ 0 ∷ 1 ∷ 2 ∷ [] }
-    ensures fast { ranking 1 three_types ≡ 0 ∷ 1 ∷ 2 ∷ [] }
-    ensures host { ranking 2 three_types ≡ 1 ∷ 2 ∷ [] }
-    ensures download { ranking 6 three_types ≡ 2 ∷ 1 ∷ [] }
-    ensures upload { ranking 8 three_types ≡ 1 ∷ 2 ∷ [] }
-    ensures transient { ranking 16 three_types ≡ 1 ∷ 2 ∷ 0 ∷ [] }
-    ensures unnamed { candidates three_types 64 7 ≡ 0 ∷ 1 ∷ 2 ∷ [] }
-    ensures allowed { candidates three_types 16 5 ≡ 2 ∷ 0 ∷ [] }
-{}
+pub use gpu_alloc_usage::laws::{
+    candidates_are_exact_and_sorted, ranking_is_exact_and_sorted, rankings_of_samples,
+};
 
 /// Pieces that are aligned and apart, of which no two are halves of one range, and which together are the free bytes, are
 /// exactly the longest free ranges of a power of two that start at a multiple of their length: of a buddy allocator's chunks

@@ -11,7 +11,6 @@ mod limits;
 mod request;
 pub mod spans;
 pub mod steps;
-mod usage;
 
 pub use allocator::GpuAllocator;
 pub use block::{Mapping, MemoryBlock};
@@ -20,5 +19,5 @@ pub use gpu_alloc_types::{
     AllocationFlags, DeviceMapError, DeviceProperties, FreeRange, MemoryDevice, MemoryHeap,
     MemoryObject, MemoryPropertyFlags, MemoryType, OutOfMemory, UsageFlags,
 };
+pub use gpu_alloc_usage::MemoryForUsage;
 pub use request::{Dedicated, Request};
-pub use usage::MemoryForUsage;

@@ -4,13 +4,13 @@ ghost use Rattle.std.specs.Prelude.{◌≡◌, ◌<◌, length, cond, slice_get}
 ghost use Rattle.gpu_alloc_types.specs.Flags.{allocation_bits, property_bits, usage_bits};
 ghost use Rattle.gpu_alloc_types.specs.Properties.{heap_of, bits_of};
 ghost use Rattle.gpu_alloc_base.specs.Sizes.{atom_where};
-ghost use Rattle.gpu_alloc.specs.Ranked.{ranked_types};
-ghost use Rattle.gpu_alloc.specs.Ranking.{candidates, IsTable};
+ghost use Rattle.gpu_alloc_usage.specs.Ranked.{ranked_types};
+ghost use Rattle.gpu_alloc_usage.specs.Ranking.{candidates, IsTable};
 
-use crate::usage::MemoryForOneUsage;
-use crate::{MemoryForUsage, Request};
+use crate::Request;
 use gpu_alloc_base::Config;
 use gpu_alloc_types::{AllocationFlags, MemoryPropertyFlags, MemoryType};
+use gpu_alloc_usage::{MemoryForOneUsage, MemoryForUsage};
 use std::alloc::{Allocator, Global};
 
 /// What stays as `new` was given it.

@@ -1,5 +1,1 @@
-mod EmptyMaps
 mod KeptHeaps
-mod LiveLeaves
-mod LiveSlots
-mod OneChunk

@@ -1,3 +1,2 @@
-pub mod Setup
 pub use Rattle.gpu_sim.specs.Question
 pub use Rattle.gpu_sim.specs.Sim

@@ -2,12 +2,11 @@
 //! output.
 #![tactic(auto)]
 
-mod script;
 mod sim;
 #[cfg(test)]
 mod tests;
 
-use script::run_script;
+pub use gpu_script_language::run_script;
 use std::io;
 use std::process::ExitCode;
 

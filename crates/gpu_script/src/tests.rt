@@ -1,14 +1,12 @@
 //! What no contract says: what scripts print, that calls succeed with ample memory, and what is left where memory is refused.
-//! The tests of the allocator stand here, over the simulated device; the device's own in `gpu_sim`, and those that need none in
-//! `gpu_session`.
+//! The tests of the allocator stand here, over the simulated device; the device's own in `gpu_sim`, and those of single parts of
+//! the allocator in `gpu_alloc_tests`.
 
 mod allocator;
 mod bench;
 mod blocks;
-mod buddy;
 mod candidates;
 mod ends;
-mod freelist;
 mod grants;
 mod memory;
 mod refusals;

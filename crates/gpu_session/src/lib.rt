@@ -5,8 +5,6 @@ mod command;
 pub mod laws;
 mod ledgers;
 mod session;
-#[cfg(test)]
-mod tests;
 
 pub use command::{Command, Fault, Reply};
 pub use ledgers::Ledgers;

@@ -1,6 +1,6 @@
 //! Readers and writers that fail.
 
-use crate::script::run_script;
+use crate::run_script;
 use std::io;
 use std::io::{Error, ErrorKind, Read, Write};
 

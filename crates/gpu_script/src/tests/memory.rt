@@ -6,10 +6,9 @@
 ghost use Rattle.std.specs.Prelude.{All, IfOk};
 ghost use Rattle.gpu_session.specs.Sound.{IsForRequired};
 
-use crate::script::parse::{Script, parse};
-use crate::script::print::print_reply;
-use crate::script::{SimSession, open, run_script};
+use crate::run_script;
 use gpu_alloc::AllocationError;
+use gpu_script_language::{Script, SimSession, open, parse, print_reply};
 use gpu_session::{Fault, Reply};
 use linked_list_allocator::LocalHeap;
 use std::alloc::{AllocError, Global};

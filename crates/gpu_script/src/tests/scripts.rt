@@ -1,6 +1,6 @@
 //! Whole scripts, byte for byte.
 
-use crate::script::run_script;
+use crate::run_script;
 use std::alloc::Global;
 use std::process::Abort;
 

@@ -1,7 +1,7 @@
 use Rattle.std.proofs.Common.{◌<◌, length, sym, subst, ◌∙◌}
 use Rattle.std.specs.List.{All}
 use Rattle.gpu_alloc_types.specs.Flags.{usage_bits}
-use Rattle.gpu_alloc.proofs.Ranking.Candidates.{candidates-within}
+use Rattle.gpu_alloc_usage.proofs.Ranking.Candidates.{candidates-within}
 use Rattle.gpu_alloc.proofs.allocator.GpuAllocator.allocate.Goals as goal
 
 pub try_all-requires-clause-known : goal.try_all-requires-clause-known

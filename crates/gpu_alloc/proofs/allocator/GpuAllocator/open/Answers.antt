@@ -5,7 +5,7 @@ use Rattle.gpu_alloc_base.specs.declared.heap.Heap.{Heap}
 use Rattle.gpu_alloc_base.specs.Heap.{unused}
 use Rattle.gpu_alloc.specs.Inside.{offer_of, types_in, lists_in, IsConsistent}
 use Rattle.gpu_alloc.specs.Opening.{opened}
-use Rattle.gpu_alloc.specs.Ranking.{IsTable}
+use Rattle.gpu_alloc_usage.specs.Ranking.{IsTable}
 use Rattle.gpu_alloc.specs.FirstTypes.{first_types}
 use Rattle.gpu_alloc.proofs.Closing.{first_chunkless}
 use Rattle.gpu_alloc.proofs.HeapLists.{unused-offers}

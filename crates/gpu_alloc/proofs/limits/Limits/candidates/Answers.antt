@@ -1,6 +1,6 @@
 use Rattle.std.proofs.Common.{◌∙◌}
 use Rattle.gpu_alloc_types.specs.Flags.{usage_bits}
-use Rattle.gpu_alloc.proofs.Ranking.Candidates.{candidates-from_table}
+use Rattle.gpu_alloc_usage.proofs.Ranking.Candidates.{candidates-from_table}
 use Rattle.gpu_alloc.proofs.limits.Limits.candidates.Goals as goal
 
 pub returns : goal.returns

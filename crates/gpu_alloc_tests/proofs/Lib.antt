@@ -1,0 +1,4 @@
+mod EmptyMaps
+mod LiveLeaves
+mod LiveSlots
+mod OneChunk

@@ -1,0 +1,272 @@
+//! The buddy allocator by itself, over the simulated device.
+
+ghost use Rattle.std.specs.Prelude.{◌≤◌, ◌≢◌};
+ghost use Rattle.gpu_alloc.specs.BuddyState.{IsLiveLeaf};
+ghost use Rattle.gpu_alloc.specs.AlignMasks.{IsAlignMask};
+ghost use Rattle.gpu_alloc.specs.Types.Leaf.{Leaf};
+ghost use Rattle.gpu_sim.specs.Question.{CanRefuse};
+
+use gpu_alloc::buddy::{BuddyAllocator, BuddyBlock};
+use gpu_alloc::heap::Heap;
+use gpu_alloc::{
+    AllocationError, AllocationFlags, DeviceProperties, MemoryHeap, MemoryPropertyFlags, MemoryType,
+};
+use gpu_alloc_types::MemoryObject;
+use gpu_sim::{Cause, Question, Sim, SimMemory};
+use std::alloc::{AllocError, Global};
+use std::marker::Model;
+use std::process::Abort;
+use std::test::Fail;
+
+const HEAPS: [MemoryHeap; 1] = [MemoryHeap { size: 1 << 20 }];
+
+/// A first request for one byte that is refused.
+#[derive(Drop)]
+struct Refused {
+    props: MemoryPropertyFlags,
+    align_mask: u64,
+    remaining: u32,
+
+    /// What is told before the request.
+    told: Option<AllocationError>,
+
+    error: AllocationError,
+
+    /// How often the device is asked to allocate.
+    asked: u64,
+}
+
+/// A buddy allocator with its device, its ledger and its count of objects. Contracts see the allocator.
+struct Chunks {
+    allocator: BuddyAllocator<SimMemory>,
+    device: Sim,
+    heap: Heap,
+    remaining: u32,
+
+    /// How many objects may be held in all.
+    most: u32,
+}
+
+impl Model for Chunks {
+    ghost use Rattle.std.specs.Prelude.{◌≡◌};
+    ghost use Rattle.gpu_alloc.specs.Buddy.{Agrees, IsCounted, account, chunks_and_remaining};
+    ghost use Rattle.gpu_alloc.specs.BuddyState.{Buddy};
+    ghost use Rattle.gpu_alloc.specs.Codes.{buddy_code};
+    ghost use Rattle.gpu_sim.specs.Sim.{objects_of};
+
+    ghost Value = { Buddy };
+
+    ghost coded = { buddy_code };
+
+    ghost view = { λ c. c.allocator };
+
+    ghost invariant = { λ c. Agrees c.allocator (c.device).properties (objects_of c.device) × (IsCounted (account c.allocator c.heap c.remaining) × (chunks_and_remaining (account c.allocator c.heap c.remaining) ≡ c.most)) };
+}
+
+impl Chunks {
+    /// One that holds nothing, and may hold so many objects, over one type with these properties.
+    fn new(alloc: Global, props: MemoryPropertyFlags, most: u32) -> Result<Chunks, Fail> {
+        let types = [MemoryType { heap: 0, props }];
+        let offered = DeviceProperties {
+            memory_types: &types,
+            memory_heaps: &HEAPS,
+            max_memory_allocation_count: 4096,
+            max_memory_allocation_size: 1 << 30,
+            non_coherent_atom_size: 1,
+            buffer_device_address: false,
+        };
+        let device = Sim::new(alloc, offered)?;
+        match BuddyAllocator::new(alloc, 1, 8192, 0, props, 0) {
+            Ok(allocator) => Ok(Chunks {
+                allocator,
+                device,
+                heap: Heap::new(1 << 20),
+                remaining: most,
+                most,
+            }),
+            Err(e) => {
+                drop(device);
+                Err(Fail::from(e))
+            }
+        }
+    }
+
+    /// Has the device refuse its first question of a kind.
+    fn refuse(&mut self, kind: Question, cause: Cause) -> Result<(), AllocError>
+        requires { CanRefuse cause kind }
+    {
+        self.device.refuse(kind, 1, cause)
+    }
+
+    /// Compares what is told before a request for one byte, and its refusal.
+    fn compare_refusal(&mut self, rt: &impl Abort, case: &Refused)
+        requires { IsAlignMask case.now.align_mask }
+    {
+        let told = self
+            .allocator
+            .refuses(1, case.align_mask, &self.heap, self.remaining);
+        assert_eq!(rt; told, case.told);
+        assert!(rt; self.heap.used() <= 1 << 127);
+        match self.allocator.alloc(
+            &mut self.device,
+            1,
+            case.align_mask,
+            AllocationFlags::empty(),
+            &mut self.heap,
+            &mut self.remaining,
+        ) {
+            Ok(block) => panic!(rt; "a block at {}", block.offset()),
+            Err(error) => assert_eq!(rt; error, case.error),
+        }
+    }
+
+    /// A block of at least so many bytes.
+    fn take(&mut self, rt: &impl Abort, size: u64) -> BuddyBlock<SimMemory>
+        ensures live { IsLiveLeaf self.new result }
+        ensures new { IsLiveLeaf self.old result → ⊥ }
+        ensures others { (leaf : Leaf) → IsLiveLeaf self.old leaf → IsLiveLeaf self.new leaf }
+    {
+        assert!(rt; size > 0);
+        assert!(rt; self.heap.used() <= 1 << 127);
+        match self.allocator.alloc(
+            &mut self.device,
+            size,
+            0,
+            AllocationFlags::empty(),
+            &mut self.heap,
+            &mut self.remaining,
+        ) {
+            Ok(block) => block,
+            Err(error) => panic!(rt; "{error}"),
+        }
+    }
+
+    fn give_back(&mut self, block: BuddyBlock<SimMemory>)
+        requires live { IsLiveLeaf self.old block }
+        ensures others { (leaf : Leaf) → IsLiveLeaf self.old leaf → leaf ≢ block → IsLiveLeaf self.new leaf }
+    {
+        self.allocator.dealloc(&mut self.device, block, &mut self.heap, &mut self.remaining);
+    }
+
+    /// Compares how often the device was asked to allocate, how many objects it holds, and how much the ledger counts.
+    fn compare(&self, rt: &impl Abort, asked: u64, objects: usize, used: u128) {
+        assert_eq!(rt;
+            (
+                self.device.asked(Question::Allocate),
+                self.device.objects(),
+                self.heap.used()
+            ),
+            (asked, objects, used)
+        );
+        assert_eq!(rt; self.heap.size(), 1 << 20);
+    }
+
+    /// Ends the allocator, which holds nothing.
+    fn end(self, rt: &impl Abort) {
+        let Chunks {
+            allocator,
+            device,
+            heap: _,
+            remaining,
+            most,
+        } = self;
+        drop(device);
+        assert!(rt; remaining == most);
+        allocator.close();
+    }
+}
+
+/// Compares a refusal where the device refuses the first question of a kind. Nothing is held after it.
+fn compare_refusal(
+    rt: &impl Abort,
+    alloc: Global,
+    kind: Question,
+    cause: Cause,
+    case: &Refused,
+) -> Result<(), Fail>
+    requires plan { CanRefuse cause kind }
+    requires alignment { IsAlignMask case.now.align_mask }
+{
+    let mut chunks = Chunks::new(alloc, case.props, case.remaining)?;
+    let planned = chunks.refuse(kind, cause);
+    assert_eq!(rt; planned, Ok(()));
+    chunks.compare_refusal(rt, case);
+    chunks.compare(rt, case.asked, 0, 0);
+    chunks.end(rt);
+    Ok(())
+}
+
+#[test]
+fn a_chunk_beyond_the_count_is_refused_first(rt: HostRuntime) -> Result<(), Fail> {
+    compare_refusal(
+        &rt,
+        rt.alloc(),
+        Question::Allocate,
+        Cause::Device,
+        &Refused {
+            props: MemoryPropertyFlags::DEVICE_LOCAL,
+            align_mask: 0,
+            remaining: 0,
+            told: Some(AllocationError::TooManyObjects),
+            error: AllocationError::TooManyObjects,
+            asked: 0,
+        },
+    )
+}
+
+#[test]
+fn a_chunk_that_the_device_refuses_is_not_held(rt: HostRuntime) -> Result<(), Fail> {
+    compare_refusal(
+        &rt,
+        rt.alloc(),
+        Question::Allocate,
+        Cause::Device,
+        &Refused {
+            props: MemoryPropertyFlags::DEVICE_LOCAL,
+            align_mask: (1 << 14) - 1,
+            remaining: 4096,
+            told: None,
+            error: AllocationError::OutOfDeviceMemory,
+            asked: 1,
+        },
+    )
+}
+
+#[test]
+fn a_chunk_that_cannot_be_mapped_is_given_back(rt: HostRuntime) -> Result<(), Fail> {
+    compare_refusal(
+        &rt,
+        rt.alloc(),
+        Question::Map,
+        Cause::Failed,
+        &Refused {
+            props: MemoryPropertyFlags::HOST_VISIBLE | MemoryPropertyFlags::HOST_COHERENT,
+            align_mask: 0,
+            remaining: 4096,
+            told: None,
+            error: AllocationError::OutOfHostMemory,
+            asked: 1,
+        },
+    )
+}
+
+/// Where a block lies: the name of its object, its offset and its size.
+fn place_of(block: &BuddyBlock<SimMemory>) -> (u64, u64, u64) {
+    (block.memory().object(), block.offset(), block.size())
+}
+
+#[test]
+fn two_blocks_share_a_chunk(rt: HostRuntime) -> Result<(), Fail> {
+    let mut chunks = Chunks::new(rt.alloc(), MemoryPropertyFlags::DEVICE_LOCAL, 4096)?;
+    let first = chunks.take(&rt, 100);
+    let second = chunks.take(&rt, 200);
+    assert_eq!(rt; place_of(&first), (1, 0, 128));
+    assert_eq!(rt; place_of(&second), (1, 256, 256));
+    chunks.compare(&rt, 1, 1, 8192);
+    chunks.give_back(second);
+    chunks.compare(&rt, 1, 1, 8192);
+    chunks.give_back(first);
+    chunks.compare(&rt, 1, 0, 0);
+    chunks.end(&rt);
+    Ok(())
+}

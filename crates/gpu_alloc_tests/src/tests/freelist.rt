@@ -1,0 +1,413 @@
+//! The free-list allocator and its list by themselves.
+
+ghost use Rattle.std.specs.Prelude.{◌≡◌, ◌≤◌, ◌<◌, ◌≢◌};
+ghost use Rattle.std.specs.FinMap as map;
+ghost use Rattle.gpu_alloc.specs.FreeListState.{IsLiveSlot};
+ghost use Rattle.gpu_alloc.specs.Types.Slot.{Slot};
+ghost use Rattle.gpu_sim.specs.Question.{CanRefuse};
+
+use gpu_alloc::freelist::{FreeList, FreeListAllocator, FreeListBlock, FreeListRegion};
+use gpu_alloc::heap::Heap;
+use gpu_alloc::steps::Steps;
+use gpu_alloc::{
+    AllocationError, AllocationFlags, DeviceProperties, FreeRange, MemoryHeap, MemoryPropertyFlags,
+    MemoryType,
+};
+use gpu_alloc_types::MemoryObject;
+use gpu_sim::{Cause, Question, Sim, SimMemory};
+use std::alloc::{AllocError, Global};
+use std::cmp::Ordering;
+use std::marker::{Brand, Model};
+use std::process::Abort;
+use std::sync::ledger::{Blank, Ledger};
+use std::test::Fail;
+
+const HEAPS: [MemoryHeap; 1] = [MemoryHeap { size: 1 << 20 }];
+
+/// A first request for 100 bytes that is refused.
+#[derive(Drop)]
+struct Refused {
+    props: MemoryPropertyFlags,
+    remaining: u32,
+
+    /// What is told before the request.
+    told: Option<AllocationError>,
+
+    error: AllocationError,
+
+    /// How often the device is asked to allocate.
+    asked: u64,
+}
+
+/// Compares what a refused request leaves: the device holds nothing, and the ledger and the count are as before.
+fn compare_nothing_held(
+    rt: &impl Abort,
+    device: &Sim,
+    heap: &Heap,
+    remaining: u32,
+    case: &Refused,
+) {
+    assert_eq!(rt; device.objects(), 0);
+    assert_eq!(rt; device.asked(Question::Allocate), case.asked);
+    assert_eq!(rt; *heap, Heap::new(1 << 20));
+    assert_eq!(rt; remaining, case.remaining);
+}
+
+/// Compares a refusal where the device refuses the first question of a kind. Nothing is held after it.
+fn compare_refusal(
+    rt: &impl Abort,
+    alloc: Global,
+    kind: Question,
+    cause: Cause,
+    case: &Refused,
+) -> Result<(), Fail>
+    requires plan { CanRefuse cause kind }
+    requires count { case.now.remaining ≤ 4096 }
+{
+    let types = [MemoryType {
+        heap: 0,
+        props: case.props,
+    }];
+    let offered = DeviceProperties {
+        memory_types: &types,
+        memory_heaps: &HEAPS,
+        max_memory_allocation_count: 4096,
+        max_memory_allocation_size: 1 << 30,
+        non_coherent_atom_size: 1,
+        buffer_device_address: false,
+    };
+    let mut device = Sim::new(alloc, offered)?;
+    match device.refuse(kind, 1, cause) {
+        Ok(()) => {}
+        Err(e) => {
+            drop(device);
+            return Err(Fail::from(e));
+        }
+    }
+    let mut heap = Heap::new(1 << 20);
+    let mut remaining = case.remaining;
+    let mut allocator = FreeListAllocator::new(alloc, 8192, 32768, 0, case.props, 0);
+    let told = allocator.refuses(100, 0, &heap, remaining);
+    assert_eq!(rt; told, case.told);
+    match allocator.alloc(
+        &mut device,
+        100,
+        0,
+        AllocationFlags::empty(),
+        &mut heap,
+        &mut remaining,
+    ) {
+        Ok(block) => panic!(rt; "a block at {}", block.offset()),
+        Err(error) => {
+            assert_eq!(rt; error, case.error);
+            compare_nothing_held(rt, &device, &heap, remaining, case);
+            allocator.close();
+        }
+    }
+    drop(device);
+    Ok(())
+}
+
+/// Where no more objects may be held, the request is refused before the device is asked, and that is told beforehand.
+/// If not, a device would be asked for more objects than it can hold.
+#[test]
+fn a_chunk_beyond_the_count_is_refused_first(rt: HostRuntime) -> Result<(), Fail> {
+    compare_refusal(
+        &rt,
+        rt.alloc(),
+        Question::Allocate,
+        Cause::Device,
+        &Refused {
+            props: MemoryPropertyFlags::DEVICE_LOCAL,
+            remaining: 0,
+            told: Some(AllocationError::TooManyObjects),
+            error: AllocationError::TooManyObjects,
+            asked: 0,
+        },
+    )
+}
+
+/// The device's refusal comes through with its cause, after one question. If not, a chunk that was never made would be
+/// counted, or the caller would take want of device memory for something else.
+#[test]
+fn a_chunk_that_the_device_refuses_is_not_held(rt: HostRuntime) -> Result<(), Fail> {
+    compare_refusal(
+        &rt,
+        rt.alloc(),
+        Question::Allocate,
+        Cause::Device,
+        &Refused {
+            props: MemoryPropertyFlags::DEVICE_LOCAL,
+            remaining: 4096,
+            told: None,
+            error: AllocationError::OutOfDeviceMemory,
+            asked: 1,
+        },
+    )
+}
+
+/// A chunk that was made and cannot be mapped goes back. If not, its object would be held for ever and counted nowhere.
+#[test]
+fn a_chunk_that_cannot_be_mapped_is_given_back(rt: HostRuntime) -> Result<(), Fail> {
+    compare_refusal(
+        &rt,
+        rt.alloc(),
+        Question::Map,
+        Cause::Failed,
+        &Refused {
+            props: MemoryPropertyFlags::HOST_VISIBLE | MemoryPropertyFlags::HOST_COHERENT,
+            remaining: 4096,
+            told: None,
+            error: AllocationError::OutOfHostMemory,
+            asked: 1,
+        },
+    )
+}
+
+/// A free-list allocator with its device, its ledger and its count of objects. Contracts see the allocator.
+struct Chunks {
+    allocator: FreeListAllocator<SimMemory>,
+    device: Sim,
+    heap: Heap,
+    remaining: u32,
+}
+
+impl Model for Chunks {
+    ghost use Rattle.std.specs.Prelude.{◌≡◌};
+    ghost use Rattle.gpu_alloc.specs.Codes.{listing_code};
+    ghost use Rattle.gpu_alloc.specs.FreeListAllocator.{Agrees, IsCounted, account, chunks_and_remaining};
+    ghost use Rattle.gpu_alloc.specs.FreeListState.{Listing};
+    ghost use Rattle.gpu_sim.specs.Sim.{objects_of};
+
+    ghost Value = { Listing };
+
+    ghost coded = { listing_code };
+
+    ghost view = { λ c. c.allocator };
+
+    ghost invariant = { λ c. Agrees c.allocator (c.device).properties (objects_of c.device) × (IsCounted (account c.allocator c.heap c.remaining) × ((chunks_and_remaining (account c.allocator c.heap c.remaining) ≡ 4096) × (((c.allocator).atom ≡ 1) × ((c.allocator).final_chunk ≡ 32768)))) };
+}
+
+impl Chunks {
+    /// One that holds nothing, over one device-local type.
+    fn new(alloc: Global) -> Result<Chunks, Fail> {
+        let types = [MemoryType {
+            heap: 0,
+            props: MemoryPropertyFlags::DEVICE_LOCAL,
+        }];
+        let offered = DeviceProperties {
+            memory_types: &types,
+            memory_heaps: &HEAPS,
+            max_memory_allocation_count: 4096,
+            max_memory_allocation_size: 1 << 30,
+            non_coherent_atom_size: 1,
+            buffer_device_address: false,
+        };
+        let device = Sim::new(alloc, offered)?;
+        let props = MemoryPropertyFlags::DEVICE_LOCAL;
+        let allocator = FreeListAllocator::new(alloc, 8192, 32768, 0, props, 0);
+        Ok(Chunks {
+            allocator,
+            device,
+            heap: Heap::new(1 << 20),
+            remaining: 4096,
+        })
+    }
+
+    /// A block of at least so many bytes.
+    fn take(&mut self, rt: &impl Abort, size: u64) -> FreeListBlock<SimMemory>
+        ensures live { IsLiveSlot (self.new).space result }
+        ensures new { IsLiveSlot (self.old).space result → ⊥ }
+        ensures others { (slot : Slot) → IsLiveSlot (self.old).space slot → IsLiveSlot (self.new).space slot }
+    {
+        assert!(rt; size > 0);
+        assert!(rt; size <= 32768);
+        assert!(rt; self.heap.used() <= 1 << 127);
+        match self.allocator.alloc(
+            &mut self.device,
+            size,
+            0,
+            AllocationFlags::empty(),
+            &mut self.heap,
+            &mut self.remaining,
+        ) {
+            Ok(block) => block,
+            Err(error) => panic!(rt; "{error}"),
+        }
+    }
+
+    fn give_back(&mut self, block: FreeListBlock<SimMemory>)
+        requires live { IsLiveSlot (self.old).space block }
+        ensures others { (slot : Slot) → IsLiveSlot (self.old).space slot → slot ≢ block → IsLiveSlot (self.new).space slot }
+    {
+        self.allocator.dealloc(&mut self.device, block, &mut self.heap, &mut self.remaining);
+    }
+
+    /// Gives every chunk back in which no block is live.
+    fn clean(&mut self) {
+        self.allocator
+            .cleanup(&mut self.device, &mut self.heap, &mut self.remaining);
+    }
+
+    /// Compares how many objects the device holds, and how much the ledger counts. It was asked for one chunk.
+    fn compare(&self, rt: &impl Abort, objects: usize, used: u128) {
+        assert_eq!(rt; self.device.asked(Question::Allocate), 1);
+        assert_eq!(rt; (self.device.objects(), self.heap.used()), (objects, used));
+    }
+
+    /// Compares the free ranges.
+    fn compare_ranges(&self, rt: &impl Abort, ranges: &[FreeRange]) {
+        let Ok(found) = self.allocator.free_ranges() else {
+            panic!(rt; "no memory");
+        };
+        assert_eq!(rt; found.as_slice(), ranges);
+    }
+
+    /// Ends the allocator, which holds nothing.
+    fn end(self, rt: &impl Abort) {
+        let Chunks {
+            allocator,
+            device,
+            heap: _,
+            remaining,
+        } = self;
+        drop(device);
+        assert_eq!(rt; remaining, 4096);
+        allocator.close();
+    }
+}
+
+/// Where a block lies: the name of its object, its offset and its size.
+fn place_of(block: &FreeListBlock<SimMemory>) -> (u64, u64, u64) {
+    (block.memory().object(), block.offset(), block.size())
+}
+
+/// Blocks are cut off the end of one chunk. It stays when both are back, since the last run lies in it, and goes with a
+/// cleanup. If not, blocks would lie elsewhere than in the original crate, each request would ask the device anew, or a
+/// chunk that nobody uses would be held for ever.
+#[test]
+fn two_blocks_share_a_chunk(rt: HostRuntime) -> Result<(), Fail> {
+    let mut chunks = Chunks::new(rt.alloc())?;
+    let first = chunks.take(&rt, 100);
+    let second = chunks.take(&rt, 200);
+    assert_eq!(rt; place_of(&first), (1, 8092, 100));
+    assert_eq!(rt; place_of(&second), (1, 7892, 200));
+    chunks.compare(&rt, 1, 8192);
+    let free = FreeRange {
+        object: 1,
+        start: 0,
+        end: 7892,
+    };
+    chunks.compare_ranges(&rt, &[free]);
+    chunks.give_back(first);
+    chunks.give_back(second);
+    chunks.compare(&rt, 1, 8192);
+    chunks.clean();
+    chunks.compare(&rt, 0, 0);
+    chunks.end(&rt);
+    Ok(())
+}
+
+/// A handle that is a name alone.
+#[derive(Drop)]
+struct Handle {
+    name: u64,
+}
+
+impl MemoryObject for Handle {
+    ghost object = { λ handle. handle.name };
+
+    fn object(&self) -> u64 {
+        self.name
+    }
+
+    fn duplicate(&self) -> Result<Handle, AllocError> {
+        Ok(Handle { name: self.name })
+    }
+}
+
+/// A list that holds one chunk, of 64 bytes of the object 7, and a block of 10 bytes in it. Before that the list has no
+/// block to give.
+fn open_with_block(rt: &impl Abort, alloc: Global) -> (FreeList<Handle>, FreeListBlock<Handle>)
+    ensures one { map.len ((result.0).space).chunks ≡ 1 }
+    ensures live { IsLiveSlot (result.0).space result.1 }
+{
+    let mut list = FreeList::new(alloc);
+    match list.get_block(0, 10) {
+        Ok(None) => {}
+        Ok(Some(block)) => panic!(rt; "a block at {}", block.offset()),
+        Err(_) => panic!(rt; "no memory"),
+    }
+    let Ok(()) = list.reserve() else {
+        panic!(rt; "no memory");
+    };
+    let Ok(block) = list.get_block_from_new_memory(Handle { name: 7 }, 64, 0, 10) else {
+        panic!(rt; "no memory");
+    };
+    (list, block)
+}
+
+/// Compares a list's only run, which starts its chunk.
+fn compare_run(rt: &impl Abort, list: &FreeList<Handle>, end: u64) {
+    let run = FreeListRegion {
+        chunk: 1,
+        start: 0,
+        end,
+    };
+    assert_eq!(rt; list.regions(), [run].as_slice());
+}
+
+/// Compares on which side of a block some runs lie: a run before it in its chunk, one behind it, and one in the next chunk.
+fn compare_sides(rt: &impl Abort, block: &FreeListBlock<Handle>) {
+    for (chunk, start, side) in [
+        (1, 0, Ordering::Less),
+        (1, 60, Ordering::Greater),
+        (2, 0, Ordering::Greater),
+    ] {
+        let run = FreeListRegion {
+            chunk,
+            start,
+            end: start + 1,
+        };
+        assert_eq!(rt; run.cmp(block), side, "at {start} of {chunk}");
+    }
+}
+
+/// Takes a block back, and counts nothing.
+fn put_back<L: Ledger>(list: &mut FreeList<Handle>, block: FreeListBlock<Handle>, blank: Blank)
+    requires name { blank.name ≡ L.name }
+    requires parts { blank.parts ≡ L.parts }
+    requires some { 0 < blank.parts }
+    requires live { IsLiveSlot list.old.space block }
+    ensures { map.len list.new.space.chunks ≡ map.len list.old.space.chunks }
+{
+    list.insert_block(block, &mut Steps::<L>::new(blank));
+}
+
+/// Ends a list with one chunk, which is wholly free. With its last run kept it has none to give.
+fn end_with_chunk(rt: &impl Abort, mut list: FreeList<Handle>)
+    requires { map.len (list.space).chunks ≡ 1 }
+{
+    let None = list.take_whole(true) else {
+        panic!(rt; "a chunk that is kept");
+    };
+    let Some((handle, size, number)) = list.take_whole(false) else {
+        panic!(rt; "no chunk");
+    };
+    assert_eq!(rt; (handle.object(), size, number), (7, 64, 1));
+    list.close();
+}
+
+/// A block is the end of its chunk, what is before it is one run, and when it is back the run is the chunk again. If not, a
+/// list would give out bytes twice, or lose bytes that came back.
+#[test]
+fn a_block_comes_back_to_its_list(rt: HostRuntime) {
+    let (mut list, block) = open_with_block(&rt, rt.alloc());
+    assert_eq!(rt; (block.chunk(), block.offset(), block.size()), (1, 54, 10));
+    assert_eq!(rt; block.memory().object(), 7);
+    compare_run(&rt, &list, 54);
+    compare_sides(&rt, &block);
+    put_back::<Brand>(&mut list, block, Blank::new(1));
+    compare_run(&rt, &list, 64);
+    end_with_chunk(&rt, list);
+}

@@ -1,0 +1,5 @@
+pub mod KeyByKey
+pub mod Masks
+pub mod Ranked
+pub mod Ranking
+pub mod ThreeTypes

@@ -1,0 +1,99 @@
+//! Which memory types serve a usage, and in which order they are tried.
+
+mod ranked;
+
+ghost use Rattle.std.specs.Prelude.{◌≡◌, ◌≤◌, length, filter};
+ghost use Rattle.gpu_alloc_types.specs.Flags.{usage_bits};
+ghost use Rattle.gpu_alloc_usage.specs.Ranking.{implied, is_allowed, row, IsMaskOf, IsTable};
+ghost use Rattle.gpu_alloc_usage.specs.Ranked.{ranked_types};
+
+pub use crate::usage::ranked::MemoryForOneUsage;
+use gpu_alloc_types::{MemoryType, UsageFlags};
+use std::marker::Model;
+
+/// How many usages there are, which are the sets of named flags.
+const USAGES: usize = 64;
+
+/// The bits of a usage that have a name.
+const NAMED: u8 = 0x3f;
+
+/// The memory types that serve each usage, ranked once.
+///
+/// A type serves a usage unless it is `LAZILY_ALLOCATED` or `PROTECTED`; where the host reads or writes (`HOST_ACCESS`,
+/// `UPLOAD` or `DOWNLOAD`) it has to be `HOST_VISIBLE` too. The types that serve are ranked by how far they are from what
+/// the usage wants: 8 for a miss in `DEVICE_LOCAL`, 4 in `HOST_VISIBLE`, 2 in `HOST_CACHED`, 1 in `HOST_COHERENT`. The
+/// nearest comes first, and of those equally far the lowest index (the original crate's order, which leaves ties open).
+#[derive(Drop)]
+pub struct MemoryForUsage {
+    usages: [MemoryForOneUsage; 64],
+}
+
+impl Model for MemoryForUsage {
+    ghost use Rattle.std.specs.Prelude.{ℕ, List, map};
+    ghost use Rattle.gpu_alloc_usage.specs.Ranked.{ranked_types};
+
+    ghost Value = { List (List ℕ) };
+
+    ghost view = { λ m. map ranked_types m.usages };
+}
+
+impl MemoryForUsage {
+    /// Ranks a device's memory types, of which there are at most 32 (Vulkan's `VK_MAX_MEMORY_TYPES`), for each usage.
+    pub fn new(memory_types: &[MemoryType]) -> MemoryForUsage
+        requires { length memory_types.now ≤ 32 }
+        ensures { IsTable memory_types.now result }
+    {
+        let mut usages = [MemoryForOneUsage::none(); USAGES];
+        for bits in 0..USAGES {
+            let usage = UsageFlags::from_bits_retain(bits as u8);
+            usages[bits] = MemoryForOneUsage::ranked(usage, memory_types);
+        }
+        MemoryForUsage { usages }
+    }
+
+    /// The mask that has exactly the bits of the types that serve a usage: bit 0 for the type with index 0. Bits of the
+    /// usage without a name are dropped.
+    pub fn mask(&self, usage: UsageFlags) -> u32
+        ensures { IsMaskOf result (row self.now (usage_bits usage)) }
+    {
+        self.row(usage).mask()
+    }
+
+    /// The indices of the types that serve a usage, the best first. Bits of the usage without a name are dropped.
+    pub fn types(&self, usage: UsageFlags) -> &[u32]
+        ensures { result.now ≡ row self.now (usage_bits usage) }
+    {
+        self.row(usage).types()
+    }
+
+    /// The memory types to be tried for a request, the best first: those that serve what its usage means and whose bit is
+    /// set in `mask`. It is public for the allocator.
+    pub fn candidates(&self, usage: UsageFlags, mask: u32) -> MemoryForOneUsage
+        ensures { ranked_types result ≡ filter (is_allowed mask) (row self.now (implied (usage_bits usage))) }
+    {
+        self.row(meaning(usage)).within(mask)
+    }
+
+    fn row(&self, usage: UsageFlags) -> &MemoryForOneUsage
+        ensures { ranked_types result.now ≡ row self.now (usage_bits usage) }
+    {
+        &self.usages[(usage.bits() & NAMED) as usize]
+    }
+}
+
+/// The usage that is meant: no flag means `FAST_DEVICE_ACCESS`, and `DOWNLOAD` and `UPLOAD` mean `HOST_ACCESS` too.
+fn meaning(usage: UsageFlags) -> UsageFlags
+    ensures { usage_bits result ≡ implied (usage_bits usage) }
+{
+    let named = UsageFlags::from_bits_retain(usage.bits() & NAMED);
+    let wanted = if named.is_empty() {
+        UsageFlags::FAST_DEVICE_ACCESS
+    } else {
+        named
+    };
+    if wanted.intersects(UsageFlags::DOWNLOAD | UsageFlags::UPLOAD) {
+        wanted | UsageFlags::HOST_ACCESS
+    } else {
+        wanted
+    }
+}

@@ -1,7 +1,0 @@
-use Rattle.std.proofs.Common.{◌≡◌}
-use Rattle.gpu_script.specs.Setup.{offered}
-use Rattle.gpu_script.proofs.script.device.Given as goal
-
--- what the device offers stays
-abbrev pub invariant-loop-refusal : goal.invariant-loop-refusal
-invariant-loop-refusal g l = l.device.properties ≡ offered l.setup

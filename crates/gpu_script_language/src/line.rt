@@ -1,0 +1,117 @@
+//! What is wrong with a line, and the numbers in it.
+
+use crate::fields::Fields;
+use std::alloc::{AllocError, AllocFailed};
+use std::fmt;
+
+/// What is wrong with a line.
+#[derive(Clone, Copy, Debug, PartialEq, Eq)]
+pub enum LineError {
+    /// Its first field is no word of the language, or a later one no word that is allowed there.
+    UnknownWord,
+
+    /// A setup line after a command line.
+    SetupAfterCommands,
+
+    /// Too few fields or too many.
+    WrongNumberOfFields,
+
+    /// A field that is not a number of its type or range.
+    BadNumber,
+
+    /// After all lines: the properties cannot be used.
+    BadProperties,
+}
+
+impl fmt::Display for LineError {
+    fn fmt<W: fmt::Write>(&self, f: &mut fmt::Formatter<W>) -> fmt::Result {
+        match self {
+            LineError::UnknownWord => write!(f, "unknown word"),
+            LineError::SetupAfterCommands => write!(f, "setup after commands"),
+            LineError::WrongNumberOfFields => write!(f, "wrong number of fields"),
+            LineError::BadNumber => write!(f, "bad number"),
+            LineError::BadProperties => write!(f, "bad properties"),
+        }
+    }
+}
+
+/// Why a line was not taken.
+#[derive(Clone, Copy)]
+pub(crate) enum LineStop {
+    /// It is bad.
+    Bad(LineError),
+
+    /// The host's memory was refused.
+    Memory,
+}
+
+impl From<LineError> for LineStop {
+    fn from(error: LineError) -> LineStop {
+        LineStop::Bad(error)
+    }
+}
+
+impl From<AllocError> for LineStop {
+    fn from(_e: AllocError) -> LineStop {
+        LineStop::Memory
+    }
+}
+
+impl<T: Drop> From<AllocFailed<T>> for LineStop {
+    fn from(_e: AllocFailed<T>) -> LineStop {
+        LineStop::Memory
+    }
+}
+
+/// The number that a field holds: one or more decimal digits, whose value is a `u64`.
+fn number(field: &[u8]) -> Option<u64> {
+    let mut value = 0u64;
+    for digit in field {
+        if !digit.is_ascii_digit() {
+            return None;
+        }
+        value = value
+            .checked_mul(10)?
+            .checked_add(u64::from(*digit - b'0'))?;
+    }
+    if field.is_empty() { None } else { Some(value) }
+}
+
+/// What a field stands for, as one of these words.
+pub(crate) fn meaning_of<T: Copy>(
+    words: &[(&str, T)],
+    field: Option<&[u8]>,
+) -> Result<T, LineError> {
+    if let Some(field) = field {
+        for (word, meaning) in words {
+            if word.as_bytes() == field {
+                return Ok(*meaning);
+            }
+        }
+    }
+    Err(LineError::UnknownWord)
+}
+
+impl Fields<'_> {
+    /// The next field as a number.
+    pub(crate) fn next_u64(&mut self) -> Result<u64, LineError> {
+        let field = self.next().ok_or(LineError::WrongNumberOfFields)?;
+        number(field).ok_or(LineError::BadNumber)
+    }
+
+    /// The next field as a number below 2^32.
+    pub(crate) fn next_u32(&mut self) -> Result<u32, LineError> {
+        match u32::try_from(self.next_u64()?) {
+            Ok(value) => Ok(value),
+            Err(_) => Err(LineError::BadNumber),
+        }
+    }
+
+    /// The next field as a number of at most `most`.
+    pub(crate) fn next_u8(&mut self, most: u8) -> Result<u8, LineError> {
+        match u8::try_from(self.next_u64()?) {
+            Ok(value) if value <= most => Ok(value),
+            _ => Err(LineError::BadNumber),
+        }
+    }
+}

@@ -1,0 +1,141 @@
+//! A script's run: what a reader gives is parsed, run by a session over the simulated device, and answered to a writer.
+
+ghost use Rattle.std.specs.Prelude.{◌≡◌, ◌≤◌, All, IfOk};
+ghost use Rattle.gpu_alloc_types.specs.Properties.{IsUsable};
+ghost use Rattle.gpu_session.specs.Sound.{IsForRequired};
+ghost use Rattle.gpu_script_language.specs.Setup.{offered};
+
+use crate::line::LineError;
+use crate::parser::{Script, Stop, parse};
+use crate::print::print_replies;
+use crate::setup::Setup;
+use gpu_session::{Command, Reply, Session, SessionOpenError};
+use gpu_sim::{Sim, SimMemory};
+use std::alloc::{AllocError, Allocator};
+use std::io::{ErrorKind, Read, Write};
+
+/// A session over the simulated device.
+pub type SimSession<A> = Session<SimMemory<A>, Sim<A>, A>;
+
+/// Runs the script that a reader gives, and writes what it answers to a writer.
+///
+/// The whole script is read and parsed before anything runs, and the answer is written at once. The status is 0 where it
+/// ran; 1 where a read or a write failed, and then nothing is said of how much was written; 2 at a bad line, and then the
+/// output is `line N: ` and what is wrong with it; 3 where the host's memory was refused to the program itself, and then
+/// the output is `out of memory`.
+pub fn run_script<R: Read, W: Write, A: Allocator + Copy>(
+    alloc: A,
+    input: &mut R,
+    output: &mut W,
+) -> u8
+    ensures { result ≤ 3 }
+{
+    let (status, written) = match answer(alloc, input) {
+        Ok(text) => (0, output.write_all(text.as_bytes())),
+        Err(Stop::BadLine(number, error)) => (2, writeln!(output, "line {number}: {error}")),
+        Err(Stop::Memory) => (3, output.write_all(b"out of memory\n")),
+        Err(Stop::Read) => return 1,
+    };
+    if written.is_err() || output.flush().is_err() {
+        return 1;
+    }
+    status
+}
+
+/// What a script answers.
+fn answer<R: Read, A: Allocator + Copy>(alloc: A, input: &mut R) -> Result<String<A>, Stop> {
+    let text = read_all(alloc, input)?;
+    let script = parse(alloc, text.as_slice())?;
+    let printed = answer_to(alloc, &script);
+    // By a call, as each device below, so that its parts are taken apart in `drop` and not here.
+    drop(script);
+    printed
+}
+
+/// What a script answers whose lines are good.
+fn answer_to<A: Allocator + Copy>(alloc: A, script: &Script<A>) -> Result<String<A>, Stop>
+    requires required { All IsForRequired script.now.commands.items }
+{
+    if !script.setup.properties().is_usable() {
+        let after = script.lines.saturating_add(1);
+        return Err(Stop::BadLine(after, LineError::BadProperties));
+    }
+    Ok(run(alloc, script)?)
+}
+
+/// The bytes of a reader.
+fn read_all<R: Read, A: Allocator + Copy>(alloc: A, input: &mut R) -> Result<Vec<u8, A>, Stop> {
+    let mut text = Vec::new(alloc);
+    let mut buffer = [0u8; 4096];
+    // Bounded, so that it ends for every reader.
+    for _ in 0..u64::MAX {
+        match input.read(&mut buffer) {
+            Ok(0) => return Ok(text),
+            Ok(count) => text.extend_from_slice(&buffer[..count])?,
+            Err(e) => {
+                if e.kind() != ErrorKind::Interrupted {
+                    return Err(Stop::Read);
+                }
+            }
+        }
+    }
+    Err(Stop::Read)
+}
+
+/// Runs a script's commands as one list over the device that it describes, and finishes the session.
+fn run<A: Allocator + Copy>(alloc: A, script: &Script<A>) -> Result<String<A>, AllocError>
+    requires usable { IsUsable (offered script.now.setup) }
+    requires required { All IsForRequired script.now.commands.items }
+{
+    let session = open(alloc, &script.setup)?;
+    let (replies, device) = run_and_finish(session, script.commands.as_slice());
+    let printed = match replies {
+        Ok(replies) => print_replies(alloc, replies.as_slice(), &device),
+        Err(e) => Err(e),
+    };
+    drop(device);
+    printed
+}
+
+/// Runs commands as one list, and finishes the session: the replies, and the device at the end.
+fn run_and_finish<A: Allocator + Copy>(
+    mut session: SimSession<A>,
+    commands: &[Command<A>],
+) -> (Result<Vec<Reply<A>, A>, AllocError>, Sim<A>)
+    requires required { All IsForRequired commands.now }
+{
+    let replies = session.run(commands);
+    (replies, session.finish())
+}
+
+/// A session over the device that the setup lines describe, with nothing live. It takes memory for the device's books and the
+/// session's; where that is refused, nothing is left.
+pub fn open<A: Allocator + Copy>(alloc: A, setup: &Setup<A>) -> Result<SimSession<A>, AllocError>
+    requires usable { IsUsable (offered setup.now) }
+{
+    let device = device(alloc, setup)?;
+    match Session::new(alloc, setup.config, setup.properties(), device) {
+        Ok(session) => Ok(session),
+        Err(SessionOpenError { device }) => {
+            drop(device);
+            Err(AllocError)
+        }
+    }
+}
+
+/// The device that the setup lines describe, with the refusals that they plan.
+fn device<A: Allocator + Copy>(alloc: A, setup: &Setup<A>) -> Result<Sim<A>, AllocError>
+    ensures { IfOk result (λ device. device.properties ≡ offered setup.now) }
+{
+    let mut device = Sim::new(alloc, setup.properties())?;
+    for refusal in &setup.refusals {
+        if device
+            .refuse(refusal.kind, refusal.nth, refusal.cause)
+            .is_err()
+        {
+            drop(device);
+            return Err(AllocError);
+        }
+    }
+    Ok(device)
+}
