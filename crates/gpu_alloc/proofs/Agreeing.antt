@@ -9,7 +9,8 @@ use Rattle.gpu_alloc_types.specs.Objects.{put-same, put-other}
 use Rattle.gpu_alloc.specs.State.{State, HeldObject, Span, Block, IsLive, span_of}
 use Rattle.gpu_alloc.specs.Release.{without_span}
 use Rattle.gpu_alloc.specs.Agreement.{Agrees, IsThere, IsCounted, IsInside, IsMappedWhole}
-use Rattle.gpu_alloc.specs.Allocation.{HasOneMore, holding}
+use Rattle.gpu_alloc_types.specs.Device.{IsFresh}
+use Rattle.gpu_alloc.specs.Candidates.{holding}
 use Rattle.gpu_alloc.specs.declared.block.Kind.{Kind}
 use Rattle.gpu_alloc.specs.declared.block.Kind.TheVariants.{Dedicated, Imported, BuddyChunk, FreeListChunk}
 use Rattle.gpu_alloc_base.proofs.Maps.{name_test}
@@ -58,8 +59,12 @@ agrees_more s now p f name h o a same held older there = record {
       (there_more s now f name h o q (finite.get s.held q) (q == name) refl same (older q) there (a.holds q));
 }
 
+-- the device made the whole of a block
+abbrev pub IsMade : Block → (ℕ → Option Object) → (ℕ → Option Object) → Type 0
+IsMade b old new = (old b.object ≡ None) × ((o : Object) × IsFresh b.size b.memory_type o × (new ≡ put old b.object (Some o)))
+
 -- a granted object of its own keeps the two in agreement
-pub agrees_granted : (s : State) (p q : Properties) (f g : ℕ → Option Object) (b : Block) → Agrees s p f → q ≡ p → HasOneMore b f g
+pub agrees_granted : (s : State) (p q : Properties) (f g : ℕ → Option Object) (b : Block) → Agrees s p f → q ≡ p → IsMade b f g
     → Agrees (holding s (record { memory_type = b.memory_type; counted = b.size; kind = Dedicated }) b) q g
 agrees_granted s p q f g b a same after =
     let h : HeldObject = record { memory_type = b.memory_type; counted = b.size; kind = Dedicated } in

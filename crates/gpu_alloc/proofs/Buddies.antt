@@ -3,7 +3,6 @@ pub mod Answers
 pub mod Grants
 pub mod HasBuddies
 pub mod Links
-pub mod Refusals
 pub mod Returns
 pub mod Served
 pub mod Serving

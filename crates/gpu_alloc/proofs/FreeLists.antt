@@ -6,7 +6,6 @@ pub mod Gone
 pub mod Grants
 pub mod HasLists
 pub mod Links
-pub mod Refusals
 pub mod Returns
 pub mod Served
 pub mod Serving

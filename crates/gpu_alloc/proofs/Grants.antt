@@ -1,5 +1,5 @@
 -- What a granted object of its own leaves.
-use Rattle.std.proofs.Common.{◌≡◌, ℕ, ◌+◌, ◌-◌, ◌<◌, List, [], ◌∷◌, get_or, true, cond, Some, None, Ok, refl, sym, ◌∙◌, ap, subst, arith, inl}
+use Rattle.std.proofs.Common.{◌≡◌, ℕ, ◌+◌, ◌-◌, ◌<◌, List, get_or, true, cond, Some, None, Ok, refl, sym, ◌∙◌, ap, subst, arith, inl, inr}
 use Rattle.std.proofs.Math.ListN.{set}
 use Rattle.std.proofs.Math.Nat.{zero-mod}
 use Rattle.std.proofs.lemmas.Bool.Decides.{nat_tests}
@@ -7,7 +7,9 @@ use Rattle.std.specs.Cmp.{nat_cmp_total}
 use Rattle.std.specs.Ordering.{nat_cmp, eq_by_cmp}
 use Rattle.std.specs.FinMap as finite
 use Rattle.std.specs.FinSet as set_of
-use Rattle.gpu_alloc.specs.Allocation.{DecidesBy, IsGranted, asked, holding, whole_block}
+use Rattle.gpu_alloc_base.specs.NewChunk.{made}
+use Rattle.gpu_alloc.specs.Allocation.{TriesBy, IsGranted}
+use Rattle.gpu_alloc.specs.Candidates.{own_question, holding, whole_block}
 use Rattle.gpu_alloc.specs.declared.allocator.Strategy.TheVariants.{OwnObject}
 use Rattle.gpu_alloc_buddy.specs.BuddyState.{Buddy}
 use Rattle.gpu_alloc_freelist.specs.FreeListState.{Listing}
@@ -35,10 +37,15 @@ state_held l heaps buddies lists i h old t now remaining object size memory_type
     ∙ (λ k. record (state_in l heaps buddies lists t remaining) { held = held k; live = live k; remaining = remaining - 1 })
 
 -- the candidate decides
-pub decides_granted : (s now : State) (r : Request) (memory_type object : ℕ) (b : Block) → b ≡ whole_block s object r.size memory_type → 0 < s.remaining
-    → now ≡ holding s (own_object r.size memory_type) (whole_block s object r.size memory_type) → DecidesBy OwnObject s r memory_type (asked s r.size memory_type (Ok object) ∷ []) (Ok b) now
-decides_granted s now r memory_type object b is some held =
-    subst (λ x. DecidesBy OwnObject s r memory_type (asked s r.size memory_type (Ok object) ∷ []) (Ok x) now) (sym is) (some, refl, refl, held)
+pub decides_granted : (s now : State) (r : Request) (memory_type object : ℕ) (b : Block) → b ≡ whole_block s object r.size memory_type → 0 < s.remaining → finite.get s.held object ≡ None
+    → now ≡ holding s (own_object r.size memory_type) (whole_block s object r.size memory_type) → TriesBy OwnObject s r memory_type (made (own_question s r.size memory_type) object) (Ok (Some b)) now
+decides_granted s now r memory_type object b is some free held =
+    subst (λ x. TriesBy OwnObject s r memory_type (made (own_question s r.size memory_type) object) (Ok (Some x)) now) (sym is) (inr (record {
+      asks = record { fits = tt; no_place = λ never. never; remains = record { objects = some; number = tt } };
+      place = record { is = refl; was_free = free };
+      asked = refl;
+      state = held;
+    }))
 
 -- a live span is in a held object, and so apart from one that is not held
 pub granted : (s : State) (r : Request) (memory_type object : ℕ) → finite.get s.held object ≡ None → ((span : Span) → IsLive s span → (h : HeldObject) × (finite.get s.held span.object ≡ Some h))

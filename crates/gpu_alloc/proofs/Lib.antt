@@ -8,6 +8,7 @@ pub mod Grants
 pub mod HandedOn
 pub mod HeapLists
 pub mod Ledgers
+pub mod NewObjects
 pub mod Opened
 pub mod OwnObjects
 pub mod Returns

@@ -1,11 +1,13 @@
--- Candidates that are tried in turn.
+-- Candidates that are tried in turn, and what a refusal comes to.
 use Rattle.std.proofs.Common.{◌≡◌, ℕ, suc, ◌<◌, ◌≤◌, List, [], ◌++◌, length, drop, get_or, Option, Result, Err, refl, subst, inl, inr, append_assoc, append-nil, drop-cons}
 use Rattle.std.proofs.Math.ListN.{drop_of_length-le}
-use Rattle.gpu_alloc_types.specs.Device.{Event}
+use Rattle.gpu_alloc_types.specs.Device.{Event, Object}
 use Rattle.gpu_alloc.specs.State.{State, Block}
-use Rattle.gpu_alloc.specs.Allocation.{IsPassed, Decides, TriesAll}
+use Rattle.gpu_alloc_base.specs.Case as case
+use Rattle.gpu_alloc_base.specs.Case.{Case}
+use Rattle.gpu_alloc.specs.Allocation.{passing, IsPassed, Decides, TriesAll, ObjectsTried, GrantsTried}
 use Rattle.gpu_alloc_base.specs.declared.error.AllocationError.{AllocationError}
-use Rattle.gpu_alloc_base.specs.declared.error.AllocationError.TheVariants.{OutOfDeviceMemory}
+use Rattle.gpu_alloc_base.specs.declared.error.AllocationError.TheVariants.{OutOfDeviceMemory, OutOfHostMemory, NoCompatibleMemoryTypes, TooManyObjects}
 use Rattle.gpu_alloc.specs.declared.request.Request.{Request}
 use Rattle.gpu_alloc.specs.declared.request.Dedicated.{Dedicated}
 
@@ -28,3 +30,24 @@ module _ (s : State) (r : Request) (hint : Option Dedicated) (ts : List ℕ) whe
   pub continues_end : (i : ℕ) (es : List Event) → length ts ≤ i → Continues i es → TriesAll s r hint ts es (Err OutOfDeviceMemory) s
   continues_end i es le goes =
       let h = goes [] (Err OutOfDeviceMemory) s (rw (drop_of_length-le ts le) (refl, refl, refl)) in rw append-nil at h
+
+-- A refusal.
+
+-- an allocator's refusal is what becomes of the candidate
+pub refused_tries : (c : Case Block State) (es : List Event) (e : AllocationError) (new : State) → case.Answers c es (Err e) new → case.Tries c es (passing e) new
+refused_tries c es OutOfDeviceMemory new answers = answers
+refused_tries c es OutOfHostMemory new answers = answers
+refused_tries c es NoCompatibleMemoryTypes new answers = answers
+refused_tries c es TooManyObjects new answers = answers
+
+pub nothing_made : (s : State) (e : AllocationError) (after : State) (old new : ℕ → Option Object) → new ≡ old → ObjectsTried s (passing e) after old new
+nothing_made s OutOfDeviceMemory after old new same = same
+nothing_made s OutOfHostMemory after old new same = same
+nothing_made s NoCompatibleMemoryTypes after old new same = same
+nothing_made s TooManyObjects after old new same = same
+
+pub nothing_granted : (s : State) (r : Request) (e : AllocationError) (new : State) → new ≡ s → GrantsTried s r (passing e) new
+nothing_granted s r OutOfDeviceMemory new same = same
+nothing_granted s r OutOfHostMemory new same = same
+nothing_granted s r NoCompatibleMemoryTypes new same = same
+nothing_granted s r TooManyObjects new same = same

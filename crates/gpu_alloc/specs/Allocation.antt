@@ -1,31 +1,26 @@
 -- How an allocation is decided: what is asked of the device for each candidate, and what the first one that is not
 -- passed answers.
-use Rattle.std.specs.Prelude.{◌≡◌, ◌⊎◌, ℕ, ◌+◌, ◌-◌, ◌%◌, ◌/◌, ◌<◌, ◌≤◌, ◌==◌, Bool, true, ◌&&◌, List, [], ◌∷◌, ◌++◌, length, Option, Some, None, Result, Ok, Err, cond, min, nat_lt, nat_le, nat_eq, MatchBool, MatchOption}
+use Rattle.std.specs.Prelude.{◌≡◌, ◌⊎◌, ℕ, ◌+◌, ◌%◌, ◌/◌, ◌<◌, ◌≤◌, ◌==◌, Bool, true, ◌&&◌, List, [], ◌∷◌, ◌++◌, length, Option, Some, None, Result, Ok, Err, cond, min, nat_lt, nat_le, nat_eq, MatchBool}
 use Rattle.std.specs.FinMap as map
-use Rattle.std.specs.FinSet as set
 use Rattle.gpu_alloc_types.specs.Flags.{usage_bits, has_bit}
-use Rattle.gpu_alloc_types.specs.Properties.{heap_size, props_at, atom_of}
-use Rattle.gpu_alloc_types.specs.Device.{Object, Event, IsFresh, put}
-use Rattle.gpu_alloc_types.specs.Device.Event.{Allocated}
-use Rattle.gpu_alloc_types.specs.declared.types.OutOfMemory.{OutOfMemory}
-use Rattle.gpu_alloc_types.specs.declared.types.OutOfMemory.TheVariants.{OutOfDeviceMemory as DeviceFull, OutOfHostMemory as HostFull}
-use Rattle.gpu_alloc.specs.declared.allocator.Strategy.{Strategy}
-use Rattle.gpu_alloc.specs.declared.allocator.Strategy.TheVariants.{OwnObject, InBuddyChunk, InFreeList}
-use Rattle.gpu_alloc.specs.declared.block.Kind.{Kind}
-use Rattle.gpu_alloc.specs.declared.block.Kind.TheVariants.{Dedicated as DedicatedObject, Imported, BuddyChunk, FreeListChunk}
+use Rattle.gpu_alloc_types.specs.Properties.{Properties, heap_size, atom_of, is_host_visible}
+use Rattle.gpu_alloc_types.specs.Device.{Object, Event}
+use Rattle.gpu_alloc_base.specs.Case as case
+use Rattle.gpu_alloc_base.specs.FreeSpace.{IsMultipleOf, IsPowerOfTwo}
+use Rattle.gpu_alloc_base.specs.NewObject.{ObjectsGiven}
+use Rattle.gpu_alloc_base.specs.Sizes.{up, preferred_threshold, transient_threshold, final_size}
 use Rattle.gpu_alloc_base.specs.declared.error.AllocationError.{AllocationError}
 use Rattle.gpu_alloc_base.specs.declared.error.AllocationError.TheVariants.{OutOfDeviceMemory, OutOfHostMemory, NoCompatibleMemoryTypes, TooManyObjects}
+use Rattle.gpu_alloc_usage.specs.Ranking.{candidates}
+use Rattle.gpu_alloc.specs.Candidates.{candidate}
+use Rattle.gpu_alloc.specs.Request.{is_required}
+use Rattle.gpu_alloc.specs.State.{HeldObject, Span, Block, span_of, State, IsLive, IsOwned, AreApart, is_shared}
+use Rattle.gpu_alloc.specs.declared.allocator.Strategy.{Strategy}
+use Rattle.gpu_alloc.specs.declared.allocator.Strategy.TheVariants.{OwnObject, InBuddyChunk, InFreeList}
+use Rattle.gpu_alloc.specs.declared.block.Kind.TheVariants.{BuddyChunk}
 use Rattle.gpu_alloc.specs.declared.request.Request.{Request}
 use Rattle.gpu_alloc.specs.declared.request.Dedicated.{Dedicated}
 use Rattle.gpu_alloc.specs.declared.request.Dedicated.TheVariants.{Required, Preferred}
-use Rattle.gpu_alloc_base.specs.FreeSpace.{IsMultipleOf, IsPowerOfTwo}
-use Rattle.gpu_alloc_base.specs.NewChunk.{flags_of, HasOneChunkMore}
-use Rattle.gpu_alloc.specs.FreeListSharing.{list_size, list_alignment, list_question, IsPassedByFreeList, DecidesInFreeList}
-use Rattle.gpu_alloc_usage.specs.Ranking.{candidates}
-use Rattle.gpu_alloc.specs.Request.{is_required}
-use Rattle.gpu_alloc.specs.BuddySharing.{buddy_size, buddy_question, IsPassedByBuddy, DecidesInBuddyChunk}
-use Rattle.gpu_alloc_base.specs.Sizes.{up, preferred_threshold, transient_threshold, final_size}
-use Rattle.gpu_alloc.specs.State.{HeldObject, Span, Block, span_of, State, IsLive, IsOwned, AreApart, is_shared}
 
 -- Which way a candidate is served.
 
@@ -50,64 +45,17 @@ strategy s r (Some Required) t = OwnObject
 strategy s r (Some Preferred) t = cond (nat_le (preferred_threshold s.config) r.size) OwnObject (unhinted s r t)
 strategy s r None t = unhinted s r t
 
--- What is asked of the device.
-
--- a question to allocate, with its answer
-abbrev pub asked : State → ℕ → ℕ → Result ℕ OutOfMemory → Event
-asked s size t answer = Allocated size t (flags_of s.properties) answer
-
--- A candidate that is served so is passed: the device, asked exactly for what was wanted, had no memory, or what would be
--- asked for is too large for any device.
-abbrev pub IsPassedBy : Strategy → State → Request → ℕ → List Event → Type 0
-IsPassedBy OwnObject s r t es = (0 < s.remaining) × (es ≡ asked s r.size t (Err DeviceFull) ∷ [])
-IsPassedBy InBuddyChunk s r t es = IsPassedByBuddy s t (buddy_size s r t) es
-IsPassedBy InFreeList s r t es = IsPassedByFreeList s t (list_size s r t) (list_alignment s r t) es
+-- What becomes of a candidate.
 
 -- A candidate is passed: its heap is smaller than the request, or its way of being served passes it.
 abbrev pub IsPassed : State → Request → Option Dedicated → ℕ → List Event → Type 0
 IsPassed s r hint t es =
     ((heap_size s.properties t < r.size) × (es ≡ []))
-    ⊎ ((r.size ≤ heap_size s.properties t) × IsPassedBy (strategy s r hint t) s r t es)
+    ⊎ ((r.size ≤ heap_size s.properties t) × case.IsPassed (candidate (strategy s r hint t) s r t) es)
 
--- What a candidate that decides answers.
-
--- an unmapped block that is the whole of an object of its own
-abbrev pub whole_block : State → ℕ → ℕ → ℕ → Block
-whole_block s object size t = record {
-  object = object;
-  offset = 0;
-  size = size;
-  memory_type = t;
-  props = props_at s.properties t;
-  kind = DedicatedObject;
-  mapping = None;
-}
-
--- one more object is held, with the block in it
-abbrev pub holding : State → HeldObject → Block → State
-holding s h b = record s {
-  held = map.insert s.held b.object h;
-  live = set.insert s.live (span_of b);
-  remaining = s.remaining - 1;
-}
-
-abbrev pub DecidesBy : Strategy → State → Request → ℕ → List Event → Result Block AllocationError → State → Type 0
-DecidesBy OwnObject s r t es (Err TooManyObjects) new = (s.remaining ≡ 0) × (es ≡ []) × (new ≡ s)
--- host memory was refused: to the allocator, before anything was asked, or to the device
-DecidesBy OwnObject s r t es (Err OutOfHostMemory) new =
-    (0 < s.remaining) × ((es ≡ []) ⊎ (es ≡ asked s r.size t (Err HostFull) ∷ [])) × (new ≡ s)
-DecidesBy OwnObject s r t es (Err OutOfDeviceMemory) new = ⊥
-DecidesBy OwnObject s r t es (Err NoCompatibleMemoryTypes) new = ⊥
-DecidesBy OwnObject s r t es (Ok b) new =
-    (0 < s.remaining)
-    × (es ≡ asked s r.size t (Ok b.object) ∷ [])
-    × (b ≡ whole_block s b.object r.size t)
-    × (new ≡ holding s (record { memory_type = t; counted = r.size; kind = DedicatedObject }) b)
-DecidesBy InBuddyChunk s r t es answer new = DecidesInBuddyChunk s t (buddy_size s r t) es answer new
-DecidesBy InFreeList s r t es answer new = DecidesInFreeList s t (list_size s r t) (list_alignment s r t) es answer new
-
+-- It decides: its heap is no smaller than the request, and what its way of being served answers is the answer.
 abbrev pub Decides : State → Request → Option Dedicated → ℕ → List Event → Result Block AllocationError → State → Type 0
-Decides s r hint t es answer new = (r.size ≤ heap_size s.properties t) × DecidesBy (strategy s r hint t) s r t es answer new
+Decides s r hint t es answer new = (r.size ≤ heap_size s.properties t) × case.Decides (candidate (strategy s r hint t) s r t) es answer new
 
 -- a refusal of a candidate: where there is no device memory it is passed
 abbrev pub passing : {T : Type 0} → AllocationError → Result (Option T) AllocationError
@@ -118,9 +66,7 @@ passing TooManyObjects = Err TooManyObjects
 
 -- A candidate was tried that is served so, and whose heap is no smaller than the request.
 abbrev pub TriesBy : Strategy → State → Request → ℕ → List Event → Result (Option Block) AllocationError → State → Type 0
-TriesBy w s r t es (Ok None) new = IsPassedBy w s r t es × (new ≡ s)
-TriesBy w s r t es (Ok (Some b)) new = DecidesBy w s r t es (Ok b) new
-TriesBy w s r t es (Err e) new = DecidesBy w s r t es (Err e) new
+TriesBy w s r t es answer new = case.Tries (candidate w s r t) es answer new
 
 -- One candidate was tried: it is passed, or it decides.
 abbrev pub Tries : State → Request → Option Dedicated → ℕ → List Event → Result (Option Block) AllocationError → State → Type 0
@@ -151,31 +97,28 @@ Allocates s r hint es answer new =
     MatchBool (nat_eq (length (candidates_of s r)) 0) (Refuses s NoCompatibleMemoryTypes es answer new) (
     TriesAll s r hint (candidates_of s r) es answer new)))
 
--- the device has one object more: the block's whole
-abbrev pub HasOneMore : Block → (ℕ → Option Object) → (ℕ → Option Object) → Type 0
-HasOneMore b old new = (old b.object ≡ None) × ((o : Object) × IsFresh b.size b.memory_type o × (new ≡ put old b.object (Some o)))
+-- What an allocation makes of the device's objects.
 
--- What a grant makes of the device's objects, by what the block's object is held for: one object more where it is the
--- block's own, or a new chunk.
-abbrev pub ObjectsWith : Kind → State → Block → (ℕ → Option Object) → (ℕ → Option Object) → Type 0
-ObjectsWith DedicatedObject s b old new = HasOneMore b old new
-ObjectsWith BuddyChunk s b old new =
-    MatchOption (map.get s.held b.object) (HasOneChunkMore (buddy_question s b.memory_type b.size) b.object old new) (λ _. new ≡ old)
-ObjectsWith Imported s b old new = ⊥
--- the block is the tail of a new chunk, so the chunk ends where it does
-ObjectsWith (FreeListChunk number) s b old new =
-    MatchOption (map.get s.held b.object) (HasOneChunkMore (list_question s b.memory_type (b.offset + b.size)) b.object old new) (λ _. new ≡ old)
+-- an object as it is counted: of the memory type, so large, and mapped whole where it is shared and the host sees it
+pub record IsAsCounted (p : Properties) (h : HeldObject) (o : Object) : Type 0 where
+  pub of_type : o.memory_type ≡ h.memory_type
+  pub of_size : o.size ≡ h.counted
+  pub mapped : o.mapped ≡ cond (is_shared h.kind && is_host_visible p h.memory_type) (Some (0, h.counted)) None
 
--- what an allocation makes of them: nothing where it is refused
-abbrev pub ObjectsAfter : State → Result Block AllocationError → (ℕ → Option Object) → (ℕ → Option Object) → Type 0
-ObjectsAfter s (Ok b) old new = ObjectsWith b.kind s b old new
-ObjectsAfter s (Err e) old new = new ≡ old
+-- a grant: one object more where the block's object was not held, as it is counted now, and else nothing
+abbrev pub ObjectsWith : State → Block → State → (ℕ → Option Object) → (ℕ → Option Object) → Type 0
+ObjectsWith s b after old new = ObjectsGiven (IsAsCounted s.properties) (map.get s.held b.object) (map.get after.held b.object) b.object old new
+
+-- an allocation: nothing where it is refused
+abbrev pub ObjectsAfter : State → Result Block AllocationError → State → (ℕ → Option Object) → (ℕ → Option Object) → Type 0
+ObjectsAfter s (Ok b) after old new = ObjectsWith s b after old new
+ObjectsAfter s (Err e) after old new = new ≡ old
 
 -- the same of one candidate that was tried
-abbrev pub ObjectsTried : State → Result (Option Block) AllocationError → (ℕ → Option Object) → (ℕ → Option Object) → Type 0
-ObjectsTried s (Ok None) old new = new ≡ old
-ObjectsTried s (Ok (Some b)) old new = ObjectsWith b.kind s b old new
-ObjectsTried s (Err e) old new = new ≡ old
+abbrev pub ObjectsTried : State → Result (Option Block) AllocationError → State → (ℕ → Option Object) → (ℕ → Option Object) → Type 0
+ObjectsTried s (Ok None) after old new = new ≡ old
+ObjectsTried s (Ok (Some b)) after old new = ObjectsWith s b after old new
+ObjectsTried s (Err e) after old new = new ≡ old
 
 -- what a caller may know of a granted block without following the decision
 pub record IsGranted (s : State) (r : Request) (new : State) (b : Block) : Type 0 where

@@ -1,19 +1,15 @@
 -- Blocks in the shared chunks of a memory type's free list, as the whole allocator's state tells of them.
-use Rattle.std.specs.Prelude.{◌≡◌, ◌⊎◌, ℕ, zero, suc, ◌+◌, ◌-◌, ◌<◌, ◌^◌, List, [], ◌∷◌, Option, Some, None, Result, Ok, Err, max, slice_get}
+use Rattle.std.specs.Prelude.{◌≡◌, ℕ, zero, suc, ◌+◌, ◌-◌, ◌<◌, ◌^◌, List, [], ◌∷◌, Option, Some, None, max, slice_get}
 use Rattle.std.specs.FinMap as map
 use Rattle.gpu_alloc_types.specs.Properties.{heap_size, props_at, atom_of, is_host_visible}
-use Rattle.gpu_alloc_types.specs.Device.{Event}
 use Rattle.gpu_alloc.specs.declared.block.Kind.TheVariants.{FreeListChunk}
-use Rattle.gpu_alloc_base.specs.declared.error.AllocationError.{AllocationError}
-use Rattle.gpu_alloc_base.specs.declared.error.AllocationError.TheVariants.{OutOfDeviceMemory, OutOfHostMemory, NoCompatibleMemoryTypes, TooManyObjects}
 use Rattle.gpu_alloc_base.specs.declared.region.FreeListRegion.{FreeListRegion}
 use Rattle.gpu_alloc.specs.declared.request.Request.{Request}
 use Rattle.gpu_alloc_base.specs.FreeRuns.{IsListPlace, IsLastWithRoom, tail_start}
 use Rattle.gpu_alloc.specs.FreeBytes.{IsFreeByte}
-use Rattle.gpu_alloc_base.specs.NewChunk.{ChunkQuestion, flags_of, made, LacksDeviceMemory, LacksHostMemory, IsGivenBack}
-use Rattle.gpu_alloc.specs.BuddySharing.{with_span}
+use Rattle.gpu_alloc_base.specs.NewChunk.{ChunkQuestion, flags_of}
 use Rattle.gpu_alloc_base.specs.Sizes.{up, final_size, grown_chunk, doubled_chunk}
-use Rattle.gpu_alloc.specs.State.{HeldObject, Span, Block, span_of, TypeState, State}
+use Rattle.gpu_alloc.specs.State.{HeldObject, Span, Block, TypeState, State}
 
 -- the size that is looked for, in whole atoms
 abbrev pub list_size : State → Request → ℕ → ℕ
@@ -80,14 +76,6 @@ list_question s t size = record {
 abbrev pub HasListNumber : State → ℕ → Type 0
 HasListNumber s t = latest_number s t + 1 < 2 ^ 64
 
--- a chunk is asked for: there is no place, one more object may be held, and there is a number for it
-abbrev pub AsksForListChunk : State → ℕ → ℕ → ℕ → Type 0
-AsksForListChunk s t size alignment = (HasListPlace s t size alignment → ⊥) × ((0 < s.remaining) × HasListNumber s t)
-
--- The candidate is passed: the device, asked exactly for a chunk, had no memory.
-abbrev pub IsPassedByFreeList : State → ℕ → ℕ → ℕ → List Event → Type 0
-IsPassedByFreeList s t size alignment es = AsksForListChunk s t size alignment × LacksDeviceMemory (list_question s t size) es
-
 -- an unmapped block of a free list's chunk
 abbrev pub list_block : State → ℕ → ℕ → Span → Block
 list_block s t number span = record {
@@ -117,31 +105,3 @@ with_list_chunk s t object size = record s {
   remaining = s.remaining - 1;
   types = with_next_list s.types t (doubled_chunk (largest_list_chunk s t) size);
 }
-
--- the block lies in a chunk that was held: nothing is asked
-abbrev pub GivesInRun : State → ℕ → ℕ → ℕ → List Event → ℕ → Span → State → Type 0
-GivesInRun s t size alignment es number span new = IsRunTail s t size alignment number span × ((es ≡ []) × (new ≡ with_span s span))
-
--- the block is the tail of a new chunk
-abbrev pub GivesInNewRun : State → ℕ → ℕ → ℕ → List Event → ℕ → Span → State → Type 0
-GivesInNewRun s t size alignment es number span new =
-    AsksForListChunk s t size alignment
-    × ((number ≡ latest_number s t + 1)
-    × ((span ≡ tail_of span.object (list_question s t size).size size alignment)
-    × ((es ≡ made (list_question s t size) span.object)
-    × (new ≡ with_span (with_list_chunk s t span.object (list_question s t size).size) span))))
-
--- What a candidate that is not passed answers to a request for a block of the rounded size.
-abbrev pub DecidesInFreeList : State → ℕ → ℕ → ℕ → List Event → Result Block AllocationError → State → Type 0
-DecidesInFreeList s t size alignment es (Ok b) new =
-    (number : ℕ) × ((b ≡ list_block s t number (span_of b))
-    × (GivesInRun s t size alignment es number (span_of b) new ⊎ GivesInNewRun s t size alignment es number (span_of b) new))
--- no more objects may be held, or the numbers are spent
-DecidesInFreeList s t size alignment es (Err TooManyObjects) new =
-    (new ≡ s) × ((es ≡ []) × ((HasListPlace s t size alignment → ⊥) × ((s.remaining ≡ 0) ⊎ (HasListNumber s t → ⊥))))
--- host memory was refused: to the allocator, with a place or a chunk to be asked for, or to the device
-DecidesInFreeList s t size alignment es (Err OutOfHostMemory) new =
-    (new ≡ s) × (((es ≡ []) × (HasListPlace s t size alignment ⊎ ((0 < s.remaining) × HasListNumber s t)))
-    ⊎ (AsksForListChunk s t size alignment × (LacksHostMemory (list_question s t size) es ⊎ IsGivenBack (list_question s t size) es)))
-DecidesInFreeList s t size alignment es (Err OutOfDeviceMemory) new = ⊥
-DecidesInFreeList s t size alignment es (Err NoCompatibleMemoryTypes) new = ⊥

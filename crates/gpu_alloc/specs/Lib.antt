@@ -1,6 +1,7 @@
 pub mod Agreement
 pub mod Allocation
 pub mod BuddySharing
+pub mod Candidates
 pub mod Codes
 pub mod FirstTypes
 pub mod FreeBytes
@@ -14,7 +15,9 @@ pub mod Sound
 pub mod Spans
 pub mod State
 pub mod Types
+pub use Rattle.gpu_alloc_base.specs.Accounts
 pub use Rattle.gpu_alloc_base.specs.AlignMasks
+pub use Rattle.gpu_alloc_base.specs.Case
 pub use Rattle.gpu_alloc_base.specs.Chunks
 pub use Rattle.gpu_alloc_base.specs.Config
 pub use Rattle.gpu_alloc_base.specs.Errors
@@ -23,6 +26,7 @@ pub use Rattle.gpu_alloc_base.specs.FreeSpace
 pub use Rattle.gpu_alloc_base.specs.Heap
 pub use Rattle.gpu_alloc_base.specs.Leaves
 pub use Rattle.gpu_alloc_base.specs.NewChunk
+pub use Rattle.gpu_alloc_base.specs.NewObject
 pub use Rattle.gpu_alloc_base.specs.Pieces
 pub use Rattle.gpu_alloc_base.specs.Sizes
 pub use Rattle.gpu_alloc_base.specs.Slots

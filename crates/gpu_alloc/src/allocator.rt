@@ -170,7 +170,7 @@ impl<M: MemoryObject, A: Allocator> GpuAllocator<M, A> {
 
         // What was asked of the device, the answer and the new state are what the decision says.
         ensures decided { (es : List Event) × Chain D.step device.old es device.new × Allocates self.old request None es result self.new }
-        ensures objects { ObjectsAfter self.old result (D.objects device.old) (D.objects device.new) }
+        ensures objects { ObjectsAfter self.old result self.new (D.objects device.old) (D.objects device.new) }
         ensures agrees { Agrees self.new (D.properties device.new) (D.objects device.new) }
 
         // What follows from it.
@@ -199,7 +199,7 @@ impl<M: MemoryObject, A: Allocator> GpuAllocator<M, A> {
 
         // What was asked of the device, the answer and the new state are what the decision says.
         ensures decided { (es : List Event) × Chain D.step device.old es device.new × Allocates self.old request (Some dedicated) es result self.new }
-        ensures objects { ObjectsAfter self.old result (D.objects device.old) (D.objects device.new) }
+        ensures objects { ObjectsAfter self.old result self.new (D.objects device.old) (D.objects device.new) }
         ensures agrees { Agrees self.new (D.properties device.new) (D.objects device.new) }
 
         // What follows from it.
@@ -221,7 +221,7 @@ impl<M: MemoryObject, A: Allocator> GpuAllocator<M, A> {
         requires agrees { Agrees self.old (D.properties device.old) (D.objects device.old) }
 
         ensures decided { (es : List Event) × Chain D.step device.old es device.new × Allocates self.old request hint es result self.new }
-        ensures objects { ObjectsAfter self.old result (D.objects device.old) (D.objects device.new) }
+        ensures objects { ObjectsAfter self.old result self.new (D.objects device.old) (D.objects device.new) }
         ensures agrees { Agrees self.new (D.properties device.new) (D.objects device.new) }
 
         ensures granted { IfOk result (IsGranted self.old request self.new) }
@@ -255,7 +255,7 @@ impl<M: MemoryObject, A: Allocator> GpuAllocator<M, A> {
         requires agrees { Agrees self.old (D.properties device.old) (D.objects device.old) }
 
         ensures tries { (es : List Event) × Chain D.step device.old es device.new × TriesAll self.old request hint candidates.now es result self.new }
-        ensures objects { ObjectsAfter self.old result (D.objects device.old) (D.objects device.new) }
+        ensures objects { ObjectsAfter self.old result self.new (D.objects device.old) (D.objects device.new) }
         ensures agrees { Agrees self.new (D.properties device.new) (D.objects device.new) }
 
         ensures granted { IfOk result (IsGranted self.old request self.new) }
@@ -284,7 +284,7 @@ impl<M: MemoryObject, A: Allocator> GpuAllocator<M, A> {
         requires agrees { Agrees self.old (D.properties device.old) (D.objects device.old) }
 
         ensures tries { (es : List Event) × Chain D.step device.old es device.new × Tries self.old request hint memory_type es result self.new }
-        ensures objects { ObjectsTried self.old result (D.objects device.old) (D.objects device.new) }
+        ensures objects { ObjectsTried self.old result self.new (D.objects device.old) (D.objects device.new) }
         ensures agrees { Agrees self.new (D.properties device.new) (D.objects device.new) }
 
         ensures granted { GrantsTried self.old request result self.new }
@@ -361,7 +361,7 @@ impl<M: MemoryObject, A: Allocator> GpuAllocator<M, A> {
         requires agrees { Agrees self.old (D.properties device.old) (D.objects device.old) }
 
         ensures tries { (es : List Event) × Chain D.step device.old es device.new × TriesBy OwnObject self.old request memory_type es result self.new }
-        ensures objects { ObjectsTried self.old result (D.objects device.old) (D.objects device.new) }
+        ensures objects { ObjectsTried self.old result self.new (D.objects device.old) (D.objects device.new) }
         ensures agrees { Agrees self.new (D.properties device.new) (D.objects device.new) }
 
         ensures granted { GrantsTried self.old request result self.new }
@@ -421,7 +421,7 @@ impl<M: MemoryObject, A: Allocator> GpuAllocator<M, A> {
         requires agrees { Agrees self.old (D.properties device.old) (D.objects device.old) }
 
         ensures tries { (es : List Event) × Chain D.step device.old es device.new × TriesBy InBuddyChunk self.old request memory_type es result self.new }
-        ensures objects { ObjectsTried self.old result (D.objects device.old) (D.objects device.new) }
+        ensures objects { ObjectsTried self.old result self.new (D.objects device.old) (D.objects device.new) }
         ensures agrees { Agrees self.new (D.properties device.new) (D.objects device.new) }
 
         ensures granted { GrantsTried self.old request result self.new }
@@ -483,7 +483,7 @@ impl<M: MemoryObject, A: Allocator> GpuAllocator<M, A> {
         requires agrees { Agrees self.old (D.properties device.old) (D.objects device.old) }
 
         ensures tries { (es : List Event) × Chain D.step device.old es device.new × TriesBy InFreeList self.old request memory_type es result self.new }
-        ensures objects { ObjectsTried self.old result (D.objects device.old) (D.objects device.new) }
+        ensures objects { ObjectsTried self.old result self.new (D.objects device.old) (D.objects device.new) }
         ensures agrees { Agrees self.new (D.properties device.new) (D.objects device.new) }
 
         ensures granted { GrantsTried self.old request result self.new }

@@ -1,4 +1,5 @@
 pub mod AlignedPowers
+pub mod Books
 pub mod ChunkSizes
 pub mod ExactPieces
 pub mod FreeRuns
@@ -16,3 +17,4 @@ pub mod SameRuns
 pub mod SlabViews
 pub mod Slots
 pub mod Sums
+pub mod ToldTwice

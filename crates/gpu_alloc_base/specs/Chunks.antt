@@ -1,5 +1,5 @@
 -- Chunks: shared objects that an allocator holds.
-use Rattle.std.specs.Prelude.{◌≡◌, ℕ, Bool, Some, IsTrue}
+use Rattle.std.specs.Prelude.{◌≡◌, ℕ, Bool, Some, None, IsTrue, cond}
 use Rattle.gpu_alloc_types.specs.Device.{Object}
 
 -- a held chunk: its object's name, and its size
@@ -12,3 +12,9 @@ pub record IsThere (memory_type : ℕ) (visible : Bool) (chunk : Chunk) (o : Obj
   pub of_type : o.memory_type ≡ memory_type
   pub of_size : o.size ≡ chunk.size
   pub mapped : IsTrue visible → o.mapped ≡ Some (0, o.size)
+
+-- a chunk's object as it was made: so large, of the memory type, and mapped whole exactly where the host sees it
+pub record IsNew (memory_type : ℕ) (visible : Bool) (chunk : Chunk) (o : Object) : Type 0 where
+  pub of_type : o.memory_type ≡ memory_type
+  pub of_size : o.size ≡ chunk.size
+  pub mapped : o.mapped ≡ cond visible (Some (0, chunk.size)) None

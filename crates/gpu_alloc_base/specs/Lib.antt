@@ -1,4 +1,6 @@
+pub mod Accounts
 pub mod AlignMasks
+pub mod Case
 pub mod Chunks
 pub mod Codes
 pub mod Config
@@ -8,6 +10,7 @@ pub mod FreeSpace
 pub mod Heap
 pub mod Leaves
 pub mod NewChunk
+pub mod NewObject
 pub mod Pieces
 pub mod Sizes
 pub mod SlabViews

@@ -1,31 +1,31 @@
 -- What follows from a buddy allocator's answer to a request: agreement with the device, the totals, and what is known of the block.
 use Rattle.std.proofs.Common.{◌≡◌, ◌⊎◌, inl, inr, ℕ, ◌+◌, ◌*◌, ◌-◌, ◌%◌, ◌^◌, ◌<◌, ◌≤◌, List, [], Option, Some, None, Result, Ok, Err, refl, sym, ◌∙◌, ap, subst, arith}
-use Rattle.std.specs.Prelude.{IfSome, IfOk, max}
+use Rattle.std.specs.Prelude.{IfOk, max}
 use Rattle.std.specs.FinMap as map
-use Rattle.gpu_alloc_types.specs.Device.{Object, Event, HeldWith}
+use Rattle.gpu_alloc_types.specs.Device.{Object, Event}
 use Rattle.gpu_alloc_types.specs.Properties.{Properties}
 use Rattle.gpu_alloc_base.specs.FreeSpace.{IsMultipleOf, IsPowerOfTwo, IsPowerUpTo}
-use Rattle.gpu_alloc_buddy.specs.Buddy.{Account, account, Agrees, Answers, ObjectsAfter, BeginsChunk, Fits, HasPlace, IsFront, IsGranted, IsCounted, chunk_bytes, chunk_size, question, sees_chunks, with_leaf, with_chunk, rounded, chunks_and_remaining, RefusesFirst}
+use Rattle.gpu_alloc_base.specs.Accounts.{Account, account}
+use Rattle.gpu_alloc_base.specs.Case.{Case, Answers, RefusesFirst}
+use Rattle.gpu_alloc_base.specs.NewObject.{HasOneMore}
+use Rattle.gpu_alloc_buddy.specs.Buddy.{Agrees, ObjectsAfter, Fits, HasPlace, IsFront, IsGranted, buddy_case, case_of, chunk_size, sees_chunks, with_leaf, with_chunk, rounded}
+use Rattle.gpu_alloc_base.proofs.Books.{KeepsBooks, refused_keeps, made_new, answers_agree as chunks_agree}
 use Rattle.gpu_alloc_base.specs.Wanted.{Wanted}
-use Rattle.gpu_alloc_base.specs.Chunks.{IsThere, Chunk}
+use Rattle.gpu_alloc_base.specs.Chunks.{Chunk, IsNew}
 use Rattle.gpu_alloc_buddy.specs.BuddyState.{Buddy, IsLiveLeaf}
 use Rattle.gpu_alloc_buddy.specs.BuddySound.{IsSound, LiesInChunk}
-use Rattle.gpu_alloc_base.specs.NewChunk.{HasOneChunkMore}
 use Rattle.gpu_alloc_base.specs.declared.buddy_block.Leaf.{Leaf}
 use Rattle.gpu_alloc_base.specs.declared.error.AllocationError.{AllocationError}
-use Rattle.gpu_alloc_base.specs.declared.error.AllocationError.TheVariants.{OutOfDeviceMemory, OutOfHostMemory, NoCompatibleMemoryTypes, TooManyObjects}
+use Rattle.gpu_alloc_base.specs.declared.error.AllocationError.TheVariants.{OutOfDeviceMemory, OutOfHostMemory, TooManyObjects}
 use Rattle.std.proofs.lemmas.Nat.{pow_pos}
 use Rattle.std.proofs.Math.Nat.{zero-mul, one-mul}
 use Rattle.gpu_alloc_base.specs.AlignMasks.{IsAlignMask}
 use Rattle.gpu_alloc_base.proofs.AlignedPowers.{doubled, pow-le, power_up_to}
 use Rattle.gpu_alloc_base.proofs.PowersOfTwo.{is_next_power_of_two, power_of_bit, greater_power}
-use Rattle.gpu_alloc_base.proofs.Sums.{sum_by-insert, len_more}
-use Rattle.gpu_alloc_base.proofs.Maps.{one_value, inserted_cases}
+use Rattle.gpu_alloc_base.proofs.Maps.{one_value}
 use Rattle.gpu_alloc_buddy.proofs.BuddyGrants.{other_objects, sound_with_leaf, sound_with_chunk}
-use Rattle.gpu_alloc_base.proofs.Outcomes.{if_some}
 use Rattle.gpu_alloc_base.proofs.Leaves.{now_live}
 use Rattle.gpu_alloc_base.proofs.Multiples.{multiple_of_lower, mod_from_multiple}
-use Rattle.gpu_alloc_base.proofs.NewChunks.{new_is_there, still_held}
 
 -- Sizes whose chunk fits.
 
@@ -35,85 +35,40 @@ fits order le = let short : 2 ^ order ≤ 2 ^ 62 = pow-le order 62 le in omega (
 pub fits_not : (order : ℕ) → 62 < order → Fits (2 ^ order) → ⊥
 fits_not order lt fits = let long : 2 ^ 63 ≤ 2 ^ order = pow-le 63 order (omega arith) in omega (arith, long, fits)
 
--- there was a place, and no host memory for a block in it
-pub place_refused : (a : Account) (size flags : ℕ) (e : AllocationError) (b : Buddy) → Fits size → HasPlace a.buddy size → e ≡ OutOfHostMemory → b ≡ a.buddy → Answers a size flags [] (Err e) (account b a.heap a.remaining)
-place_refused a size flags e b fits place is same =
-    subst (λ x. Answers a size flags [] (Err x) (account b a.heap a.remaining)) (sym is) (ap (λ x. account x a.heap a.remaining) same, inl (fits, (refl, inl place)))
+-- A request as the books see it.
 
--- Agreement with the device.
+-- the case, of which much is said below
+module _ (a : Account Buddy) (size flags : ℕ) where
+  abbrev c : Case Leaf (Account Buddy)
+  c = buddy_case a size flags
 
--- it stays where chunks and memory type do
-pub agrees_with_leaf : (b : Buddy) (leaf : Leaf) (p : Properties) (f : ℕ → Option Object) → Agrees b p f → Agrees (with_leaf b leaf) p f
-agrees_with_leaf b leaf p f a = record { known = a.known; props = a.props; holds = a.holds }
+  -- there was a place, and no host memory for a block in it
+  pub place_refused : (e : AllocationError) (b : Buddy) → Fits size → HasPlace a.allocator size → e ≡ OutOfHostMemory → b ≡ a.allocator → Answers c [] (Err e) (account b a.heap a.remaining)
+  place_refused e b fits place is same =
+      subst (λ x. Answers c [] (Err x) (account b a.heap a.remaining)) (sym is) (ap (λ x. account x a.heap a.remaining) same, inl (refl, record { fits = fits; ways = inl place }))
 
-abbrev IsHeldChunk : Buddy → (ℕ → Option Object) → Chunk → Type 0
-IsHeldChunk b g chunk = HeldWith g chunk.object (IsThere b.memory_type (sees_chunks b) chunk)
+  -- what is asked for is a chunk's new object
+  pub keeps_books : KeepsBooks (λ b. b.chunks) (λ leaf. leaf.chunk) c
+  keeps_books = record {
+    count = refl;
+    place_held = λ leaf front. (front.chunk, front.held);
+    in_place = λ leaf front. record { chunks_are = refl; used = refl; remaining = refl };
+    in_new = λ leaf begins. record { was_free = begins.free_key; chunks_are = refl; used = refl; remaining = refl };
+  }
 
--- it holds with a chunk more
-pub agrees_with_chunk : (b : Buddy) (leaf : Leaf) (size flags : ℕ) (p : Properties) (f g : ℕ → Option Object) → Agrees b p f → HasOneChunkMore (question b size flags) leaf.object f g
-    → Agrees (with_chunk b leaf (chunk_size b size)) p g
-agrees_with_chunk b leaf size flags p f g a more = record {
-  known = a.known;
-  props = a.props;
-  holds = λ key. all_held key (map.get (map.insert b.chunks leaf.chunk (record { object = leaf.object; size = chunk_size b size })) key) refl;
-}
-  where
-    all_held : (key : ℕ) (found : Option Chunk) → map.get (map.insert b.chunks leaf.chunk (record { object = leaf.object; size = chunk_size b size })) key ≡ found → IfSome found (IsHeldChunk b g)
-    all_held key None e = tt
-    all_held key (Some chunk) e = elim (inserted_cases b.chunks leaf.chunk (record { object = leaf.object; size = chunk_size b size }) key chunk e) [
-      | inl new ↦ subst (IsHeldChunk b g) new.1 (new_is_there (question b size flags) (record { object = leaf.object; size = chunk_size b size }) f g more refl)
-      | inr old ↦ still_held (question b size flags) leaf.object f g (IsThere b.memory_type (sees_chunks b) chunk) chunk.object more
-          (if_some (λ c. HeldWith f c.object (IsThere b.memory_type (sees_chunks b) c)) (map.get b.chunks key) chunk old (a.holds key))
-    ]
+-- the memory type stays
+kept_type : (a new : Account Buddy) (size flags : ℕ) (es : List Event) (answer : Result Leaf AllocationError) → Answers (buddy_case a size flags) es answer new
+    → (new.allocator.memory_type ≡ a.allocator.memory_type) × (new.allocator.props ≡ a.allocator.props)
+kept_type a new size flags es (Ok leaf) (inl gives) = rw (gives.state) (refl, refl)
+kept_type a new size flags es (Ok leaf) (inr gives) = rw (gives.state) (refl, refl)
+kept_type a new size flags es (Err e) refused = rw (refused_keeps (buddy_case a size flags) es e new refused) (refl, refl)
 
--- a block that begins a chunk is not the front of a piece of a held one
-never_both : (b : Buddy) (size : ℕ) (leaf : Leaf) → BeginsChunk b size leaf → IsFront b size leaf → ⊥
-never_both b size leaf begins front = let none = begins.free_key in let some = front.held in cc
-
--- after every answer
-pub answers_agree : (a new : Account) (size flags : ℕ) (es : List Event) (answer : Result Leaf AllocationError) (p now : Properties) (f g : ℕ → Option Object) → Agrees a.buddy p f → now ≡ p
-    → Answers a size flags es answer new → ObjectsAfter a.buddy size flags answer f g → Agrees new.buddy now g
-answers_agree a new size flags es (Ok leaf) p now f g agrees same (inl front) (inl begins) = absurd (never_both a.buddy size leaf begins.0 front.1.0)
-answers_agree a new size flags es (Ok leaf) p now f g agrees same (inl front) (inr kept) =
-    rw (front.1.1.1, same, kept.1) (agrees_with_leaf a.buddy leaf p f agrees)
-answers_agree a new size flags es (Ok leaf) p now f g agrees same (inr begins) (inl made) =
-    rw (begins.1.1.1, same) (agrees_with_leaf (with_chunk a.buddy leaf (chunk_size a.buddy size)) leaf p g (agrees_with_chunk a.buddy leaf size flags p f g agrees made.1))
-answers_agree a new size flags es (Ok leaf) p now f g agrees same (inr begins) (inr kept) = absurd (never_both a.buddy size leaf begins.1.0 kept.0)
-answers_agree a new size flags es (Err OutOfDeviceMemory) p now f g agrees same refused kept = rw (refused.0, same, kept) agrees
-answers_agree a new size flags es (Err OutOfHostMemory) p now f g agrees same refused kept = rw (refused.0, same, kept) agrees
-answers_agree a new size flags es (Err NoCompatibleMemoryTypes) p now f g agrees same refused kept = absurd refused
-answers_agree a new size flags es (Err TooManyObjects) p now f g agrees same refused kept = rw (refused.0, same, kept) agrees
-
--- Nothing changes where it is refused.
-
-pub refused_keeps : (a new : Account) (size flags : ℕ) (es : List Event) (e : AllocationError) → Answers a size flags es (Err e) new → new ≡ a
-refused_keeps a new size flags es OutOfDeviceMemory refused = refused.0
-refused_keeps a new size flags es OutOfHostMemory refused = refused.0
-refused_keeps a new size flags es NoCompatibleMemoryTypes refused = absurd refused
-refused_keeps a new size flags es TooManyObjects refused = refused.0
-
--- Chunks and what remains.
-
-pub answers_total : (a new : Account) (size flags : ℕ) (es : List Event) (answer : Result Leaf AllocationError) → Answers a size flags es answer new → chunks_and_remaining new ≡ chunks_and_remaining a
-answers_total a new size flags es (Ok leaf) (inl front) = ap chunks_and_remaining front.1.1.1
-answers_total a new size flags es (Ok leaf) (inr begins) =
-    let more = len_more a.buddy.chunks leaf.chunk (record { object = leaf.object; size = chunk_size a.buddy size }) begins.1.0.free_key in
-    ap chunks_and_remaining begins.1.1.1 ∙ omega (arith, more, begins.0.1.1)
-answers_total a new size flags es (Err e) refused = ap chunks_and_remaining (refused_keeps a new size flags es e refused)
-
--- the ledger counts each held chunk still
-answers_bytes : (a new : Account) (size flags : ℕ) (es : List Event) (answer : Result Leaf AllocationError) → chunk_bytes a.buddy ≤ a.heap.used → Answers a size flags es answer new → chunk_bytes new.buddy ≤ new.heap.used
-answers_bytes a new size flags es (Ok leaf) counted (inl front) = rw (front.1.1.1) counted
-answers_bytes a new size flags es (Ok leaf) counted (inr begins) =
-    let more = sum_by-insert (λ e. e.1.size) a.buddy.chunks leaf.chunk (record { object = leaf.object; size = chunk_size a.buddy size }) begins.1.0.free_key in
-    rw (begins.1.1.1) (omega (arith, more, counted))
-answers_bytes a new size flags es (Err e) counted refused = rw (refused_keeps a new size flags es e refused) counted
-
-pub answers_counted : (a new : Account) (size flags : ℕ) (es : List Event) (answer : Result Leaf AllocationError) → IsCounted a → Answers a size flags es answer new → IsCounted new
-answers_counted a new size flags es answer counted answers = record {
-  chunks = answers_bytes a new size flags es answer counted.chunks answers;
-  objects = omega (arith, answers_total a new size flags es answer answers, counted.objects);
-}
+-- allocator and device agree after every answer
+pub answers_agree : (a new : Account Buddy) (size flags : ℕ) (es : List Event) (answer : Result Leaf AllocationError) (p now : Properties) (f g : ℕ → Option Object) → Agrees a.allocator p f → now ≡ p
+    → Answers (buddy_case a size flags) es answer new → ObjectsAfter a.allocator answer new.allocator f g → Agrees new.allocator now g
+answers_agree a new size flags es answer p now f g agrees same answers objects =
+    let kept = kept_type a new size flags es answer answers in
+    rw (kept.0, kept.1) (chunks_agree (keeps_books a size flags) a.allocator.memory_type a.allocator.props p now f g agrees same es answer new answers objects)
 
 -- What is sound stays so.
 
@@ -146,21 +101,25 @@ chunk_power b size s power fits =
     let least = pow-le s.next_chunk.0 63 s.next_chunk.1.0 in
     power_up_to 63 (chunk_size b size) both (omega (arith, fits, least, s.next_chunk.1.1))
 
+-- the object of a block that begins a chunk
+made_in : (b after : Buddy) (leaf : Leaf) (f g : ℕ → Option Object) → ObjectsAfter b (Ok leaf) after f g → map.get b.chunks leaf.chunk ≡ None → HasOneMore (IsNew b.memory_type (sees_chunks b)) (map.get after.chunks leaf.chunk) leaf.object f g
+made_in b after leaf f g objects none = made_new (λ (l : Leaf). l.chunk) (λ (l : Leaf). l.object) b.memory_type b.props b.chunks after.chunks leaf f g objects none
+
 -- after every answer
-pub answers_sound : (a new : Account) (size flags : ℕ) (es : List Event) (answer : Result Leaf AllocationError) (p : Properties) (f g : ℕ → Option Object) → IsSound a.buddy → Agrees a.buddy p f
-    → IsPowerOfTwo size → Answers a size flags es answer new → ObjectsAfter a.buddy size flags answer f g → IsSound new.buddy
-answers_sound a new size flags es (Ok leaf) p f g s agrees power (inl front) objects =
-    let at = front.1.0 in
+pub answers_sound : (a new : Account Buddy) (size flags : ℕ) (es : List Event) (answer : Result Leaf AllocationError) (p : Properties) (f g : ℕ → Option Object) → IsSound a.allocator → Agrees a.allocator p f
+    → IsPowerOfTwo size → Answers (buddy_case a size flags) es answer new → ObjectsAfter a.allocator answer new.allocator f g → IsSound new.allocator
+answers_sound a new size flags es (Ok leaf) p f g s agrees power (inl gives) objects =
+    let at = gives.place in
     let size_is = at.of_size in
-    rw (front.1.1.1) (sound_with_leaf a.buddy leaf s (front_lies a.buddy size leaf power at) (λ i in_leaf. at.piece.place.free i (record { from = in_leaf.from; to = omega (arith, in_leaf.to, size_is, at.enough) })))
-answers_sound a new size flags es (Ok leaf) p f g s agrees power (inr begins) (inl made) =
-    let at = begins.1.0 in
+    rw (gives.state) (sound_with_leaf a.allocator leaf s (front_lies a.allocator size leaf power at) (λ i in_leaf. at.piece.place.free i (record { from = in_leaf.from; to = omega (arith, in_leaf.to, size_is, at.enough) })))
+answers_sound a new size flags es (Ok leaf) p f g s agrees power (inr gives) objects =
+    let at = gives.place in
     let size_is = at.of_size in
-    rw (begins.1.1.1) (sound_with_chunk a.buddy leaf (chunk_size a.buddy size) s (chunk_power a.buddy size s power begins.0.0) at.free_key
-    (λ k c held same. other_objects a.buddy p f leaf.object agrees made.1.0 k c held same)
+    let more = made_in a.allocator new.allocator leaf f g objects at.free_key in
+    rw (gives.state) (sound_with_chunk a.allocator leaf (chunk_size a.allocator size) s (chunk_power a.allocator size s power gives.asks.fits) at.free_key
+    (λ k c held same. other_objects a.allocator p f leaf.object agrees more.was_free k c held same)
     (power.0, size_is ∙ power.1) (0, at.start ∙ sym (zero-mul leaf.size)) (omega (arith, at.start, size_is)))
-answers_sound a new size flags es (Ok leaf) p f g s agrees power (inr begins) (inr kept) = absurd (never_both a.buddy size leaf begins.1.0 kept.0)
-answers_sound a new size flags es (Err e) p f g s agrees power refused objects = rw (refused_keeps a new size flags es e refused) s
+answers_sound a new size flags es (Err e) p f g s agrees power refused objects = rw (refused_keeps (buddy_case a size flags) es e new refused) s
 
 -- What is known of the block.
 
@@ -174,44 +133,44 @@ pub record IsRoundedTo (b : Buddy) (w : Wanted) (size : ℕ) : Type 0 where
   pub whole_atoms : b.atom ≤ size
 
 -- a live block lies in its chunk, once the state is sound
-lies_now : (b : Buddy) (new : Account) (leaf : Leaf) → new.buddy ≡ b → IsSound new.buddy → IsLiveLeaf b leaf → LiesInChunk b leaf
+lies_now : (b : Buddy) (new : Account Buddy) (leaf : Leaf) → new.allocator ≡ b → IsSound new.allocator → IsLiveLeaf b leaf → LiesInChunk b leaf
 lies_now b new leaf is sound live = (subst IsSound is sound).inside leaf live
 
-pub answers_granted : (a new : Account) (w : Wanted) (size flags : ℕ) (es : List Event) (leaf : Leaf) (p : Properties) (f g : ℕ → Option Object) → IsSound a.buddy → Agrees a.buddy p f → IsRoundedTo a.buddy w size
-    → Answers a size flags es (Ok leaf) new → ObjectsAfter a.buddy size flags (Ok leaf) f g → IsGranted a.buddy w new.buddy leaf
-answers_granted a new w size flags es leaf p f g s agrees r (inl front) (inl begins) = absurd (never_both a.buddy size leaf begins.0 front.1.0)
-answers_granted a new w size flags es leaf p f g s agrees r (inl front) (inr kept) =
-    let at = front.1.0 in
+pub answers_granted : (a new : Account Buddy) (w : Wanted) (size flags : ℕ) (es : List Event) (leaf : Leaf) (p : Properties) (f g : ℕ → Option Object) → IsSound a.allocator → Agrees a.allocator p f → IsRoundedTo a.allocator w size
+    → Answers (buddy_case a size flags) es (Ok leaf) new → ObjectsAfter a.allocator (Ok leaf) new.allocator f g → IsGranted a.allocator w new.allocator leaf
+answers_granted a new w size flags es leaf p f g s agrees r (inl gives) objects =
+    let at = gives.place in
     let place = at.piece.place in
     let size_is = at.of_size in
-    let there = lies_now (with_leaf a.buddy leaf) new leaf (ap (λ (x : Account). x.buddy) front.1.1.1) (answers_sound a new size flags es (Ok leaf) p f g s agrees r.power (inl front) (inr kept)) (now_live a.buddy.live leaf) in
-    rw (front.1.1.1) (record {
+    let there = lies_now (with_leaf a.allocator leaf) new leaf (ap (λ (x : Account Buddy). x.allocator) gives.state) (answers_sound a new size flags es (Ok leaf) p f g s agrees r.power (inl gives) objects) (now_live a.allocator.live leaf) in
+    rw (gives.state) (record {
       enough = omega (arith, size_is, r.enough);
       aligned = lower_multiple leaf.offset (w.align_mask + 1) at.length r.alignment place.power (omega (arith, r.aligned, at.enough)) place.aligned;
       whole_atoms = (
-        lower_multiple leaf.offset a.buddy.atom at.length r.atom place.power (omega (arith, r.whole_atoms, at.enough)) place.aligned,
-        lower_multiple leaf.size a.buddy.atom size r.atom r.power r.whole_atoms (1, size_is ∙ sym (one-mul size)),
+        lower_multiple leaf.offset a.allocator.atom at.length r.atom place.power (omega (arith, r.whole_atoms, at.enough)) place.aligned,
+        lower_multiple leaf.size a.allocator.atom size r.atom r.power r.whole_atoms (1, size_is ∙ sym (one-mul size)),
       );
       power = there.power;
       front = there.aligned;
       inside = (there.chunk, there.held, (there.object, there.inside));
-      live = now_live a.buddy.live leaf;
+      live = now_live a.allocator.live leaf;
       was_free = λ other live same b in_other in_leaf.
           let there = s.inside other live in
           let chunk = s.one_object other.chunk leaf.chunk there.chunk at.chunk there.held at.held (sym there.object ∙ same ∙ at.object) in
           (place.free b (record { from = in_leaf.from; to = omega (arith, in_leaf.to, size_is, at.enough) })).unused other live chunk in_other;
     })
-answers_granted a new w size flags es leaf p f g s agrees r (inr begins) (inl made) =
-    let at = begins.1.0 in
+answers_granted a new w size flags es leaf p f g s agrees r (inr gives) objects =
+    let at = gives.place in
+    let more = made_in a.allocator new.allocator leaf f g objects at.free_key in
     let size_is = at.of_size in
-    let chunk = with_chunk a.buddy leaf (chunk_size a.buddy size) in
-    let there = lies_now (with_leaf chunk leaf) new leaf (ap (λ (x : Account). x.buddy) begins.1.1.1) (answers_sound a new size flags es (Ok leaf) p f g s agrees r.power (inr begins) (inl made)) (now_live chunk.live leaf) in
-    rw (begins.1.1.1) (record {
+    let chunk = with_chunk a.allocator leaf (chunk_size a.allocator size) in
+    let there = lies_now (with_leaf chunk leaf) new leaf (ap (λ (x : Account Buddy). x.allocator) gives.state) (answers_sound a new size flags es (Ok leaf) p f g s agrees r.power (inr gives) objects) (now_live chunk.live leaf) in
+    rw (gives.state) (record {
       enough = omega (arith, size_is, r.enough);
       aligned = lower_multiple leaf.offset (w.align_mask + 1) (w.align_mask + 1) r.alignment r.alignment (omega arith) (0, at.start ∙ sym (zero-mul (w.align_mask + 1)));
       whole_atoms = (
-        lower_multiple leaf.offset a.buddy.atom a.buddy.atom r.atom r.atom (omega arith) (0, at.start ∙ sym (zero-mul a.buddy.atom)),
-        lower_multiple leaf.size a.buddy.atom size r.atom r.power r.whole_atoms (1, size_is ∙ sym (one-mul size)),
+        lower_multiple leaf.offset a.allocator.atom a.allocator.atom r.atom r.atom (omega arith) (0, at.start ∙ sym (zero-mul a.allocator.atom)),
+        lower_multiple leaf.size a.allocator.atom size r.atom r.power r.whole_atoms (1, size_is ∙ sym (one-mul size)),
       );
       power = there.power;
       front = there.aligned;
@@ -219,9 +178,8 @@ answers_granted a new w size flags es leaf p f g s agrees r (inr begins) (inl ma
       live = now_live chunk.live leaf;
       was_free = λ other live same b in_other in_leaf.
           let there = s.inside other live in
-          absurd (other_objects a.buddy p f leaf.object agrees made.1.0 other.chunk there.chunk there.held (sym there.object ∙ same));
+          absurd (other_objects a.allocator p f leaf.object agrees more.was_free other.chunk there.chunk there.held (sym there.object ∙ same));
     })
-answers_granted a new w size flags es leaf p f g s agrees r (inr begins) (inr kept) = absurd (never_both a.buddy size leaf begins.1.0 kept.0)
 
 -- what a request is rounded to
 pub rounds : (b : Buddy) (w : Wanted) → IsSound b → w.size < 2 ^ 64 → IsAlignMask w.align_mask → IsRoundedTo b w (rounded b w)
@@ -236,19 +194,24 @@ rounds b w s small mask =
       whole_atoms = omega (arith, n.enough);
     }
 
-pub answers_all_granted : (a new : Account) (w : Wanted) (size flags : ℕ) (es : List Event) (answer : Result Leaf AllocationError) (p : Properties) (f g : ℕ → Option Object) → IsSound a.buddy → Agrees a.buddy p f
-    → IsRoundedTo a.buddy w size → Answers a size flags es answer new → ObjectsAfter a.buddy size flags answer f g → IfOk answer (IsGranted a.buddy w new.buddy)
+pub answers_all_granted : (a new : Account Buddy) (w : Wanted) (size flags : ℕ) (es : List Event) (answer : Result Leaf AllocationError) (p : Properties) (f g : ℕ → Option Object) → IsSound a.allocator → Agrees a.allocator p f
+    → IsRoundedTo a.allocator w size → Answers (buddy_case a size flags) es answer new → ObjectsAfter a.allocator answer new.allocator f g → IfOk answer (IsGranted a.allocator w new.allocator)
 answers_all_granted a new w size flags es (Ok leaf) p f g s agrees r answers objects = answers_granted a new w size flags es leaf p f g s agrees r answers objects
 answers_all_granted a new w size flags es (Err e) p f g s agrees r answers objects = tt
 
 -- Refusals before anything is done.
 
-pub refuses_size : (a : Account) (w : Wanted) (order : ℕ) → rounded a.buddy w ≡ 2 ^ order → 62 < order → RefusesFirst a w (Some OutOfDeviceMemory)
-refuses_size a w order is long fits_it = fits_not order long (subst Fits is fits_it)
+module _ (a : Account Buddy) (w : Wanted) (order : ℕ) (is : rounded a.allocator w ≡ 2 ^ order) where
+  pub refuses_size : 62 < order → RefusesFirst (case_of a w) (Some OutOfDeviceMemory)
+  refuses_size long fits_it = fits_not order long (subst Fits is fits_it)
 
-pub refuses_count : (a : Account) (w : Wanted) (order : ℕ) → rounded a.buddy w ≡ 2 ^ order → order ≤ 62 → (HasPlace a.buddy (2 ^ order) → ⊥) → a.remaining ≡ 0 → RefusesFirst a w (Some TooManyObjects)
-refuses_count a w order is short none nothing = (subst Fits (sym is) (fits order short), ((λ place. none (subst (HasPlace a.buddy) is place)), nothing))
+  pub refuses_count : order ≤ 62 → (HasPlace a.allocator (2 ^ order) → ⊥) → a.remaining ≡ 0 → RefusesFirst (case_of a w) (Some TooManyObjects)
+  refuses_count short none nothing = record {
+    fits = subst Fits (sym is) (fits order short);
+    no_place = λ place. none (subst (HasPlace a.allocator) is place);
+    barred = inl nothing;
+  }
 
-pub refuses_nothing : (a : Account) (w : Wanted) (order : ℕ) → rounded a.buddy w ≡ 2 ^ order → order ≤ 62 → HasPlace a.buddy (2 ^ order) ⊎ (0 < a.remaining) → RefusesFirst a w None
-refuses_nothing a w order is short (inl place) = (subst Fits (sym is) (fits order short), inl (subst (HasPlace a.buddy) (sym is) place))
-refuses_nothing a w order is short (inr some) = (subst Fits (sym is) (fits order short), inr some)
+  pub refuses_nothing : order ≤ 62 → HasPlace a.allocator (2 ^ order) ⊎ (0 < a.remaining) → RefusesFirst (case_of a w) None
+  refuses_nothing short (inl place) = record { fits = subst Fits (sym is) (fits order short); ways = inl (subst (HasPlace a.allocator) (sym is) place) }
+  refuses_nothing short (inr some) = record { fits = subst Fits (sym is) (fits order short); ways = inr (record { objects = some; number = tt }) }

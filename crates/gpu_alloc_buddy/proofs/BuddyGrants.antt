@@ -14,7 +14,9 @@ use Rattle.gpu_alloc_base.specs.FreeSpace.{IsIn, IsMultipleOf, IsFreePiece, IsPo
 use Rattle.gpu_alloc_base.specs.Pieces.{AreKept, AreKeptBeside}
 use Rattle.gpu_alloc_types.specs.Device.{Object, Event, HeldWith}
 use Rattle.gpu_alloc_types.specs.Properties.{Properties}
-use Rattle.gpu_alloc_buddy.specs.Buddy.{Account, account, in_new_chunk, Agrees, Answers, AsksForChunk, HasPlace, IsFront, chunk_size, question, sees_chunks, with_leaf, with_chunk}
+use Rattle.gpu_alloc_base.specs.Accounts.{Account, account}
+use Rattle.gpu_alloc_base.specs.Case.{Answers, Asks}
+use Rattle.gpu_alloc_buddy.specs.Buddy.{Agrees, HasPlace, IsFront, buddy_case, chunk_size, in_new_chunk, question, sees_chunks, with_leaf, with_chunk}
 use Rattle.gpu_alloc_base.specs.Chunks.{IsThere, Chunk}
 use Rattle.gpu_alloc_base.specs.NewChunk.{AsksChunkTwice, chunk_question}
 use Rattle.gpu_alloc_base.specs.declared.error.AllocationError.{AllocationError}
@@ -282,9 +284,11 @@ found_or_none b pieces order None kept some none = ((λ t. absurd (cc)), (λ pla
 -- A new chunk.
 
 -- what the device is asked of a chunk, as the answer to a request for a block in it
-pub refused_chunk : (a : Account) (size flags : ℕ) (es : List Event) (e : AllocationError) → AsksForChunk a size → AsksChunkTwice (question a.buddy size flags) es (Err e) → Answers a size flags es (Err e) a
+pub refused_chunk : (a : Account Buddy) (size flags : ℕ) (es : List Event) (e : AllocationError) → Asks (buddy_case a size flags) → AsksChunkTwice (question a.allocator size flags) es (Err e)
+    → Answers (buddy_case a size flags) es (Err e) a
 refused_chunk a size flags es OutOfDeviceMemory asks lacks = (refl, inr (asks, lacks))
-refused_chunk a size flags es OutOfHostMemory asks lacks = (refl, inr (asks, lacks))
+refused_chunk a size flags es OutOfHostMemory asks (inl lacks) = (refl, inr (asks, inl lacks))
+refused_chunk a size flags es OutOfHostMemory asks (inr back) = (refl, inr (asks, inr (refl, back)))
 refused_chunk a size flags es NoCompatibleMemoryTypes asks lacks = absurd lacks
 refused_chunk a size flags es TooManyObjects asks lacks = absurd lacks
 
@@ -344,11 +348,11 @@ module _ (chunks more : map.FinMap nat_cmp Chunk) (n next m t p a : ℕ) (live n
       )
 
 -- what a call with a new chunk leaves
-pub in_new_chunk_is : (a : Account) (leaf : Leaf) (size n m : ℕ) (b : Buddy) (heap : Heap) → b ≡ with_leaf (with_chunk a.buddy leaf n) leaf → heap ≡ record a.heap { used = a.heap.used + m } → n ≡ size → m ≡ size
+pub in_new_chunk_is : (a : Account Buddy) (leaf : Leaf) (size n m : ℕ) (b : Buddy) (heap : Heap) → b ≡ with_leaf (with_chunk a.allocator leaf n) leaf → heap ≡ record a.heap { used = a.heap.used + m } → n ≡ size → m ≡ size
     → account b heap (a.remaining - 1) ≡ in_new_chunk a leaf size
 in_new_chunk_is a leaf size n m b heap b_is heap_is n_is m_is =
-    ap (λ x. account x heap (a.remaining - 1)) (b_is ∙ ap (λ k. with_leaf (with_chunk a.buddy leaf k) leaf) n_is)
-    ∙ ap (λ h. account (with_leaf (with_chunk a.buddy leaf size) leaf) h (a.remaining - 1)) (heap_is ∙ ap (λ k. record a.heap { used = a.heap.used + k }) m_is)
+    ap (λ x. account x heap (a.remaining - 1)) (b_is ∙ ap (λ k. with_leaf (with_chunk a.allocator leaf k) leaf) n_is)
+    ∙ ap (λ h. account (with_leaf (with_chunk a.allocator leaf size) leaf) h (a.remaining - 1)) (heap_is ∙ ap (λ k. record a.heap { used = a.heap.used + k }) m_is)
 
 -- Nothing is held.
 

@@ -17,7 +17,8 @@ use Rattle.gpu_alloc_types.specs.Device.{Object, Event, HeldWith, put}
 use Rattle.gpu_alloc_types.specs.Device.Event.{Deallocated}
 use Rattle.gpu_alloc_types.specs.Objects.{put-other}
 use Rattle.gpu_alloc_types.specs.Properties.{Properties}
-use Rattle.gpu_alloc_buddy.specs.Buddy.{Account, account, Frees, IsUnusedChunk, without_leaf, sees_chunks, Agrees, IsCounted, chunk_bytes, chunks_and_remaining}
+use Rattle.gpu_alloc_base.specs.Accounts.{Account, account, IsCounted, chunk_bytes, chunks_and_remaining}
+use Rattle.gpu_alloc_buddy.specs.Buddy.{Agrees, Frees, IsUnusedChunk, sees_chunks, without_leaf}
 use Rattle.gpu_alloc_base.specs.Chunks.{IsThere, Chunk}
 use Rattle.gpu_alloc_buddy.specs.BuddyInside.{IsStored, same_leaf, same_fields, leaf_set}
 use Rattle.gpu_alloc_buddy.specs.BuddySound.{IsSound, IsUsedChunk}
@@ -215,13 +216,10 @@ module _ {b : Buddy} {leaf : Leaf} {held : Chunk} (r : IsOfChunk b leaf held) wh
   HasChunk objects c = HeldWith objects c.object (IsThere b.memory_type (sees_chunks b) c)
 
   module _ {p : Properties} {objects : ℕ → Option Object} (agrees : Agrees b p objects) where
-    pub agrees_left : Agrees (without_leaf b leaf) p objects
-    agrees_left = record { known = agrees.known; props = agrees.props; holds = agrees.holds }
-
     agrees_without : Agrees (without_chunk b leaf) p (put objects leaf.object None)
     agrees_without = record {
       known = agrees.known;
-      props = agrees.props;
+      same = agrees.same;
       holds = λ key. elim (cases_eq key leaf.chunk) [
         | inl same ↦ subst (λ o. IfSome o (HasChunk (put objects leaf.object None))) (sym (ap (λ k. map.get (map.remove b.chunks leaf.chunk) k) same ∙ gone b.chunks leaf.chunk)) tt
         | inr other ↦ subst (λ o. IfSome o (HasChunk (put objects leaf.object None))) (sym (kept_other b.chunks leaf.chunk key other)) (each key other (map.get b.chunks key) refl (agrees.holds key))
@@ -236,9 +234,9 @@ module _ {b : Buddy} {leaf : Leaf} {held : Chunk} (r : IsOfChunk b leaf held) wh
 
   -- The ledger counts the chunk, and one more object may be held.
 
-  module _ {heap : Heap} {remaining : ℕ} (counted : IsCounted (account b heap remaining)) where
+  module _ {heap : Heap} {remaining : ℕ} (counted : IsCounted b.chunks heap remaining) where
     pub is_counted : held.size ≤ heap.used
-    is_counted = omega (arith, counted.chunks, sum_by-remove (λ e. e.1.size) b.chunks leaf.chunk held r.is)
+    is_counted = omega (arith, counted.ledger, sum_by-remove (λ e. e.1.size) b.chunks leaf.chunk held r.is)
 
     pub one_more_fits : remaining + 1 < 2 ^ 32
     one_more_fits = omega (arith, counted.objects, len_less b.chunks leaf.chunk held r.is)
@@ -300,18 +298,18 @@ module _ {b : Buddy} {leaf : Leaf} {held : Chunk} (r : IsOfChunk b leaf held) wh
 
 -- The ledger counts what is left.
 
-frees_bytes : (a new : Account) (leaf : Leaf) (es : List Event) → chunk_bytes a.buddy ≤ a.heap.used → Frees a leaf es new → chunk_bytes new.buddy ≤ new.heap.used
+frees_bytes : (a new : Account Buddy) (leaf : Leaf) (es : List Event) → chunk_bytes a.allocator.chunks ≤ a.heap.used → Frees a leaf es new → chunk_bytes new.allocator.chunks ≤ new.heap.used
 frees_bytes a new leaf es counted (inl stays) = rw (stays.1.1) counted
 frees_bytes a new leaf es counted (inr goes) =
     let chunk : Chunk = goes.1.0 in
-    rw (goes.1.2.1) (omega (arith, counted, sum_by-remove (λ e. e.1.size) a.buddy.chunks leaf.chunk chunk goes.1.1))
+    rw (goes.1.2.1) (omega (arith, counted, sum_by-remove (λ e. e.1.size) a.allocator.chunks leaf.chunk chunk goes.1.1))
 
-frees_total : (a new : Account) (leaf : Leaf) (es : List Event) → Frees a leaf es new → chunks_and_remaining new ≡ chunks_and_remaining a
-frees_total a new leaf es (inl stays) = ap chunks_and_remaining stays.1.1
-frees_total a new leaf es (inr goes) = ap chunks_and_remaining goes.1.2.1 ∙ omega (arith, len_less a.buddy.chunks leaf.chunk goes.1.0 goes.1.1)
+frees_total : (a new : Account Buddy) (leaf : Leaf) (es : List Event) → Frees a leaf es new → chunks_and_remaining new.allocator.chunks new.remaining ≡ chunks_and_remaining a.allocator.chunks a.remaining
+frees_total a new leaf es (inl stays) = rw (stays.1.1) refl
+frees_total a new leaf es (inr goes) = rw (goes.1.2.1) (omega (arith, len_less a.allocator.chunks leaf.chunk goes.1.0 goes.1.1))
 
-pub frees_counted : (a new : Account) (leaf : Leaf) (es : List Event) → IsCounted a → Frees a leaf es new → IsCounted new
-frees_counted a new leaf es counted frees = record { chunks = frees_bytes a new leaf es counted.chunks frees; objects = omega (arith, frees_total a new leaf es frees, counted.objects) }
+pub frees_counted : (a new : Account Buddy) (leaf : Leaf) (es : List Event) → IsCounted a.allocator.chunks a.heap a.remaining → Frees a leaf es new → IsCounted new.allocator.chunks new.heap new.remaining
+frees_counted a new leaf es counted frees = record { ledger = frees_bytes a new leaf es counted.ledger frees; objects = omega (arith, frees_total a new leaf es frees, counted.objects) }
 
 -- What was put back, by whether the whole chunk was handed out.
 

@@ -6,7 +6,9 @@ ghost use Rattle.std.specs.FinSet as set;
 ghost use Rattle.gpu_alloc_types.specs.Flags.{allocation_bits, property_bits, has_bit};
 ghost use Rattle.gpu_alloc_types.specs.Device.{Event, Chain};
 ghost use Rattle.std.specs.Int.{is_power_of_two};
-ghost use Rattle.gpu_alloc_buddy.specs.Buddy.{opened, account, rounded, Allocates, Answers, AsksForChunk, BeginsChunk, HasPlace, TakesPlace, RefusesFirst, Frees, ObjectsFreed, IsGranted, with_leaf, with_chunk, in_new_chunk, chunk_size, Agrees, IsCounted, ObjectsAfter, chunks_and_remaining};
+ghost use Rattle.gpu_alloc_buddy.specs.Buddy.{opened, rounded, buddy_case, case_of, Allocates, HasPlace, TakesPlace, Frees, ObjectsFreed, IsGranted, with_leaf, with_chunk, Agrees, ObjectsAfter};
+ghost use Rattle.gpu_alloc_base.specs.Accounts.{account, IsCounted, chunks_and_remaining};
+ghost use Rattle.gpu_alloc_base.specs.Case.{Answers, Asks, RefusesFirst};
 ghost use Rattle.gpu_alloc_base.specs.Wanted.{wanted};
 ghost use Rattle.gpu_alloc_buddy.specs.BuddySound.{IsSound};
 ghost use Rattle.gpu_alloc_buddy.specs.BuddyState.{Buddy, IsLiveLeaf, IsFreeAt};
@@ -168,12 +170,12 @@ impl<M: MemoryObject, A: Allocator> BuddyAllocator<M, A> {
         requires alignment { IsAlignMask align_mask }
         requires address { IsTrue (has_bit (allocation_bits flags) 1) → IsTrue (D.properties device.old).buffer_device_address }
         requires agrees { Agrees self.old (D.properties device.old) (D.objects device.old) }
-        requires counted { IsCounted (account self.old heap.old allocations_remains.old) }
+        requires counted { IsCounted self.old.chunks heap.old allocations_remains.old }
         requires bound { heap.old.used ≤ 2 ^ 127 }
 
         // What was asked of the device, the answer, and what changed.
         ensures allocates { (es : List Event) × Chain D.step device.old es device.new × Allocates (account self.old heap.old allocations_remains.old) (wanted size align_mask (allocation_bits flags)) es result (account self.new heap.new allocations_remains.new) }
-        ensures objects { ObjectsAfter self.old (rounded self.old (wanted size align_mask (allocation_bits flags))) (allocation_bits flags) result (D.objects device.old) (D.objects device.new) }
+        ensures objects { ObjectsAfter self.old result self.new (D.objects device.old) (D.objects device.new) }
         ensures agrees { Agrees self.new (D.properties device.new) (D.objects device.new) }
         ensures properties { D.properties device.new ≡ D.properties device.old }
 
@@ -181,8 +183,8 @@ impl<M: MemoryObject, A: Allocator> BuddyAllocator<M, A> {
         ensures granted { IfOk result (IsGranted self.old (wanted size align_mask (allocation_bits flags)) self.new) }
         ensures refused { OnErr result ((self.new ≡ self.old) × ((heap.new ≡ heap.old) × (allocations_remains.new ≡ allocations_remains.old))) }
         ensures sound { IsSound self.new }
-        ensures counted { IsCounted (account self.new heap.new allocations_remains.new) }
-        ensures total { chunks_and_remaining (account self.new heap.new allocations_remains.new) ≡ chunks_and_remaining (account self.old heap.old allocations_remains.old) }
+        ensures counted { IsCounted self.new.chunks heap.new allocations_remains.new }
+        ensures total { chunks_and_remaining self.new.chunks allocations_remains.new ≡ chunks_and_remaining self.old.chunks allocations_remains.old }
     {
         let order = self.rounded_order(size, align_mask);
         self.alloc_rounded(device, order, flags, heap, allocations_remains)
@@ -200,7 +202,7 @@ impl<M: MemoryObject, A: Allocator> BuddyAllocator<M, A> {
     ) -> Option<AllocationError>
         requires nonempty { 0 < size }
         requires alignment { IsAlignMask align_mask }
-        ensures { (flags : ℕ) → RefusesFirst (account self.now heap.now allocations_remains) (wanted size align_mask flags) result }
+        ensures { (flags : ℕ) → RefusesFirst (case_of (account self.now heap.now allocations_remains) (wanted size align_mask flags)) result }
     {
         let order = self.rounded_order(size, align_mask);
         if order > 62 {
@@ -231,15 +233,15 @@ impl<M: MemoryObject, A: Allocator> BuddyAllocator<M, A> {
     )
         requires live { IsLiveLeaf self.old block }
         requires agrees { Agrees self.old (D.properties device.old) (D.objects device.old) }
-        requires counted { IsCounted (account self.old heap.old allocations_remains.old) }
+        requires counted { IsCounted self.old.chunks heap.old allocations_remains.old }
 
         ensures frees { (es : List Event) × Chain D.step device.old es device.new × Frees (account self.old heap.old allocations_remains.old) block es (account self.new heap.new allocations_remains.new) }
         ensures objects { ObjectsFreed self.old block (D.objects device.old) (D.objects device.new) }
         ensures agrees { Agrees self.new (D.properties device.new) (D.objects device.new) }
         ensures properties { D.properties device.new ≡ D.properties device.old }
         ensures sound { IsSound self.new }
-        ensures counted { IsCounted (account self.new heap.new allocations_remains.new) }
-        ensures total { chunks_and_remaining (account self.new heap.new allocations_remains.new) ≡ chunks_and_remaining (account self.old heap.old allocations_remains.old) }
+        ensures counted { IsCounted self.new.chunks heap.new allocations_remains.new }
+        ensures total { chunks_and_remaining self.new.chunks allocations_remains.new ≡ chunks_and_remaining self.old.chunks allocations_remains.old }
     {
         let (memory, leaf) = block.into_parts();
         forget(&mut self.live, leaf);
@@ -304,10 +306,10 @@ impl<M: MemoryObject, A: Allocator> BuddyAllocator<M, A> {
     ) -> Result<BuddyBlock<M>, AllocationError>
         requires address { IsTrue (has_bit (allocation_bits flags) 1) → IsTrue (D.properties device.old).buffer_device_address }
         requires agrees { Agrees self.old (D.properties device.old) (D.objects device.old) }
-        requires counted { IsCounted (account self.old heap.old allocations_remains.old) }
+        requires counted { IsCounted self.old.chunks heap.old allocations_remains.old }
         requires bound { heap.old.used ≤ 2 ^ 127 }
-        ensures answers { (es : List Event) × Chain D.step device.old es device.new × Answers (account self.old heap.old allocations_remains.old) (2 ^ order) (allocation_bits flags) es result (account self.new heap.new allocations_remains.new) }
-        ensures objects { ObjectsAfter self.old (2 ^ order) (allocation_bits flags) result (D.objects device.old) (D.objects device.new) }
+        ensures answers { (es : List Event) × Chain D.step device.old es device.new × Answers (buddy_case (account self.old heap.old allocations_remains.old) (2 ^ order) (allocation_bits flags)) es result (account self.new heap.new allocations_remains.new) }
+        ensures objects { ObjectsAfter self.old result self.new (D.objects device.old) (D.objects device.new) }
         ensures properties { D.properties device.new ≡ D.properties device.old }
     {
         if order > 62 {
@@ -363,13 +365,13 @@ impl<M: MemoryObject, A: Allocator> BuddyAllocator<M, A> {
         allocations_remains: &mut u32,
     ) -> Result<BuddyBlock<M>, AllocationError>
         requires short { order ≤ 62 }
-        requires asks { AsksForChunk (account self.old heap.old allocations_remains.old) (2 ^ order) }
+        requires asks { Asks (buddy_case (account self.old heap.old allocations_remains.old) (2 ^ order) (allocation_bits flags)) }
         requires address { IsTrue (has_bit (allocation_bits flags) 1) → IsTrue (D.properties device.old).buffer_device_address }
         requires agrees { Agrees self.old (D.properties device.old) (D.objects device.old) }
-        requires counted { IsCounted (account self.old heap.old allocations_remains.old) }
+        requires counted { IsCounted self.old.chunks heap.old allocations_remains.old }
         requires bound { heap.old.used ≤ 2 ^ 127 }
-        ensures answers { (es : List Event) × Chain D.step device.old es device.new × Answers (account self.old heap.old allocations_remains.old) (2 ^ order) (allocation_bits flags) es result (account self.new heap.new allocations_remains.new) }
-        ensures objects { ObjectsAfter self.old (2 ^ order) (allocation_bits flags) result (D.objects device.old) (D.objects device.new) }
+        ensures answers { (es : List Event) × Chain D.step device.old es device.new × Answers (buddy_case (account self.old heap.old allocations_remains.old) (2 ^ order) (allocation_bits flags)) es result (account self.new heap.new allocations_remains.new) }
+        ensures objects { ObjectsAfter self.old result self.new (D.objects device.old) (D.objects device.new) }
         ensures properties { D.properties device.new ≡ D.properties device.old }
     {
         if make_room(&mut self.pieces, &mut self.live).is_err() {

@@ -16,9 +16,10 @@ use Rattle.gpu_alloc_types.specs.Objects.{put-other}
 use Rattle.gpu_alloc_types.specs.Properties.{Properties}
 use Rattle.gpu_alloc_base.specs.Chunks.{IsThere, Chunk}
 use Rattle.gpu_alloc_freelist.specs.FreeList.{MayGo, IsFirstToGo, without_chunk}
-use Rattle.gpu_alloc_freelist.specs.FreeListAllocator.{Account, account, LetsGo, GivesBack, Agrees, IsCounted, object_in, size_in, object_of, size_of, without_numbers, without_objects_of, sees_chunks, chunks_and_remaining}
+use Rattle.gpu_alloc_base.specs.Accounts.{Account, account, IsCounted, chunks_and_remaining}
+use Rattle.gpu_alloc_freelist.specs.FreeListAllocator.{LetsGo, GivesBack, Agrees, object_in, size_in, object_of, size_of, without_numbers, without_objects_of, sees_chunks}
 use Rattle.gpu_alloc_freelist.specs.FreeListSound.{IsSound, IsSoundSpace}
-use Rattle.gpu_alloc_freelist.specs.FreeListState.{Space}
+use Rattle.gpu_alloc_freelist.specs.FreeListState.{Listing, Space}
 use Rattle.gpu_alloc_base.specs.declared.free_list_block.Slot.{Slot}
 use Rattle.gpu_alloc_base.specs.declared.heap.Heap.{Heap}
 use Rattle.gpu_alloc_base.proofs.Lists.{contains_none}
@@ -47,23 +48,23 @@ held_before chunks [] n c is = is
 held_before chunks (k ∷ ks) n c is = (kept_key chunks k n c (held_before (map.remove chunks k) ks n c is)).1
 
 -- The way of the loop: some chunks went, those that may go yet come after them, and all that holds between calls holds.
-pub record IsOnItsWay (keep_last : Bool) (from : Account) (objects : ℕ → Option Object) (p : Properties) (gone : List ℕ) (es : List Event) (a : Account) (now : ℕ → Option Object) : Type 0 where
+pub record IsOnItsWay (keep_last : Bool) (from : Account Listing) (objects : ℕ → Option Object) (p : Properties) (gone : List ℕ) (es : List Event) (a : Account Listing) (now : ℕ → Option Object) : Type 0 where
   pub lets : LetsGo from gone es a
-  pub objects_are : now ≡ without_objects_of from.listing.space objects gone
+  pub objects_are : now ≡ without_objects_of from.allocator.space objects gone
   pub rising : (i j d : ℕ) → i < j → j < length gone → get_or gone i d < get_or gone j d
-  pub went : (number : ℕ) → Contains gone number → MayGo from.listing.space keep_last number
-  pub left : (number : ℕ) → MayGo from.listing.space keep_last number → Contains gone number ⊎ MayGo a.listing.space keep_last number
-  pub goes : (number : ℕ) → MayGo a.listing.space keep_last number → MayGo from.listing.space keep_last number
-  pub later : (earlier number : ℕ) → Contains gone earlier → MayGo a.listing.space keep_last number → earlier < number
-  pub sound : IsSound a.listing
-  pub agrees : Agrees a.listing p now
-  pub counted : IsCounted a
-  pub total : chunks_and_remaining a ≡ chunks_and_remaining from
+  pub went : (number : ℕ) → Contains gone number → MayGo from.allocator.space keep_last number
+  pub left : (number : ℕ) → MayGo from.allocator.space keep_last number → Contains gone number ⊎ MayGo a.allocator.space keep_last number
+  pub goes : (number : ℕ) → MayGo a.allocator.space keep_last number → MayGo from.allocator.space keep_last number
+  pub later : (earlier number : ℕ) → Contains gone earlier → MayGo a.allocator.space keep_last number → earlier < number
+  pub sound : IsSound a.allocator
+  pub agrees : Agrees a.allocator p now
+  pub counted : IsCounted a.allocator.space.chunks a.heap a.remaining
+  pub total : chunks_and_remaining a.allocator.space.chunks a.remaining ≡ chunks_and_remaining from.allocator.space.chunks from.remaining
 
 -- nothing went yet
-pub begins : {keep_last : Bool} {a : Account} {objects : ℕ → Option Object} {p : Properties} → IsSound a.listing → Agrees a.listing p objects → IsCounted a → IsOnItsWay keep_last a objects p [] [] a objects
+pub begins : {keep_last : Bool} {a : Account Listing} {objects : ℕ → Option Object} {p : Properties} → IsSound a.allocator → Agrees a.allocator p objects → IsCounted a.allocator.space.chunks a.heap a.remaining → IsOnItsWay keep_last a objects p [] [] a objects
 begins {keep_last} {a} {objects} {p} sound agrees counted = record {
-  lets = (refl, λ i. record { listing = a.listing; heap = record a.heap { used = same_used i }; remaining = same_remaining i });
+  lets = (refl, λ i. record { allocator = a.allocator; heap = record a.heap { used = same_used i }; remaining = same_remaining i });
   objects_are = refl;
   rising = λ i j d lt within. absurd (omega (arith, within));
   went = λ number has. absurd (contains_none number has);
@@ -83,8 +84,8 @@ begins {keep_last} {a} {objects} {p} sound agrees counted = record {
     same_remaining = omega arith
 
 -- none may go any more
-pub ends : {keep_last : Bool} {from a : Account} {objects now : ℕ → Option Object} {p : Properties} {gone : List ℕ} {es : List Event} → IsOnItsWay keep_last from objects p gone es a now
-    → ((number : ℕ) → MayGo a.listing.space keep_last number → ⊥) → GivesBack keep_last from gone es a objects now
+pub ends : {keep_last : Bool} {from a : Account Listing} {objects now : ℕ → Option Object} {p : Properties} {gone : List ℕ} {es : List Event} → IsOnItsWay keep_last from objects p gone es a now
+    → ((number : ℕ) → MayGo a.allocator.space keep_last number → ⊥) → GivesBack keep_last from gone es a objects now
 ends {keep_last} {from} {a} {objects} {now} {p} {gone} {es} w none = (
   record {
     rising = w.rising;
@@ -95,42 +96,42 @@ ends {keep_last} {from} {a} {objects} {now} {p} {gone} {es} w none = (
 
 -- One more goes.
 
-module _ {keep_last : Bool} {from a : Account} {objects now : ℕ → Option Object} {p : Properties} {gone_so_far : List ℕ} {es : List Event} (w : IsOnItsWay keep_last from objects p gone_so_far es a now)
-    (n : ℕ) (chunk : Chunk) (is : map.get a.listing.space.chunks n ≡ Some chunk) (first : IsFirstToGo a.listing.space keep_last n) where
+module _ {keep_last : Bool} {from a : Account Listing} {objects now : ℕ → Option Object} {p : Properties} {gone_so_far : List ℕ} {es : List Event} (w : IsOnItsWay keep_last from objects p gone_so_far es a now)
+    (n : ℕ) (chunk : Chunk) (is : map.get a.allocator.space.chunks n ≡ Some chunk) (first : IsFirstToGo a.allocator.space keep_last n) where
   some : 0 < chunk.size
   some = (w.sound.space.sizes n chunk is).0
 
-  was_held : map.get from.listing.space.chunks n ≡ Some chunk
-  was_held = held_before from.listing.space.chunks gone_so_far n chunk (ap (λ (x : Account). map.get x.listing.space.chunks n) (sym w.lets.1) ∙ is)
+  was_held : map.get from.allocator.space.chunks n ≡ Some chunk
+  was_held = held_before from.allocator.space.chunks gone_so_far n chunk (ap (λ (x : Account Listing). map.get x.allocator.space.chunks n) (sym w.lets.1) ∙ is)
 
-  object_is : object_of from.listing.space n ≡ chunk.object
+  object_is : object_of from.allocator.space n ≡ chunk.object
   object_is = ap object_in was_held
 
-  size_is : size_of from.listing.space n ≡ chunk.size
+  size_is : size_of from.allocator.space n ≡ chunk.size
   size_is = ap size_in was_held
 
   -- the ledger counts it, and one more object may be held
   pub is_counted : chunk.size ≤ a.heap.used
-  is_counted = omega (arith, w.counted.chunks, sum_by-remove (λ e. e.1.size) a.listing.space.chunks n chunk is)
+  is_counted = omega (arith, w.counted.ledger, sum_by-remove (λ e. e.1.size) a.allocator.space.chunks n chunk is)
 
   pub one_more_fits : a.remaining + 1 < 2 ^ 32
-  one_more_fits = omega (arith, w.counted.objects, len_less a.listing.space.chunks n chunk is)
+  one_more_fits = omega (arith, w.counted.objects, len_less a.allocator.space.chunks n chunk is)
 
-  pub fewer : map.len (map.remove a.listing.space.chunks n) < map.len a.listing.space.chunks
-  fewer = omega (arith, len_less a.listing.space.chunks n chunk is)
+  pub fewer : map.len (map.remove a.allocator.space.chunks n) < map.len a.allocator.space.chunks
+  fewer = omega (arith, len_less a.allocator.space.chunks n chunk is)
 
-  abbrev next : Account
+  abbrev next : Account Listing
   next = record {
-    listing = record a.listing { space = without_chunk a.listing.space n };
+    allocator = record a.allocator { space = without_chunk a.allocator.space n };
     heap = record a.heap { used = a.heap.used - chunk.size };
     remaining = a.remaining + 1;
   }
 
-  next_sound : IsSoundSpace (without_chunk a.listing.space n) → IsSound next.listing
+  next_sound : IsSoundSpace (without_chunk a.allocator.space n) → IsSound next.allocator
   next_sound sound = record {
     space = sound;
-    one_object = λ k l c d k_is l_is. w.sound.one_object k l c d (kept_key a.listing.space.chunks n k c k_is).1 (kept_key a.listing.space.chunks n l d l_is).1;
-    chunks = λ k c at. w.sound.chunks k c (kept_key a.listing.space.chunks n k c at).1;
+    one_object = λ k l c d k_is l_is. w.sound.one_object k l c d (kept_key a.allocator.space.chunks n k c k_is).1 (kept_key a.allocator.space.chunks n l d l_is).1;
+    chunks = λ k c at. w.sound.chunks k c (kept_key a.allocator.space.chunks n k c at).1;
     slots = w.sound.slots;
     next_chunk = w.sound.next_chunk;
     final_chunk = w.sound.final_chunk;
@@ -139,19 +140,19 @@ module _ {keep_last : Bool} {from a : Account} {objects now : ℕ → Option Obj
 
   -- it holds the chunk
   abbrev HasChunk : (ℕ → Option Object) → Chunk → Type 0
-  HasChunk held c = HeldWith held c.object (IsThere a.listing.memory_type (sees_chunks a.listing) c)
+  HasChunk held c = HeldWith held c.object (IsThere a.allocator.memory_type (sees_chunks a.allocator) c)
 
-  next_agrees : Agrees next.listing p (put now chunk.object None)
+  next_agrees : Agrees next.allocator p (put now chunk.object None)
   next_agrees = record {
     known = w.agrees.known;
-    props = w.agrees.props;
+    same = w.agrees.same;
     holds = λ k. elim (cases_eq k n) [
-      | inl same ↦ subst (λ o. IfSome o (HasChunk (put now chunk.object None))) (sym (ap (map.get (map.remove a.listing.space.chunks n)) same ∙ gone a.listing.space.chunks n)) tt
-      | inr other ↦ subst (λ o. IfSome o (HasChunk (put now chunk.object None))) (sym (kept_other a.listing.space.chunks n k other)) (each k other (map.get a.listing.space.chunks k) refl (w.agrees.holds k))
+      | inl same ↦ subst (λ o. IfSome o (HasChunk (put now chunk.object None))) (sym (ap (map.get (map.remove a.allocator.space.chunks n)) same ∙ gone a.allocator.space.chunks n)) tt
+      | inr other ↦ subst (λ o. IfSome o (HasChunk (put now chunk.object None))) (sym (kept_other a.allocator.space.chunks n k other)) (each k other (map.get a.allocator.space.chunks k) refl (w.agrees.holds k))
     ];
   }
     where
-      each : (k : ℕ) → k ≢ n → (o : Option Chunk) → map.get a.listing.space.chunks k ≡ o → IfSome o (HasChunk now) → IfSome o (HasChunk (put now chunk.object None))
+      each : (k : ℕ) → k ≢ n → (o : Option Chunk) → map.get a.allocator.space.chunks k ≡ o → IfSome o (HasChunk now) → IfSome o (HasChunk (put now chunk.object None))
       each k other None at h = tt
       each k other (Some c) at h =
           let another : c.object ≢ chunk.object = λ same. other (w.sound.one_object k n c chunk at is same) in
@@ -160,47 +161,47 @@ module _ {keep_last : Bool} {from a : Account} {objects now : ℕ → Option Obj
   next_lets : LetsGo from (gone_so_far ++ n ∷ []) (es ++ Deallocated chunk.object ∷ []) next
   next_lets = (
     ap (λ xs. xs ++ Deallocated chunk.object ∷ []) w.lets.0
-        ∙ ap (λ o. list.map (λ number. Deallocated (object_of from.listing.space number)) gone_so_far ++ Deallocated o ∷ []) (sym object_is)
-        ∙ sym (map-append (λ number. Deallocated (object_of from.listing.space number)) gone_so_far (n ∷ [])),
+        ∙ ap (λ o. list.map (λ number. Deallocated (object_of from.allocator.space number)) gone_so_far ++ Deallocated o ∷ []) (sym object_is)
+        ∙ sym (map-append (λ number. Deallocated (object_of from.allocator.space number)) gone_so_far (n ∷ [])),
     ap next_of w.lets.1 ∙ (λ i. record {
-      listing = record from.listing { space = record from.listing.space { chunks = chunks_are i } };
+      allocator = record from.allocator { space = record from.allocator.space { chunks = chunks_are i } };
       heap = record from.heap { used = used_is i };
       remaining = remaining_is i;
     }),
   )
     where
-      next_of : Account → Account
+      next_of : Account Listing → Account Listing
       next_of x = record {
-        listing = record x.listing { space = without_chunk x.listing.space n };
+        allocator = record x.allocator { space = without_chunk x.allocator.space n };
         heap = record x.heap { used = x.heap.used - chunk.size };
         remaining = x.remaining + 1;
       }
 
-      chunks_are : map.remove (without_numbers from.listing.space.chunks gone_so_far) n ≡ without_numbers from.listing.space.chunks (gone_so_far ++ n ∷ [])
-      chunks_are = sym (without_one_more from.listing.space.chunks gone_so_far n)
+      chunks_are : map.remove (without_numbers from.allocator.space.chunks gone_so_far) n ≡ without_numbers from.allocator.space.chunks (gone_so_far ++ n ∷ [])
+      chunks_are = sym (without_one_more from.allocator.space.chunks gone_so_far n)
 
-      used_is : from.heap.used - sum_by (size_of from.listing.space) gone_so_far - chunk.size ≡ from.heap.used - sum_by (size_of from.listing.space) (gone_so_far ++ n ∷ [])
-      used_is = omega (arith, sum_by-append (size_of from.listing.space) gone_so_far (n ∷ []), size_is)
+      used_is : from.heap.used - sum_by (size_of from.allocator.space) gone_so_far - chunk.size ≡ from.heap.used - sum_by (size_of from.allocator.space) (gone_so_far ++ n ∷ [])
+      used_is = omega (arith, sum_by-append (size_of from.allocator.space) gone_so_far (n ∷ []), size_is)
 
       remaining_is : from.remaining + length gone_so_far + 1 ≡ from.remaining + length (gone_so_far ++ n ∷ [])
       remaining_is = omega (arith, length-append gone_so_far (n ∷ []))
 
-  pub goes_on : IsSoundSpace (without_chunk a.listing.space n) → IsOnItsWay keep_last from objects p (gone_so_far ++ n ∷ []) (es ++ Deallocated chunk.object ∷ []) next (put now chunk.object None)
+  pub goes_on : IsSoundSpace (without_chunk a.allocator.space n) → IsOnItsWay keep_last from objects p (gone_so_far ++ n ∷ []) (es ++ Deallocated chunk.object ∷ []) next (put now chunk.object None)
   goes_on sound = record {
     lets = next_lets;
-    objects_are = ap (λ f. put f chunk.object None) w.objects_are ∙ ap (λ o. put (without_objects_of from.listing.space objects gone_so_far) o None) (sym object_is) ∙ sym (objects_one_more from.listing.space objects gone_so_far n);
+    objects_are = ap (λ f. put f chunk.object None) w.objects_are ∙ ap (λ o. put (without_objects_of from.allocator.space objects gone_so_far) o None) (sym object_is) ∙ sym (objects_one_more from.allocator.space objects gone_so_far n);
     rising = all_pairs_push (λ a b. a < b) gone_so_far n w.rising (λ k d lt. w.later (get_or gone_so_far k d) n (Contains-get_or gone_so_far k d lt) first.goes);
-    went = λ m has. elim (Contains-push_cases gone_so_far n m has) [ inl old ↦ w.went m old | inr new ↦ subst (MayGo from.listing.space keep_last) new (w.goes n first.goes) ];
+    went = λ m has. elim (Contains-push_cases gone_so_far n m has) [ inl old ↦ w.went m old | inr new ↦ subst (MayGo from.allocator.space keep_last) new (w.goes n first.goes) ];
     left = λ m may. elim (w.left m may) [
       | inl went ↦ inl (Contains-append_left gone_so_far (n ∷ []) m went)
       | inr goes ↦ elim (cases_eq m n) [
         | inl this ↦ inl (subst (Contains (gone_so_far ++ n ∷ [])) (sym this) (Contains-push gone_so_far n))
-        | inr other ↦ inr (may_go_then a.listing.space keep_last n chunk is some first.goes m other goes)
+        | inr other ↦ inr (may_go_then a.allocator.space keep_last n chunk is some first.goes m other goes)
       ]
     ];
-    goes = λ m goes. w.goes m (may_go_before a.listing.space keep_last n m goes).1;
+    goes = λ m goes. w.goes m (may_go_before a.allocator.space keep_last n m goes).1;
     later = λ e m has goes.
-        let b = may_go_before a.listing.space keep_last n m goes in
+        let b = may_go_before a.allocator.space keep_last n m goes in
         elim (Contains-push_cases gone_so_far n e has) [
           | inl old ↦ w.later e m old b.1
           | inr new ↦ omega (arith, sym new, first.least m b.1, b.0)
@@ -208,13 +209,13 @@ module _ {keep_last : Bool} {from a : Account} {objects now : ℕ → Option Obj
     sound = next_sound sound;
     agrees = next_agrees;
     counted = record {
-      chunks = omega (arith, w.counted.chunks, sum_by-remove (λ e. e.1.size) a.listing.space.chunks n chunk is);
-      objects = omega (arith, w.counted.objects, len_less a.listing.space.chunks n chunk is);
+      ledger = omega (arith, w.counted.ledger, sum_by-remove (λ e. e.1.size) a.allocator.space.chunks n chunk is);
+      objects = omega (arith, w.counted.objects, len_less a.allocator.space.chunks n chunk is);
     };
-    total = omega (arith, w.total, len_less a.listing.space.chunks n chunk is);
+    total = omega (arith, w.total, len_less a.allocator.space.chunks n chunk is);
   }
 
   -- the same of the values that are so
-  pub goes_on_as : (space : Space) (heap : Heap) (objects_now : ℕ → Option Object) → space ≡ without_chunk a.listing.space n → heap ≡ record a.heap { used = a.heap.used - chunk.size } → objects_now ≡ put now chunk.object None → IsSoundSpace space
-      → IsOnItsWay keep_last from objects p (gone_so_far ++ n ∷ []) (es ++ Deallocated chunk.object ∷ []) (account (record a.listing { space = space }) heap (a.remaining + 1)) objects_now
+  pub goes_on_as : (space : Space) (heap : Heap) (objects_now : ℕ → Option Object) → space ≡ without_chunk a.allocator.space n → heap ≡ record a.heap { used = a.heap.used - chunk.size } → objects_now ≡ put now chunk.object None → IsSoundSpace space
+      → IsOnItsWay keep_last from objects p (gone_so_far ++ n ∷ []) (es ++ Deallocated chunk.object ∷ []) (account (record a.allocator { space = space }) heap (a.remaining + 1)) objects_now
   goes_on_as space heap objects_now space_is heap_is objects_are sound = rw (space_is, heap_is, objects_are) (goes_on (subst IsSoundSpace space_is sound))

@@ -3,35 +3,36 @@
 use Rattle.std.proofs.Common.{◌≡◌, inl, inr, ℕ, ◌+◌, ◌-◌, ◌%◌, ◌<◌, ◌≤◌, Bool, List, [], ◌∷◌, ◌++◌, Option, Some, None, Result, Ok, Err, refl, sym, ◌∙◌, ap, subst, arith}
 use Rattle.std.proofs.lemmas.Bool.{cases_lt, cases_eq}
 use Rattle.std.proofs.lemmas.Nat.{pow_pos}
-use Rattle.std.specs.Prelude.{IfSome, IfOk}
+use Rattle.std.specs.Prelude.{IfOk}
 use Rattle.std.specs.FinMap as map
 use Rattle.gpu_alloc_types.specs.Device.{Object, Event, HeldWith}
 use Rattle.gpu_alloc_types.specs.Device.Event.{Deallocated}
 use Rattle.gpu_alloc_types.specs.Properties.{Properties}
 use Rattle.gpu_alloc_base.specs.Wanted.{Wanted}
-use Rattle.gpu_alloc_base.specs.Chunks.{IsThere, Chunk}
+use Rattle.gpu_alloc_base.specs.Chunks.{Chunk, IsNew, IsThere}
 use Rattle.gpu_alloc_freelist.specs.FreeList.{HasPlace, IsTail, with_slot, with_chunk, first_tail}
-use Rattle.gpu_alloc_freelist.specs.FreeListAllocator.{Account, Agrees, Answers, AsksForChunk, ObjectsAfter, IsGranted, IsCounted, chunk_bytes, chunk_size, next_size, question, sees_chunks, listing_with_slot, rounded, alignment as alignment_of, chunks_and_remaining, IsBarred, RefusesFirst}
+use Rattle.gpu_alloc_base.specs.Accounts.{Account}
+use Rattle.gpu_alloc_base.specs.Case.{Answers, Asks, IsBarred, RefusesFirst}
+use Rattle.gpu_alloc_base.specs.NewObject.{HasOneMore}
+use Rattle.gpu_alloc_freelist.specs.FreeListAllocator.{Agrees, ObjectsAfter, IsGranted, case_of, chunk_size, list_case, next_size, question, sees_chunks, listing_with_slot, rounded, alignment as alignment_of}
+use Rattle.gpu_alloc_base.proofs.Books.{KeepsBooks, refused_keeps, made_new, answers_agree as chunks_agree}
 use Rattle.gpu_alloc_freelist.specs.FreeListSound.{IsSound, IsSoundSpace, LiesInChunk}
 use Rattle.gpu_alloc_freelist.specs.FreeListState.{Space, Listing, IsLiveSlot, IsFreeIn}
 use Rattle.gpu_alloc_base.specs.FreeRuns.{AreFree, IsFreeRun, tail_start}
 use Rattle.gpu_alloc_base.specs.FreeSpace.{IsIn, IsMultipleOf, IsPowerOfTwo}
-use Rattle.gpu_alloc_base.specs.NewChunk.{ChunkQuestion, chunk_question, AsksChunk, LacksDeviceMemory, LacksHostMemory, made, HasOneChunkMore}
+use Rattle.gpu_alloc_base.specs.NewChunk.{ChunkQuestion, chunk_question, AsksChunk, LacksDeviceMemory, LacksHostMemory, made}
 use Rattle.gpu_alloc_base.specs.AlignMasks.{IsAlignMask}
 use Rattle.gpu_alloc_base.specs.declared.error.AllocationError.{AllocationError}
 use Rattle.gpu_alloc_base.specs.declared.error.AllocationError.TheVariants.{OutOfDeviceMemory, OutOfHostMemory, NoCompatibleMemoryTypes, TooManyObjects}
 use Rattle.gpu_alloc_base.specs.declared.free_list_block.Slot.{Slot}
 use Rattle.gpu_alloc_base.proofs.Outcomes.{if_some}
-use Rattle.gpu_alloc_freelist.proofs.ForCallers.{never_both}
 use Rattle.gpu_alloc_freelist.proofs.FreeListSizes.{chunk_size_atoms, chunk_size_bound, chunk_size_enough, next_size_sound}
 use Rattle.gpu_alloc_base.proofs.ChunkSizes.{up_enough}
-use Rattle.gpu_alloc_base.proofs.Sums.{sum_by-insert, len_more}
 use Rattle.gpu_alloc_base.proofs.Maps.{one_value, own_inserted, inserted_cases}
 use Rattle.gpu_alloc_base.proofs.PowersOfTwo.{greater_power, power_of_bit}
 use Rattle.gpu_alloc_freelist.proofs.Spaces.{was_live, now_live, space_with_slot, next_is_new, none_in_next, space_with_chunk}
 use Rattle.gpu_alloc_base.proofs.Multiples.{multiple_down, multiple_from_mod, multiple_of_lower, multiple_rest, mod_from_multiple}
 use Rattle.gpu_alloc_base.proofs.FreeRuns.{tail_below, tail_ends}
-use Rattle.gpu_alloc_base.proofs.NewChunks.{still_held, new_is_there}
 
 -- A block more.
 
@@ -220,89 +221,65 @@ sound_in_new_chunk l object size alignment s other asked =
     (first_free l.space object whole size alignment s.space)
     (first_of_atoms l object whole size alignment s asked atoms)
 
+-- A request as the books see it.
+
+-- one that is in order keeps them
+module _ (a : Account Listing) (size alignment flags : ℕ) (s : IsSound a.allocator) where
+  pub keeps_books : KeepsBooks (λ l. l.space.chunks) (λ slot. slot.chunk) (list_case a size alignment flags)
+  keeps_books = record {
+    count = refl;
+    place_held = λ slot tail. (tail.object.0, tail.object.1);
+    in_place = λ slot tail. record { chunks_are = refl; used = refl; remaining = refl };
+    in_new = λ slot is.
+        let number : slot.chunk ≡ a.allocator.space.latest + 1 = ap (λ (q : Slot). q.chunk) is in
+        record {
+          was_free = rw number (next_is_new a.allocator.space s.space);
+          chunks_are = ap (λ n. map.insert a.allocator.space.chunks n (record { object = slot.object; size = chunk_size a.allocator size })) (sym number);
+          used = refl;
+          remaining = refl;
+        };
+  }
+
+-- the object of a block in a new chunk
+made_in : (l after : Listing) (slot : Slot) (f g : ℕ → Option Object) → ObjectsAfter l (Ok slot) after f g → map.get l.space.chunks slot.chunk ≡ None
+    → HasOneMore (IsNew l.memory_type (sees_chunks l)) (map.get after.space.chunks slot.chunk) slot.object f g
+made_in l after slot f g objects none = made_new (λ (q : Slot). q.chunk) (λ (q : Slot). q.object) l.memory_type l.props l.space.chunks after.space.chunks slot f g objects none
+
+-- the device held none of its name
+was_new : (a new : Account Listing) (size alignment flags : ℕ) (slot : Slot) (f g : ℕ → Option Object) → IsSound a.allocator → slot ≡ first_tail a.allocator.space slot.object (chunk_size a.allocator size) size alignment
+    → ObjectsAfter a.allocator (Ok slot) new.allocator f g → f slot.object ≡ None
+was_new a new size alignment flags slot f g s is objects =
+    let entered = (keeps_books a size alignment flags s).in_new slot is in
+    let more = made_in a.allocator new.allocator slot f g objects entered.was_free in
+    more.was_free
+
 -- What is sound stays so.
 
--- nothing changes where it is refused
-pub refused_keeps : (a new : Account) (size alignment flags : ℕ) (es : List Event) (e : AllocationError) → Answers a size alignment flags es (Err e) new → new ≡ a
-refused_keeps a new size alignment flags es OutOfDeviceMemory refused = refused.0
-refused_keeps a new size alignment flags es OutOfHostMemory refused = refused.0
-refused_keeps a new size alignment flags es NoCompatibleMemoryTypes refused = absurd refused
-refused_keeps a new size alignment flags es TooManyObjects refused = refused.0
-
 -- after every answer
-pub answers_sound : (a new : Account) (size alignment flags : ℕ) (es : List Event) (answer : Result Slot AllocationError) (p : Properties) (f g : ℕ → Option Object) → IsSound a.listing → Agrees a.listing p f
-    → IsAskable a.listing size alignment → Answers a size alignment flags es answer new → ObjectsAfter a.listing size alignment flags answer f g → IsSound new.listing
-answers_sound a new size alignment flags es (Ok slot) p f g s agrees asked (inl tail) objects =
-    rw (tail.1.1) (sound_with_tail a.listing size alignment slot s asked tail.0)
-answers_sound a new size alignment flags es (Ok slot) p f g s agrees asked (inr begins) (inl made) =
-    rw (begins.1.1.1) (sound_in_new_chunk a.listing slot.object size alignment s (other_objects a.listing p f slot.object agrees made.1.0) asked)
-answers_sound a new size alignment flags es (Ok slot) p f g s agrees asked (inr begins) (inr kept) = absurd (never_both a.listing.space size alignment slot s.space kept.0 (ap (λ (q : Slot). q.chunk) begins.1.0))
-answers_sound a new size alignment flags es (Err e) p f g s agrees asked refused objects = rw (refused_keeps a new size alignment flags es e refused) s
+pub answers_sound : (a new : Account Listing) (size alignment flags : ℕ) (es : List Event) (answer : Result Slot AllocationError) (p : Properties) (f g : ℕ → Option Object) → IsSound a.allocator → Agrees a.allocator p f
+    → IsAskable a.allocator size alignment → Answers (list_case a size alignment flags) es answer new → ObjectsAfter a.allocator answer new.allocator f g → IsSound new.allocator
+answers_sound a new size alignment flags es (Ok slot) p f g s agrees asked (inl gives) objects =
+    rw (gives.state) (sound_with_tail a.allocator size alignment slot s asked gives.place)
+answers_sound a new size alignment flags es (Ok slot) p f g s agrees asked (inr gives) objects =
+    let none = was_new a new size alignment flags slot f g s gives.place objects in
+    rw (gives.state) (sound_in_new_chunk a.allocator slot.object size alignment s (other_objects a.allocator p f slot.object agrees none) asked)
+answers_sound a new size alignment flags es (Err e) p f g s agrees asked refused objects = rw (refused_keeps (list_case a size alignment flags) es e new refused) s
 
 -- Agreement with the device.
 
--- it holds with a block more
-pub agrees_with_slot : (l : Listing) (slot : Slot) (p : Properties) (f : ℕ → Option Object) → Agrees l p f → Agrees (listing_with_slot l slot) p f
-agrees_with_slot l slot p f a = record { known = a.known; props = a.props; holds = a.holds }
-
-abbrev IsHeldChunk : Listing → (ℕ → Option Object) → Chunk → Type 0
-IsHeldChunk l g chunk = HeldWith g chunk.object (IsThere l.memory_type (sees_chunks l) chunk)
-
--- and with a chunk more
-pub agrees_with_chunk : (l : Listing) (object size flags : ℕ) (p : Properties) (f g : ℕ → Option Object) → Agrees l p f → HasOneChunkMore (question l size flags) object f g → Agrees (listing_with_chunk l object (chunk_size l size)) p g
-agrees_with_chunk l object size flags p f g a more = record {
-  known = a.known;
-  props = a.props;
-  holds = λ k. all_held k (map.get (map.insert l.space.chunks (l.space.latest + 1) (record { object = object; size = chunk_size l size })) k) refl;
-}
-  where
-    all_held : (k : ℕ) (found : Option Chunk) → map.get (map.insert l.space.chunks (l.space.latest + 1) (record { object = object; size = chunk_size l size })) k ≡ found → IfSome found (IsHeldChunk l g)
-    all_held k None e = tt
-    all_held k (Some chunk) e = elim (inserted_cases l.space.chunks (l.space.latest + 1) (record { object = object; size = chunk_size l size }) k chunk e) [
-      | inl new ↦ subst (IsHeldChunk l g) new.1 (new_is_there (question l size flags) (record { object = object; size = chunk_size l size }) f g more refl)
-      | inr old ↦ still_held (question l size flags) object f g (IsThere l.memory_type (sees_chunks l) chunk) chunk.object more
-          (if_some (λ c. HeldWith f c.object (IsThere l.memory_type (sees_chunks l) c)) (map.get l.space.chunks k) chunk old (a.holds k))
-    ]
+-- the memory type stays
+kept_type : (a new : Account Listing) (size alignment flags : ℕ) (es : List Event) (answer : Result Slot AllocationError) → Answers (list_case a size alignment flags) es answer new
+    → (new.allocator.memory_type ≡ a.allocator.memory_type) × (new.allocator.props ≡ a.allocator.props)
+kept_type a new size alignment flags es (Ok slot) (inl gives) = rw (gives.state) (refl, refl)
+kept_type a new size alignment flags es (Ok slot) (inr gives) = rw (gives.state) (refl, refl)
+kept_type a new size alignment flags es (Err e) refused = rw (refused_keeps (list_case a size alignment flags) es e new refused) (refl, refl)
 
 -- after every answer
-pub answers_agree : (a new : Account) (size alignment flags : ℕ) (es : List Event) (answer : Result Slot AllocationError) (p now : Properties) (f g : ℕ → Option Object) → IsSound a.listing → Agrees a.listing p f → now ≡ p
-    → Answers a size alignment flags es answer new → ObjectsAfter a.listing size alignment flags answer f g → Agrees new.listing now g
-answers_agree a new size alignment flags es (Ok slot) p now f g s agrees same (inl tail) (inl made) = absurd (never_both a.listing.space size alignment slot s.space tail.0 made.0)
-answers_agree a new size alignment flags es (Ok slot) p now f g s agrees same (inl tail) (inr kept) =
-    rw (tail.1.1, same, kept.1) (agrees_with_slot a.listing slot p f agrees)
-answers_agree a new size alignment flags es (Ok slot) p now f g s agrees same (inr begins) (inl made) =
-    rw (begins.1.1.1, same) (agrees_with_slot (listing_with_chunk a.listing slot.object (chunk_size a.listing size)) (first_tail a.listing.space slot.object (chunk_size a.listing size) size alignment) p g
-    (agrees_with_chunk a.listing slot.object size flags p f g agrees made.1))
-answers_agree a new size alignment flags es (Ok slot) p now f g s agrees same (inr begins) (inr kept) = absurd (never_both a.listing.space size alignment slot s.space kept.0 (ap (λ (q : Slot). q.chunk) begins.1.0))
-answers_agree a new size alignment flags es (Err OutOfDeviceMemory) p now f g s agrees same refused kept = rw (refused.0, same, kept) agrees
-answers_agree a new size alignment flags es (Err OutOfHostMemory) p now f g s agrees same refused kept = rw (refused.0, same, kept) agrees
-answers_agree a new size alignment flags es (Err NoCompatibleMemoryTypes) p now f g s agrees same refused kept = absurd refused
-answers_agree a new size alignment flags es (Err TooManyObjects) p now f g s agrees same refused kept = rw (refused.0, same, kept) agrees
-
--- Chunks and what remains.
-
-pub answers_total : (a new : Account) (size alignment flags : ℕ) (es : List Event) (answer : Result Slot AllocationError) → IsSound a.listing → Answers a size alignment flags es answer new
-    → chunks_and_remaining new ≡ chunks_and_remaining a
-answers_total a new size alignment flags es (Ok slot) s (inl tail) = ap chunks_and_remaining tail.1.1
-answers_total a new size alignment flags es (Ok slot) s (inr begins) =
-    let more = len_more a.listing.space.chunks (a.listing.space.latest + 1) (record { object = slot.object; size = chunk_size a.listing size }) (next_is_new a.listing.space s.space) in
-    ap chunks_and_remaining begins.1.1.1 ∙ omega (arith, more, begins.0.1.0)
-answers_total a new size alignment flags es (Err e) s refused = ap chunks_and_remaining (refused_keeps a new size alignment flags es e refused)
-
--- the ledger counts each held chunk still
-answers_bytes : (a new : Account) (size alignment flags : ℕ) (es : List Event) (answer : Result Slot AllocationError) → IsSound a.listing → chunk_bytes a.listing ≤ a.heap.used → Answers a size alignment flags es answer new
-    → chunk_bytes new.listing ≤ new.heap.used
-answers_bytes a new size alignment flags es (Ok slot) s counted (inl tail) = rw (tail.1.1) counted
-answers_bytes a new size alignment flags es (Ok slot) s counted (inr begins) =
-    let more = sum_by-insert (λ e. e.1.size) a.listing.space.chunks (a.listing.space.latest + 1) (record { object = slot.object; size = chunk_size a.listing size }) (next_is_new a.listing.space s.space) in
-    rw (begins.1.1.1) (omega (arith, more, counted))
-answers_bytes a new size alignment flags es (Err e) s counted refused = rw (refused_keeps a new size alignment flags es e refused) counted
-
-pub answers_counted : (a new : Account) (size alignment flags : ℕ) (es : List Event) (answer : Result Slot AllocationError) → IsSound a.listing → IsCounted a → Answers a size alignment flags es answer new → IsCounted new
-answers_counted a new size alignment flags es answer s counted answers = record {
-  chunks = answers_bytes a new size alignment flags es answer s counted.chunks answers;
-  objects = omega (arith, answers_total a new size alignment flags es answer s answers, counted.objects);
-}
+pub answers_agree : (a new : Account Listing) (size alignment flags : ℕ) (es : List Event) (answer : Result Slot AllocationError) (p now : Properties) (f g : ℕ → Option Object) → IsSound a.allocator → Agrees a.allocator p f → now ≡ p
+    → Answers (list_case a size alignment flags) es answer new → ObjectsAfter a.allocator answer new.allocator f g → Agrees new.allocator now g
+answers_agree a new size alignment flags es answer p now f g s agrees same answers objects =
+    let kept = kept_type a new size alignment flags es answer answers in
+    rw (kept.0, kept.1) (chunks_agree (keeps_books a size alignment flags s) a.allocator.memory_type a.allocator.props p now f g agrees same es answer new answers objects)
 
 -- What is known of the block.
 
@@ -336,30 +313,30 @@ granted_now old w now new slot is sound live atom enough aligned was_free =
       was_free = was_free;
     })
 
-pub answers_granted : (a new : Account) (w : Wanted) (size alignment flags : ℕ) (es : List Event) (answer : Result Slot AllocationError) (p : Properties) (f g : ℕ → Option Object) → IsSound a.listing → Agrees a.listing p f
-    → IsRoundedTo a.listing w size alignment → Answers a size alignment flags es answer new → ObjectsAfter a.listing size alignment flags answer f g → IfOk answer (IsGranted a.listing w new.listing)
-answers_granted a new w size alignment flags es (Ok slot) p f g s agrees r (inl tail) objects =
-    let t = tail.0 in
-    let sound = answers_sound a new size alignment flags es (Ok slot) p f g s agrees r.asked (inl tail) objects in
-    granted_now a.listing w (listing_with_slot a.listing slot) new.listing slot (ap (λ (x : Account). x.listing) tail.1.1) sound (now_live a.listing.space slot) refl
-    (omega (arith, r.enough, tail_enough a.listing.space size alignment slot t)) (starts_aligned a.listing w size alignment t.run.end slot.offset r t.start)
+pub answers_granted : (a new : Account Listing) (w : Wanted) (size alignment flags : ℕ) (es : List Event) (answer : Result Slot AllocationError) (p : Properties) (f g : ℕ → Option Object) → IsSound a.allocator → Agrees a.allocator p f
+    → IsRoundedTo a.allocator w size alignment → Answers (list_case a size alignment flags) es answer new → ObjectsAfter a.allocator answer new.allocator f g → IfOk answer (IsGranted a.allocator w new.allocator)
+answers_granted a new w size alignment flags es (Ok slot) p f g s agrees r (inl gives) objects =
+    let t = gives.place in
+    let sound = answers_sound a new size alignment flags es (Ok slot) p f g s agrees r.asked (inl gives) objects in
+    granted_now a.allocator w (listing_with_slot a.allocator slot) new.allocator slot (ap (λ (x : Account Listing). x.allocator) gives.state) sound (now_live a.allocator.space slot) refl
+    (omega (arith, r.enough, tail_enough a.allocator.space size alignment slot t)) (starts_aligned a.allocator w size alignment t.run.end slot.offset r t.start)
     (λ other live same at in_other in_slot.
     let there = s.space.inside other live in
     let chunk = s.one_object other.chunk slot.chunk there.chunk t.object.0 there.held t.object.1 (sym there.object ∙ same ∙ t.object.2) in
-    (tail_free a.listing.space size alignment slot t at in_slot.from in_slot.to).unused other live chunk in_other)
-answers_granted a new w size alignment flags es (Ok slot) p f g s agrees r (inr begins) (inl made) =
-    let whole : ℕ = chunk_size a.listing size in
-    let is = begins.1.0 in
-    let sound = answers_sound a new size alignment flags es (Ok slot) p f g s agrees r.asked (inr begins) (inl made) in
-    let first = first_tail a.listing.space slot.object whole size alignment in
-    let fits = chunk_size_enough a.listing size s r.asked.nonempty r.asked.fits in
-    granted_now a.listing w (listing_in_new_chunk a.listing slot.object size alignment) new.listing slot (ap (λ (x : Account). x.listing) begins.1.1.1) sound
-    (subst (IsLiveSlot (with_slot (with_chunk a.listing.space slot.object whole) first)) (sym is) (now_live (with_chunk a.listing.space slot.object whole) first)) refl
-    (omega (arith, r.enough, first_enough a.listing.space slot.object whole size alignment fits, ap (λ (q : Slot). q.size) is)) (starts_aligned a.listing w size alignment whole slot.offset r (ap (λ (q : Slot). q.offset) is))
+    (tail_free a.allocator.space size alignment slot t at in_slot.from in_slot.to).unused other live chunk in_other)
+answers_granted a new w size alignment flags es (Ok slot) p f g s agrees r (inr gives) objects =
+    let whole : ℕ = chunk_size a.allocator size in
+    let is = gives.place in
+    let none = was_new a new size alignment flags slot f g s is objects in
+    let sound = answers_sound a new size alignment flags es (Ok slot) p f g s agrees r.asked (inr gives) objects in
+    let first = first_tail a.allocator.space slot.object whole size alignment in
+    let fits = chunk_size_enough a.allocator size s r.asked.nonempty r.asked.fits in
+    granted_now a.allocator w (listing_in_new_chunk a.allocator slot.object size alignment) new.allocator slot (ap (λ (x : Account Listing). x.allocator) gives.state) sound
+    (subst (IsLiveSlot (with_slot (with_chunk a.allocator.space slot.object whole) first)) (sym is) (now_live (with_chunk a.allocator.space slot.object whole) first)) refl
+    (omega (arith, r.enough, first_enough a.allocator.space slot.object whole size alignment fits, ap (λ (q : Slot). q.size) is)) (starts_aligned a.allocator w size alignment whole slot.offset r (ap (λ (q : Slot). q.offset) is))
     (λ other live same at in_other in_slot.
     let there = s.space.inside other live in
-    other_objects a.listing p f slot.object agrees made.1.0 other.chunk there.chunk there.held (sym there.object ∙ same))
-answers_granted a new w size alignment flags es (Ok slot) p f g s agrees r (inr begins) (inr kept) = absurd (never_both a.listing.space size alignment slot s.space kept.0 (ap (λ (q : Slot). q.chunk) begins.1.0))
+    other_objects a.allocator p f slot.object agrees none other.chunk there.chunk there.held (sym there.object ∙ same))
 answers_granted a new w size alignment flags es (Err e) p f g s agrees r answers objects = tt
 
 -- What is looked for.
@@ -387,13 +364,19 @@ rounds l w size alignment size_is alignment_is s some fits mask =
 
 -- Refusals before anything is done.
 
-pub refuses_nothing : (a : Account) (w : Wanted) (size alignment : ℕ) → size ≡ rounded a.listing w → alignment ≡ alignment_of a.listing w → HasPlace a.listing.space size alignment → RefusesFirst a w None
-refuses_nothing a w size alignment size_is alignment_is place = inl (subst (HasPlace a.listing.space (rounded a.listing w)) alignment_is (subst (λ n. HasPlace a.listing.space n alignment) size_is place))
+module _ (a : Account Listing) (w : Wanted) (size alignment : ℕ) (size_is : size ≡ rounded a.allocator w) (alignment_is : alignment ≡ alignment_of a.allocator w) where
+  pub refuses_nothing : HasPlace a.allocator.space size alignment → RefusesFirst (case_of a w) None
+  refuses_nothing place = record {
+    fits = tt;
+    ways = inl (subst (HasPlace a.allocator.space (rounded a.allocator w)) alignment_is (subst (λ n. HasPlace a.allocator.space n alignment) size_is place));
+  }
 
-pub refuses_count : (a : Account) (w : Wanted) (size alignment : ℕ) → size ≡ rounded a.listing w → alignment ≡ alignment_of a.listing w → (HasPlace a.listing.space size alignment → ⊥) → IsBarred a
-    → RefusesFirst a w (Some TooManyObjects)
-refuses_count a w size alignment size_is alignment_is none barred =
-    ((λ place. none (subst (λ n. HasPlace a.listing.space n alignment) (sym size_is) (subst (HasPlace a.listing.space (rounded a.listing w)) (sym alignment_is) place))), barred)
+  pub refuses_count : (HasPlace a.allocator.space size alignment → ⊥) → IsBarred (case_of a w) → RefusesFirst (case_of a w) (Some TooManyObjects)
+  refuses_count none barred = record {
+    fits = tt;
+    no_place = λ place. none (subst (λ n. HasPlace a.allocator.space n alignment) (sym size_is) (subst (HasPlace a.allocator.space (rounded a.allocator w)) (sym alignment_is) place));
+    barred = barred;
+  }
 
 -- A new chunk, step by step.
 
@@ -402,18 +385,18 @@ pub question_is : (l : Listing) (size whole flags : ℕ) (visible : Bool) → wh
 question_is l size whole flags visible whole_is sees = λ i. record { size = whole_is i; memory_type = l.memory_type; flags = flags; visible = sees i }
 
 -- its refusal, as the answer to a request for a block in it
-pub refused_chunk : (a new : Account) (size alignment flags : ℕ) (es : List Event) (q : ChunkQuestion) (e : AllocationError) → q ≡ question a.listing size flags → new ≡ a → AsksForChunk a size alignment → AsksChunk q es (Err e)
-    → Answers a size alignment flags es (Err e) new
-refused_chunk a new size alignment flags es q OutOfDeviceMemory is same asks lacks = (same, (asks, subst (λ x. LacksDeviceMemory x es) is lacks))
+pub refused_chunk : (a new : Account Listing) (size alignment flags : ℕ) (es : List Event) (q : ChunkQuestion) (e : AllocationError) → q ≡ question a.allocator size flags → new ≡ a → Asks (list_case a size alignment flags) → AsksChunk q es (Err e)
+    → Answers (list_case a size alignment flags) es (Err e) new
+refused_chunk a new size alignment flags es q OutOfDeviceMemory is same asks lacks = (same, inr (asks, subst (λ x. LacksDeviceMemory x es) is lacks))
 refused_chunk a new size alignment flags es q OutOfHostMemory is same asks lacks = (same, inr (asks, inl (subst (λ x. LacksHostMemory x es) is lacks)))
 refused_chunk a new size alignment flags es q NoCompatibleMemoryTypes is same asks lacks = absurd lacks
 refused_chunk a new size alignment flags es q TooManyObjects is same asks lacks = absurd lacks
 
 -- it is given back for want of a second handle
-pub handle_refused : (a new : Account) (size alignment flags object name : ℕ) (es : List Event) (q : ChunkQuestion) → q ≡ question a.listing size flags → new ≡ a → AsksForChunk a size alignment → es ≡ made q object → name ≡ object
-    → Answers a size alignment flags (es ++ Deallocated name ∷ []) (Err OutOfHostMemory) new
+pub handle_refused : (a new : Account Listing) (size alignment flags object name : ℕ) (es : List Event) (q : ChunkQuestion) → q ≡ question a.allocator size flags → new ≡ a → Asks (list_case a size alignment flags) → es ≡ made q object → name ≡ object
+    → Answers (list_case a size alignment flags) (es ++ Deallocated name ∷ []) (Err OutOfHostMemory) new
 handle_refused a new size alignment flags object name es q is same asks es_is name_is =
-    (same, inr (asks, inr (object, ap (λ x. es ++ Deallocated x ∷ []) name_is ∙ ap (λ xs. xs ++ Deallocated object ∷ []) (es_is ∙ ap (λ x. made x object) is))))
+    (same, inr (asks, inr (refl, (object, ap (λ x. es ++ Deallocated x ∷ []) name_is ∙ ap (λ xs. xs ++ Deallocated object ∷ []) (es_is ∙ ap (λ x. made x object) is)))))
 
 -- the allocator with a block in it
 pub grown_is : (l : Listing) (s now : Space) (slot : Slot) (object whole next size alignment : ℕ) → s ≡ l.space → slot ≡ first_tail s object whole size alignment → now ≡ with_slot (with_chunk s object whole) slot

@@ -5,31 +5,23 @@ use Rattle.std.specs.List.{Contains}
 use Rattle.std.specs.FinMap as map
 use Rattle.std.specs.Ordering.{nat_cmp}
 use Rattle.gpu_alloc_types.specs.Flags.{has_bit}
-use Rattle.gpu_alloc_types.specs.Properties.{Properties, props_at}
-use Rattle.gpu_alloc_types.specs.Device.{Object, Event, HeldWith, put}
+use Rattle.gpu_alloc_types.specs.Properties.{Properties}
+use Rattle.gpu_alloc_types.specs.Device.{Object, Event, put}
 use Rattle.gpu_alloc_types.specs.Device.Event.{Deallocated}
 use Rattle.gpu_alloc_types.specs.declared.types.FreeRange.{FreeRange}
+use Rattle.gpu_alloc_base.specs.Accounts as accounts
+use Rattle.gpu_alloc_base.specs.Accounts.{Account}
+use Rattle.gpu_alloc_base.specs.Case.{Case, Answers}
 use Rattle.gpu_alloc_base.specs.Wanted.{Wanted}
-use Rattle.gpu_alloc_base.specs.Chunks.{IsThere, Chunk}
+use Rattle.gpu_alloc_base.specs.Chunks.{Chunk}
 use Rattle.gpu_alloc_base.specs.FreeSpace.{IsIn}
 use Rattle.gpu_alloc_freelist.specs.FreeList.{HasPlace, IsTail, HasNumber, MayGo, IsFirstToGo, with_slot, without_slot, without_chunk, with_chunk, first_tail, no_space}
 use Rattle.gpu_alloc_freelist.specs.FreeListState.{Space, Listing, IsLiveSlot, IsFreeIn}
 use Rattle.gpu_alloc_base.specs.FreeRuns.{IsFreeRun}
-use Rattle.gpu_alloc_base.specs.NewChunk.{ChunkQuestion, made, LacksDeviceMemory, LacksHostMemory, IsGivenBack, HasOneChunkMore}
+use Rattle.gpu_alloc_base.specs.NewChunk.{ChunkQuestion}
 use Rattle.gpu_alloc_base.specs.Sizes.{up, grown_chunk, doubled_chunk}
 use Rattle.gpu_alloc_base.specs.declared.free_list_block.Slot.{Slot}
 use Rattle.gpu_alloc_base.specs.declared.error.AllocationError.{AllocationError}
-use Rattle.gpu_alloc_base.specs.declared.error.AllocationError.TheVariants.{OutOfDeviceMemory, OutOfHostMemory, NoCompatibleMemoryTypes, TooManyObjects}
-use Rattle.gpu_alloc_base.specs.declared.heap.Heap.{Heap}
-
--- What a call changes: the allocator, the heap of its memory type, and how many more objects may be held.
-pub record Account : Type 0 where
-  pub listing : Listing
-  pub heap : Heap
-  pub remaining : ℕ
-
-abbrev pub account : Listing → Heap → ℕ → Account
-account l heap remaining = record { listing = l; heap = heap; remaining = remaining }
 
 -- the size that is looked for, in whole atoms
 abbrev pub rounded : Listing → Wanted → ℕ
@@ -58,47 +50,39 @@ abbrev pub listing_with_slot : Listing → Slot → Listing
 listing_with_slot l slot = record l { space = with_slot l.space slot }
 
 -- one more chunk is held, with a block that is its tail
-abbrev pub in_new_chunk : Account → ℕ → ℕ → ℕ → Account
+abbrev pub in_new_chunk : Account Listing → ℕ → ℕ → ℕ → Account Listing
 in_new_chunk a object size alignment =
-    let l = a.listing in
+    let l = a.allocator in
     let whole = chunk_size l size in
     record {
-      listing = record l { space = with_slot (with_chunk l.space object whole) (first_tail l.space object whole size alignment); next_chunk = next_size l whole };
+      allocator = record l { space = with_slot (with_chunk l.space object whole) (first_tail l.space object whole size alignment); next_chunk = next_size l whole };
       heap = record a.heap { used = a.heap.used + whole };
       remaining = a.remaining - 1;
     }
 
--- a chunk is asked for: there is no place, one more object may be held, and there is a number for it
-abbrev pub AsksForChunk : Account → ℕ → ℕ → Type 0
-AsksForChunk a size alignment = (HasPlace a.listing.space size alignment → ⊥) × ((0 < a.remaining) × HasNumber a.listing.space)
+-- A request for a block of the rounded size. A chunk of the largest size always fits.
+abbrev pub list_case : Account Listing → ℕ → ℕ → ℕ → Case Slot (Account Listing)
+list_case a size alignment flags = record {
+  before = a;
+  Fits = Unit {0};
+  HasPlace = HasPlace a.allocator.space size alignment;
+  remaining = a.remaining;
+  HasNumber = HasNumber a.allocator.space;
+  question = question a.allocator size flags;
+  two_handles = true;
+  object = λ slot. slot.object;
+  IsInPlace = IsTail a.allocator.space size alignment;
+  with_block = λ slot. record a { allocator = listing_with_slot a.allocator slot };
+  IsInNewObject = λ slot. slot ≡ first_tail a.allocator.space slot.object (chunk_size a.allocator size) size alignment;
+  with_object = λ slot. in_new_chunk a slot.object size alignment;
+}
 
--- no chunk may be asked for: no more objects may be held, or the numbers are spent
-abbrev pub IsBarred : Account → Type 0
-IsBarred a = (a.remaining ≡ 0) ⊎ (HasNumber a.listing.space → ⊥)
+-- a request for what is wanted
+abbrev pub case_of : Account Listing → Wanted → Case Slot (Account Listing)
+case_of a w = list_case a (rounded a.allocator w) (alignment a.allocator w) w.flags
 
--- What a request for a block of the rounded size may answer, what is then asked of the device, and what it leaves.
-abbrev pub Answers : Account → ℕ → ℕ → ℕ → List Event → Result Slot AllocationError → Account → Type 0
-Answers a size alignment flags es (Ok slot) new =
-    (IsTail a.listing.space size alignment slot × ((es ≡ []) × (new ≡ record a { listing = listing_with_slot a.listing slot })))
-    ⊎ (AsksForChunk a size alignment × ((slot ≡ first_tail a.listing.space slot.object (chunk_size a.listing size) size alignment) × ((es ≡ made (question a.listing size flags) slot.object) × (new ≡ in_new_chunk a slot.object size alignment))))
-Answers a size alignment flags es (Err OutOfDeviceMemory) new = (new ≡ a) × (AsksForChunk a size alignment × LacksDeviceMemory (question a.listing size flags) es)
-Answers a size alignment flags es (Err TooManyObjects) new = (new ≡ a) × ((es ≡ []) × ((HasPlace a.listing.space size alignment → ⊥) × IsBarred a))
--- host memory was refused to the allocator, or to the device
-Answers a size alignment flags es (Err OutOfHostMemory) new =
-    (new ≡ a) × (((es ≡ []) × (HasPlace a.listing.space size alignment ⊎ AsksForChunk a size alignment))
-    ⊎ (AsksForChunk a size alignment × (LacksHostMemory (question a.listing size flags) es ⊎ IsGivenBack (question a.listing size flags) es)))
-Answers a size alignment flags es (Err NoCompatibleMemoryTypes) new = ⊥
-
-abbrev pub Allocates : Account → Wanted → List Event → Result Slot AllocationError → Account → Type 0
-Allocates a w es answer new = Answers a (rounded a.listing w) (alignment a.listing w) w.flags es answer new
-
--- the refusal that is certain before any memory is taken and anything is asked
-abbrev pub RefusesFirst : Account → Wanted → Option AllocationError → Type 0
-RefusesFirst a w (Some TooManyObjects) = (HasPlace a.listing.space (rounded a.listing w) (alignment a.listing w) → ⊥) × IsBarred a
-RefusesFirst a w (Some OutOfDeviceMemory) = ⊥
-RefusesFirst a w (Some OutOfHostMemory) = ⊥
-RefusesFirst a w (Some NoCompatibleMemoryTypes) = ⊥
-RefusesFirst a w None = HasPlace a.listing.space (rounded a.listing w) (alignment a.listing w) ⊎ ((0 < a.remaining) × HasNumber a.listing.space)
+abbrev pub Allocates : Account Listing → Wanted → List Event → Result Slot AllocationError → Account Listing → Type 0
+Allocates a w es answer new = Answers (case_of a w) es answer new
 
 -- Chunks that go.
 
@@ -130,12 +114,12 @@ without_numbers chunks [] = chunks
 without_numbers chunks (number ∷ numbers) = without_numbers (map.remove chunks number) numbers
 
 -- their objects go back to the device in this order
-abbrev pub LetsGo : Account → List ℕ → List Event → Account → Type 0
+abbrev pub LetsGo : Account Listing → List ℕ → List Event → Account Listing → Type 0
 LetsGo a gone es new =
-    (es ≡ list.map (λ number. Deallocated (object_of a.listing.space number)) gone)
+    (es ≡ list.map (λ number. Deallocated (object_of a.allocator.space number)) gone)
     × (new ≡ record {
-      listing = record a.listing { space = record a.listing.space { chunks = without_numbers a.listing.space.chunks gone } };
-      heap = record a.heap { used = a.heap.used - sum_by (size_of a.listing.space) gone };
+      allocator = record a.allocator { space = record a.allocator.space { chunks = without_numbers a.allocator.space.chunks gone } };
+      heap = record a.heap { used = a.heap.used - sum_by (size_of a.allocator.space) gone };
       remaining = a.remaining + length gone;
     })
 
@@ -145,16 +129,16 @@ without_objects_of s objects [] = objects
 without_objects_of s objects (number ∷ numbers) = without_objects_of s (put objects (object_of s number) None) numbers
 
 -- the block is live no more
-abbrev pub account_without : Account → Slot → Account
-account_without a slot = record a { listing = record a.listing { space = without_slot a.listing.space slot } }
+abbrev pub account_without : Account Listing → Slot → Account Listing
+account_without a slot = record a { allocator = record a.allocator { space = without_slot a.allocator.space slot } }
 
 -- A block comes back, and then every wholly free chunk goes but that of the last run.
-abbrev pub Frees : Account → Slot → List Event → Account → Type 0
-Frees a slot es new = (gone : List ℕ) × (AreGone (without_slot a.listing.space slot) true gone × LetsGo (account_without a slot) gone es new)
+abbrev pub Frees : Account Listing → Slot → List Event → Account Listing → Type 0
+Frees a slot es new = (gone : List ℕ) × (AreGone (without_slot a.allocator.space slot) true gone × LetsGo (account_without a slot) gone es new)
 
 -- every wholly free chunk goes
-abbrev pub Cleans : Account → List Event → Account → Type 0
-Cleans a es new = (gone : List ℕ) × (AreGone a.listing.space false gone × LetsGo a gone es new)
+abbrev pub Cleans : Account Listing → List Event → Account Listing → Type 0
+Cleans a es new = (gone : List ℕ) × (AreGone a.allocator.space false gone × LetsGo a gone es new)
 
 -- nothing is held
 abbrev pub opened : ℕ → ℕ → ℕ → ℕ → ℕ → Listing
@@ -179,26 +163,12 @@ pub record IsGranted (old : Listing) (w : Wanted) (new : Listing) (slot : Slot) 
 -- Device and allocator.
 
 -- the device has the memory type with its properties, and holds each chunk
-pub record Agrees (l : Listing) (p : Properties) (objects : ℕ → Option Object) : Type 0 where
-  pub known : l.memory_type < length p.memory_types
-  pub props : props_at p l.memory_type ≡ l.props
-  pub holds : (number : ℕ) → IfSome (map.get l.space.chunks number) (λ chunk. HeldWith objects chunk.object (IsThere l.memory_type (sees_chunks l) chunk))
+abbrev pub Agrees : Listing → Properties → (ℕ → Option Object) → Type 0
+Agrees l p objects = accounts.Agrees l.memory_type l.props l.space.chunks p objects
 
--- what the held chunks add to the ledger
-abbrev pub chunk_bytes : Listing → ℕ
-chunk_bytes l = sum_by (λ e. e.1.size) (map.entries l.space.chunks)
-
--- the ledger counts each held chunk, and the count of objects will not overflow
-pub record IsCounted (a : Account) : Type 0 where
-  pub chunks : chunk_bytes a.listing ≤ a.heap.used
-  pub objects : a.remaining + map.len a.listing.space.chunks < 2 ^ 32
-
--- What a request makes of the device's objects: one more where its block is in a new chunk, and else nothing.
-abbrev pub ObjectsAfter : Listing → ℕ → ℕ → ℕ → Result Slot AllocationError → (ℕ → Option Object) → (ℕ → Option Object) → Type 0
-ObjectsAfter l size alignment flags (Ok slot) old new =
-    ((slot.chunk ≡ l.space.latest + 1) × HasOneChunkMore (question l size flags) slot.object old new)
-    ⊎ (IsTail l.space size alignment slot × (new ≡ old))
-ObjectsAfter l size alignment flags (Err e) old new = new ≡ old
+-- what a request makes of the device's objects
+abbrev pub ObjectsAfter : Listing → Result Slot AllocationError → Listing → (ℕ → Option Object) → (ℕ → Option Object) → Type 0
+ObjectsAfter l answer after old new = accounts.ObjectsAfter (λ slot. slot.chunk) (λ slot. slot.object) l.memory_type l.props l.space.chunks answer after.space.chunks old new
 
 -- what a return makes of them: the chunks that go with it
 abbrev pub ObjectsFreed : Listing → Slot → (ℕ → Option Object) → (ℕ → Option Object) → Type 0
@@ -208,30 +178,27 @@ ObjectsFreed l slot old new = (gone : List ℕ) × (AreGone (without_slot l.spac
 abbrev pub ObjectsCleaned : Listing → (ℕ → Option Object) → (ℕ → Option Object) → Type 0
 ObjectsCleaned l old new = (gone : List ℕ) × (AreGone l.space false gone × (new ≡ without_objects_of l.space old gone))
 
-abbrev pub chunks_and_remaining : Account → ℕ
-chunks_and_remaining a = a.remaining + map.len a.listing.space.chunks
-
 -- The chunks go one by one, each the first that may, until none may.
-abbrev pub GivesBack : Bool → Account → List ℕ → List Event → Account → (ℕ → Option Object) → (ℕ → Option Object) → Type 0
+abbrev pub GivesBack : Bool → Account Listing → List ℕ → List Event → Account Listing → (ℕ → Option Object) → (ℕ → Option Object) → Type 0
 GivesBack keep_last a gone es new old_objects new_objects =
-    AreGone a.listing.space keep_last gone × (LetsGo a gone es new × (new_objects ≡ without_objects_of a.listing.space old_objects gone))
+    AreGone a.allocator.space keep_last gone × (LetsGo a gone es new × (new_objects ≡ without_objects_of a.allocator.space old_objects gone))
 
 -- One chunk goes.
 
-abbrev pub account_without_chunk : Account → ℕ → Account
+abbrev pub account_without_chunk : Account Listing → ℕ → Account Listing
 account_without_chunk a number = record {
-  listing = record a.listing { space = without_chunk a.listing.space number };
-  heap = record a.heap { used = a.heap.used - size_of a.listing.space number };
+  allocator = record a.allocator { space = without_chunk a.allocator.space number };
+  heap = record a.heap { used = a.heap.used - size_of a.allocator.space number };
   remaining = a.remaining + 1;
 }
 
 -- the first chunk that may go is given back, or none may
-abbrev pub GivesFirst : Bool → Account → List Event → Option ℕ → Account → (ℕ → Option Object) → (ℕ → Option Object) → Type 0
+abbrev pub GivesFirst : Bool → Account Listing → List Event → Option ℕ → Account Listing → (ℕ → Option Object) → (ℕ → Option Object) → Type 0
 GivesFirst keep_last a es None new old_objects new_objects =
-    ((number : ℕ) → MayGo a.listing.space keep_last number → ⊥) × ((es ≡ []) × ((new ≡ a) × (new_objects ≡ old_objects)))
+    ((number : ℕ) → MayGo a.allocator.space keep_last number → ⊥) × ((es ≡ []) × ((new ≡ a) × (new_objects ≡ old_objects)))
 GivesFirst keep_last a es (Some object) new old_objects new_objects =
-    (number : ℕ) × (IsFirstToGo a.listing.space keep_last number
-    × ((object ≡ object_of a.listing.space number)
+    (number : ℕ) × (IsFirstToGo a.allocator.space keep_last number
+    × ((object ≡ object_of a.allocator.space number)
     × ((es ≡ Deallocated object ∷ [])
     × ((new ≡ account_without_chunk a number) × (new_objects ≡ put old_objects object None)))))
 

@@ -8,7 +8,9 @@ ghost use Rattle.gpu_alloc_types.specs.Device.{Event, Chain};
 ghost use Rattle.gpu_alloc_types.specs.declared.types.FreeRange.{FreeRange as Range};
 ghost use Rattle.gpu_alloc_base.specs.Wanted.{wanted};
 ghost use Rattle.gpu_alloc_freelist.specs.FreeList.{HasPlace, without_slot};
-ghost use Rattle.gpu_alloc_freelist.specs.FreeListAllocator.{opened, account, rounded, alignment, chunk_size, Allocates, Answers, AsksForChunk, RefusesFirst, Frees, Cleans, GivesBack, GivesFirst, listing_without, ObjectsAfter, ObjectsFreed, ObjectsCleaned, IsGranted, Agrees, IsCounted, IsRunOf, AreInOrder, chunks_and_remaining};
+ghost use Rattle.gpu_alloc_freelist.specs.FreeListAllocator.{Agrees, alignment, Allocates, AreInOrder, case_of, chunk_size, Cleans, Frees, GivesBack, GivesFirst, IsGranted, IsRunOf, list_case, listing_without, ObjectsAfter, ObjectsCleaned, ObjectsFreed, opened, rounded};
+ghost use Rattle.gpu_alloc_base.specs.Accounts.{account, IsCounted, chunks_and_remaining};
+ghost use Rattle.gpu_alloc_base.specs.Case.{Answers, Asks, RefusesFirst};
 ghost use Rattle.gpu_alloc_freelist.specs.FreeListSound.{IsSound, IsSoundSpace};
 ghost use Rattle.gpu_alloc_freelist.specs.FreeListState.{Listing, IsLiveSlot};
 ghost use Rattle.gpu_alloc_base.specs.FreeSpace.{IsMultipleOf};
@@ -157,12 +159,12 @@ impl<M: MemoryObject, A: Allocator> FreeListAllocator<M, A> {
         requires alignment { IsAlignMask align_mask }
         requires address { IsTrue (has_bit (allocation_bits flags) 1) → IsTrue (D.properties device.old).buffer_device_address }
         requires agrees { Agrees self.old (D.properties device.old) (D.objects device.old) }
-        requires counted { IsCounted (account self.old heap.old allocations_remains.old) }
+        requires counted { IsCounted (self.old).space.chunks heap.old allocations_remains.old }
         requires bound { heap.old.used ≤ 2 ^ 127 }
 
         // What was asked of the device, the answer, and what changed.
         ensures allocates { (es : List Event) × Chain D.step device.old es device.new × Allocates (account self.old heap.old allocations_remains.old) (wanted size align_mask (allocation_bits flags)) es result (account self.new heap.new allocations_remains.new) }
-        ensures objects { ObjectsAfter self.old (rounded self.old (wanted size align_mask (allocation_bits flags))) (alignment self.old (wanted size align_mask (allocation_bits flags))) (allocation_bits flags) result (D.objects device.old) (D.objects device.new) }
+        ensures objects { ObjectsAfter self.old result self.new (D.objects device.old) (D.objects device.new) }
         ensures agrees { Agrees self.new (D.properties device.new) (D.objects device.new) }
         ensures properties { D.properties device.new ≡ D.properties device.old }
 
@@ -170,8 +172,8 @@ impl<M: MemoryObject, A: Allocator> FreeListAllocator<M, A> {
         ensures granted { IfOk result (IsGranted self.old (wanted size align_mask (allocation_bits flags)) self.new) }
         ensures refused { OnErr result ((self.new ≡ self.old) × ((heap.new ≡ heap.old) × (allocations_remains.new ≡ allocations_remains.old))) }
         ensures sound { IsSound self.new }
-        ensures counted { IsCounted (account self.new heap.new allocations_remains.new) }
-        ensures total { chunks_and_remaining (account self.new heap.new allocations_remains.new) ≡ chunks_and_remaining (account self.old heap.old allocations_remains.old) }
+        ensures counted { IsCounted (self.new).space.chunks heap.new allocations_remains.new }
+        ensures total { chunks_and_remaining (self.new).space.chunks allocations_remains.new ≡ chunks_and_remaining (self.old).space.chunks allocations_remains.old }
     {
         let size = self.rounded_size(size);
         let align_mask = align_mask.max(self.atom_mask);
@@ -191,7 +193,7 @@ impl<M: MemoryObject, A: Allocator> FreeListAllocator<M, A> {
         requires nonempty { 0 < size }
         requires fits { up size (self.now).atom ≤ (self.now).final_chunk }
         requires alignment { IsAlignMask align_mask }
-        ensures { (flags : ℕ) → RefusesFirst (account self.now heap.now allocations_remains) (wanted size align_mask flags) result }
+        ensures { (flags : ℕ) → RefusesFirst (case_of (account self.now heap.now allocations_remains) (wanted size align_mask flags)) result }
     {
         if allocations_remains > 0 && self.freelist.has_number() {
             return None;
@@ -221,15 +223,15 @@ impl<M: MemoryObject, A: Allocator> FreeListAllocator<M, A> {
     )
         requires live { IsLiveSlot (self.old).space block }
         requires agrees { Agrees self.old (D.properties device.old) (D.objects device.old) }
-        requires counted { IsCounted (account self.old heap.old allocations_remains.old) }
+        requires counted { IsCounted (self.old).space.chunks heap.old allocations_remains.old }
 
         ensures frees { (es : List Event) × Chain D.step device.old es device.new × Frees (account self.old heap.old allocations_remains.old) block es (account self.new heap.new allocations_remains.new) }
         ensures objects { ObjectsFreed self.old block (D.objects device.old) (D.objects device.new) }
         ensures agrees { Agrees self.new (D.properties device.new) (D.objects device.new) }
         ensures properties { D.properties device.new ≡ D.properties device.old }
         ensures sound { IsSound self.new }
-        ensures counted { IsCounted (account self.new heap.new allocations_remains.new) }
-        ensures total { chunks_and_remaining (account self.new heap.new allocations_remains.new) ≡ chunks_and_remaining (account self.old heap.old allocations_remains.old) }
+        ensures counted { IsCounted (self.new).space.chunks heap.new allocations_remains.new }
+        ensures total { chunks_and_remaining (self.new).space.chunks allocations_remains.new ≡ chunks_and_remaining (self.old).space.chunks allocations_remains.old }
     {
         self.free(block);
         self.give_back(device, true, heap, allocations_remains);
@@ -247,15 +249,15 @@ impl<M: MemoryObject, A: Allocator> FreeListAllocator<M, A> {
         allocations_remains: &mut u32,
     )
         requires agrees { Agrees self.old (D.properties device.old) (D.objects device.old) }
-        requires counted { IsCounted (account self.old heap.old allocations_remains.old) }
+        requires counted { IsCounted (self.old).space.chunks heap.old allocations_remains.old }
 
         ensures cleans { (es : List Event) × Chain D.step device.old es device.new × Cleans (account self.old heap.old allocations_remains.old) es (account self.new heap.new allocations_remains.new) }
         ensures objects { ObjectsCleaned self.old (D.objects device.old) (D.objects device.new) }
         ensures agrees { Agrees self.new (D.properties device.new) (D.objects device.new) }
         ensures properties { D.properties device.new ≡ D.properties device.old }
         ensures sound { IsSound self.new }
-        ensures counted { IsCounted (account self.new heap.new allocations_remains.new) }
-        ensures total { chunks_and_remaining (account self.new heap.new allocations_remains.new) ≡ chunks_and_remaining (account self.old heap.old allocations_remains.old) }
+        ensures counted { IsCounted (self.new).space.chunks heap.new allocations_remains.new }
+        ensures total { chunks_and_remaining (self.new).space.chunks allocations_remains.new ≡ chunks_and_remaining (self.old).space.chunks allocations_remains.old }
     {
         self.give_back(device, false, heap, allocations_remains);
     }
@@ -281,12 +283,12 @@ impl<M: MemoryObject, A: Allocator> FreeListAllocator<M, A> {
         allocations_remains: &mut u32,
     ) -> Option<u64>
         requires agrees { Agrees self.old (D.properties device.old) (D.objects device.old) }
-        requires counted { IsCounted (account self.old heap.old allocations_remains.old) }
+        requires counted { IsCounted (self.old).space.chunks heap.old allocations_remains.old }
         ensures gives { (es : List Event) × Chain D.step device.old es device.new × GivesFirst keep_last (account self.old heap.old allocations_remains.old) es result (account self.new heap.new allocations_remains.new) (D.objects device.old) (D.objects device.new) }
         ensures agrees { Agrees self.new (D.properties device.new) (D.objects device.new) }
         ensures properties { D.properties device.new ≡ D.properties device.old }
         ensures sound { IsSound self.new }
-        ensures counted { IsCounted (account self.new heap.new allocations_remains.new) }
+        ensures counted { IsCounted (self.new).space.chunks heap.new allocations_remains.new }
     {
         let Some((memory, size, _)) = self.freelist.take_whole(keep_last) else {
             return None;
@@ -340,10 +342,10 @@ impl<M: MemoryObject, A: Allocator> FreeListAllocator<M, A> {
         requires aligned { (self.old).atom ≤ align_mask + 1 }
         requires address { IsTrue (has_bit (allocation_bits flags) 1) → IsTrue (D.properties device.old).buffer_device_address }
         requires agrees { Agrees self.old (D.properties device.old) (D.objects device.old) }
-        requires counted { IsCounted (account self.old heap.old allocations_remains.old) }
+        requires counted { IsCounted (self.old).space.chunks heap.old allocations_remains.old }
         requires bound { heap.old.used ≤ 2 ^ 127 }
-        ensures answers { (es : List Event) × Chain D.step device.old es device.new × Answers (account self.old heap.old allocations_remains.old) size (align_mask + 1) (allocation_bits flags) es result (account self.new heap.new allocations_remains.new) }
-        ensures objects { ObjectsAfter self.old size (align_mask + 1) (allocation_bits flags) result (D.objects device.old) (D.objects device.new) }
+        ensures answers { (es : List Event) × Chain D.step device.old es device.new × Answers (list_case (account self.old heap.old allocations_remains.old) size (align_mask + 1) (allocation_bits flags)) es result (account self.new heap.new allocations_remains.new) }
+        ensures objects { ObjectsAfter self.old result self.new (D.objects device.old) (D.objects device.new) }
         ensures properties { D.properties device.new ≡ D.properties device.old }
         ensures sound { IsSound self.old }
     {
@@ -373,13 +375,13 @@ impl<M: MemoryObject, A: Allocator> FreeListAllocator<M, A> {
         requires fits { size ≤ (self.old).final_chunk }
         requires alignment { IsAlignMask align_mask }
         requires aligned { (self.old).atom ≤ align_mask + 1 }
-        requires asks { AsksForChunk (account self.old heap.old allocations_remains.old) size (align_mask + 1) }
+        requires asks { Asks (list_case (account self.old heap.old allocations_remains.old) size (align_mask + 1) (allocation_bits flags)) }
         requires address { IsTrue (has_bit (allocation_bits flags) 1) → IsTrue (D.properties device.old).buffer_device_address }
         requires agrees { Agrees self.old (D.properties device.old) (D.objects device.old) }
-        requires counted { IsCounted (account self.old heap.old allocations_remains.old) }
+        requires counted { IsCounted (self.old).space.chunks heap.old allocations_remains.old }
         requires bound { heap.old.used ≤ 2 ^ 127 }
-        ensures answers { (es : List Event) × Chain D.step device.old es device.new × Answers (account self.old heap.old allocations_remains.old) size (align_mask + 1) (allocation_bits flags) es result (account self.new heap.new allocations_remains.new) }
-        ensures objects { ObjectsAfter self.old size (align_mask + 1) (allocation_bits flags) result (D.objects device.old) (D.objects device.new) }
+        ensures answers { (es : List Event) × Chain D.step device.old es device.new × Answers (list_case (account self.old heap.old allocations_remains.old) size (align_mask + 1) (allocation_bits flags)) es result (account self.new heap.new allocations_remains.new) }
+        ensures objects { ObjectsAfter self.old result self.new (D.objects device.old) (D.objects device.new) }
         ensures properties { D.properties device.new ≡ D.properties device.old }
     {
         if self.freelist.reserve().is_err() {
@@ -431,13 +433,13 @@ impl<M: MemoryObject, A: Allocator> FreeListAllocator<M, A> {
         allocations_remains: &mut u32,
     )
         requires agrees { Agrees self.old (D.properties device.old) (D.objects device.old) }
-        requires counted { IsCounted (account self.old heap.old allocations_remains.old) }
+        requires counted { IsCounted (self.old).space.chunks heap.old allocations_remains.old }
         ensures gives { (gone : List ℕ) × (es : List Event) × Chain D.step device.old es device.new × GivesBack keep_last (account self.old heap.old allocations_remains.old) gone es (account self.new heap.new allocations_remains.new) (D.objects device.old) (D.objects device.new) }
         ensures agrees { Agrees self.new (D.properties device.new) (D.objects device.new) }
         ensures properties { D.properties device.new ≡ D.properties device.old }
         ensures sound { IsSound self.new }
-        ensures counted { IsCounted (account self.new heap.new allocations_remains.new) }
-        ensures total { chunks_and_remaining (account self.new heap.new allocations_remains.new) ≡ chunks_and_remaining (account self.old heap.old allocations_remains.old) }
+        ensures counted { IsCounted (self.new).space.chunks heap.new allocations_remains.new }
+        ensures total { chunks_and_remaining (self.new).space.chunks allocations_remains.new ≡ chunks_and_remaining (self.old).space.chunks allocations_remains.old }
     {
         while let Some((memory, size, _)) = self.freelist.take_whole(keep_last) {
             device.deallocate_memory(&memory);

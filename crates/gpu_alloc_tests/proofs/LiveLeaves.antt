@@ -2,7 +2,8 @@
 use Rattle.std.proofs.Common.{◌≡◌, inl, inr, ◌<◌, List, Ok, refl, sym, subst, arith}
 use Rattle.std.proofs.lemmas.Nat.{pow_pos}
 use Rattle.gpu_alloc_types.specs.Device.{Event}
-use Rattle.gpu_alloc.specs.Buddy.{Account, Allocates, Frees, IsGranted}
+use Rattle.gpu_alloc.specs.Accounts.{Account}
+use Rattle.gpu_alloc.specs.Buddy.{Allocates, Frees, IsGranted}
 use Rattle.gpu_alloc.specs.Wanted.{Wanted}
 use Rattle.gpu_alloc.specs.BuddyState.{Buddy, IsLiveLeaf}
 use Rattle.gpu_alloc.specs.FreeSpace.{IsIn}
@@ -17,11 +18,11 @@ was_not_live old w new leaf granted live =
     granted.was_free leaf live refl leaf.offset first first
 
 -- a grant leaves the others live
-pub live_after_grant : (a new : Account) (w : Wanted) (es : List Event) (leaf other : Leaf) → Allocates a w es (Ok leaf) new → IsLiveLeaf a.buddy other → IsLiveLeaf new.buddy other
-live_after_grant a new w es leaf other (inl front) live = subst (λ (x : Account). IsLiveLeaf x.buddy other) (sym front.1.1.1) ((leaf_inserted a.buddy.live leaf other).1 (inr live))
-live_after_grant a new w es leaf other (inr begins) live = subst (λ (x : Account). IsLiveLeaf x.buddy other) (sym begins.1.1.1) ((leaf_inserted a.buddy.live leaf other).1 (inr live))
+pub live_after_grant : (a new : Account Buddy) (w : Wanted) (es : List Event) (leaf other : Leaf) → Allocates a w es (Ok leaf) new → IsLiveLeaf a.allocator other → IsLiveLeaf new.allocator other
+live_after_grant a new w es leaf other (inl gives) live = subst (λ (x : Account Buddy). IsLiveLeaf x.allocator other) (sym gives.state) ((leaf_inserted a.allocator.live leaf other).1 (inr live))
+live_after_grant a new w es leaf other (inr gives) live = subst (λ (x : Account Buddy). IsLiveLeaf x.allocator other) (sym gives.state) ((leaf_inserted a.allocator.live leaf other).1 (inr live))
 
 -- and so does a return
-pub live_after_return : (a new : Account) (es : List Event) (leaf other : Leaf) → Frees a leaf es new → (other ≡ leaf → ⊥) → IsLiveLeaf a.buddy other → IsLiveLeaf new.buddy other
-live_after_return a new es leaf other (inl stays) different live = subst (λ (x : Account). IsLiveLeaf x.buddy other) (sym stays.1.1) ((leaf_removed a.buddy.live leaf other).1 (different, live))
-live_after_return a new es leaf other (inr goes) different live = subst (λ (x : Account). IsLiveLeaf x.buddy other) (sym goes.1.2.1) ((leaf_removed a.buddy.live leaf other).1 (different, live))
+pub live_after_return : (a new : Account Buddy) (es : List Event) (leaf other : Leaf) → Frees a leaf es new → (other ≡ leaf → ⊥) → IsLiveLeaf a.allocator other → IsLiveLeaf new.allocator other
+live_after_return a new es leaf other (inl stays) different live = subst (λ (x : Account Buddy). IsLiveLeaf x.allocator other) (sym stays.1.1) ((leaf_removed a.allocator.live leaf other).1 (different, live))
+live_after_return a new es leaf other (inr goes) different live = subst (λ (x : Account Buddy). IsLiveLeaf x.allocator other) (sym goes.1.2.1) ((leaf_removed a.allocator.live leaf other).1 (different, live))

@@ -1,15 +1,19 @@
 -- What a grant of a whole object makes of the books.
-use Rattle.std.proofs.Common.{◌≡◌, ◌≢◌, ◌⊎◌, inl, inr, ℕ, ◌<◌, Bool, true, false, MatchBool, List, [], ◌∷◌, length, Option, Some, None, Ok, sym, ◌∙◌, ap, subst, arith}
+use Rattle.std.proofs.Common.{◌≡◌, ◌≢◌, ◌⊎◌, inl, inr, ℕ, ◌<◌, Bool, true, false, MatchBool, cond, List, [], ◌∷◌, length, Option, Some, None, Ok, sym, ◌∙◌, ap, subst, arith}
+use Rattle.std.specs.Prelude.{◌&&◌}
 use Rattle.std.specs.FinMap as finite
 use Rattle.std.specs.Ordering.{nat_cmp}
-use Rattle.gpu_alloc_types.specs.Properties.{Properties}
+use Rattle.gpu_alloc_types.specs.Properties.{Properties, is_host_visible}
 use Rattle.gpu_alloc_types.specs.Device.{Event, Object, IsFresh, put}
 use Rattle.gpu_alloc_types.specs.Objects.{put-same, put-other}
 use Rattle.gpu_alloc.specs.Agreement.{Agrees}
-use Rattle.gpu_alloc.specs.Allocation.{Allocates, TriesAll, Refuses, candidates_of, IsGranted, HasOneMore, ObjectsWith, ObjectsAfter, whole_block, holding}
+use Rattle.gpu_alloc.specs.Allocation.{Allocates, TriesAll, Refuses, candidates_of, IsAsCounted, IsGranted, ObjectsAfter}
+use Rattle.gpu_alloc.specs.Candidates.{whole_block, holding}
+use Rattle.gpu_alloc.specs.NewObject.{HasOneMore}
 use Rattle.gpu_alloc.specs.Types.AllocationError.{AllocationError}
 use Rattle.gpu_alloc.specs.Types.AllocationError.TheVariants.{OutOfDeviceMemory, NoCompatibleMemoryTypes, TooManyObjects}
-use Rattle.gpu_alloc.specs.State.{Span, span_of, HeldObject, Block, State, IsLive}
+use Rattle.gpu_alloc.specs.State.{Span, span_of, HeldObject, Block, State, IsLive, is_shared}
+use Rattle.gpu_alloc_base.proofs.Maps.{one_value}
 use Rattle.gpu_alloc.specs.declared.block.Kind.TheVariants.{Dedicated as DedicatedObject}
 use Rattle.gpu_alloc.specs.declared.request.Request.{Request}
 use Rattle.gpu_alloc.specs.declared.request.Dedicated.TheVariants.{Required}
@@ -25,12 +29,16 @@ owned_object t size = record { memory_type = t; counted = size; kind = Dedicated
 pub record IsWholeGrant (s : State) (r : Request) (new : State) (b : Block) : Type 0 where
   pub of_type : ℕ
   pub block : b ≡ whole_block s b.object r.size of_type
+  pub was_free : finite.get s.held b.object ≡ None
   pub state : new ≡ holding s (owned_object of_type r.size) b
 
 from_tries : (s : State) (r : Request) (ts : List ℕ) (es : List Event) (b : Block) (new : State) → TriesAll s r (Some Required) ts es (Ok b) new → IsWholeGrant s r new b
 from_tries s r [] es b new tried = absurd (let n = tried.1 in cc)
 from_tries s r (t ∷ ts) es b new (inl later) = from_tries s r ts later.1 b new later.4
-from_tries s r (t ∷ ts) es b new (inr decided) = record { of_type = t; block = decided.1.2; state = decided.1.3 }
+from_tries s r (t ∷ ts) es b new (inr decided) = elim (decided.1) [
+  | inl here ↦ absurd (here.place)
+  | inr gives ↦ record { of_type = t; block = gives.place.is; was_free = gives.place.was_free; state = gives.state }
+]
 
 passed : (t : Bool) (P Q : Type 0) → (P → ⊥) → MatchBool t P Q → Q
 passed true P Q never m = absurd (never m)
@@ -53,7 +61,7 @@ pub record Grants (s : State) (blocks : finite.FinMap nat_cmp Block) (r : Reques
   pub nonempty : 0 < r.size
   pub whole : IsWholeGrant s r new b
   pub granted : IsGranted s r new b
-  pub objects : ObjectsAfter s (Ok b) before after
+  pub objects : ObjectsAfter s (Ok b) new before after
   pub agrees : Agrees new q after
 
 module _ {s : State} {blocks : finite.FinMap nat_cmp Block} {r : Request} {name : ℕ} {b : Block} {new : State} {p q : Properties} {before after : ℕ → Option Object}
@@ -69,17 +77,27 @@ module _ {s : State} {blocks : finite.FinMap nat_cmp Block} {r : Request} {name 
   of_kind : b.kind ≡ DedicatedObject
   of_kind = ap (λ (c : Block). c.kind) g.whole.block
 
-  more : HasOneMore b before after
-  more = subst (λ kind. ObjectsWith kind s b before after) of_kind g.objects
+  held_new : finite.get new.held b.object ≡ Some (owned_object g.whole.of_type r.size)
+  held_new = ap (λ (t : State). finite.get t.held b.object) g.whole.state ∙ get_put s.held b.object (owned_object g.whole.of_type r.size)
+
+  -- the device holds its object
+  more : HasOneMore (IsAsCounted s.properties) (finite.get new.held b.object) b.object before after
+  more = rw (g.whole.was_free) at g.objects
 
   abbrev object : Object
-  object = more.1.0
+  object = more.made
 
   fresh : IsFresh b.size b.memory_type object
-  fresh = more.1.1
+  fresh =
+      let counted : more.counted ≡ owned_object g.whole.of_type r.size = one_value _ more.counted (owned_object g.whole.of_type r.size) more.is_counted held_new in
+      record {
+        of_type = more.is_as.of_type ∙ ap (λ (h : HeldObject). h.memory_type) counted ∙ sym (ap (λ (c : Block). c.memory_type) g.whole.block);
+        of_size = more.is_as.of_size ∙ ap (λ (h : HeldObject). h.counted) counted ∙ sym of_size;
+        unmapped = more.is_as.mapped ∙ ap (λ (h : HeldObject). cond (is_shared h.kind && is_host_visible s.properties h.memory_type) (Some (0, h.counted)) None) counted;
+      }
 
   after_is : after ≡ put before b.object (Some object)
-  after_is = more.1.2
+  after_is = more.now
 
   there : after b.object ≡ Some object
   there = ap (λ f. f b.object) after_is ∙ put-same before b.object (Some object)
@@ -100,16 +118,13 @@ module _ {s : State} {blocks : finite.FinMap nat_cmp Block} {r : Request} {name 
   other n c at same =
       let held = (block_at n c at).inside in
       let had : before b.object ≡ Some held.0 = subst (λ k. before k ≡ Some held.0) same held.1 in
-      let none : before b.object ≡ None = more.0 in cc
+      let none : before b.object ≡ None = more.was_free in cc
 
   after_other : (k : ℕ) → k ≢ b.object → after k ≡ before k
   after_other k ne = ap (λ f. f k) after_is ∙ put-other before b.object (Some object) k ne
 
   held_other : (k : ℕ) → k ≢ b.object → finite.get new.held k ≡ finite.get s.held k
   held_other k ne = ap (λ (t : State). finite.get t.held k) g.whole.state ∙ get_put-other s.held b.object (owned_object g.whole.of_type r.size) k ne
-
-  held_new : finite.get new.held b.object ≡ Some (owned_object g.whole.of_type r.size)
-  held_new = ap (λ (t : State). finite.get t.held b.object) g.whole.state ∙ get_put s.held b.object (owned_object g.whole.of_type r.size)
 
   live_kept : (span : Span) → IsLive s span → IsLive new span
   live_kept span live = subst (λ (t : State). IsLive t span) (sym g.whole.state) (live_still s.live (span_of b) span live)

@@ -8,19 +8,23 @@ use Rattle.std.specs.FinSet as set_of
 use Rattle.gpu_alloc_types.specs.Device.{Event, Object}
 use Rattle.gpu_alloc_types.specs.Properties.{Properties, heap_at}
 use Rattle.gpu_alloc.specs.Agreement as agreement
+use Rattle.gpu_alloc_base.specs.Accounts.{Account, account}
+use Rattle.gpu_alloc_base.specs.Case.{Answers, GivesInPlace, GivesInNewObject}
+use Rattle.gpu_alloc_base.specs.NewObject.{HasOneMore}
 use Rattle.gpu_alloc.specs.Allocation.{ObjectsWith, IsGranted}
-use Rattle.gpu_alloc_buddy.specs.Buddy.{Account, account, Answers, question, BeginsChunk, IsFront, ObjectsAfter, with_leaf, with_chunk, chunk_size}
+use Rattle.gpu_alloc.specs.Candidates.{buddy_candidate}
+use Rattle.gpu_alloc_buddy.specs.Buddy.{buddy_case, question, BeginsChunk, IsFront, ObjectsAfter, with_leaf, with_chunk, chunk_size, sees_chunks}
 use Rattle.gpu_alloc_base.specs.Wanted.{wanted}
 use Rattle.gpu_alloc_buddy.specs.Buddy as buddy
 use Rattle.gpu_alloc_buddy.specs.BuddySound.{IsSound}
 use Rattle.gpu_alloc_buddy.specs.BuddyState.{Buddy}
-use Rattle.gpu_alloc_base.specs.Chunks.{Chunk}
+use Rattle.gpu_alloc_base.specs.Chunks.{Chunk, IsNew}
 use Rattle.gpu_alloc_freelist.specs.FreeListState.{Listing}
 use Rattle.gpu_alloc.specs.Inside.{state_in, properties_in, with_chunk_of, span_of_leaf, place_of_leaf, IsConsistent}
 use Rattle.gpu_alloc_base.specs.NewChunk.{flags_of, made, HasOneChunkMore}
-use Rattle.gpu_alloc.specs.BuddySharing.{buddy_question, buddy_block, with_span, with_buddy_chunk, GivesInChunk, GivesInNewChunk}
+use Rattle.gpu_alloc.specs.BuddySharing.{buddy_question, buddy_block, with_span, with_buddy_chunk}
 use Rattle.gpu_alloc.specs.Spans.{Table}
-use Rattle.gpu_alloc.specs.State.{HeldObject, Span, State, IsLive, AreApart, total}
+use Rattle.gpu_alloc.specs.State.{HeldObject, Span, Block, State, IsLive, AreApart, total}
 use Rattle.gpu_alloc.specs.declared.block.Kind.TheVariants.{BuddyChunk}
 use Rattle.gpu_alloc_base.specs.declared.buddy_block.Leaf.{Leaf}
 use Rattle.gpu_alloc_base.specs.declared.heap.Heap.{Heap}
@@ -32,8 +36,11 @@ use Rattle.gpu_alloc_base.proofs.Sums.{len_more}
 use Rattle.gpu_alloc_base.proofs.Maps.{own_inserted}
 use Rattle.gpu_alloc.proofs.Buddies.Links.{HasLeafMore}
 use Rattle.gpu_alloc.proofs.Tables.LiveSpans.{live_new}
-use Rattle.gpu_alloc.proofs.Buddies.Served.{apart_is, objects_are, agrees_with_span, agrees_with_chunk, granted_is}
-use Rattle.gpu_alloc.proofs.Buddies.Serving.{Serves, front_is, question_is, asks_is}
+use Rattle.gpu_alloc_base.proofs.Books.{made_new, chunk_more}
+use Rattle.gpu_alloc_base.proofs.ToldTwice.{asks_is}
+use Rattle.gpu_alloc.proofs.NewObjects.{counted_new}
+use Rattle.gpu_alloc.proofs.Buddies.Served.{apart_is, agrees_with_span, agrees_with_chunk, granted_is}
+use Rattle.gpu_alloc.proofs.Buddies.Serving.{Serves, front_is, told_with}
 use Rattle.gpu_alloc.proofs.Buddies.Grants.{serves, buddy_of, consistent_with_leaf, state_with_leaf, consistent_with_chunk, state_with_chunk, asked_size}
 
 -- a span is not apart from itself
@@ -53,8 +60,8 @@ pub record Given {A : Type 0} (l : Limits A) (heaps : List Heap) (buddies : List
   pub agrees : agreement.Agrees (state_in l heaps buddies lists t remaining) q old
 
 module _ {A : Type 0} {l : Limits A} {heaps : List Heap} {buddies : List Buddy} {lists : List Listing} {t : Table} {remaining index i : ℕ} {b : Buddy} {heap : Heap} {r : Request} {flags : ℕ} {leaf : Leaf} {q : Properties} {old : ℕ → Option Object}
-    (given : Given l heaps buddies lists t remaining index i b heap r flags leaf q old) (new : ℕ → Option Object) (size : ℕ) (es : List Event) (after : Account)
-    (answers : Answers (account b heap remaining) size flags es (Ok leaf) after) (objects : ObjectsAfter b size flags (Ok leaf) old new) (granted : buddy.IsGranted b (wanted r.size r.align_mask flags) after.buddy leaf) where
+    (given : Given l heaps buddies lists t remaining index i b heap r flags leaf q old) (new : ℕ → Option Object) (size : ℕ) (es : List Event) (after : Account Buddy)
+    (answers : Answers (buddy_case (account b heap remaining) size flags) es (Ok leaf) after) (objects : ObjectsAfter b (Ok leaf) after.allocator old new) (granted : buddy.IsGranted b (wanted r.size r.align_mask flags) after.allocator leaf) where
   abbrev before : State
   before = state_in l heaps buddies lists t remaining
 
@@ -65,10 +72,14 @@ module _ {A : Type 0} {l : Limits A} {heaps : List Heap} {buddies : List Buddy} 
   not_held_yet : old leaf.object ≡ None → finite.get t.held leaf.object ≡ None
   not_held_yet none = not_held before q old leaf.object given.agrees none
 
+  -- the object that begins a chunk is one more
+  more_in : finite.get b.chunks leaf.chunk ≡ None → HasOneMore (IsNew b.memory_type (sees_chunks b)) (finite.get after.allocator.chunks leaf.chunk) leaf.object old new
+  more_in none = made_new (λ (x : Leaf). x.chunk) (λ (x : Leaf). x.object) b.memory_type b.props b.chunks after.allocator.chunks leaf old new objects none
+
   comes : (BeginsChunk b leaf.size leaf × (finite.get t.held leaf.object ≡ None)) ⊎ IsFront b leaf.size leaf
-  comes = elim (objects) [
-    | inl new_one ↦ inl (record { of_size = refl; start = new_one.0.start; free_key = new_one.0.free_key }, not_held_yet new_one.1.0)
-    | inr front ↦ inr (subst (λ n. IsFront b n leaf) (sym front.0.of_size) front.0)
+  comes = elim (answers) [
+    | inl gives ↦ inr (subst (λ n. IsFront b n leaf) (sym gives.place.of_size) gives.place)
+    | inr gives ↦ inl (record { of_size = refl; start = gives.place.start; free_key = gives.place.free_key }, not_held_yet (more_in gives.place.free_key).was_free)
   ]
 
   positive : 0 < leaf.size
@@ -84,13 +95,12 @@ module _ {A : Type 0} {l : Limits A} {heaps : List Heap} {buddies : List Buddy} 
     | false ↦ λ free. refl
   ] refl
 
-  -- what the device makes of it
-  pub objects_served : ObjectsWith BuddyChunk before (buddy_block before index (span_of_leaf leaf)) old new
-  objects_served = objects_are before t.places t.room index b serving q old new size leaf (buddy_block before index (span_of_leaf leaf)) given.agrees refl
-      (subst (λ f. ObjectsAfter b size f (Ok leaf) old new) given.flags_are objects)
+  -- the block, and the request for it
+  abbrev block : Block
+  block = buddy_block before index (span_of_leaf leaf)
 
   -- The table with the block's span, and its chunk where that is new.
-  module _ (now : Table) (counted : ℕ) (sound : IsSound after.buddy) (size_is : IfSome (finite.get after.buddy.chunks leaf.chunk) (λ c. c.size ≡ counted))
+  module _ (now : Table) (counted : ℕ) (sound : IsSound after.allocator) (size_is : IfSome (finite.get after.allocator.chunks leaf.chunk) (λ c. c.size ≡ counted))
       (held : now.held ≡ with_chunk_of t.held leaf (record { memory_type = index; counted = counted; kind = BuddyChunk }))
       (live : now.live ≡ set_of.insert t.live (span_of_leaf leaf)) (places : now.places ≡ finite.insert t.places (span_of_leaf leaf) (place_of_leaf leaf)) where
     abbrev chunk_row : HeldObject
@@ -99,34 +109,36 @@ module _ {A : Type 0} {l : Limits A} {heaps : List Heap} {buddies : List Buddy} 
     more : HasLeafMore t now leaf
     more = record { free = span_is_free; live = live; places = places }
 
-    abbrev state_of : Account → State
-    state_of a = state_in l (set heaps i a.heap) (set buddies index a.buddy) lists now a.remaining
+    abbrev state_of : Account Buddy → State
+    state_of a = state_in l (set heaps i a.heap) (set buddies index a.allocator) lists now a.remaining
 
     -- what is left of it
-    pub record IsServed (a : Account) : Type 0 where
-      pub consistent : IsConsistent l.config (properties_in l (set heaps i a.heap)) (set heaps i a.heap) (set buddies index a.buddy) lists now a.remaining
-      pub gives : GivesInChunk before index size es (span_of_leaf leaf) (state_of a) ⊎ GivesInNewChunk before index size es (span_of_leaf leaf) (state_of a)
+    pub record IsServed (a : Account Buddy) : Type 0 where
+      pub consistent : IsConsistent l.config (properties_in l (set heaps i a.heap)) (set heaps i a.heap) (set buddies index a.allocator) lists now a.remaining
+      pub gives : GivesInPlace (buddy_candidate before size index) es block (state_of a) ⊎ GivesInNewObject (buddy_candidate before size index) es block (state_of a)
+      pub objects_are : ObjectsWith before block (state_of a) old new
       pub agreed : agreement.Agrees (state_of a) q new
       pub told : IsGranted before r (state_of a) (buddy_block before index (span_of_leaf leaf))
       pub whole : total (state_of a) ≡ total before
 
     -- in a chunk that was held
     in_chunk : (front : IsFront b size leaf) → new ≡ old → after ≡ account (with_leaf b leaf) heap remaining
-        → GivesInChunk before index size es (span_of_leaf leaf) (with_span before (span_of_leaf leaf)) → IsServed after
+        → GivesInPlace (buddy_candidate before size index) es block (with_span before (span_of_leaf leaf)) → IsServed after
     in_chunk front same_objects after_is gives =
         let chunk_found = buddy_of l heaps buddies lists t remaining index b given.is given.known given.at in
         let there = ap (finite.get t.held) front.object ∙ chunk_found.linked.chunks leaf.chunk front.chunk front.held in
         let same_held : now.held ≡ t.held = held ∙ ap (λ (o : Option HeldObject). cond (is_some o) t.held (finite.insert t.held leaf.object chunk_row)) there in
-        let sound_now = subst IsSound (ap (λ (a : Account). a.buddy) after_is) sound in
+        let sound_now = subst IsSound (ap (λ (a : Account Buddy). a.allocator) after_is) sound in
         let state = state_with_leaf l heaps buddies lists t remaining index b given.is given.known given.at i heap given.here given.at_heap leaf front.chunk now front.held front.object sound_now same_held more in
         let found_now = ap (λ (x : Held). finite.get x leaf.object) same_held ∙ there in
-        let chunk_now : finite.get after.buddy.chunks leaf.chunk ≡ Some front.chunk = ap (λ (a : Account). finite.get a.buddy.chunks leaf.chunk) after_is ∙ front.held in
+        let chunk_now : finite.get after.allocator.chunks leaf.chunk ≡ Some front.chunk = ap (λ (a : Account Buddy). finite.get a.allocator.chunks leaf.chunk) after_is ∙ front.held in
         subst IsServed (sym after_is) (record {
           consistent = consistent_with_leaf l heaps buddies lists t remaining index b given.is given.known given.at i heap given.here given.at_heap leaf front.chunk now front.held front.object sound_now same_held more;
-          gives = inl (subst (GivesInChunk before index size es (span_of_leaf leaf)) (sym state) gives);
+          gives = inl (subst (GivesInPlace (buddy_candidate before size index) es block) (sym state) gives);
+          objects_are = rw there same_objects;
           agreed = subst (λ o. agreement.Agrees (state_of (account (with_leaf b leaf) heap remaining)) q o) (sym same_objects)
               (subst (λ x. agreement.Agrees x q old) (sym state) (agrees_with_span before t.places t.room index b serving q old leaf front.chunk front.held front.object given.agrees));
-          told = granted_is before t.places t.room index b serving r flags after.buddy (state_of (account (with_leaf b leaf) heap remaining)) leaf front.chunk _ granted chunk_now found_now refl
+          told = granted_is before t.places t.room index b serving r flags after.allocator (state_of (account (with_leaf b leaf) heap remaining)) leaf front.chunk _ granted chunk_now found_now refl
               (record { live = subst (λ x. IsTrue (set_of.contains x (span_of_leaf leaf))) (sym live) (live_new t.live (span_of_leaf leaf)); held = (_, found_now, chunk_found.for_type.memory_type, refl) })
               apart;
           whole = ap total state;
@@ -136,13 +148,13 @@ module _ {A : Type 0} {l : Limits A} {heaps : List Heap} {buddies : List Buddy} 
     in_new_chunk : BeginsChunk b size leaf → finite.get t.held leaf.object ≡ None → 0 < remaining
         → after ≡ account (with_leaf (with_chunk b leaf (chunk_size b size)) leaf) (record heap { used = heap.used + chunk_size b size }) (remaining - 1)
         → HasOneChunkMore (buddy_question before index size) leaf.object old new
-        → GivesInNewChunk before index size es (span_of_leaf leaf) (with_span (with_buddy_chunk before index leaf.object (buddy_question before index size).size) (span_of_leaf leaf))
+        → GivesInNewObject (buddy_candidate before size index) es block (with_span (with_buddy_chunk before index leaf.object (buddy_question before index size).size) (span_of_leaf leaf))
         → IsServed after
     in_new_chunk begins free some after_is new_chunk gives =
         let n = chunk_size b size in
         let chunk : Chunk = record { object = leaf.object; size = n } in
-        let after_buddy = ap (λ (a : Account). a.buddy) after_is in
-        let chunk_now : finite.get after.buddy.chunks leaf.chunk ≡ Some chunk = ap (λ (x : Buddy). finite.get x.chunks leaf.chunk) after_buddy ∙ own_inserted b.chunks leaf.chunk chunk in
+        let after_buddy = ap (λ (a : Account Buddy). a.allocator) after_is in
+        let chunk_now : finite.get after.allocator.chunks leaf.chunk ≡ Some chunk = ap (λ (x : Buddy). finite.get x.chunks leaf.chunk) after_buddy ∙ own_inserted b.chunks leaf.chunk chunk in
         let is_counted : n ≡ counted = subst (λ (o : Option Chunk). IfSome o (λ c. c.size ≡ counted)) chunk_now size_is in
         let row_is : chunk_row ≡ record { memory_type = index; counted = n; kind = BuddyChunk } = λ k. record chunk_row { counted = sym is_counted k } in
         let held_now = held ∙ ap (λ (o : Option HeldObject). cond (is_some o) t.held (finite.insert t.held leaf.object chunk_row)) free ∙ ap (finite.insert t.held leaf.object) row_is in
@@ -156,9 +168,10 @@ module _ {A : Type 0} {l : Limits A} {heaps : List Heap} {buddies : List Buddy} 
         let found_now = ap (λ (x : Held). finite.get x leaf.object) held_now ∙ own_inserted t.held leaf.object (record { memory_type = index; counted = n; kind = BuddyChunk }) in
         subst IsServed (sym after_is) (record {
           consistent = consistent_with_chunk l heaps buddies lists t remaining index b given.is given.known given.at i heap given.here given.at_heap leaf n now changed begins.free_key free some small sound_now held_now more refl;
-          gives = inr (subst (GivesInNewChunk before index size es (span_of_leaf leaf)) (sym state_asked) gives);
+          gives = inr (subst (GivesInNewObject (buddy_candidate before size index) es block) (sym state_asked) gives);
+          objects_are = rw free (counted_new before (record { memory_type = index; counted = n; kind = BuddyChunk }) (buddy_question before index size) leaf.object _ old new found_now refl asked refl new_chunk);
           agreed = subst (λ x. agreement.Agrees x q new) (sym state_asked) (agrees_with_chunk before t.places t.room index b serving q old new size leaf given.agrees new_chunk);
-          told = granted_is before t.places t.room index b serving r flags after.buddy (state_of (account (with_leaf (with_chunk b leaf n) leaf) changed (remaining - 1))) leaf chunk _ granted chunk_now found_now refl
+          told = granted_is before t.places t.room index b serving r flags after.allocator (state_of (account (with_leaf (with_chunk b leaf n) leaf) changed (remaining - 1))) leaf chunk _ granted chunk_now found_now refl
               (record { live = subst (λ x. IsTrue (set_of.contains x (span_of_leaf leaf))) (sym live) (live_new t.live (span_of_leaf leaf)); held = (_, found_now, refl, refl) })
               apart;
           whole = ap total state ∙ omega (arith, some, len_more t.held leaf.object (record { memory_type = index; counted = n; kind = BuddyChunk }) free);
@@ -166,20 +179,24 @@ module _ {A : Type 0} {l : Limits A} {heaps : List Heap} {buddies : List Buddy} 
 
     pub served : IsServed after
     served = elim (answers) [
-      | inl here ↦ elim (objects) [
-        | inl begins ↦ absurd (let none = begins.0.free_key in let some = here.1.0.held in cc)
-        | inr front ↦ in_chunk here.1.0 front.1 here.1.1.1 (here.0, (front_is before t.places t.room index b serving size leaf here.1.0, (here.1.1.0, refl)))
-      ]
-      | inr there ↦ elim (objects) [
-        | inl begins ↦
-            let asked = ap (question b size) given.flags_are ∙ question_is before t.places t.room index b serving size in
-            in_new_chunk there.1.0 (not_held_yet begins.1.0) there.0.1.1 there.1.1.1 (subst (λ x. HasOneChunkMore x leaf.object old new) asked begins.1) (
-              asks_is before t.places t.room index b serving size heap there.0,
-              (
-                (λ k. record { object = leaf.object; offset = there.1.0.start k; size = there.1.0.of_size k }),
-                (there.1.1.0 ∙ ap (λ x. made x leaf.object) asked, refl),
-              ),
-            )
-        | inr front ↦ absurd (let none = there.1.0.free_key in let some = front.0.held in cc)
-      ]
+      | inl gives ↦
+          let front = gives.place in
+          let kept : new ≡ old = rw (front.held) at objects in
+          in_chunk front kept gives.state (record { fits = gives.fits; place = record { is = refl; front = front_is before t.places t.room index b serving size leaf front }; asked = gives.asked; state = refl })
+      | inr gives ↦
+          let begins = gives.place in
+          let more = more_in begins.free_key in
+          let told = told_with before t.places t.room index b serving heap size flags given.flags_are in
+          let asked : question b size flags ≡ buddy_question before index size = told.question in
+          let free = not_held_yet more.was_free in
+          let n = chunk_size b size in
+          let chunk : Chunk = record { object = leaf.object; size = n } in
+          let chunk_now : finite.get after.allocator.chunks leaf.chunk ≡ Some chunk = ap (λ (a : Account Buddy). finite.get a.allocator.chunks leaf.chunk) gives.state ∙ own_inserted b.chunks leaf.chunk chunk in
+          let made_one = chunk_more b.memory_type b.props b.chunks after.allocator.chunks leaf.chunk chunk (question b size flags) old new more chunk_now refl refl refl in
+          in_new_chunk begins free gives.asks.remains.objects gives.state (subst (λ x. HasOneChunkMore x leaf.object old new) asked made_one) (record {
+            asks = asks_is told gives.asks;
+            place = record { is = λ k. buddy_block before index (record { object = leaf.object; offset = begins.start k; size = begins.of_size k }); was_free = free };
+            asked = gives.asked ∙ ap (λ x. made x leaf.object) asked;
+            state = refl;
+          })
     ]

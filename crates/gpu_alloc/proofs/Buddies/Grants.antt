@@ -7,7 +7,8 @@ use Rattle.std.specs.Cmp.{nat_cmp_total}
 use Rattle.std.specs.FinMap as finite
 use Rattle.std.specs.List.{slice_get}
 use Rattle.gpu_alloc_types.specs.Properties.{Properties, heap_at}
-use Rattle.gpu_alloc_buddy.specs.Buddy.{account, with_leaf, with_chunk, chunk_size, IsCounted}
+use Rattle.gpu_alloc_base.specs.Accounts.{IsCounted}
+use Rattle.gpu_alloc_buddy.specs.Buddy.{with_leaf, with_chunk, chunk_size}
 use Rattle.gpu_alloc_buddy.specs.BuddySound.{IsSound}
 use Rattle.gpu_alloc_buddy.specs.BuddyState.{Buddy}
 use Rattle.gpu_alloc_base.specs.Chunks.{Chunk}
@@ -75,7 +76,7 @@ module _ {A : Type 0} (l : Limits A) (heaps : List Heap) (buddies : List Buddy) 
 
     -- What the buddy allocator asks of its heap.
 
-    pub counted_before : IsCounted (account b heap remaining)
+    pub counted_before : IsCounted b.chunks heap remaining
     counted_before = buddy_counted s t.places t.room index b serves heaps i heap is.books here heap_in at_heap
 
     pub bounded_before : heap.used ≤ 2 ^ 127

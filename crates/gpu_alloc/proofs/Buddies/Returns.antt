@@ -8,7 +8,8 @@ use Rattle.gpu_alloc_types.specs.Device.{Event, Object, put}
 use Rattle.gpu_alloc_types.specs.Device.Event.{Deallocated}
 use Rattle.gpu_alloc_types.specs.Properties.{Properties, heap_at}
 use Rattle.gpu_alloc.specs.Agreement as agreement
-use Rattle.gpu_alloc_buddy.specs.Buddy.{Account, account, without_leaf, IsUnusedChunk}
+use Rattle.gpu_alloc_base.specs.Accounts.{Account, account, IsCounted}
+use Rattle.gpu_alloc_buddy.specs.Buddy.{without_leaf, IsUnusedChunk}
 use Rattle.gpu_alloc_buddy.specs.Buddy as buddy
 use Rattle.gpu_alloc_buddy.specs.BuddySound.{LiesInChunk, IsSound}
 use Rattle.gpu_alloc_buddy.specs.BuddyState.{Buddy, IsLiveLeaf}
@@ -115,7 +116,7 @@ module _ {A : Type 0} {l : Limits A} {heaps : List Heap} {buddies : List Buddy} 
   pub agrees_before : (q : Properties) (objects : ℕ → Option Object) → agreement.Agrees before q objects → buddy.Agrees b q objects
   agrees_before q objects agrees = buddy_agrees before t.places t.room index b serving q objects given.known agrees
 
-  pub counted_first : buddy.IsCounted (account b heap remaining)
+  pub counted_first : IsCounted b.chunks heap remaining
   counted_first = counted_before l heaps buddies lists t remaining index b given.is given.known given.at i heap given.here given.at_heap
 
   -- Its chunk.
@@ -233,15 +234,15 @@ module _ {A : Type 0} {l : Limits A} {heaps : List Heap} {buddies : List Buddy} 
 
   -- What the return comes to for the whole allocator.
 
-  module _ (after : Account) (now : Table) (q r : Properties) (old new : ℕ → Option Object) (es : List Event) (with_chunk : Bool) where
-    abbrev state_of : Account → State
-    state_of a = state_in l (set heaps i a.heap) (set buddies index a.buddy) lists now a.remaining
+  module _ (after : Account Buddy) (now : Table) (q r : Properties) (old new : ℕ → Option Object) (es : List Event) (with_chunk : Bool) where
+    abbrev state_of : Account Buddy → State
+    state_of a = state_in l (set heaps i a.heap) (set buddies index a.allocator) lists now a.remaining
 
     -- what the calls of the buddy allocator and of the table did
     pub record Came : Type 0 where
       pub frees : buddy.Frees (account b heap remaining) leaf es after
       pub objects : buddy.ObjectsFreed b leaf old new
-      pub sound : IsSound after.buddy
+      pub sound : IsSound after.allocator
       pub agrees : agreement.Agrees before q old
       pub properties : r ≡ q
       pub asked : with_chunk ≡ not (after.remaining == remaining)
@@ -250,8 +251,8 @@ module _ {A : Type 0} {l : Limits A} {heaps : List Heap} {buddies : List Buddy} 
       pub places : now.places ≡ finite.remove t.places (span_of block)
 
     -- what is left of it
-    pub record IsReturned (a : Account) : Type 0 where
-      pub consistent : IsConsistentWith a.buddy a.heap now a.remaining
+    pub record IsReturned (a : Account Buddy) : Type 0 where
+      pub consistent : IsConsistentWith a.allocator a.heap now a.remaining
       pub frees : Frees before block es (state_of a)
       pub freed : ObjectsFreed before block old new
       pub agreed : agreement.Agrees (state_of a) r new
@@ -264,8 +265,8 @@ module _ {A : Type 0} {l : Limits A} {heaps : List Heap} {buddies : List Buddy} 
       -- its chunk stays
       stays : (IsUnusedChunk (without_leaf b leaf) leaf.chunk → ⊥) → es ≡ [] → after ≡ account (without_leaf b leaf) heap remaining → new ≡ old → IsReturned after
       stays used none after_is same_objects =
-          let sound = subst IsSound (ap (λ (a : Account). a.buddy) after_is) came.sound in
-          let asked : with_chunk ≡ false = came.asked ∙ ap not (eq-true after.remaining remaining (ap (λ (a : Account). a.remaining) after_is)) in
+          let sound = subst IsSound (ap (λ (a : Account Buddy). a.allocator) after_is) came.sound in
+          let asked : with_chunk ≡ false = came.asked ∙ ap not (eq-true after.remaining remaining (ap (λ (a : Account Buddy). a.remaining) after_is)) in
           let held = held_as false asked in
           let state = state_stays now came.live came.places sound held in
           let zero : remaining ≡ remaining + 0 = omega arith in
@@ -288,8 +289,8 @@ module _ {A : Type 0} {l : Limits A} {heaps : List Heap} {buddies : List Buddy} 
           let changed : Heap = record heap { used = heap.used - chunk.size } in
           let counts : ◌≡◌ {A = Heap} changed (record heap { used = heap.used - lies.chunk.size }) = λ k. record heap { used = heap.used - (one k).size } in
           let after_buddy : Buddy = record (without_leaf b leaf) { chunks = finite.remove b.chunks leaf.chunk } in
-          let sound : IsSound after_buddy = subst IsSound (ap (λ (a : Account). a.buddy) after_is) came.sound in
-          let more = ap (λ (a : Account). a.remaining) after_is in
+          let sound : IsSound after_buddy = subst IsSound (ap (λ (a : Account Buddy). a.allocator) after_is) came.sound in
+          let more = ap (λ (a : Account Buddy). a.remaining) after_is in
           let asked : with_chunk ≡ true = came.asked ∙ ap not (eq-false after.remaining remaining (λ same. omega (arith, more, same))) in
           let held = held_as true asked ∙ ap (finite.remove t.held) object_is in
           let state = state_goes now came.live came.places changed unused sound held counts in

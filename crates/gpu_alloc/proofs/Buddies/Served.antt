@@ -1,16 +1,17 @@
 -- The blocks of a memory type's buddy allocator in the whole allocator's state, and on the device.
-use Rattle.std.proofs.Common.{◌≡◌, ◌≢◌, ◌⊎◌, inl, inr, ℕ, ◌+◌, ◌%◌, ◌<◌, ◌≤◌, ◌^◌, cond, List, length, get_or, Option, Some, None, Ok, IfSome, IsTrue, refl, sym, ◌∙◌, ap, subst, arith}
+use Rattle.std.proofs.Common.{◌≡◌, ◌≢◌, ◌⊎◌, inl, inr, ℕ, ◌+◌, ◌%◌, ◌<◌, ◌≤◌, ◌^◌, cond, List, length, get_or, Option, Some, None, IfSome, IsTrue, refl, sym, ◌∙◌, ap, subst, arith}
 use Rattle.std.proofs.lemmas.Bool.{cases_eq, cases_lt}
 use Rattle.std.proofs.lemmas.Nat.{pow_pos}
-use Rattle.std.specs.Prelude.{MatchOption, sum_by}
+use Rattle.std.specs.Prelude.{sum_by}
 use Rattle.std.specs.FinMap as map
 use Rattle.std.specs.FinSet as set
 use Rattle.gpu_alloc_types.specs.Device.{Object, HeldWith}
 use Rattle.gpu_alloc_types.specs.Flags.{has_bit}
 use Rattle.gpu_alloc_types.specs.Properties.{Properties, heap_at, props_at, is_host_visible}
 use Rattle.gpu_alloc.specs.Agreement as agreement
-use Rattle.gpu_alloc.specs.Allocation.{ObjectsWith, IsGranted}
-use Rattle.gpu_alloc_buddy.specs.Buddy.{account, IsFront, BeginsChunk, IsUnusedChunk, without_leaf, ObjectsAfter, sees_chunks, chunk_bytes}
+use Rattle.gpu_alloc.specs.Allocation.{IsGranted}
+use Rattle.gpu_alloc_base.specs.Accounts.{IsCounted, chunk_bytes}
+use Rattle.gpu_alloc_buddy.specs.Buddy.{IsFront, BeginsChunk, IsUnusedChunk, without_leaf, sees_chunks}
 use Rattle.gpu_alloc_base.specs.Wanted.{wanted}
 use Rattle.gpu_alloc_buddy.specs.Buddy as buddy
 use Rattle.gpu_alloc_base.specs.Chunks as chunks
@@ -18,7 +19,7 @@ use Rattle.gpu_alloc_buddy.specs.BuddyState.{Buddy, IsLiveLeaf}
 use Rattle.gpu_alloc_base.specs.Chunks.{Chunk}
 use Rattle.gpu_alloc_base.specs.FreeSpace.{IsIn}
 use Rattle.gpu_alloc.specs.Inside.{IsOfObject, IsChunkOf, IsBooked, chunk_object, span_of_leaf, place_of_leaf, leaf_at}
-use Rattle.gpu_alloc_base.specs.NewChunk.{flags_of, HasOneChunkMore}
+use Rattle.gpu_alloc_base.specs.NewChunk.{HasOneChunkMore}
 use Rattle.gpu_alloc.specs.Release.{IsUnused, without_span}
 use Rattle.gpu_alloc.specs.BuddySharing.{buddy_question, buddy_block, with_span, with_buddy_chunk}
 use Rattle.gpu_alloc.specs.Spans.{Place}
@@ -27,13 +28,13 @@ use Rattle.gpu_alloc.specs.declared.block.Kind.TheVariants.{BuddyChunk}
 use Rattle.gpu_alloc_base.specs.declared.buddy_block.Leaf.{Leaf}
 use Rattle.gpu_alloc_base.specs.declared.heap.Heap.{Heap}
 use Rattle.gpu_alloc.specs.declared.request.Request.{Request}
-use Rattle.gpu_alloc.proofs.Agreeing.{not_held, there_kept, agrees_more}
+use Rattle.gpu_alloc.proofs.Agreeing.{there_kept, agrees_more}
 use Rattle.gpu_alloc_base.proofs.Leaves.{leaf_removed}
 use Rattle.gpu_alloc.proofs.Ledgers.{sum_by-small}
 use Rattle.gpu_alloc_base.proofs.Sums.{sum_by-within, len-within}
 use Rattle.gpu_alloc_base.proofs.Maps.{eq-true, one_value}
 use Rattle.gpu_alloc.proofs.Tables.LiveSpans.{live_before, live_kept, live_other}
-use Rattle.gpu_alloc.proofs.Buddies.Serving.{table_of, Serves, question_is}
+use Rattle.gpu_alloc.proofs.Buddies.Serving.{table_of, Serves}
 use Rattle.gpu_alloc.proofs.HeapLists.{ledger_at}
 
 -- two ranges with no byte in both are apart
@@ -137,7 +138,7 @@ module _ (s : State) (places : map.FinMap span_cmp Place) (room index : ℕ) (b 
   pub buddy_agrees : (p : Properties) (objects : ℕ → Option Object) → index < length s.properties.memory_types → agreement.Agrees s p objects → buddy.Agrees b p objects
   buddy_agrees p objects known agrees = record {
     known = subst (λ t. t < length p.memory_types) (sym serves.of.for_type.memory_type) is_known;
-    props = ap (λ (q : Properties). props_at q b.memory_type) agrees.properties ∙ at_type;
+    same = ap (λ (q : Properties). props_at q b.memory_type) agrees.properties ∙ at_type;
     holds = λ key. held key (map.get b.chunks key) refl;
   }
     where
@@ -159,18 +160,6 @@ module _ (s : State) (places : map.FinMap span_cmp Place) (room index : ℕ) (b 
               mapped = λ visible. h.2.of_size.1 (ap (is_host_visible s.properties) h.2.of_type ∙ ap (λ bits. has_bit bits 2) at_type ∙ visible);
             },
           )
-
-  pub objects_are : (p : Properties) (old new : ℕ → Option Object) (size : ℕ) (leaf : Leaf) (block : Block) → agreement.Agrees s p old → block ≡ buddy_block s index (span_of_leaf leaf)
-      → ObjectsAfter b size (flags_of s.properties) (Ok leaf) old new → ObjectsWith BuddyChunk s block old new
-  objects_are p old new size leaf block agrees is after = subst (λ x. ObjectsWith BuddyChunk s x old new) (sym is) (elim (after) [
-    | inl begins ↦
-        let more = subst (λ q. HasOneChunkMore q leaf.object old new) (question_is s places room index b serves size) begins.1 in
-        subst (λ (v : Option HeldObject). MatchOption v (HasOneChunkMore (buddy_question s index leaf.size) leaf.object old new) (λ _. new ≡ old)) (sym (not_held s p old leaf.object agrees begins.1.0))
-        (subst (λ n. HasOneChunkMore (buddy_question s index n) leaf.object old new) (sym begins.0.of_size) more)
-    | inr front ↦
-        let held : map.get s.held leaf.object ≡ Some (chunk_object b front.0.chunk) = ap (λ n. map.get s.held n) front.0.object ∙ serves.of.linked.chunks leaf.chunk front.0.chunk front.0.held in
-        subst (λ (v : Option HeldObject). MatchOption v (HasOneChunkMore (buddy_question s index leaf.size) leaf.object old new) (λ _. new ≡ old)) (sym held) front.1
-  ])
 
   -- after a block more
   pub agrees_with_span : (p : Properties) (objects : ℕ → Option Object) (leaf : Leaf) (chunk : Chunk) → map.get b.chunks leaf.chunk ≡ Some chunk → leaf.object ≡ chunk.object
@@ -214,9 +203,9 @@ module _ (s : State) (places : map.FinMap span_cmp Place) (room index : ℕ) (b 
   -- The ledger and the count.
 
   pub buddy_counted : (heaps : List Heap) (i : ℕ) (heap : Heap) → IsBooked s.properties heaps (table_of s places room) s.remaining → i ≡ heap_at s.properties index → i < length heaps → heap ≡ get_or heaps i heap
-      → buddy.IsCounted (account b heap s.remaining)
+      → IsCounted b.chunks heap s.remaining
   buddy_counted heaps i heap booked here inside at = record {
-    chunks = subst (λ n. chunk_bytes b ≤ n) (sym (ledger_at s.properties heaps i heap (map.entries s.held) booked.ledgers inside at)) bytes;
+    ledger = subst (λ n. chunk_bytes b.chunks ≤ n) (sym (ledger_at s.properties heaps i heap (map.entries s.held) booked.ledgers inside at)) bytes;
     objects = omega (arith, booked.count, count);
   }
     where
@@ -225,7 +214,7 @@ module _ (s : State) (places : map.FinMap span_cmp Place) (room index : ℕ) (b 
           let at_heap : heap_at s.properties b.memory_type ≡ i = ap (heap_at s.properties) serves.of.for_type.memory_type ∙ sym here in
           rw (eq-true (heap_at s.properties b.memory_type) i at_heap) (omega arith)
 
-      bytes : chunk_bytes b ≤ sum_by (share s.properties i) (map.entries s.held)
+      bytes : chunk_bytes b.chunks ≤ sum_by (share s.properties i) (map.entries s.held)
       bytes = sum_by-within (λ (c : Chunk). c.object) (λ (e : ℕ × Chunk). e.1.size) (share s.properties i) b.chunks s.held
           (λ k c is. (chunk_object b c, serves.of.linked.chunks k c is, share_is c)) serves.of.sound.one_object
 

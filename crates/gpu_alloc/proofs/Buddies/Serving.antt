@@ -1,26 +1,27 @@
 -- A memory type's buddy allocator in the whole allocator's state: both tell the same of chunks, free bytes and blocks.
-use Rattle.std.proofs.Common.{◌≡◌, ◌≢◌, inl, inr, ℕ, ◌*◌, ◌^◌, ◌<◌, List, [], Some, None, Err, slice_get, refl, sym, ◌∙◌, ap, subst, arith}
+use Rattle.std.proofs.Common.{◌≡◌, ℕ, ◌*◌, ◌^◌, ◌<◌, Some, slice_get, refl, sym, ◌∙◌, ap, subst, arith}
 use Rattle.std.proofs.lemmas.Nat.{pow_pos}
 use Rattle.std.specs.Prelude.{max}
 use Rattle.std.specs.FinMap as map
-use Rattle.gpu_alloc_types.specs.Device.{Event}
 use Rattle.gpu_alloc_types.specs.Flags.{has_bit}
 use Rattle.gpu_alloc_types.specs.Properties.{props_at}
-use Rattle.gpu_alloc_buddy.specs.Buddy.{Account, account, rounded, question, Fits, HasPlace, IsFront, AsksForChunk, Answers, RefusesFirst}
+use Rattle.gpu_alloc_base.specs.Accounts.{account}
+use Rattle.gpu_alloc_buddy.specs.Buddy.{rounded, question, HasPlace, IsFront, buddy_case, case_of}
 use Rattle.gpu_alloc_base.specs.Wanted.{wanted}
 use Rattle.gpu_alloc_buddy.specs.BuddyState.{Buddy, IsFreeAt}
 use Rattle.gpu_alloc_base.specs.Chunks.{Chunk}
 use Rattle.gpu_alloc_base.specs.FreeSpace.{IsPlace, IsFreePiece}
 use Rattle.gpu_alloc.specs.FreeBytes.{IsFreeByte}
 use Rattle.gpu_alloc.specs.Inside.{IsBuddyOf, chunk_object, span_of_leaf, leaf_at}
-use Rattle.gpu_alloc_base.specs.NewChunk.{flags_of, LacksDeviceMemory, LacksHostMemory, IsGivenBack}
-use Rattle.gpu_alloc.specs.BuddySharing.{buddy_size, buddy_question, next_chunk_of, HasBuddyPlace, IsPieceFront, AsksForBuddyChunk, IsPassedByBuddy, DecidesInBuddyChunk}
+use Rattle.gpu_alloc_base.specs.NewChunk.{flags_of}
+use Rattle.gpu_alloc.specs.BuddySharing.{buddy_size, buddy_question, next_chunk_of, HasBuddyPlace, IsPieceFront}
+use Rattle.gpu_alloc.specs.Candidates.{buddy_candidate, candidate}
+use Rattle.gpu_alloc.specs.declared.allocator.Strategy.TheVariants.{InBuddyChunk}
+use Rattle.gpu_alloc_base.proofs.ToldTwice.{IsToldAs}
 use Rattle.gpu_alloc.specs.Spans.{Place, Table}
 use Rattle.gpu_alloc.specs.State.{HeldObject, span_cmp, State}
 use Rattle.gpu_alloc.specs.declared.block.Kind.TheVariants.{BuddyChunk}
 use Rattle.gpu_alloc_base.specs.declared.buddy_block.Leaf.{Leaf}
-use Rattle.gpu_alloc_base.specs.declared.error.AllocationError.{AllocationError}
-use Rattle.gpu_alloc_base.specs.declared.error.AllocationError.TheVariants.{OutOfDeviceMemory, OutOfHostMemory, NoCompatibleMemoryTypes, TooManyObjects}
 use Rattle.gpu_alloc_base.specs.declared.heap.Heap.{Heap}
 use Rattle.gpu_alloc.specs.declared.request.Request.{Request}
 
@@ -148,39 +149,26 @@ module _ (s : State) (places : map.FinMap span_cmp Place) (room index : ℕ) (b 
       let props : b.props ≡ props_at s.properties index = serves.of.for_type.props in
       λ i. record { size = max (next i) (2 * size); memory_type = type i; flags = flags_of s.properties; visible = has_bit (props i) 2 }
 
-  pub asks_is : (size : ℕ) (heap : Heap) → AsksForChunk (account b heap s.remaining) size → AsksForBuddyChunk s index size
-  asks_is size heap (fits, (none, more)) = (fits, (λ place. none (place_was size place), more))
+  -- A request, which both tell.
 
-  -- What is refused.
+  told_as : (heap : Heap) (size : ℕ) → IsToldAs (buddy_case (account b heap s.remaining) size (flags_of s.properties)) (buddy_candidate s size index)
+  told_as heap size = record {
+    fits = λ fits. fits;
+    fitted = λ fits. fits;
+    place = place_is size;
+    placed = place_was size;
+    number = λ has. has;
+    numbered = λ has. has;
+    remaining = refl;
+    question = question_is size;
+    handles = refl;
+  }
 
-  module _ (heap : Heap) (size : ℕ) (es : List Event) (after : Account) where
-    pub answered_passed : Answers (account b heap s.remaining) size (flags_of s.properties) es (Err OutOfDeviceMemory) after → IsPassedByBuddy s index size es
-    answered_passed (same, inl passed) = inl passed
-    answered_passed (same, inr (asks, lacks)) = inr (asks_is size heap asks, subst (λ q. LacksDeviceMemory q es) (question_is size) lacks)
+  -- of this size, with these flags
+  pub told_with : (heap : Heap) (size flags : ℕ) → flags ≡ flags_of s.properties → IsToldAs (buddy_case (account b heap s.remaining) size flags) (buddy_candidate s size index)
+  told_with heap size flags is = subst (λ f. IsToldAs (buddy_case (account b heap s.remaining) size f) (buddy_candidate s size index)) (sym is) (told_as heap size)
 
-    pub answered_refused : (e : AllocationError) → e ≢ OutOfDeviceMemory → Answers (account b heap s.remaining) size (flags_of s.properties) es (Err e) after → DecidesInBuddyChunk s index size es (Err e) s
-    answered_refused OutOfDeviceMemory other answers = absurd (other refl)
-    answered_refused NoCompatibleMemoryTypes other answers = absurd answers
-    answered_refused TooManyObjects other (same, (none_asked, (fits, (none, no_more)))) = (refl, (none_asked, (fits, (λ place. none (place_was size place), no_more))))
-    answered_refused OutOfHostMemory other (same, inl (fits, (none_asked, inl place))) = (refl, inl (none_asked, (fits, inl (place_is size place))))
-    answered_refused OutOfHostMemory other (same, inl (fits, (none_asked, inr asks))) = (refl, inl (none_asked, (fits, inr asks.1.1)))
-    answered_refused OutOfHostMemory other (same, inr (asks, inl lacks)) = (refl, inr (asks_is size heap asks, inl (subst (λ q. LacksHostMemory q es) (question_is size) lacks)))
-    answered_refused OutOfHostMemory other (same, inr (asks, inr back)) = (refl, inr (asks_is size heap asks, inr (subst (λ q. IsGivenBack q es) (question_is size) back)))
-
-  -- before anything is asked
-  module _ (heap : Heap) (r : Request) (flags : ℕ) where
-    pub first_passed : RefusesFirst (account b heap s.remaining) (wanted r.size r.align_mask flags) (Some OutOfDeviceMemory) → IsPassedByBuddy s index (buddy_size s r index) []
-    first_passed first = inl (λ fits. first (subst Fits (sym (rounded_is r flags)) fits), refl)
-
-    pub first_refused : (e : AllocationError) → e ≢ OutOfDeviceMemory → RefusesFirst (account b heap s.remaining) (wanted r.size r.align_mask flags) (Some e)
-        → DecidesInBuddyChunk s index (buddy_size s r index) [] (Err e) s
-    first_refused OutOfDeviceMemory other first = absurd (other refl)
-    first_refused OutOfHostMemory other first = absurd first
-    first_refused NoCompatibleMemoryTypes other first = absurd first
-    first_refused TooManyObjects other (fits, (none, no_more)) =
-        let e = rounded_is r flags in
-        (refl, (refl, (subst Fits e fits, (λ place. none (subst (HasPlace b) (sym e) (place_was (buddy_size s r index) place)), no_more))))
-
-    pub first_open : RefusesFirst (account b heap s.remaining) (wanted r.size r.align_mask flags) None → DecidesInBuddyChunk s index (buddy_size s r index) [] (Err OutOfHostMemory) s
-    first_open (fits, inl place) = let e = rounded_is r flags in (refl, inl (refl, (subst Fits e fits, inl (place_is (buddy_size s r index) (subst (HasPlace b) e place)))))
-    first_open (fits, inr more) = (refl, inl (refl, (subst Fits (rounded_is r flags) fits, inr more)))
+  -- of what is wanted
+  pub told_of : (heap : Heap) (r : Request) (flags : ℕ) → flags ≡ flags_of s.properties → IsToldAs (case_of (account b heap s.remaining) (wanted r.size r.align_mask flags)) (candidate InBuddyChunk s r index)
+  told_of heap r flags is =
+      subst (λ n. IsToldAs (buddy_case (account b heap s.remaining) n flags) (candidate InBuddyChunk s r index)) (sym (rounded_is r flags)) (told_with heap (buddy_size s r index) flags is)

@@ -12,7 +12,8 @@ use Rattle.gpu_alloc.specs.Agreement.{Agrees}
 use Rattle.gpu_alloc_buddy.specs.BuddyState.{Buddy}
 use Rattle.gpu_alloc_base.specs.Chunks.{Chunk}
 use Rattle.gpu_alloc_freelist.specs.FreeList.{IsWhollyFree, without_chunk}
-use Rattle.gpu_alloc_freelist.specs.FreeListAllocator.{Account, account, account_without_chunk, GivesFirst, IsCounted, AreGone, object_in, size_in, object_of, size_of, without_numbers, without_objects_of}
+use Rattle.gpu_alloc_base.specs.Accounts.{Account, account, IsCounted}
+use Rattle.gpu_alloc_freelist.specs.FreeListAllocator.{account_without_chunk, GivesFirst, AreGone, object_in, size_in, object_of, size_of, without_numbers, without_objects_of}
 use Rattle.gpu_alloc_freelist.specs.FreeListAllocator as list
 use Rattle.gpu_alloc_freelist.specs.FreeListSound.{IsSound}
 use Rattle.gpu_alloc_freelist.specs.FreeListState.{Listing}
@@ -177,14 +178,14 @@ pub record IsGivingBack {A : Type 0} (keep_last : Bool) (index i : ℕ) (s : Sta
   pub at : listing ≡ get_or lists index listing
   pub heap : Heap
   pub at_heap : heap ≡ get_or heaps i heap
-  pub from : Account
+  pub from : Account Listing
   pub places : finite.FinMap span_cmp Place
   pub room : ℕ
-  pub serves : ServesList s places room index from.listing
+  pub serves : ServesList s places room index from.allocator
   pub numbers : List ℕ
   pub way : IsOnItsWay keep_last from objects q numbers es (account listing heap remaining) objects_now
-  pub lets : LetsGo s (map (object_of from.listing.space) numbers) es (state_in l heaps buddies lists t remaining)
-  pub objects_are : objects_now ≡ without_objects objects (map (object_of from.listing.space) numbers)
+  pub lets : LetsGo s (map (object_of from.allocator.space) numbers) es (state_in l heaps buddies lists t remaining)
+  pub objects_are : objects_now ≡ without_objects objects (map (object_of from.allocator.space) numbers)
   pub agrees : Agrees (state_in l heaps buddies lists t remaining) q objects_now
   pub whole : total (state_in l heaps buddies lists t remaining) ≡ total s
 
@@ -243,39 +244,39 @@ module _ {A : Type 0} {keep_last : Bool} {index i : ℕ} {s : State} {q : Proper
   way_here =
       let lists_same = one_element lists index w.listing fl list_in w.at at in
       let heaps_same = one_element heaps i w.heap heap (heap_in w) w.at_heap at_heap in
-      subst (λ (a : Account). IsOnItsWay keep_last w.from objects q w.numbers es a objects_now) (λ k. account (lists_same k) (heaps_same k) remaining) w.way
+      subst (λ (a : Account Listing). IsOnItsWay keep_last w.from objects q w.numbers es a objects_now) (λ k. account (lists_same k) (heaps_same k) remaining) w.way
 
   -- What the free list asks.
 
   pub list_agreed : list.Agrees fl q objects_now
   list_agreed = way_here.agrees
 
-  pub list_counted_still : IsCounted (account fl heap remaining)
+  pub list_counted_still : IsCounted fl.space.chunks heap remaining
   list_counted_still = way_here.counted
 
   -- None may go any more.
 
-  module _ (es_now : List Event) (after : Account) (objects_new : ℕ → Option Object) (gives : GivesFirst keep_last (account fl heap remaining) es_now None after objects_now objects_new) where
-    state_same : state_in l (set heaps i after.heap) buddies (set lists index after.listing) t after.remaining ≡ state_in l heaps buddies lists t remaining
+  module _ (es_now : List Event) (after : Account Listing) (objects_new : ℕ → Option Object) (gives : GivesFirst keep_last (account fl heap remaining) es_now None after objects_now objects_new) where
+    state_same : state_in l (set heaps i after.heap) buddies (set lists index after.allocator) t after.remaining ≡ state_in l heaps buddies lists t remaining
     state_same =
-        ap (λ (a : Account). state_in l (set heaps i a.heap) buddies (set lists index a.listing) t a.remaining) gives.1.1.0
+        ap (λ (a : Account Listing). state_in l (set heaps i a.heap) buddies (set lists index a.allocator) t a.remaining) gives.1.1.0
         ∙ ap (λ (hs : List Heap). state_in l hs buddies (set lists index fl) t remaining) (same_set heaps i heap heap at_heap refl)
         ∙ ap (λ (ls : List Listing). state_in l heaps buddies ls t remaining) (same_set lists index fl fl at refl)
 
-    pub stops_consistent : IsConsistent l.config (properties_in l (set heaps i after.heap)) (set heaps i after.heap) buddies (set lists index after.listing) t after.remaining
+    pub stops_consistent : IsConsistent l.config (properties_in l (set heaps i after.heap)) (set heaps i after.heap) buddies (set lists index after.allocator) t after.remaining
     stops_consistent =
-        subst (λ (a : Account). IsConsistent l.config (properties_in l (set heaps i a.heap)) (set heaps i a.heap) buddies (set lists index a.listing) t a.remaining) (sym gives.1.1.0)
+        subst (λ (a : Account Listing). IsConsistent l.config (properties_in l (set heaps i a.heap)) (set heaps i a.heap) buddies (set lists index a.allocator) t a.remaining) (sym gives.1.1.0)
         (subst (λ (hs : List Heap). IsConsistent l.config (properties_in l hs) hs buddies (set lists index fl) t remaining) (sym (same_set heaps i heap heap at_heap refl))
         (subst (λ (ls : List Listing). IsConsistent l.config (properties_in l heaps) heaps buddies ls t remaining) (sym (same_set lists index fl fl at refl)) w.consistent))
 
-    pub stops : IsGivenBack keep_last index s q objects (state_in l (set heaps i after.heap) buddies (set lists index after.listing) t after.remaining) (es ++ es_now) objects_new
+    pub stops : IsGivenBack keep_last index s q objects (state_in l (set heaps i after.heap) buddies (set lists index after.allocator) t after.remaining) (es ++ es_now) objects_new
     stops =
         let none_more : es ≡ es ++ es_now = sym (append-nil es) ∙ ap (λ fs. es ++ fs) (sym gives.1.0) in
-        subst (λ f. IsGivenBack keep_last index s q objects (state_in l (set heaps i after.heap) buddies (set lists index after.listing) t after.remaining) (es ++ es_now) f) (sym gives.1.1.1)
+        subst (λ f. IsGivenBack keep_last index s q objects (state_in l (set heaps i after.heap) buddies (set lists index after.allocator) t after.remaining) (es ++ es_now) f) (sym gives.1.1.1)
         (subst (λ x. IsGivenBack keep_last index s q objects x (es ++ es_now) objects_now) (sym state_same)
         (subst (λ fs. IsGivenBack keep_last index s q objects (state_in l heaps buddies lists t remaining) fs objects_now) none_more (record {
-          names = map (object_of w.from.listing.space) w.numbers;
-          chunks = gone_is s w.places w.room index w.from.listing w.serves keep_last w.numbers (ends way_here gives.0).0;
+          names = map (object_of w.from.allocator.space) w.numbers;
+          chunks = gone_is s w.places w.room index w.from.allocator w.serves keep_last w.numbers (ends way_here gives.0).0;
           lets = w.lets;
           objects_are = w.objects_are;
           agrees = w.agrees;
@@ -284,7 +285,7 @@ module _ {A : Type 0} {keep_last : Bool} {index i : ℕ} {s : State} {q : Proper
 
   -- One more goes.
 
-  module _ (es_now : List Event) (object : ℕ) (after : Account) (objects_new : ℕ → Option Object) (gives : GivesFirst keep_last (account fl heap remaining) es_now (Some object) after objects_now objects_new)
+  module _ (es_now : List Event) (object : ℕ) (after : Account Listing) (objects_new : ℕ → Option Object) (gives : GivesFirst keep_last (account fl heap remaining) es_now (Some object) after objects_now objects_new)
       (now : Table) (held : now.held ≡ finite.remove t.held object) (live : now.live ≡ t.live) (places : now.places ≡ t.places) where
     abbrev number : ℕ
     number = gives.0
@@ -299,10 +300,10 @@ module _ {A : Type 0} {keep_last : Bool} {index i : ℕ} {s : State} {q : Proper
     named = gives.1.1.0 ∙ ap object_in there.1
 
     -- its object is that of its number from the first
-    named_first : chunk.object ≡ object_of w.from.listing.space number
-    named_first = sym (ap object_in (held_before w.from.listing.space.chunks w.numbers number chunk (ap (λ (x : Account). finite.get x.listing.space.chunks number) (sym way_here.lets.1) ∙ there.1)))
+    named_first : chunk.object ≡ object_of w.from.allocator.space number
+    named_first = sym (ap object_in (held_before w.from.allocator.space.chunks w.numbers number chunk (ap (λ (x : Account Listing). finite.get x.allocator.space.chunks number) (sym way_here.lets.1) ∙ there.1)))
 
-    abbrev less : Account
+    abbrev less : Account Listing
     less = account (record fl { space = without_chunk fl.space number }) (record heap { used = heap.used - chunk.size }) (remaining + 1)
 
     after_is : after ≡ less
@@ -315,21 +316,21 @@ module _ {A : Type 0} {keep_last : Bool} {index i : ℕ} {s : State} {q : Proper
     held_less = held ∙ ap (finite.remove t.held) named
 
     abbrev names : List ℕ
-    names = map (object_of w.from.listing.space) w.numbers
+    names = map (object_of w.from.allocator.space) w.numbers
 
-    names_more : names ++ chunk.object ∷ [] ≡ map (object_of w.from.listing.space) (w.numbers ++ number ∷ [])
-    names_more = ap (λ o. names ++ o ∷ []) named_first ∙ sym (map-append (object_of w.from.listing.space) w.numbers (number ∷ []))
+    names_more : names ++ chunk.object ∷ [] ≡ map (object_of w.from.allocator.space) (w.numbers ++ number ∷ [])
+    names_more = ap (λ o. names ++ o ∷ []) named_first ∙ sym (map-append (object_of w.from.allocator.space) w.numbers (number ∷ []))
 
-    state_less : state_in l (set heaps i less.heap) buddies (set lists index less.listing) now (remaining + 1) ≡ without_object before chunk.object
+    state_less : state_in l (set heaps i less.heap) buddies (set lists index less.allocator) now (remaining + 1) ≡ without_object before chunk.object
     state_less = state_gone l heaps buddies lists t remaining index i fl heap w.consistent w.known at w.here at_heap number chunk there.1 gives.1.0.goes.0 now held_less live places
 
-    goes_less : IsSound less.listing → IsGivingBack keep_last index i s q objects l (set heaps i less.heap) buddies (set lists index less.listing) now (remaining + 1) (es ++ Deallocated chunk.object ∷ []) (put objects_now chunk.object None)
+    goes_less : IsSound less.allocator → IsGivingBack keep_last index i s q objects l (set heaps i less.heap) buddies (set lists index less.allocator) now (remaining + 1) (es ++ Deallocated chunk.object ∷ []) (put objects_now chunk.object None)
     goes_less sound = record {
       consistent = consistent_gone l heaps buddies lists t remaining index i fl heap w.consistent w.known at w.here at_heap number chunk there.1 gives.1.0.goes.0 now held_less live places sound;
       known = w.known;
       here = w.here;
-      listing = less.listing;
-      at = element_put lists index less.listing list_in;
+      listing = less.allocator;
+      at = element_put lists index less.allocator list_in;
       heap = less.heap;
       at_heap = element_put heaps i less.heap (heap_in w);
       from = w.from;
@@ -339,19 +340,19 @@ module _ {A : Type 0} {keep_last : Bool} {index i : ℕ} {s : State} {q : Proper
       numbers = w.numbers ++ number ∷ [];
       way = goes_on way_here number chunk there.1 gives.1.0 sound.space;
       lets =
-          subst (λ ns. LetsGo s ns (es ++ Deallocated chunk.object ∷ []) (state_in l (set heaps i less.heap) buddies (set lists index less.listing) now (remaining + 1))) names_more
+          subst (λ ns. LetsGo s ns (es ++ Deallocated chunk.object ∷ []) (state_in l (set heaps i less.heap) buddies (set lists index less.allocator) now (remaining + 1))) names_more
           (subst (λ x. LetsGo s (names ++ chunk.object ∷ []) (es ++ Deallocated chunk.object ∷ []) x) (sym state_less) (lets_more s before (without_object before chunk.object) names (chunk.object ∷ []) es (Deallocated chunk.object ∷ []) w.lets (goes_alone before chunk.object)));
       objects_are = ap (λ f. put f chunk.object None) w.objects_are ∙ sym (objects_more objects names (chunk.object ∷ [])) ∙ ap (without_objects objects) names_more;
       agrees = subst (λ x. Agrees x q (put objects_now chunk.object None)) (sym state_less) (agrees_without_list_chunk before q objects_now chunk.object (remaining + 1) w.agrees);
       whole = ap total state_less ∙ total_gone l heaps buddies lists t remaining index i fl heap w.consistent w.known at w.here at_heap number chunk there.1 gives.1.0.goes.0 ∙ w.whole;
     }
 
-    pub goes : IsSound after.listing → IsGivingBack keep_last index i s q objects l (set heaps i after.heap) buddies (set lists index after.listing) now after.remaining (es ++ es_now) objects_new
+    pub goes : IsSound after.allocator → IsGivingBack keep_last index i s q objects l (set heaps i after.heap) buddies (set lists index after.allocator) now after.remaining (es ++ es_now) objects_new
     goes sound =
-        subst (λ (a : Account). IsGivingBack keep_last index i s q objects l (set heaps i a.heap) buddies (set lists index a.listing) now a.remaining (es ++ es_now) objects_new) (sym after_is)
-        (subst (λ fs. IsGivingBack keep_last index i s q objects l (set heaps i less.heap) buddies (set lists index less.listing) now (remaining + 1) (es ++ fs) objects_new) (sym told)
-        (subst (λ f. IsGivingBack keep_last index i s q objects l (set heaps i less.heap) buddies (set lists index less.listing) now (remaining + 1) (es ++ Deallocated chunk.object ∷ []) f) (sym left)
-        (goes_less (subst IsSound (ap (λ (a : Account). a.listing) after_is) sound))))
+        subst (λ (a : Account Listing). IsGivingBack keep_last index i s q objects l (set heaps i a.heap) buddies (set lists index a.allocator) now a.remaining (es ++ es_now) objects_new) (sym after_is)
+        (subst (λ fs. IsGivingBack keep_last index i s q objects l (set heaps i less.heap) buddies (set lists index less.allocator) now (remaining + 1) (es ++ fs) objects_new) (sym told)
+        (subst (λ f. IsGivingBack keep_last index i s q objects l (set heaps i less.heap) buddies (set lists index less.allocator) now (remaining + 1) (es ++ Deallocated chunk.object ∷ []) f) (sym left)
+        (goes_less (subst IsSound (ap (λ (a : Account Listing). a.allocator) after_is) sound))))
       where
         told : es_now ≡ Deallocated chunk.object ∷ []
         told = gives.1.1.1.0 ∙ ap (λ o. Deallocated o ∷ []) named

@@ -8,7 +8,8 @@ use Rattle.gpu_alloc.specs.Allocation.{fits_a_chunk}
 use Rattle.gpu_alloc_buddy.specs.BuddyState.{Buddy}
 use Rattle.gpu_alloc_base.specs.Chunks.{Chunk}
 use Rattle.gpu_alloc_freelist.specs.FreeList.{with_slot, with_chunk}
-use Rattle.gpu_alloc_freelist.specs.FreeListAllocator.{account, listing_with_slot, chunk_size, next_size, IsCounted}
+use Rattle.gpu_alloc_base.specs.Accounts.{IsCounted}
+use Rattle.gpu_alloc_freelist.specs.FreeListAllocator.{listing_with_slot, chunk_size, next_size}
 use Rattle.gpu_alloc_freelist.specs.FreeListSound.{IsSound}
 use Rattle.gpu_alloc_freelist.specs.FreeListState.{Listing}
 use Rattle.gpu_alloc.specs.Inside.{state_in, properties_in, types_in, lists_in, list_object, span_of_slot, no_place, IsConsistent, IsListOf}
@@ -78,7 +79,7 @@ module _ {A : Type 0} (limits : Limits A) (heaps : List Heap) (buddies : List Bu
 
     -- What the free list asks of its heap.
 
-    pub counted_before : IsCounted (account l heap remaining)
+    pub counted_before : IsCounted l.space.chunks heap remaining
     counted_before = list_counted s t.places t.room index l serving heaps i heap is.books here heap_in at_heap
 
     pub bounded_before : heap.used ≤ 2 ^ 127

@@ -1,23 +1,24 @@
 -- The blocks of a memory type's free list in the whole allocator's state, and on the device.
-use Rattle.std.proofs.Common.{◌≡◌, ◌≢◌, ◌⊎◌, inl, inr, ℕ, ◌+◌, ◌%◌, ◌<◌, ◌≤◌, ◌^◌, cond, List, length, get_or, Option, Some, None, Ok, IfSome, IsTrue, refl, sym, ◌∙◌, ap, subst, arith}
+use Rattle.std.proofs.Common.{◌≡◌, ◌≢◌, ◌⊎◌, inl, inr, ℕ, ◌+◌, ◌%◌, ◌<◌, ◌≤◌, ◌^◌, cond, List, length, get_or, Option, Some, None, IfSome, IsTrue, refl, sym, ◌∙◌, ap, subst, arith}
 use Rattle.std.proofs.lemmas.Bool.{cases_eq}
-use Rattle.std.specs.Prelude.{MatchOption, sum_by}
+use Rattle.std.specs.Prelude.{sum_by}
 use Rattle.std.specs.FinMap as map
 use Rattle.std.specs.FinSet as set
-use Rattle.gpu_alloc_types.specs.Device.{Object, Event, HeldWith, put}
+use Rattle.gpu_alloc_types.specs.Device.{Object, HeldWith, put}
 use Rattle.gpu_alloc_types.specs.Flags.{has_bit}
 use Rattle.gpu_alloc_types.specs.Properties.{Properties, heap_at, props_at, is_host_visible}
 use Rattle.gpu_alloc.specs.Agreement as agreement
-use Rattle.gpu_alloc.specs.Allocation.{ObjectsWith, IsGranted}
+use Rattle.gpu_alloc.specs.Allocation.{IsGranted}
 use Rattle.gpu_alloc_base.specs.Wanted.{wanted}
 use Rattle.gpu_alloc_base.specs.Chunks.{IsThere, Chunk}
-use Rattle.gpu_alloc_freelist.specs.FreeList.{IsTail, first_tail}
-use Rattle.gpu_alloc_freelist.specs.FreeListAllocator.{Account, account, Answers, ObjectsAfter, chunk_size, sees_chunks, chunk_bytes, question}
+use Rattle.gpu_alloc_freelist.specs.FreeList.{IsTail}
+use Rattle.gpu_alloc_base.specs.Accounts.{IsCounted, chunk_bytes}
+use Rattle.gpu_alloc_freelist.specs.FreeListAllocator.{sees_chunks}
 use Rattle.gpu_alloc_freelist.specs.FreeListAllocator as list
 use Rattle.gpu_alloc_freelist.specs.FreeListState.{Listing, IsLiveSlot}
 use Rattle.gpu_alloc.specs.Inside.{IsOfObject, IsNumberedChunk, IsBooked, list_object, span_of_slot, slot_at}
 use Rattle.gpu_alloc.specs.FreeListSharing.{list_question, list_block, latest_number, with_list_chunk}
-use Rattle.gpu_alloc_base.specs.NewChunk.{flags_of, chunk_question, HasOneChunkMore}
+use Rattle.gpu_alloc_base.specs.NewChunk.{HasOneChunkMore}
 use Rattle.gpu_alloc.specs.BuddySharing.{with_span}
 use Rattle.gpu_alloc.specs.Spans.{Place}
 use Rattle.gpu_alloc.specs.State.{HeldObject, Span, span_cmp, State, IsLive, IsOwned, AreApart, share}
@@ -25,18 +26,15 @@ use Rattle.gpu_alloc.specs.declared.block.Kind.TheVariants.{FreeListChunk}
 use Rattle.gpu_alloc_base.specs.declared.free_list_block.Slot.{Slot}
 use Rattle.gpu_alloc_base.specs.declared.heap.Heap.{Heap}
 use Rattle.gpu_alloc.specs.declared.request.Request.{Request}
-use Rattle.gpu_alloc.proofs.Agreeing.{not_held, there_kept, agrees_more, agrees_returned}
+use Rattle.gpu_alloc.proofs.Agreeing.{there_kept, agrees_more, agrees_returned}
 use Rattle.gpu_alloc.proofs.HeapLists.{ledger_at}
 use Rattle.gpu_alloc.proofs.Ledgers.{sum_by-small}
 use Rattle.gpu_alloc_base.proofs.Sums.{sum_by-within, len-within}
-use Rattle.gpu_alloc.proofs.FreeLists.Serving.{ServesList, question_is, numbered_held}
+use Rattle.gpu_alloc.proofs.FreeLists.Serving.{ServesList, numbered_held}
 use Rattle.gpu_alloc.proofs.Tables.LiveSpans.{live_before}
 use Rattle.gpu_alloc_base.proofs.Maps.{eq-true, one_value}
 use Rattle.gpu_alloc.proofs.Buddies.Served.{ranges_apart}
 use Rattle.gpu_alloc.proofs.Buddies.Serving.{table_of}
-use Rattle.gpu_alloc_base.proofs.FreeRuns.{tail_ends}
-use Rattle.gpu_alloc_base.proofs.ChunkSizes.{grown_again}
-use Rattle.gpu_alloc_freelist.proofs.ForCallers.{never_both}
 
 -- With less to hold the two agree as before.
 
@@ -95,7 +93,7 @@ module _ (s : State) (places : map.FinMap span_cmp Place) (room index : ℕ) (l 
   pub list_agrees : (p : Properties) (objects : ℕ → Option Object) → index < length s.properties.memory_types → agreement.Agrees s p objects → list.Agrees l p objects
   list_agrees p objects known agrees = record {
     known = subst (λ t. t < length p.memory_types) (sym serves.of.for_type.memory_type) is_known;
-    props = ap (λ (q : Properties). props_at q l.memory_type) agrees.properties ∙ at_type;
+    same = ap (λ (q : Properties). props_at q l.memory_type) agrees.properties ∙ at_type;
     holds = λ number. held number (map.get l.space.chunks number) refl;
   }
     where
@@ -117,36 +115,6 @@ module _ (s : State) (places : map.FinMap span_cmp Place) (room index : ℕ) (l 
               mapped = λ visible. h.2.of_size.1 (ap (is_host_visible s.properties) h.2.of_type ∙ ap (λ bits. has_bit bits 2) at_type ∙ visible);
             },
           )
-
-  -- a block of a new chunk is that chunk's tail
-  pub first_is : (heap : Heap) (size alignment : ℕ) (es : List Event) (after : Account) (slot : Slot) → Answers (account l heap s.remaining) size alignment (flags_of s.properties) es (Ok slot) after
-      → slot.chunk ≡ l.space.latest + 1 → slot ≡ first_tail l.space slot.object (chunk_size l size) size alignment
-  first_is heap size alignment es after slot (inl here) new = absurd (never_both l.space size alignment slot serves.of.sound.space here.0 new)
-  first_is heap size alignment es after slot (inr there) new = there.1.0
-
-  -- the chunk of such a block is as large as what is asked for a block that is as large as the chunk
-  pub asked_again : (size alignment : ℕ) (slot : Slot) → slot ≡ first_tail l.space slot.object (chunk_size l size) size alignment
-      → question l size (flags_of s.properties) ≡ list_question s index (slot.offset + slot.size)
-  asked_again size alignment slot first =
-      let n : ℕ = chunk_size l size in
-      let ends : slot.offset + slot.size ≡ n = ap (λ (x : Slot). x.offset + x.size) first ∙ tail_ends size alignment n in
-      let next = serves.of.sound.next_chunk in
-      let again : chunk_size l n ≡ n = grown_again l.next_chunk l.final_chunk size next.0.1 next.1 serves.of.sound.final_chunk.1 in
-      ap (λ m. chunk_question m l.memory_type (flags_of s.properties) (sees_chunks l)) (sym again) ∙ question_is s places room index l serves n ∙ ap (list_question s index) (sym ends)
-
-  -- what the device makes of a grant
-  pub list_objects_are : (p : Properties) (old new : ℕ → Option Object) (size alignment : ℕ) (slot : Slot) → agreement.Agrees s p old
-      → (slot.chunk ≡ l.space.latest + 1 → slot ≡ first_tail l.space slot.object (chunk_size l size) size alignment)
-      → ObjectsAfter l size alignment (flags_of s.properties) (Ok slot) old new → ObjectsWith (FreeListChunk slot.chunk) s (list_block s index slot.chunk (span_of_slot slot)) old new
-  list_objects_are p old new size alignment slot agrees first after = elim (after) [
-    | inl begins ↦
-        let more = subst (λ q. HasOneChunkMore q slot.object old new) (asked_again size alignment slot (first begins.0)) begins.1 in
-        subst (λ (v : Option HeldObject). MatchOption v (HasOneChunkMore (list_question s index (slot.offset + slot.size)) slot.object old new) (λ _. new ≡ old)) (sym (not_held s p old slot.object agrees begins.1.0)) more
-    | inr tail ↦
-        let chunk : Chunk = tail.0.object.0 in
-        let held : map.get s.held slot.object ≡ Some (list_object l slot.chunk chunk) = ap (λ n. map.get s.held n) tail.0.object.2 ∙ serves.of.linked.chunks slot.chunk chunk tail.0.object.1 in
-        subst (λ (v : Option HeldObject). MatchOption v (HasOneChunkMore (list_question s index (slot.offset + slot.size)) slot.object old new) (λ _. new ≡ old)) (sym held) tail.1
-  ]
 
   -- after a block more
   pub agrees_with_slot : (p : Properties) (objects : ℕ → Option Object) (slot : Slot) (chunk : Chunk) → map.get l.space.chunks slot.chunk ≡ Some chunk → slot.object ≡ chunk.object
@@ -191,9 +159,9 @@ module _ (s : State) (places : map.FinMap span_cmp Place) (room index : ℕ) (l 
 
   -- the heap's ledger counts each chunk of the free list
   pub list_counted : (heaps : List Heap) (i : ℕ) (heap : Heap) → IsBooked s.properties heaps (table_of s places room) s.remaining → i ≡ heap_at s.properties index → i < length heaps → heap ≡ get_or heaps i heap
-      → list.IsCounted (account l heap s.remaining)
+      → IsCounted l.space.chunks heap s.remaining
   list_counted heaps i heap booked here inside at = record {
-    chunks = subst (λ n. chunk_bytes l ≤ n) (sym (ledger_at s.properties heaps i heap (map.entries s.held) booked.ledgers inside at)) bytes;
+    ledger = subst (λ n. chunk_bytes l.space.chunks ≤ n) (sym (ledger_at s.properties heaps i heap (map.entries s.held) booked.ledgers inside at)) bytes;
     objects = omega (arith, booked.count, count);
   }
     where
@@ -202,7 +170,7 @@ module _ (s : State) (places : map.FinMap span_cmp Place) (room index : ℕ) (l 
           let at_heap : heap_at s.properties l.memory_type ≡ i = ap (heap_at s.properties) serves.of.for_type.memory_type ∙ sym here in
           rw (eq-true (heap_at s.properties l.memory_type) i at_heap) (omega arith)
 
-      bytes : chunk_bytes l ≤ sum_by (share s.properties i) (map.entries s.held)
+      bytes : chunk_bytes l.space.chunks ≤ sum_by (share s.properties i) (map.entries s.held)
       bytes = sum_by-within (λ (c : Chunk). c.object) (λ (e : ℕ × Chunk). e.1.size) (share s.properties i) l.space.chunks s.held
           (λ k c is. (list_object l k c, serves.of.linked.chunks k c is, share_is k c)) serves.of.sound.one_object
 

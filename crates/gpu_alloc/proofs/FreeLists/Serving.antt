@@ -1,23 +1,24 @@
 -- A memory type's free list in the whole allocator's state: both tell the same of chunks, free bytes and blocks.
-use Rattle.std.proofs.Common.{◌≡◌, ◌≢◌, ◌⊎◌, inl, inr, ℕ, ◌+◌, List, [], Some, None, Err, refl, sym, ◌∙◌, ap, subst, arith}
+use Rattle.std.proofs.Common.{◌≡◌, ℕ, ◌+◌, Some, refl, sym, ◌∙◌, ap, subst, arith}
 use Rattle.std.specs.Prelude.{max}
 use Rattle.std.specs.FinMap as map
-use Rattle.gpu_alloc_types.specs.Device.{Event}
 use Rattle.gpu_alloc_types.specs.Flags.{has_bit}
 use Rattle.gpu_alloc_types.specs.Properties.{props_at}
 use Rattle.gpu_alloc_base.specs.Wanted.{wanted}
 use Rattle.gpu_alloc_base.specs.Chunks.{Chunk}
 use Rattle.gpu_alloc_freelist.specs.FreeList.{HasPlace, HasNumber, IsTail}
-use Rattle.gpu_alloc_freelist.specs.FreeListAllocator.{Account, account, rounded, alignment, question, AsksForChunk, IsBarred, Answers, RefusesFirst}
+use Rattle.gpu_alloc_base.specs.Accounts.{account}
+use Rattle.gpu_alloc_freelist.specs.FreeListAllocator.{rounded, alignment, question, case_of, list_case}
 use Rattle.gpu_alloc_freelist.specs.FreeListState.{Listing, IsFreeIn}
 use Rattle.gpu_alloc.specs.Inside.{IsListOf, IsNumberedChunk, list_object, span_of_slot, slot_at}
-use Rattle.gpu_alloc.specs.FreeListSharing.{list_size, list_alignment, list_question, next_list_chunk, latest_number, largest_list_chunk, IsListChunk, IsFreeInChunk, HasListPlace, HasListNumber, IsRunTail, AsksForListChunk, IsPassedByFreeList, DecidesInFreeList}
-use Rattle.gpu_alloc_base.specs.NewChunk.{flags_of, LacksDeviceMemory, LacksHostMemory, IsGivenBack}
+use Rattle.gpu_alloc.specs.FreeListSharing.{list_size, list_alignment, list_question, next_list_chunk, latest_number, largest_list_chunk, IsListChunk, IsFreeInChunk, HasListPlace, HasListNumber, IsRunTail}
+use Rattle.gpu_alloc.specs.Candidates.{list_candidate, candidate}
+use Rattle.gpu_alloc.specs.declared.allocator.Strategy.TheVariants.{InFreeList}
+use Rattle.gpu_alloc_base.proofs.ToldTwice.{IsToldAs}
+use Rattle.gpu_alloc_base.specs.NewChunk.{flags_of}
 use Rattle.gpu_alloc_base.specs.Sizes.{up, grown_chunk}
 use Rattle.gpu_alloc.specs.Spans.{Place}
 use Rattle.gpu_alloc.specs.State.{span_cmp, State}
-use Rattle.gpu_alloc_base.specs.declared.error.AllocationError.{AllocationError}
-use Rattle.gpu_alloc_base.specs.declared.error.AllocationError.TheVariants.{OutOfDeviceMemory, OutOfHostMemory, NoCompatibleMemoryTypes, TooManyObjects}
 use Rattle.gpu_alloc_base.specs.declared.free_list_block.Slot.{Slot}
 use Rattle.gpu_alloc_base.specs.declared.heap.Heap.{Heap}
 use Rattle.gpu_alloc.specs.declared.request.Request.{Request}
@@ -125,53 +126,29 @@ module _ (s : State) (places : map.FinMap span_cmp Place) (room index : ℕ) (l 
   pub number_was : HasListNumber s index → HasNumber l.space
   number_was has = omega (arith, has, serves.number)
 
-  pub asks_is : (size alignment : ℕ) (heap : Heap) → AsksForChunk (account l heap s.remaining) size alignment → AsksForListChunk s index size alignment
-  asks_is size alignment heap (none, (more, has)) = ((λ place. none (place_was size alignment place)), (more, number_is has))
+  -- A request, which both tell.
 
-  -- no chunk may be asked for
-  pub barred_is : (heap : Heap) → IsBarred (account l heap s.remaining) → (s.remaining ≡ 0) ⊎ (HasListNumber s index → ⊥)
-  barred_is heap (inl spent) = inl spent
-  barred_is heap (inr none) = inr (λ has. none (number_was has))
+  told_as : (heap : Heap) (size alignment : ℕ) → IsToldAs (list_case (account l heap s.remaining) size alignment (flags_of s.properties)) (list_candidate s size alignment index)
+  told_as heap size alignment = record {
+    fits = λ fits. fits;
+    fitted = λ fits. fits;
+    place = place_is size alignment;
+    placed = place_was size alignment;
+    number = number_is;
+    numbered = number_was;
+    remaining = refl;
+    question = question_is size;
+    handles = refl;
+  }
 
-  -- What is refused.
+  -- of this size and alignment, with these flags
+  pub told_with : (heap : Heap) (size alignment flags : ℕ) → flags ≡ flags_of s.properties → IsToldAs (list_case (account l heap s.remaining) size alignment flags) (list_candidate s size alignment index)
+  told_with heap size alignment flags is = subst (λ f. IsToldAs (list_case (account l heap s.remaining) size alignment f) (list_candidate s size alignment index)) (sym is) (told_as heap size alignment)
 
-  module _ (heap : Heap) (size alignment : ℕ) (es : List Event) (after : Account) where
-    pub answered_passed : Answers (account l heap s.remaining) size alignment (flags_of s.properties) es (Err OutOfDeviceMemory) after → IsPassedByFreeList s index size alignment es
-    answered_passed (same, (asks, lacks)) = (asks_is size alignment heap asks, subst (λ q. LacksDeviceMemory q es) (question_is size) lacks)
-
-    pub answered_refused : (e : AllocationError) → e ≢ OutOfDeviceMemory → Answers (account l heap s.remaining) size alignment (flags_of s.properties) es (Err e) after
-        → DecidesInFreeList s index size alignment es (Err e) s
-    answered_refused OutOfDeviceMemory other answers = absurd (other refl)
-    answered_refused NoCompatibleMemoryTypes other answers = absurd answers
-    answered_refused TooManyObjects other (same, (none_asked, (none, barred))) = (refl, (none_asked, ((λ place. none (place_was size alignment place)), barred_is heap barred)))
-    answered_refused OutOfHostMemory other (same, inl (none_asked, inl place)) = (refl, inl (none_asked, inl (place_is size alignment place)))
-    answered_refused OutOfHostMemory other (same, inl (none_asked, inr asks)) = (refl, inl (none_asked, inr (asks_is size alignment heap asks).1))
-    answered_refused OutOfHostMemory other (same, inr (asks, inl lacks)) = (refl, inr (asks_is size alignment heap asks, inl (subst (λ q. LacksHostMemory q es) (question_is size) lacks)))
-    answered_refused OutOfHostMemory other (same, inr (asks, inr back)) = (refl, inr (asks_is size alignment heap asks, inr (subst (λ q. IsGivenBack q es) (question_is size) back)))
-
-  -- before anything is asked
-  module _ (heap : Heap) (r : Request) (flags : ℕ) where
-    abbrev asked_size : ℕ
-    asked_size = rounded l (wanted r.size r.align_mask flags)
-
-    abbrev asked_alignment : ℕ
-    asked_alignment = alignment l (wanted r.size r.align_mask flags)
-
-    wanted_place_is : HasPlace l.space asked_size asked_alignment → HasListPlace s index (list_size s r index) (list_alignment s r index)
-    wanted_place_is place = subst (λ n. HasListPlace s index (list_size s r index) n) (alignment_is r flags) (subst (λ n. HasListPlace s index n asked_alignment) (rounded_is r flags) (place_is asked_size asked_alignment place))
-
-    wanted_place_was : HasListPlace s index (list_size s r index) (list_alignment s r index) → HasPlace l.space asked_size asked_alignment
-    wanted_place_was place =
-        place_was asked_size asked_alignment (subst (λ n. HasListPlace s index n asked_alignment) (sym (rounded_is r flags)) (subst (λ n. HasListPlace s index (list_size s r index) n) (sym (alignment_is r flags)) place))
-
-    pub first_refused : (e : AllocationError) → RefusesFirst (account l heap s.remaining) (wanted r.size r.align_mask flags) (Some e)
-        → DecidesInFreeList s index (list_size s r index) (list_alignment s r index) [] (Err e) s
-    first_refused OutOfDeviceMemory first = absurd first
-    first_refused OutOfHostMemory first = absurd first
-    first_refused NoCompatibleMemoryTypes first = absurd first
-    first_refused TooManyObjects (none, barred) = (refl, (refl, ((λ place. none (wanted_place_was place)), barred_is heap barred)))
-
-    pub first_open : RefusesFirst (account l heap s.remaining) (wanted r.size r.align_mask flags) None
-        → DecidesInFreeList s index (list_size s r index) (list_alignment s r index) [] (Err OutOfHostMemory) s
-    first_open (inl place) = (refl, inl (refl, inl (wanted_place_is place)))
-    first_open (inr (more, has)) = (refl, inl (refl, inr (more, number_is has)))
+  -- of what is wanted
+  pub told_of : (heap : Heap) (r : Request) (flags : ℕ) → flags ≡ flags_of s.properties → IsToldAs (case_of (account l heap s.remaining) (wanted r.size r.align_mask flags)) (candidate InFreeList s r index)
+  told_of heap r flags is =
+      let a = account l heap s.remaining in
+      let d = candidate InFreeList s r index in
+      subst (λ n. IsToldAs (list_case a n (alignment l (wanted r.size r.align_mask flags)) flags) d) (sym (rounded_is r flags))
+      (subst (λ n. IsToldAs (list_case a (list_size s r index) n flags) d) (sym (alignment_is r flags)) (told_with heap (list_size s r index) (list_alignment s r index) flags is))

@@ -49,7 +49,8 @@ struct Chunks {
 
 impl Model for Chunks {
     ghost use Rattle.std.specs.Prelude.{◌≡◌};
-    ghost use Rattle.gpu_alloc.specs.Buddy.{Agrees, IsCounted, account, chunks_and_remaining};
+    ghost use Rattle.gpu_alloc.specs.Accounts.{IsCounted, chunks_and_remaining};
+    ghost use Rattle.gpu_alloc.specs.Buddy.{Agrees};
     ghost use Rattle.gpu_alloc.specs.BuddyState.{Buddy};
     ghost use Rattle.gpu_alloc.specs.Codes.{buddy_code};
     ghost use Rattle.gpu_sim.specs.Sim.{objects_of};
@@ -60,7 +61,7 @@ impl Model for Chunks {
 
     ghost view = { λ c. c.allocator };
 
-    ghost invariant = { λ c. Agrees c.allocator (c.device).properties (objects_of c.device) × (IsCounted (account c.allocator c.heap c.remaining) × (chunks_and_remaining (account c.allocator c.heap c.remaining) ≡ c.most)) };
+    ghost invariant = { λ c. Agrees c.allocator (c.device).properties (objects_of c.device) × (IsCounted (c.allocator).chunks c.heap c.remaining × (chunks_and_remaining (c.allocator).chunks c.remaining ≡ c.most)) };
 }
 
 impl Chunks {

@@ -175,7 +175,8 @@ struct Chunks {
 impl Model for Chunks {
     ghost use Rattle.std.specs.Prelude.{◌≡◌};
     ghost use Rattle.gpu_alloc.specs.Codes.{listing_code};
-    ghost use Rattle.gpu_alloc.specs.FreeListAllocator.{Agrees, IsCounted, account, chunks_and_remaining};
+    ghost use Rattle.gpu_alloc.specs.Accounts.{IsCounted, chunks_and_remaining};
+    ghost use Rattle.gpu_alloc.specs.FreeListAllocator.{Agrees};
     ghost use Rattle.gpu_alloc.specs.FreeListState.{Listing};
     ghost use Rattle.gpu_sim.specs.Sim.{objects_of};
 
@@ -185,7 +186,7 @@ impl Model for Chunks {
 
     ghost view = { λ c. c.allocator };
 
-    ghost invariant = { λ c. Agrees c.allocator (c.device).properties (objects_of c.device) × (IsCounted (account c.allocator c.heap c.remaining) × ((chunks_and_remaining (account c.allocator c.heap c.remaining) ≡ 4096) × (((c.allocator).atom ≡ 1) × ((c.allocator).final_chunk ≡ 32768)))) };
+    ghost invariant = { λ c. Agrees c.allocator (c.device).properties (objects_of c.device) × (IsCounted ((c.allocator).space).chunks c.heap c.remaining × ((chunks_and_remaining ((c.allocator).space).chunks c.remaining ≡ 4096) × (((c.allocator).atom ≡ 1) × ((c.allocator).final_chunk ≡ 32768)))) };
 }
 
 impl Chunks {

@@ -1,7 +1,7 @@
 use Rattle.std.proofs.Common.{◌≡◌, not, ◌==◌, IfSome, option_map, refl, sym, ap, ◌∙◌, subst}
 use Rattle.std.specs.FinMap as finite
 use Rattle.std.specs.FinSet as set_of
-use Rattle.gpu_alloc_buddy.specs.Buddy.{account}
+use Rattle.gpu_alloc_base.specs.Accounts.{account}
 use Rattle.gpu_alloc.specs.Spans.{span_at, span_in, place_in, without_old}
 use Rattle.gpu_alloc.specs.State.{Span, span_of}
 use Rattle.gpu_alloc.specs.declared.spans.LiveSpan.{LiveSpan}

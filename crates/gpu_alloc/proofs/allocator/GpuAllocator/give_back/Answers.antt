@@ -2,7 +2,7 @@ use Rattle.std.proofs.Common.{[], ◌++◌, refl, sym, ◌∙◌, subst, arith}
 use Rattle.std.proofs.Math.ListN.{set}
 use Rattle.gpu_alloc_types.specs.Chains.{chain_append}
 use Rattle.gpu_alloc.specs.Agreement.{Agrees}
-use Rattle.gpu_alloc_freelist.specs.FreeListAllocator.{account}
+use Rattle.gpu_alloc_base.specs.Accounts.{account}
 use Rattle.gpu_alloc_freelist.specs.FreeListAllocator as list
 use Rattle.gpu_alloc.specs.Inside.{state_in}
 use Rattle.gpu_alloc.specs.State.{State}

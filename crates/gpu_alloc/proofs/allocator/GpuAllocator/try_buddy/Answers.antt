@@ -1,4 +1,4 @@
-use Rattle.std.proofs.Common.{◌≡◌, ◌⊎◌, ◌+◌, [], IfSome, refl, sym, ap, ◌∙◌, subst}
+use Rattle.std.proofs.Common.{◌≡◌, ◌⊎◌, ℕ, ◌+◌, [], IfSome, refl, sym, ap, ◌∙◌, subst}
 use Rattle.std.proofs.lemmas.List.{get_or-set_same}
 use Rattle.std.proofs.Math.ListN.{set}
 use Rattle.std.specs.FinMap as finite
@@ -6,9 +6,12 @@ use Rattle.std.specs.FinSet as set_of
 use Rattle.std.specs.Option.{IsSome, is_some}
 use Rattle.gpu_alloc_types.specs.Flags.{allocation_bits}
 use Rattle.gpu_alloc_types.specs.Properties.{Properties}
-use Rattle.gpu_alloc_buddy.specs.Buddy.{account}
-use Rattle.gpu_alloc.specs.Inside.{state_in, with_chunk_of, span_of_leaf, place_of_leaf}
-use Rattle.gpu_alloc.specs.BuddySharing.{buddy_block, GivesInChunk, GivesInNewChunk}
+use Rattle.gpu_alloc_base.specs.Accounts.{account}
+use Rattle.gpu_alloc.specs.Inside.{state_in, properties_in, with_chunk_of, span_of_leaf, place_of_leaf}
+use Rattle.gpu_alloc_base.specs.Case.{GivesInPlace, GivesInNewObject}
+use Rattle.gpu_alloc_base.specs.NewChunk.{flags_of}
+use Rattle.gpu_alloc.specs.BuddySharing.{buddy_block}
+use Rattle.gpu_alloc.specs.Candidates.{buddy_candidate}
 use Rattle.gpu_alloc.specs.Spans.{Table}
 use Rattle.gpu_alloc.specs.State.{State, HeldObject, Block, total}
 use Rattle.gpu_alloc.specs.declared.block.Kind.TheVariants.{BuddyChunk}
@@ -16,10 +19,11 @@ use Rattle.gpu_alloc_base.proofs.Outcomes.{when_ok}
 use Rattle.gpu_alloc.proofs.Consistency.{heap_there}
 use Rattle.gpu_alloc.proofs.OwnObjects.{consistent-room}
 use Rattle.gpu_alloc.proofs.Buddies.Served.{buddy_agrees}
-use Rattle.gpu_alloc.proofs.Buddies.Serving.{Serves, first_open, rounded_is}
-use Rattle.gpu_alloc.proofs.Buddies.Answers.{Given, span_is_free, IsServed, objects_served, served}
+use Rattle.gpu_alloc.proofs.Buddies.Serving.{Serves, told_of, rounded_is}
+use Rattle.gpu_alloc.proofs.Buddies.Answers.{Given, span_is_free, IsServed, served}
 use Rattle.gpu_alloc.proofs.Buddies.Grants.{serves, counted_before, bounded_before, consistent_refused, state_refused}
-use Rattle.gpu_alloc.proofs.Buddies.Refusals.{first_tries, refused_tries, nothing_made, nothing_granted}
+use Rattle.gpu_alloc_base.proofs.ToldTwice.{first_is, refused_is, wants_is}
+use Rattle.gpu_alloc.proofs.Trials.{refused_tries, nothing_made, nothing_granted}
 use Rattle.gpu_alloc.proofs.allocator.GpuAllocator.try_buddy.Given.{Over}
 use Rattle.gpu_alloc.proofs.HandedOn.{below, address_there}
 use Rattle.gpu_alloc.proofs.allocator.GpuAllocator.try_buddy.Goals as goal
@@ -30,10 +34,13 @@ pub returns-in-Some : goal.returns-in-Some
 returns-in-Some g c =
     let known = rw (← c.self.view_is) at c.requires.known in
     let serving = serves c.self.inside.limits _ _ _ _ _ c.args.memory_type c.index.result.now c.self.invariant known c.index.ensures in
-    let first = rw c.in-Some.is at (c.refuses-first.ensures 0) in
+    let flags = flags_of (properties_in c.self.inside.limits c.self.inside.heaps.items) in
+    let first = rw c.in-Some.is at (c.refuses-first.ensures flags) in
+    let told = told_of _ _ _ c.args.memory_type _ serving c.index-2.result.now c.args.request flags refl in
+    let s : State = state_in c.self.inside.limits c.self.inside.heaps.items c.self.inside.buddies.items c.self.inside.free_lists.items c.self.inside.spans c.self.inside.allocations_remains in
     rw (c.passing.ensures, ← c.self.view_is) (record {
-      tries = ([], refl, first_tries _ _ _ c.args.memory_type _ serving c.index-2.result.now c.args.request 0 c.in-Some.refusal first);
-      objects = nothing_made _ c.in-Some.refusal _ _ refl;
+      tries = ([], refl, refused_tries _ [] c.in-Some.refusal _ (first_is told c.in-Some.refusal first));
+      objects = nothing_made s c.in-Some.refusal s _ _ refl;
       agrees = rw (← c.self.view_is) at c.requires.agrees;
       granted = nothing_granted _ c.args.request c.in-Some.refusal _ refl;
       total = refl;
@@ -46,8 +53,8 @@ pub returns-then-is_err-clause-tries : goal.returns-then-is_err-clause-tries
 returns-then-is_err-clause-tries g c =
     let known = rw (← c.self.view_is) at c.requires.known in
     let serving = serves c.self.inside.limits _ _ _ _ _ c.args.memory_type c.index.result.now c.self.invariant known c.index.ensures in
-    let first = c.in_default.ensures 0 in
-    let refused = first_open _ _ _ c.args.memory_type _ serving c.index-2.result.now c.args.request 0 first in
+    let flags = flags_of (properties_in c.self.inside.limits c.self.inside.heaps.items) in
+    let refused = wants_is (told_of _ _ _ c.args.memory_type _ serving c.index-2.result.now c.args.request flags refl) (c.in_default.ensures flags) in
     let same = ap (λ t. state_in c.self.inside.limits c.self.inside.heaps.items c.self.inside.buddies.items c.self.inside.free_lists.items t c.self.inside.allocations_remains) c.reserve.ensures.kept in
     rw (← c.self.view_is) ([], refl, (same, refused.1))
 
@@ -167,14 +174,12 @@ invariant_of-self-in-Ok g c =
 pub returns-in-Ok-clause-tries : goal.returns-in-Ok-clause-tries
 returns-in-Ok-clause-tries g c =
     let told = c.in-Ok.ensures.allocates in
-    let sized = subst (λ n. GivesInChunk (before g c) c.args.memory_type n told.0 (span_of_leaf c.in-Ok.block) (after g c) ⊎ GivesInNewChunk (before g c) c.args.memory_type n told.0 (span_of_leaf c.in-Ok.block) (after g c))
-    (rounded_is _ _ _ c.args.memory_type _ (serves_now g c) c.args.request (allocation_bits c.flags-flags.result)) (is g c).gives in
-    rw (← c.self.view_is, block_is g c) (told.0, told.1, (refl, sized))
+    let gives : ℕ → Type 0 = λ n. GivesInPlace (buddy_candidate (before g c) n c.args.memory_type) told.0 (block g c) (after g c) ⊎ GivesInNewObject (buddy_candidate (before g c) n c.args.memory_type) told.0 (block g c) (after g c) in
+    let sized = subst gives (rounded_is _ _ _ c.args.memory_type _ (serves_now g c) c.args.request (allocation_bits c.flags-flags.result)) (is g c).gives in
+    rw (← c.self.view_is, block_is g c) (told.0, told.1, sized)
 
 pub returns-in-Ok-clause-objects : goal.returns-in-Ok-clause-objects
-returns-in-Ok-clause-objects g c =
-    let told = c.in-Ok.ensures.allocates in
-    rw (← c.self.view_is, block_is g c) (objects_served (given g c) _ _ told.0 _ told.2 c.in-Ok.ensures.objects c.in-Ok.ensures.granted)
+returns-in-Ok-clause-objects g c = rw (← c.self.view_is, block_is g c) (is g c).objects_are
 
 pub returns-in-Ok-clause-agrees : goal.returns-in-Ok-clause-agrees
 returns-in-Ok-clause-agrees g c =
@@ -206,9 +211,14 @@ returns-in-Err g c =
     let told = c.in-Err.ensures.allocates in
     let left = state_refused c.self.inside.limits _ _ _ _ _ c.args.memory_type c.index_mut.result.now c.self.invariant known c.index_mut.ensures.value c.heap_index-heap.result c.index_mut-2.result.now c.heap_index-heap.ensures
     c.index_mut-2.ensures.value _ _ _ same.0 same.1.0 same.1.1 c.reserve.new.self (ap (λ (t : Table). t.held) c.reserve.ensures.kept) (ap (λ (t : Table). t.live) c.reserve.ensures.kept) in
+    let s : State = state_in c.self.inside.limits c.self.inside.heaps.items c.self.inside.buddies.items c.self.inside.free_lists.items c.self.inside.spans c.self.inside.allocations_remains in
     rw (c.passing-in-Err.ensures, ← c.self.view_is, left) (record {
-      tries = (told.0, told.1, refused_tries _ _ _ c.args.memory_type _ serving c.index_mut-2.result.now c.args.request _ told.0 _ c.flags-flags.ensures c.in-Err.refusal told.2);
-      objects = nothing_made _ c.in-Err.refusal _ _ c.in-Err.ensures.objects;
+      tries = (
+        told.0,
+        told.1,
+        refused_tries _ told.0 c.in-Err.refusal _ (refused_is (told_of _ _ _ c.args.memory_type _ serving c.index_mut-2.result.now c.args.request _ c.flags-flags.ensures) told.0 c.in-Err.refusal _ told.2),
+      );
+      objects = nothing_made s c.in-Err.refusal s _ _ c.in-Err.ensures.objects;
       agrees = rw (c.in-Err.ensures.properties, c.in-Err.ensures.objects) agrees;
       granted = nothing_granted _ c.args.request c.in-Err.refusal _ refl;
       total = ap total left;

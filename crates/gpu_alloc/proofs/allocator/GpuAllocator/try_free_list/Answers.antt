@@ -1,25 +1,30 @@
-use Rattle.std.proofs.Common.{◌≡◌, ◌+◌, ◌^◌, ◌<◌, [], refl, sym, ap, ◌∙◌, subst}
+use Rattle.std.proofs.Common.{◌≡◌, ◌⊎◌, ℕ, ◌+◌, ◌^◌, ◌<◌, [], refl, sym, ap, ◌∙◌, subst}
 use Rattle.std.proofs.Math.ListN.{set}
 use Rattle.std.specs.FinMap as finite
 use Rattle.std.specs.FinSet as set_of
 use Rattle.gpu_alloc_types.specs.Flags.{allocation_bits}
 use Rattle.gpu_alloc_types.specs.Properties.{Properties}
-use Rattle.gpu_alloc_freelist.specs.FreeListAllocator.{account}
-use Rattle.gpu_alloc.specs.Inside.{state_in, with_chunk_of_slot, span_of_slot, no_place}
-use Rattle.gpu_alloc.specs.FreeListSharing.{list_block}
+use Rattle.gpu_alloc_base.specs.Accounts.{account}
+use Rattle.gpu_alloc.specs.Inside.{state_in, properties_in, with_chunk_of_slot, span_of_slot, no_place}
+use Rattle.gpu_alloc_base.specs.Case.{GivesInPlace, GivesInNewObject}
+use Rattle.gpu_alloc_base.specs.NewChunk.{flags_of}
+use Rattle.gpu_alloc.specs.FreeListSharing.{list_block, list_size}
+use Rattle.gpu_alloc.specs.Candidates.{list_candidate}
+use Rattle.gpu_alloc_freelist.specs.FreeListAllocator.{alignment}
+use Rattle.gpu_alloc_base.specs.Wanted.{wanted}
 use Rattle.gpu_alloc.specs.Spans.{Table}
 use Rattle.gpu_alloc.specs.State.{State, HeldObject, Block, total}
 use Rattle.gpu_alloc.specs.declared.block.Kind.TheVariants.{FreeListChunk}
 use Rattle.gpu_alloc_base.specs.declared.free_list_block.Slot.{Slot}
 use Rattle.gpu_alloc_base.proofs.Outcomes.{when_ok}
 use Rattle.gpu_alloc.proofs.Consistency.{heap_there}
-use Rattle.gpu_alloc.proofs.FreeLists.Answers.{Given, slot_fits, slot_is_free, IsServed, list_objects_served, list_served, gives_wanted}
+use Rattle.gpu_alloc.proofs.FreeLists.Answers.{Given, slot_fits, slot_is_free, IsServed, list_served}
 use Rattle.gpu_alloc.proofs.FreeLists.Grants.{fits_list, counted_before, bounded_before, consistent_refused, state_refused}
-use Rattle.gpu_alloc.proofs.FreeLists.Refusals.{first_tries, refused_tries}
+use Rattle.gpu_alloc_base.proofs.ToldTwice.{first_is, refused_is, wants_is}
 use Rattle.gpu_alloc.proofs.FreeLists.Served.{list_agrees}
-use Rattle.gpu_alloc.proofs.FreeLists.Serving.{ServesList, first_open}
+use Rattle.gpu_alloc.proofs.FreeLists.Serving.{ServesList, told_of, rounded_is, alignment_is}
 use Rattle.gpu_alloc.proofs.OwnObjects.{consistent-room}
-use Rattle.gpu_alloc.proofs.Buddies.Refusals.{nothing_made, nothing_granted}
+use Rattle.gpu_alloc.proofs.Trials.{refused_tries, nothing_made, nothing_granted}
 use Rattle.gpu_alloc.proofs.allocator.GpuAllocator.try_free_list.Given.{Over}
 use Rattle.gpu_alloc.proofs.HandedOn.{below, address_there}
 use Rattle.gpu_alloc.proofs.allocator.GpuAllocator.try_free_list.Goals as goal
@@ -31,10 +36,13 @@ pub returns-in-Some : goal.returns-in-Some
 returns-in-Some g c =
     let known = rw (← c.self.view_is) at c.requires.known in
     let serving = serves_own c.self.inside.limits _ _ _ _ _ c.args.memory_type c.index.result.now c.self.invariant known c.index.ensures in
-    let first = rw c.in-Some.is at (c.refuses-first.ensures 0) in
+    let flags = flags_of (properties_in c.self.inside.limits c.self.inside.heaps.items) in
+    let first = rw c.in-Some.is at (c.refuses-first.ensures flags) in
+    let told = told_of _ _ _ c.args.memory_type _ serving c.index-2.result.now c.args.request flags refl in
+    let s : State = state_in c.self.inside.limits c.self.inside.heaps.items c.self.inside.buddies.items c.self.inside.free_lists.items c.self.inside.spans c.self.inside.allocations_remains in
     rw (c.passing.ensures, ← c.self.view_is) (record {
-      tries = ([], refl, first_tries _ _ _ c.args.memory_type _ serving c.index-2.result.now c.args.request 0 c.in-Some.refusal first);
-      objects = nothing_made _ c.in-Some.refusal _ _ refl;
+      tries = ([], refl, refused_tries _ [] c.in-Some.refusal _ (first_is told c.in-Some.refusal first));
+      objects = nothing_made s c.in-Some.refusal s _ _ refl;
       agrees = rw (← c.self.view_is) at c.requires.agrees;
       granted = nothing_granted _ c.args.request c.in-Some.refusal _ refl;
       total = refl;
@@ -47,8 +55,8 @@ pub returns-then-is_err-clause-tries : goal.returns-then-is_err-clause-tries
 returns-then-is_err-clause-tries g c =
     let known = rw (← c.self.view_is) at c.requires.known in
     let serving = serves_own c.self.inside.limits _ _ _ _ _ c.args.memory_type c.index.result.now c.self.invariant known c.index.ensures in
-    let first = c.in_default.ensures 0 in
-    let refused = first_open _ _ _ c.args.memory_type _ serving c.index-2.result.now c.args.request 0 first in
+    let flags = flags_of (properties_in c.self.inside.limits c.self.inside.heaps.items) in
+    let refused = wants_is (told_of _ _ _ c.args.memory_type _ serving c.index-2.result.now c.args.request flags refl) (c.in_default.ensures flags) in
     let same = ap (λ t. state_in c.self.inside.limits c.self.inside.heaps.items c.self.inside.buddies.items c.self.inside.free_lists.items t c.self.inside.allocations_remains) c.reserve.ensures.kept in
     rw (← c.self.view_is) ([], refl, (same, refused.1))
 
@@ -174,13 +182,14 @@ invariant_of-self-in-Ok g c =
 pub returns-in-Ok-clause-tries : goal.returns-in-Ok-clause-tries
 returns-in-Ok-clause-tries g c =
     let told = c.in-Ok.ensures.allocates in
-    let sized = gives_wanted _ _ _ c.args.memory_type _ (serves_now g c) c.args.request (allocation_bits c.flags-flags.result) told.0 c.in-Ok.block.chunk (span_of_slot c.in-Ok.block) (after g c) (is g c).gives in
-    rw (← c.self.view_is, block_is g c) (told.0, told.1, (c.in-Ok.block.chunk, (refl, sized)))
+    let w = wanted c.args.request.size c.args.request.align_mask (allocation_bits c.flags-flags.result) in
+    let gives : ℕ → ℕ → Type 0 = λ n m. GivesInPlace (list_candidate (before g c) n m c.args.memory_type) told.0 (block g c) (after g c) ⊎ GivesInNewObject (list_candidate (before g c) n m c.args.memory_type) told.0 (block g c) (after g c) in
+    let sized = subst (gives (list_size (before g c) c.args.request c.args.memory_type)) (alignment_is _ _ _ c.args.memory_type _ (serves_now g c) c.args.request (allocation_bits c.flags-flags.result))
+    (subst (λ n. gives n (alignment c.index_mut.result.now w)) (rounded_is _ _ _ c.args.memory_type _ (serves_now g c) c.args.request (allocation_bits c.flags-flags.result)) (is g c).gives) in
+    rw (← c.self.view_is, block_is g c) (told.0, told.1, sized)
 
 pub returns-in-Ok-clause-objects : goal.returns-in-Ok-clause-objects
-returns-in-Ok-clause-objects g c =
-    let told = c.in-Ok.ensures.allocates in
-    rw (← c.self.view_is, block_is g c) (list_objects_served (given g c) _ _ _ told.0 _ told.2 c.in-Ok.ensures.objects c.in-Ok.ensures.granted)
+returns-in-Ok-clause-objects g c = rw (← c.self.view_is, block_is g c) (is g c).objects_are
 
 pub returns-in-Ok-clause-agrees : goal.returns-in-Ok-clause-agrees
 returns-in-Ok-clause-agrees g c =
@@ -212,9 +221,14 @@ returns-in-Err g c =
     let told = c.in-Err.ensures.allocates in
     let left = state_refused c.self.inside.limits _ _ _ _ _ c.args.memory_type c.index_mut.result.now c.self.invariant known c.index_mut.ensures.value c.heap_index-heap.result c.index_mut-2.result.now c.heap_index-heap.ensures
     c.index_mut-2.ensures.value _ _ _ same.0 same.1.0 same.1.1 c.reserve.new.self (ap (λ (t : Table). t.held) c.reserve.ensures.kept) (ap (λ (t : Table). t.live) c.reserve.ensures.kept) in
+    let s : State = state_in c.self.inside.limits c.self.inside.heaps.items c.self.inside.buddies.items c.self.inside.free_lists.items c.self.inside.spans c.self.inside.allocations_remains in
     rw (c.passing-in-Err.ensures, ← c.self.view_is, left) (record {
-      tries = (told.0, told.1, refused_tries _ _ _ c.args.memory_type _ serving c.index_mut-2.result.now c.args.request _ told.0 _ c.flags-flags.ensures c.in-Err.refusal told.2);
-      objects = nothing_made _ c.in-Err.refusal _ _ c.in-Err.ensures.objects;
+      tries = (
+        told.0,
+        told.1,
+        refused_tries _ told.0 c.in-Err.refusal _ (refused_is (told_of _ _ _ c.args.memory_type _ serving c.index_mut-2.result.now c.args.request _ c.flags-flags.ensures) told.0 c.in-Err.refusal _ told.2),
+      );
+      objects = nothing_made s c.in-Err.refusal s _ _ c.in-Err.ensures.objects;
       agrees = rw (c.in-Err.ensures.properties, c.in-Err.ensures.objects) agrees;
       granted = nothing_granted _ c.args.request c.in-Err.refusal _ refl;
       total = ap total left;

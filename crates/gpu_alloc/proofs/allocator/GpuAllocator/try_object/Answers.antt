@@ -1,4 +1,4 @@
-use Rattle.std.proofs.Common.{◌≡◌, ◌≢◌, ℕ, Bool, true, false, cond, IsTrue, Option, List, ◌-◌, ◌<◌, ◌∷◌, [], ◌^◌, None, Ok, Err, refl, sym, ap, ◌∙◌, arith, subst, inl, inr, length, vec_len}
+use Rattle.std.proofs.Common.{◌≡◌, ◌≢◌, ℕ, Bool, true, false, cond, IsTrue, Option, List, ◌-◌, ◌<◌, ◌∷◌, [], ◌^◌, None, Err, refl, sym, ap, ◌∙◌, arith, subst, inl, inr, length, vec_len}
 use Rattle.std.proofs.Math.ListN.{set}
 use Rattle.std.proofs.lemmas.Grind.{common_steps}
 use Rattle.std.specs.FinMap as finite
@@ -8,16 +8,19 @@ use Rattle.gpu_alloc_types.specs.Device.Event.{Allocated}
 use Rattle.gpu_alloc_types.specs.Flags.{has_bit}
 use Rattle.gpu_alloc_types.specs.Properties.{Properties}
 use Rattle.gpu_alloc.specs.Agreement.{Agrees}
-use Rattle.gpu_alloc.specs.Allocation.{HasOneMore, ObjectsWith, whole_block, holding, asked}
+use Rattle.gpu_alloc.specs.Candidates.{own_question, own_candidate, whole_block, holding}
+use Rattle.gpu_alloc_base.specs.Case.{Asks}
 use Rattle.gpu_alloc.specs.Inside.{state_in, properties_in, whole_span, IsLiveIn, IsOfObject}
-use Rattle.gpu_alloc_base.specs.NewChunk.{flags_of}
+use Rattle.gpu_alloc_base.specs.NewChunk.{flags_of, made, HasOneChunkMore}
 use Rattle.gpu_alloc.specs.Spans.{Table, span_at}
 use Rattle.gpu_alloc.specs.State.{State, HeldObject, Span, Block, total}
 use Rattle.gpu_alloc_buddy.specs.BuddyState.{Buddy}
 use Rattle.gpu_alloc_freelist.specs.FreeListState.{Listing}
 use Rattle.gpu_alloc_base.specs.declared.heap.Heap.{Heap}
 use Rattle.gpu_alloc.specs.declared.limits.Limits.{Limits}
-use Rattle.gpu_alloc.proofs.Agreeing.{agrees_granted, not_held}
+use Rattle.gpu_alloc_base.proofs.Maps.{own_inserted}
+use Rattle.gpu_alloc.proofs.Agreeing.{IsMade, agrees_granted, not_held}
+use Rattle.gpu_alloc.proofs.NewObjects.{counted_new}
 use Rattle.gpu_alloc.proofs.Consistency.{HoldsMore, heap_there, ledger-room}
 use Rattle.gpu_alloc.proofs.Grants.{own_object, state_held, decides_granted, granted, total_held}
 use Rattle.gpu_alloc.proofs.HeapLists.{properties_kept}
@@ -28,6 +31,10 @@ use Rattle.gpu_alloc.proofs.allocator.GpuAllocator.try_object.Goals as goal
 
 positive : (n : ℕ) → n ≢ 0 → 0 < n
 positive n not_zero = omega arith
+
+-- an object of its own is asked for where one more may be held
+asks_own : {s : State} {size memory_type : ℕ} → 0 < s.remaining → Asks (own_candidate s size memory_type)
+asks_own some = record { fits = tt; no_place = λ never. never; remains = record { objects = some; number = tt } }
 
 -- Room is made, and nothing else changes.
 
@@ -114,20 +121,29 @@ invariant_of-self-in-Ok g c =
 pub returns-in-Ok-clause-tries : goal.returns-in-Ok-clause-tries
 returns-in-Ok-clause-tries g c =
     rw (← c.self.view_is) (
-      asked (before g c) c.args.request.size c.args.memory_type (Ok c.object.result) ∷ [],
+      made (own_question (before g c) c.args.request.size c.args.memory_type) c.object.result,
       (c.allocate_memory-answer.new.self, rw (← c.flags-flags.ensures, c.object.ensures) c.in-Ok.ensures, refl),
-      decides_granted (before g c) _ c.args.request c.args.memory_type c.object.result _ (block_is g c) (positive c.self.inside.allocations_remains c.if-self-eq0.false) (state_is g c),
+      decides_granted (before g c) _ c.args.request c.args.memory_type c.object.result _ (block_is g c) (positive c.self.inside.allocations_remains c.if-self-eq0.false) (free g c) (state_is g c),
     )
 
 -- the device has the block's object
-one_more : (g : Over) (c : goal.After-new g) → HasOneMore (block g c) (g.D.MemoryDevice.objects c.args.device.now) (g.D.MemoryDevice.objects c.allocate_memory-answer.new.self)
+one_more : (g : Over) (c : goal.After-new g) → IsMade (block g c) (g.D.MemoryDevice.objects c.args.device.now) (g.D.MemoryDevice.objects c.allocate_memory-answer.new.self)
 one_more g c =
-    subst (λ n. HasOneMore (whole_block (before g c) n c.args.request.size c.args.memory_type) (g.D.MemoryDevice.objects c.args.device.now) (g.D.MemoryDevice.objects c.allocate_memory-answer.new.self))
+    subst (λ n. IsMade (whole_block (before g c) n c.args.request.size c.args.memory_type) (g.D.MemoryDevice.objects c.args.device.now) (g.D.MemoryDevice.objects c.allocate_memory-answer.new.self))
     (sym c.object.ensures) (g.met.D.MemoryDevice.row _ _ _ c.in-Ok.ensures)
 
 pub returns-in-Ok-clause-objects : goal.returns-in-Ok-clause-objects
 returns-in-Ok-clause-objects g c =
-    subst (λ (b : Block). ObjectsWith b.kind c.args.self.now b (g.D.MemoryDevice.objects c.args.device.now) (g.D.MemoryDevice.objects c.allocate_memory-answer.new.self)) (sym (block_is g c)) (one_more g c)
+    let s = before g c in
+    let h = own_object c.args.request.size c.args.memory_type in
+    let q = own_question s c.args.request.size c.args.memory_type in
+    let n = c.object.result in
+    let old = g.D.MemoryDevice.objects c.args.device.now in
+    let new = g.D.MemoryDevice.objects c.allocate_memory-answer.new.self in
+    let one = one_more g c in
+    let made_one : HasOneChunkMore q n old new = (one.0, (one.1.0, record { of_type = one.1.1.of_type; of_size = one.1.1.of_size; mapped = one.1.1.unmapped }, one.1.2)) in
+    let found = ap (λ held. finite.get held n) (more g c).held ∙ own_inserted s.held n h in
+    rw (← c.self.view_is, block_is g c) (rw (free g c) (counted_new s h q n _ old new found refl refl refl made_one))
 
 pub returns-in-Ok-clause-agrees : goal.returns-in-Ok-clause-agrees
 returns-in-Ok-clause-agrees g c =
@@ -151,7 +167,7 @@ returns-in-Err-OutOfHostMemory-clause-tries g c =
     rw (← c.self.view_is) (
       Allocated c.args.request.size c.args.memory_type (flags_of (properties_in c.self.inside.limits c.self.inside.heaps.items)) (Err c.in-Err-OutOfHostMemory.field-0) ∷ [],
       (c.allocate_memory-answer.new.self, rw (← c.flags-flags.ensures) (rw c.in-Err-OutOfHostMemory.is at c.allocate_memory-answer.ensures), refl),
-      (positive c.self.inside.allocations_remains c.if-self-eq0.false, inr (rw (rw c.in-Err-OutOfHostMemory.is at c.in-Err-OutOfHostMemory.field-0-is) refl), same),
+      (same, inr (asks_own (positive c.self.inside.allocations_remains c.if-self-eq0.false), inl (inl (rw (rw c.in-Err-OutOfHostMemory.is at c.in-Err-OutOfHostMemory.field-0-is) refl)))),
     )
 
 -- The device grants nothing: room was made, and the state is the one before.
@@ -172,7 +188,9 @@ kept-host : (g : Over) (c : goal.In-Err-OutOfHostMemory g)
 kept-host g c = state_kept c.self.inside.limits c.self.inside.heaps.items c.self.inside.buddies.items c.self.inside.free_lists.items c.reserve.new.self c.self.inside.spans c.self.inside.allocations_remains c.reserve.ensures.kept ∙ c.self.view_is
 
 pub returns-then-is_err-clause-tries : goal.returns-then-is_err-clause-tries
-returns-then-is_err-clause-tries g c = ([], refl, (subst (λ s. 0 < s.remaining) c.self.view_is (positive c.self.inside.allocations_remains c.if-self-eq0.false), inl refl, kept-is_err g c))
+returns-then-is_err-clause-tries g c =
+    let some = subst (λ s. 0 < s.remaining) c.self.view_is (positive c.self.inside.allocations_remains c.if-self-eq0.false) in
+    ([], refl, (kept-is_err g c, inl (refl, record { fits = tt; ways = inr (record { objects = some; number = tt }) })))
 
 pub returns-then-is_err-clause-agrees : goal.returns-then-is_err-clause-agrees
 returns-then-is_err-clause-agrees g c = subst (λ s. Agrees s (g.D.MemoryDevice.properties c.args.device.now) (g.D.MemoryDevice.objects c.args.device.now)) (sym (kept-is_err g c)) c.requires.agrees
@@ -189,7 +207,7 @@ returns-in-Err-OutOfDeviceMemory-clause-tries g c =
     rw (← c.self.view_is) (
       Allocated c.args.request.size c.args.memory_type (flags_of (properties_in c.self.inside.limits c.self.inside.heaps.items)) (Err c.in-Err-OutOfDeviceMemory.field-0) ∷ [],
       (c.allocate_memory-answer.new.self, rw (← c.flags-flags.ensures) (rw c.in-Err-OutOfDeviceMemory.is at c.allocate_memory-answer.ensures), refl),
-      ((positive c.self.inside.allocations_remains c.if-self-eq0.false, rw (rw c.in-Err-OutOfDeviceMemory.is at c.in-Err-OutOfDeviceMemory.field-0-is) refl), same),
+      (same, inr (asks_own (positive c.self.inside.allocations_remains c.if-self-eq0.false), inl (rw (rw c.in-Err-OutOfDeviceMemory.is at c.in-Err-OutOfDeviceMemory.field-0-is) refl))),
     )
 
 pub returns-in-Err-OutOfDeviceMemory-clause-objects : goal.returns-in-Err-OutOfDeviceMemory-clause-objects

@@ -1,8 +1,10 @@
-use Rattle.std.proofs.Common.{◌≡◌, ◌<◌, ◌≤◌, ℕ, Bool, true, false, ◌&&◌, cond, List, [], Option, Some, None, Result, Ok, Err, refl, arith, subst, inl, inr, nat_le}
+use Rattle.std.proofs.Common.{◌≡◌, ◌<◌, ◌≤◌, ℕ, Bool, true, false, ◌&&◌, cond, List, [], Option, Some, None, Result, Ok, Err, refl, ◌∙◌, arith, subst, inl, inr, nat_le}
 use Rattle.gpu_alloc_types.specs.Device.{Event}
 use Rattle.gpu_alloc_types.specs.Flags.{usage_bits, has_bit}
 use Rattle.gpu_alloc_types.specs.Properties.{heap_size}
-use Rattle.gpu_alloc.specs.Allocation.{strategy, unhinted, is_small, fits_a_chunk, IsPassedBy, DecidesBy, TriesBy, Tries}
+use Rattle.gpu_alloc_base.specs.Case as case
+use Rattle.gpu_alloc.specs.Allocation.{strategy, unhinted, is_small, fits_a_chunk, TriesBy, Tries}
+use Rattle.gpu_alloc.specs.Candidates.{candidate}
 use Rattle.gpu_alloc_base.specs.Sizes.{preferred_threshold, transient_threshold}
 use Rattle.gpu_alloc.specs.State.{State, Block}
 use Rattle.gpu_alloc.specs.declared.allocator.Strategy.{Strategy}
@@ -16,12 +18,17 @@ use Rattle.gpu_alloc.proofs.allocator.GpuAllocator.try_type.Goals as goal
 small : (size heap n : ℕ) → n < size → n ≡ heap → heap < size
 small size heap n less is = omega arith
 
+before_is : (w : Strategy) (s : State) (r : Request) (t : ℕ) → (candidate w s r t).before ≡ s
+before_is OwnObject s r t = refl
+before_is InBuddyChunk s r t = refl
+before_is InFreeList s r t = refl
+
 -- where the heap is no smaller than the request, trying its way of being served is trying the candidate
 tries_by : (w : Strategy) (s : State) (r : Request) (hint : Option Dedicated) (t n : ℕ) (es : List Event) (answer : Result (Option Block) AllocationError) (new : State)
     → r.size ≤ n → n ≡ heap_size s.properties t → w ≡ strategy s r hint t → TriesBy w s r t es answer new → Tries s r hint t es answer new
-tries_by w s r hint t n es (Ok None) new most heap is tried = (inr (rw (← heap) most, subst (λ v. IsPassedBy v s r t es) is tried.0), tried.1)
-tries_by w s r hint t n es (Ok (Some b)) new most heap is tried = (rw (← heap) most, subst (λ v. DecidesBy v s r t es (Ok b) new) is tried)
-tries_by w s r hint t n es (Err e) new most heap is tried = (rw (← heap) most, subst (λ v. DecidesBy v s r t es (Err e) new) is tried)
+tries_by w s r hint t n es (Ok None) new most heap is tried = (inr (rw (← heap) most, subst (λ v. case.IsPassed (candidate v s r t) es) is tried.1), tried.0 ∙ before_is w s r t)
+tries_by w s r hint t n es (Ok (Some b)) new most heap is tried = (rw (← heap) most, subst (λ v. case.Decides (candidate v s r t) es (Ok b) new) is tried)
+tries_by w s r hint t n es (Err e) new most heap is tried = (rw (← heap) most, subst (λ v. case.Decides (candidate v s r t) es (Err e) new) is tried)
 
 pub returns-then-heap_size-request-clause-tries : goal.returns-then-heap_size-request-clause-tries
 returns-then-heap_size-request-clause-tries g c = ([], refl, (inl (small _ _ _ c.if-heap_size-request.true c.heap_size.ensures, refl), refl))

@@ -1,24 +1,21 @@
 use Rattle.std.proofs.Common.{◌^◌, refl, sym, subst, arith}
 use Rattle.gpu_alloc_types.specs.Flags.{allocation_bits}
-use Rattle.gpu_alloc_buddy.specs.Buddy.{account, rounded, Answers, ObjectsAfter}
+use Rattle.gpu_alloc_base.specs.Accounts.{account}
+use Rattle.gpu_alloc_base.specs.Case.{Answers}
 use Rattle.gpu_alloc_base.specs.Wanted.{wanted}
-use Rattle.gpu_alloc_buddy.proofs.BuddyAnswers.{rounds, answers_agree, answers_all_granted, answers_sound, answers_total, answers_counted}
+use Rattle.gpu_alloc_buddy.specs.Buddy.{buddy_case, rounded}
+use Rattle.gpu_alloc_base.proofs.Books.{answers_total, answers_counted}
+use Rattle.gpu_alloc_buddy.proofs.BuddyAnswers.{rounds, keeps_books, answers_agree, answers_all_granted, answers_sound}
 use Rattle.gpu_alloc_buddy.proofs.buddy.BuddyAllocator.alloc.Goals as goal
 
 pub returns-clause-allocates : goal.returns-clause-allocates
 returns-clause-allocates g c =
     let flags = allocation_bits c.args.flags in
-    let told = c.alloc_rounded.ensures.answers in
     let size = c.rounded_order-order.ensures.least flags in
     let old = account c.args.self.now c.args.heap.now c.args.allocations_remains.now in
     let new = account c.alloc_rounded.new.self c.alloc_rounded.new.heap c.alloc_rounded.new.allocations_remains in
-    (told.0, told.1, subst (λ n. Answers old n flags told.0 c.alloc_rounded.result new) (sym size) told.2)
-
-pub returns-clause-objects : goal.returns-clause-objects
-returns-clause-objects g c =
-    let flags = allocation_bits c.args.flags in
-    let size = c.rounded_order-order.ensures.least flags in
-    subst (λ n. ObjectsAfter c.args.self.now n flags c.alloc_rounded.result (g.D.MemoryDevice.objects c.args.device.now) (g.D.MemoryDevice.objects c.alloc_rounded.new.device)) (sym size) c.alloc_rounded.ensures.objects
+    let told = c.alloc_rounded.ensures.answers in
+    (told.0, told.1, subst (λ n. Answers (buddy_case old n flags) told.0 c.alloc_rounded.result new) (sym size) told.2)
 
 pub returns-clause-agrees : goal.returns-clause-agrees
 returns-clause-agrees g c =
@@ -40,8 +37,8 @@ returns-clause-granted g c =
     let w = wanted c.args.size c.args.align_mask flags in
     answers_all_granted old new w (rounded c.args.self.now w) flags told.0 c.alloc_rounded.result (g.D.MemoryDevice.properties c.args.device.now) (g.D.MemoryDevice.objects c.args.device.now) (g.D.MemoryDevice.objects c.alloc_rounded.new.device)
     sound c.requires.agrees (rounds c.args.self.now w sound (omega (arith, c.ranges.size.fits)) c.requires.alignment)
-    (subst (λ n. Answers old n flags told.0 c.alloc_rounded.result new) (sym size) told.2)
-    (subst (λ n. ObjectsAfter c.args.self.now n flags c.alloc_rounded.result (g.D.MemoryDevice.objects c.args.device.now) (g.D.MemoryDevice.objects c.alloc_rounded.new.device)) (sym size) c.alloc_rounded.ensures.objects)
+    (subst (λ n. Answers (buddy_case old n flags) told.0 c.alloc_rounded.result new) (sym size) told.2)
+    c.alloc_rounded.ensures.objects
 
 pub returns-clause-sound : goal.returns-clause-sound
 returns-clause-sound g c =
@@ -56,11 +53,11 @@ returns-clause-total g c =
     let old = account c.args.self.now c.args.heap.now c.args.allocations_remains.now in
     let new = account c.alloc_rounded.new.self c.alloc_rounded.new.heap c.alloc_rounded.new.allocations_remains in
     let told = c.alloc_rounded.ensures.answers in
-    answers_total old new (2 ^ c.rounded_order-order.result) (allocation_bits c.args.flags) told.0 c.alloc_rounded.result told.2
+    answers_total (keeps_books old (2 ^ c.rounded_order-order.result) (allocation_bits c.args.flags)) told.0 c.alloc_rounded.result new told.2
 
 pub returns-clause-counted : goal.returns-clause-counted
 returns-clause-counted g c =
     let old = account c.args.self.now c.args.heap.now c.args.allocations_remains.now in
     let new = account c.alloc_rounded.new.self c.alloc_rounded.new.heap c.alloc_rounded.new.allocations_remains in
     let told = c.alloc_rounded.ensures.answers in
-    answers_counted old new (2 ^ c.rounded_order-order.result) (allocation_bits c.args.flags) told.0 c.alloc_rounded.result c.requires.counted told.2
+    answers_counted (keeps_books old (2 ^ c.rounded_order-order.result) (allocation_bits c.args.flags)) told.0 c.alloc_rounded.result new c.requires.counted told.2

@@ -4,7 +4,7 @@ use Rattle.gpu_alloc_base.specs.Chunks.{Chunk}
 use Rattle.gpu_alloc_base.specs.SlabViews.{by_key}
 use Rattle.gpu_alloc_base.specs.declared.buddy_block.Leaf.{Leaf}
 use Rattle.gpu_alloc_buddy.specs.declared.buddy.Chunk.{Chunk as ChunkRecord}
-use Rattle.gpu_alloc_buddy.proofs.BuddyReturns.{has_chunk, of_chunk, is_piece_of, is_put_back, is_counted, one_more_fits, agrees_left, total_kept, if_none, if_some, still_in_use, no_more_in_use, still_sound, invariant_left, invariant_without, frees_left, frees_without, frees_counted, agrees_freed}
+use Rattle.gpu_alloc_buddy.proofs.BuddyReturns.{has_chunk, of_chunk, is_piece_of, is_put_back, is_counted, one_more_fits, total_kept, if_none, if_some, still_in_use, no_more_in_use, still_sound, invariant_left, invariant_without, frees_left, frees_without, frees_counted, agrees_freed}
 use Rattle.gpu_alloc_base.proofs.SlabViews.{by_key_removed}
 use Rattle.gpu_alloc_buddy.proofs.buddy.BuddyAllocator.dealloc.Given.{Over}
 use Rattle.gpu_alloc_buddy.proofs.buddy.BuddyAllocator.dealloc.Goals as goal
@@ -147,10 +147,7 @@ returns-clause-objects g c =
     rw (← c.self.view_is, ← c.into_parts-memory.ensures.leaf) (inl (still_in_use r of c.index.result.now.order refl c.self.invariant.1 c.put_back.new.pieces.items c.forget.new.live.items (vec_capacity c.put_back.new.pieces) c.forget.ensures.live joined c.put_back.ensures.shorter, refl))
 
 pub returns-clause-agrees : goal.returns-clause-agrees
-returns-clause-agrees g c =
-    let r = of_chunk (read g) c.self.inside.chunks c.self.invariant.0 c.self.view_is c.into_parts-memory.ensures.leaf refl c.requires.live c.index.ensures in
-    let agreed = rw (← c.self.view_is) at c.requires.agrees in
-    rw c.forget.ensures.live (agrees_left r agreed)
+returns-clause-agrees g c = rw (← c.self.view_is) at c.requires.agrees
 
 pub returns-clause-sound : goal.returns-clause-sound
 returns-clause-sound g c =

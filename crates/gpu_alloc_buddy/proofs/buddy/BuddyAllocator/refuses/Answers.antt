@@ -1,5 +1,5 @@
 use Rattle.std.proofs.Common.{inl, inr, arith}
-use Rattle.gpu_alloc_buddy.specs.Buddy.{account}
+use Rattle.gpu_alloc_base.specs.Accounts.{account}
 use Rattle.gpu_alloc_base.specs.Wanted.{wanted}
 use Rattle.gpu_alloc_buddy.proofs.BuddyAnswers.{refuses_size, refuses_count, refuses_nothing}
 use Rattle.gpu_alloc_buddy.proofs.buddy.BuddyAllocator.refuses.Goals as goal

@@ -6,7 +6,9 @@ use Rattle.std.proofs.lemmas.List.{length-append}
 use Rattle.std.proofs.lemmas.Nat.{pow_pos}
 use Rattle.slab.specs.Slab.{Slab}
 use Rattle.gpu_alloc_types.specs.Flags.{property_bits, allocation_bits}
-use Rattle.gpu_alloc_buddy.specs.Buddy.{account, Answers, question, BeginsChunk, chunk_size}
+use Rattle.gpu_alloc_base.specs.Accounts.{account}
+use Rattle.gpu_alloc_base.specs.Case.{Answers}
+use Rattle.gpu_alloc_buddy.specs.Buddy.{buddy_case, question, BeginsChunk, chunk_size}
 use Rattle.gpu_alloc_buddy.specs.BuddyState.{Buddy, IsFreeAt}
 use Rattle.gpu_alloc_base.specs.Chunks.{Chunk}
 use Rattle.gpu_alloc_buddy.specs.BuddyInside.{IsStored, buddy_in}
@@ -18,6 +20,8 @@ use Rattle.gpu_alloc_buddy.specs.declared.buddy.Chunk.{Chunk as HeldChunk}
 use Rattle.gpu_alloc_base.specs.declared.buddy_block.Leaf.{Leaf}
 use Rattle.gpu_alloc_base.specs.declared.piece.Piece.{Piece}
 use Rattle.gpu_alloc_buddy.proofs.BuddyGrants.{power_order, question_is, chunk_size_is, in_new_chunk_is, refused_chunk, other_objects, no_leaf_at, with_chunk_in, stored_with_chunk}
+use Rattle.gpu_alloc_base.proofs.Books.{object_more}
+use Rattle.gpu_alloc_base.proofs.Maps.{own_inserted}
 use Rattle.gpu_alloc_base.proofs.Outcomes.{when_ok}
 use Rattle.gpu_alloc_base.proofs.SlabViews.{get_by_key, by_key_put}
 use Rattle.gpu_alloc_buddy.proofs.buddy.BuddyAllocator.take_chunk.Given.{Over}
@@ -31,12 +35,12 @@ seen g chunk = record { object = g.M.MemoryObject.object chunk.memory; size = 2 
 pub returns-then-is_err-clause-answers : goal.returns-then-is_err-clause-answers
 returns-then-is_err-clause-answers g c =
     let asks = rw (← c.self.view_is) at c.requires.asks in
-    rw (← c.self.view_is) ([], refl, (rw (c.make_room.ensures.live) refl, inl (asks.0, (refl, inr asks))))
+    rw (← c.self.view_is) ([], refl, (rw (c.make_room.ensures.live) refl, inl (refl, record { fits = asks.fits; ways = inr asks.remains })))
 
 pub returns-then-is_err-2-clause-answers : goal.returns-then-is_err-2-clause-answers
 returns-then-is_err-2-clause-answers g c =
     let asks = rw (← c.self.view_is) at c.requires.asks in
-    rw (← c.self.view_is) ([], refl, (rw (c.make_room.ensures.live, c.reserve.ensures.rest_kept) refl, inl (asks.0, (refl, inr asks))))
+    rw (← c.self.view_is) ([], refl, (rw (c.make_room.ensures.live, c.reserve.ensures.rest_kept) refl, inl (refl, record { fits = asks.fits; ways = inr asks.remains })))
 
 pub bytes-size-requires : goal.bytes-size-requires
 bytes-size-requires g c =
@@ -45,7 +49,7 @@ bytes-size-requires g c =
 
 pub new_chunk_with_handle-made-requires-clause-visible : goal.new_chunk_with_handle-made-requires-clause-visible
 new_chunk_with_handle-made-requires-clause-visible g c =
-    let props = rw (← c.self.view_is) at c.requires.agrees.props in
+    let props = rw (← c.self.view_is) at c.requires.agrees.same in
     rw (props, c.intersects-visible.ensures) refl
 
 pub begin_chunk-leaf-requires-clause-bound : goal.begin_chunk-leaf-requires-clause-bound
@@ -65,8 +69,8 @@ returns-in-Err-clause-answers g c =
     let refused = refused_chunk (account b c.args.heap.now c.args.allocations_remains.now) (2 ^ c.args.order) (allocation_bits c.args.flags) told.0 c.in-Err.refusal asks lacks in (
       told.0,
       told.1,
-      subst (λ x. Answers (account x c.args.heap.now c.args.allocations_remains.now) (2 ^ c.args.order) (allocation_bits c.args.flags) told.0 (Err c.in-Err.refusal) (account after c.args.heap.now c.args.allocations_remains.now)) c.self.view_is
-          (subst (λ x. Answers (account b c.args.heap.now c.args.allocations_remains.now) (2 ^ c.args.order) (allocation_bits c.args.flags) told.0 (Err c.in-Err.refusal) (account x c.args.heap.now c.args.allocations_remains.now)) (sym same) refused),
+      subst (λ x. Answers (buddy_case (account x c.args.heap.now c.args.allocations_remains.now) (2 ^ c.args.order) (allocation_bits c.args.flags)) told.0 (Err c.in-Err.refusal) (account after c.args.heap.now c.args.allocations_remains.now)) c.self.view_is
+          (subst (λ x. Answers (buddy_case (account b c.args.heap.now c.args.allocations_remains.now) (2 ^ c.args.order) (allocation_bits c.args.flags)) told.0 (Err c.in-Err.refusal) (account x c.args.heap.now c.args.allocations_remains.now)) (sym same) refused),
     )
 
 -- The new chunk, and the block in it.
@@ -150,15 +154,22 @@ returns-clause-answers g c =
     (with_chunk_in (by_key (seen g) c.self.inside.chunks) (by_key (seen g) c.begin_chunk-leaf.new.chunks) c.self.inside.next_order c.max-chunk_order.result c.self.inside.minimal_size c.self.inside.memory_type (property_bits c.self.inside.props) c.self.inside.atom
     c.self.inside.live.items c.begin_chunk-leaf.new.live.items leaf (chunks g c) (live g c))
     c.alloc.ensures (ap (λ n. 2 ^ n) c.max-chunk_order.ensures ∙ sym size) (c.bytes-size.ensures ∙ ap (λ n. 2 ^ n) c.max-chunk_order.ensures ∙ sym size) in
-    rw (← c.self.view_is, c.new.ensures) (told.0, told.1, inr (asks, (begins g c, (es_is, new_is))))
+    rw (← c.self.view_is, c.new.ensures) (told.0, told.1, inr (record { asks = asks; place = begins g c; asked = es_is; state = new_is }))
 
 pub returns-clause-objects : goal.returns-clause-objects
 returns-clause-objects g c =
+    let b = before g c in
+    let leaf = c.begin_chunk-leaf.result in
     let object = ap (λ (l : Leaf). l.object) c.begin_chunk-leaf.ensures.leaf in
-    let q = question (before g c) (2 ^ c.args.order) (allocation_bits c.args.flags) in
+    let q = question b (2 ^ c.args.order) (allocation_bits c.args.flags) in
     let more = subst (λ x. HasOneChunkMore x (g.M.MemoryObject.object c.in-Ok.handles.0) (g.D.MemoryDevice.objects c.args.device.now) (g.D.MemoryDevice.objects c.new_chunk_with_handle-made.new.device)) (asked g c) c.in-Ok.ensures.objects in
-    rw (← c.self.view_is, c.new.ensures)
-    (inl (begins g c, subst (λ n. HasOneChunkMore q n (g.D.MemoryDevice.objects c.args.device.now) (g.D.MemoryDevice.objects c.new_chunk_with_handle-made.new.device)) (sym object) more))
+    let chunk : Chunk = record { object = leaf.object; size = 2 ^ c.max-chunk_order.result } in
+    let held = ap (λ m. map.get m leaf.chunk) (chunks g c) ∙ own_inserted b.chunks leaf.chunk chunk in
+    rw (← c.self.view_is, c.new.ensures) (
+    object_more b.memory_type b.props b.chunks (by_key (seen g) c.begin_chunk-leaf.new.chunks) leaf.chunk chunk q (g.D.MemoryDevice.objects c.args.device.now) (g.D.MemoryDevice.objects c.new_chunk_with_handle-made.new.device)
+    (none g c) held refl refl (chunk_size_is b c.self.inside.next_order c.args.order refl ∙ ap (λ n. 2 ^ n) (sym c.max-chunk_order.ensures))
+    (subst (λ n. HasOneChunkMore q n (g.D.MemoryDevice.objects c.args.device.now) (g.D.MemoryDevice.objects c.new_chunk_with_handle-made.new.device)) (sym object) more)
+    )
 
 -- What is kept where a call is refused, and what the calls ask.
 
@@ -210,7 +221,7 @@ pub alloc-requires : goal.alloc-requires
 alloc-requires g c = omega (arith, c.requires.bound, c.bytes-size.type_inv)
 
 pub overflow_sub-allocations_remains : goal.overflow_sub-allocations_remains
-overflow_sub-allocations_remains g c = omega (arith, c.requires.asks.1.1)
+overflow_sub-allocations_remains g c = omega (arith, c.requires.asks.remains.objects)
 
 pub new-requires : goal.new-requires
 new-requires g c = ap (λ (l : Leaf). l.object) c.begin_chunk-leaf.ensures.leaf ∙ sym c.in-Ok.ensures.asks.2.1

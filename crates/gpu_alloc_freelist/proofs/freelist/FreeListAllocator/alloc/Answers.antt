@@ -3,11 +3,14 @@ use Rattle.std.specs.Result.{OnErr}
 use Rattle.gpu_alloc_types.specs.Device.{Event}
 use Rattle.gpu_alloc_types.specs.Flags.{allocation_bits}
 use Rattle.gpu_alloc_base.specs.Wanted.{Wanted, wanted}
-use Rattle.gpu_alloc_freelist.specs.FreeListAllocator.{Account, Answers, ObjectsAfter, account, alignment}
+use Rattle.gpu_alloc_base.specs.Accounts.{Account, account}
+use Rattle.gpu_alloc_base.specs.Case.{Answers}
+use Rattle.gpu_alloc_freelist.specs.FreeListAllocator.{alignment, list_case}
+use Rattle.gpu_alloc_base.proofs.Books.{answers_counted, answers_total, refused_keeps}
 use Rattle.gpu_alloc_freelist.specs.FreeListState.{Listing}
 use Rattle.gpu_alloc_base.specs.declared.error.AllocationError.{AllocationError}
 use Rattle.gpu_alloc_base.specs.declared.free_list_block.Slot.{Slot}
-use Rattle.gpu_alloc_freelist.proofs.FreeListAnswers.{IsRoundedTo, rounds, answers_agree, answers_granted, answers_sound, answers_total, answers_counted, refused_keeps}
+use Rattle.gpu_alloc_freelist.proofs.FreeListAnswers.{IsRoundedTo, rounds, keeps_books, answers_agree, answers_granted, answers_sound}
 use Rattle.gpu_alloc_base.proofs.ChunkSizes.{greater_mask}
 use Rattle.gpu_alloc_freelist.proofs.freelist.FreeListAllocator.alloc.Given.{Over}
 use Rattle.gpu_alloc_freelist.proofs.freelist.FreeListAllocator.alloc.Goals.{After-alloc_rounded}
@@ -17,10 +20,10 @@ pub alloc_rounded-requires-clause-alignment : goal.alloc_rounded-requires-clause
 alloc_rounded-requires-clause-alignment g c = rw (c.max-align_mask.ensures) (greater_mask c.args.align_mask c.self.inside.atom_mask c.requires.alignment c.self.invariant.atom)
 
 -- what changes, before the call and after it
-abbrev old : (g : Over) → After-alloc_rounded g → Account
+abbrev old : (g : Over) → After-alloc_rounded g → Account Listing
 old g c = account c.args.self.now c.args.heap.now c.args.allocations_remains.now
 
-abbrev new : (g : Over) → After-alloc_rounded g → Account
+abbrev new : (g : Over) → After-alloc_rounded g → Account Listing
 new g c = account c.alloc_rounded.new.self c.alloc_rounded.new.heap c.alloc_rounded.new.allocations_remains
 
 -- what the request is rounded to
@@ -54,12 +57,12 @@ returns-clause-sound g c =
 pub returns-clause-counted : goal.returns-clause-counted
 returns-clause-counted g c =
     let told = c.alloc_rounded.ensures.answers in
-    answers_counted (old g c) (new g c) c.rounded_size-size.result (c.max-align_mask.result + 1) (allocation_bits c.args.flags) told.0 c.alloc_rounded.result c.alloc_rounded.ensures.sound c.requires.counted told.2
+    answers_counted (keeps_books (old g c) c.rounded_size-size.result (c.max-align_mask.result + 1) (allocation_bits c.args.flags) c.alloc_rounded.ensures.sound) told.0 c.alloc_rounded.result (new g c) c.requires.counted told.2
 
 pub returns-clause-total : goal.returns-clause-total
 returns-clause-total g c =
     let told = c.alloc_rounded.ensures.answers in
-    answers_total (old g c) (new g c) c.rounded_size-size.result (c.max-align_mask.result + 1) (allocation_bits c.args.flags) told.0 c.alloc_rounded.result c.alloc_rounded.ensures.sound told.2
+    answers_total (keeps_books (old g c) c.rounded_size-size.result (c.max-align_mask.result + 1) (allocation_bits c.args.flags) c.alloc_rounded.ensures.sound) told.0 c.alloc_rounded.result (new g c) told.2
 
 pub alloc_rounded-requires-clause-aligned : goal.alloc_rounded-requires-clause-aligned
 alloc_rounded-requires-clause-aligned g c = omega (arith, c.max-align_mask.ensures, ap (λ (l : Listing). l.atom) c.self.view_is)
@@ -81,26 +84,17 @@ returns-clause-allocates g c =
     let w : Wanted = wanted c.args.size c.args.align_mask flags in (
       told.0,
       told.1,
-      subst (λ n. Answers (old g c) n (alignment c.args.self.now w) flags told.0 c.alloc_rounded.result (new g c)) c.rounded_size-size.ensures.is
-          (subst (λ n. Answers (old g c) c.rounded_size-size.result n flags told.0 c.alloc_rounded.result (new g c)) (alignment_is g c) told.2),
+      subst (λ n. Answers (list_case (old g c) n (alignment c.args.self.now w) flags) told.0 c.alloc_rounded.result (new g c)) c.rounded_size-size.ensures.is
+          (subst (λ n. Answers (list_case (old g c) c.rounded_size-size.result n flags) told.0 c.alloc_rounded.result (new g c)) (alignment_is g c) told.2),
     )
 
-pub returns-clause-objects : goal.returns-clause-objects
-returns-clause-objects g c =
-    let flags = allocation_bits c.args.flags in
-    let w : Wanted = wanted c.args.size c.args.align_mask flags in
-    let before = g.D.MemoryDevice.objects c.args.device.now in
-    let after = g.D.MemoryDevice.objects c.alloc_rounded.new.device in
-    subst (λ n. ObjectsAfter c.args.self.now n (alignment c.args.self.now w) flags c.alloc_rounded.result before after) c.rounded_size-size.ensures.is
-    (subst (λ n. ObjectsAfter c.args.self.now c.rounded_size-size.result n flags c.alloc_rounded.result before after) (alignment_is g c) c.alloc_rounded.ensures.objects)
-
 -- a refusal changes nothing
-kept_when_refused : (a now : Account) (size alignment flags : ℕ) (es : List Event) (answer : Result Slot AllocationError) → Answers a size alignment flags es answer now
-    → OnErr answer ((now.listing ≡ a.listing) × ((now.heap ≡ a.heap) × (now.remaining ≡ a.remaining)))
+kept_when_refused : (a now : Account Listing) (size alignment flags : ℕ) (es : List Event) (answer : Result Slot AllocationError) → Answers (list_case a size alignment flags) es answer now
+    → OnErr answer ((now.allocator ≡ a.allocator) × ((now.heap ≡ a.heap) × (now.remaining ≡ a.remaining)))
 kept_when_refused a now size alignment flags es (Ok slot) told = tt
 kept_when_refused a now size alignment flags es (Err e) told =
-    let same = refused_keeps a now size alignment flags es e told in
-    (ap (λ (x : Account). x.listing) same, (ap (λ (x : Account). x.heap) same, ap (λ (x : Account). x.remaining) same))
+    let same = refused_keeps (list_case a size alignment flags) es e now told in
+    (ap (λ (x : Account Listing). x.allocator) same, (ap (λ (x : Account Listing). x.heap) same, ap (λ (x : Account Listing). x.remaining) same))
 
 pub returns-clause-refused : goal.returns-clause-refused
 returns-clause-refused g c =

@@ -1,7 +1,9 @@
-use Rattle.std.proofs.Common.{◌≡◌, ◌+◌, [], inl, inr, Ok, Err, refl, sym, ◌∙◌, ap, subst, arith}
+use Rattle.std.proofs.Common.{◌≡◌, ◌⊎◌, ◌+◌, [], inl, inr, Ok, Err, refl, sym, ◌∙◌, ap, subst, arith}
 use Rattle.gpu_alloc_types.specs.Flags.{allocation_bits, property_bits}
-use Rattle.gpu_alloc_freelist.specs.FreeList.{HasNumber, IsTail}
-use Rattle.gpu_alloc_freelist.specs.FreeListAllocator.{Agrees, Answers, IsBarred, IsCounted, ObjectsAfter, account}
+use Rattle.gpu_alloc_freelist.specs.FreeList.{HasNumber}
+use Rattle.gpu_alloc_base.specs.Accounts.{IsCounted, account}
+use Rattle.gpu_alloc_base.specs.Case.{Answers}
+use Rattle.gpu_alloc_freelist.specs.FreeListAllocator.{Agrees, ObjectsAfter, list_case}
 use Rattle.gpu_alloc_freelist.specs.FreeListInside.{listing_in}
 use Rattle.gpu_alloc_freelist.specs.FreeListSound.{IsSound}
 use Rattle.gpu_alloc_freelist.specs.FreeListState.{Listing, Space}
@@ -34,15 +36,15 @@ returns-in-Ok-Some-clause-answers g c =
     let new : Listing = over g c.self.inside c.get_block.new.self.space in (
       [],
       refl,
-      subst (λ x. Answers (account x c.args.heap.now c.args.allocations_remains.now) c.args.size (c.args.align_mask + 1) (allocation_bits c.args.flags) [] (Ok c.in-Ok-Some.block) (account new c.args.heap.now c.args.allocations_remains.now))
+      subst (λ x. Answers (list_case (account x c.args.heap.now c.args.allocations_remains.now) c.args.size (c.args.align_mask + 1) (allocation_bits c.args.flags)) [] (Ok c.in-Ok-Some.block) (account new c.args.heap.now c.args.allocations_remains.now))
           c.self.view_is
-          (inl (took.0, (refl, ap (λ s. account (over g c.self.inside s) c.args.heap.now c.args.allocations_remains.now) took.1))),
+          (inl (record { fits = tt; place = took.0; asked = refl; state = ap (λ s. account (over g c.self.inside s) c.args.heap.now c.args.allocations_remains.now) took.1 })),
     )
 
 pub returns-in-Ok-Some-clause-objects : goal.returns-in-Ok-Some-clause-objects
 returns-in-Ok-Some-clause-objects g c =
     let took = rw (c.in-Ok-Some.field-0-is) at c.in-Ok-Some.ensures.takes in
-    inr (subst (λ (x : Listing). IsTail x.space c.args.size (c.args.align_mask + 1) c.in-Ok-Some.block) c.self.view_is took.0, refl)
+    rw (← c.self.view_is, took.0.object.1) refl
 
 pub returns-in-Ok-Some-clause-sound : goal.returns-in-Ok-Some-clause-sound
 returns-in-Ok-Some-clause-sound g c = subst IsSound c.self.view_is c.self.invariant
@@ -58,9 +60,9 @@ returns-in-Err-clause-answers g c =
     let new : Listing = over g c.self.inside c.get_block.new.self.space in (
       [],
       refl,
-      subst (λ x. Answers (account x c.args.heap.now c.args.allocations_remains.now) c.args.size (c.args.align_mask + 1) (allocation_bits c.args.flags) [] (Err OutOfHostMemory) (account new c.args.heap.now c.args.allocations_remains.now))
+      subst (λ x. Answers (list_case (account x c.args.heap.now c.args.allocations_remains.now) c.args.size (c.args.align_mask + 1) (allocation_bits c.args.flags)) [] (Err OutOfHostMemory) (account new c.args.heap.now c.args.allocations_remains.now))
           c.self.view_is
-          (ap (λ s. account (over g c.self.inside s) c.args.heap.now c.args.allocations_remains.now) took.1, inl (refl, inl took.0)),
+          (ap (λ s. account (over g c.self.inside s) c.args.heap.now c.args.allocations_remains.now) took.1, inl (refl, record { fits = tt; ways = inl took.0 })),
     )
 
 pub returns-in-Err-clause-sound : goal.returns-in-Err-clause-sound
@@ -78,15 +80,15 @@ returns-then-allocations_remains-eq0-clause-answers g c =
     let took = rw (c.in-Ok-None.field-0-is) at c.in-Ok-None.ensures.takes in
     let old : Listing = over g c.self.inside c.self.inside.freelist.space in
     let new : Listing = over g c.self.inside c.get_block.new.self.space in
-    let barred : IsBarred (account old c.args.heap.now c.args.allocations_remains.now) = elim c.then-allocations_remains-eq0.branch [
+    let barred : (c.args.allocations_remains.now ≡ 0) ⊎ (HasNumber old.space → ⊥) = elim c.then-allocations_remains-eq0.branch [
       | then-allocations_remains-eq0-via-then-allocations_remains-eq0 w ↦ inl w.if-allocations_remains-eq0.true
       | then-allocations_remains-eq0-via-else-allocations_remains-eq0+then-not-has_number w ↦ inr (λ number. absurd (cc (w.if-not-has_number.ensures.1 (subst HasNumber (sym took.1) number))))
     ] in (
       [],
       refl,
-      subst (λ x. Answers (account x c.args.heap.now c.args.allocations_remains.now) c.args.size (c.args.align_mask + 1) (allocation_bits c.args.flags) [] (Err TooManyObjects) (account new c.args.heap.now c.args.allocations_remains.now))
+      subst (λ x. Answers (list_case (account x c.args.heap.now c.args.allocations_remains.now) c.args.size (c.args.align_mask + 1) (allocation_bits c.args.flags)) [] (Err TooManyObjects) (account new c.args.heap.now c.args.allocations_remains.now))
           c.self.view_is
-          (ap (λ s. account (over g c.self.inside s) c.args.heap.now c.args.allocations_remains.now) took.1, (refl, (took.0, barred))),
+          (ap (λ s. account (over g c.self.inside s) c.args.heap.now c.args.allocations_remains.now) took.1, refl, record { fits = tt; no_place = took.0; barred = barred }),
     )
 
 pub returns-then-allocations_remains-eq0-clause-sound : goal.returns-then-allocations_remains-eq0-clause-sound
@@ -111,7 +113,11 @@ take_chunk-requires-clause-aligned g c = rw (← c.self.view_is) at c.requires.a
 pub take_chunk-requires-clause-asks : goal.take_chunk-requires-clause-asks
 take_chunk-requires-clause-asks g c =
     let took = rw (c.in-Ok-None.field-0-is) at c.in-Ok-None.ensures.takes in
-    (rw (took.1) took.0, (omega (arith, c.if-allocations_remains-eq0.false), c.has_number.ensures.0 c.if-not-has_number.false))
+    record {
+      fits = tt;
+      no_place = rw (took.1) took.0;
+      remains = record { objects = omega (arith, c.if-allocations_remains-eq0.false); number = c.has_number.ensures.0 c.if-not-has_number.false };
+    }
 
 pub take_chunk-requires-clause-atoms : goal.take_chunk-requires-clause-atoms
 take_chunk-requires-clause-atoms g c = rw (← c.self.view_is) at c.requires.atoms
@@ -120,7 +126,7 @@ pub take_chunk-requires-clause-counted : goal.take_chunk-requires-clause-counted
 take_chunk-requires-clause-counted g c =
     let took = rw (c.in-Ok-None.field-0-is) at c.in-Ok-None.ensures.takes in
     let same : over g c.self.inside c.get_block.new.self.space ≡ c.args.self.now = ap (over g c.self.inside) took.1 ∙ c.self.view_is in
-    subst (λ x. IsCounted (account x c.args.heap.now c.args.allocations_remains.now)) (sym same) c.requires.counted
+    subst (λ (x : Listing). IsCounted x.space.chunks c.args.heap.now c.args.allocations_remains.now) (sym same) c.requires.counted
 
 pub take_chunk-requires-clause-fits : goal.take_chunk-requires-clause-fits
 take_chunk-requires-clause-fits g c = rw (← c.self.view_is) at c.requires.fits
@@ -133,14 +139,14 @@ returns-clause-answers g c =
     let new = account c.take_chunk.new.self c.take_chunk.new.heap c.take_chunk.new.allocations_remains in (
       told.0,
       told.1,
-      subst (λ x. Answers (account x c.args.heap.now c.args.allocations_remains.now) c.args.size (c.args.align_mask + 1) (allocation_bits c.args.flags) told.0 c.take_chunk.result new) same told.2,
+      subst (λ x. Answers (list_case (account x c.args.heap.now c.args.allocations_remains.now) c.args.size (c.args.align_mask + 1) (allocation_bits c.args.flags)) told.0 c.take_chunk.result new) same told.2,
     )
 
 pub returns-clause-objects : goal.returns-clause-objects
 returns-clause-objects g c =
     let took = rw (c.in-Ok-None.field-0-is) at c.in-Ok-None.ensures.takes in
     let same : over g c.self.inside c.get_block.new.self.space ≡ c.args.self.now = ap (over g c.self.inside) took.1 ∙ c.self.view_is in
-    subst (λ x. ObjectsAfter x c.args.size (c.args.align_mask + 1) (allocation_bits c.args.flags) c.take_chunk.result (g.D.MemoryDevice.objects c.args.device.now) (g.D.MemoryDevice.objects c.take_chunk.new.device)) same c.take_chunk.ensures.objects
+    subst (λ x. ObjectsAfter x c.take_chunk.result c.take_chunk.new.self (g.D.MemoryDevice.objects c.args.device.now) (g.D.MemoryDevice.objects c.take_chunk.new.device)) same c.take_chunk.ensures.objects
 
 pub returns-clause-sound : goal.returns-clause-sound
 returns-clause-sound g c = subst IsSound c.self.view_is c.self.invariant

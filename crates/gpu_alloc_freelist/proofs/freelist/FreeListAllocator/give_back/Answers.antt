@@ -1,7 +1,7 @@
 use Rattle.std.proofs.Common.{◌∙◌, [], ◌∷◌, ◌++◌, refl, arith}
 use Rattle.gpu_alloc_types.specs.Chains.{chain_more}
 use Rattle.gpu_alloc_types.specs.Device.Event.{Deallocated}
-use Rattle.gpu_alloc_freelist.specs.FreeListAllocator.{account}
+use Rattle.gpu_alloc_base.specs.Accounts.{account}
 use Rattle.gpu_alloc_freelist.proofs.ForCallers.{begins, ends, is_counted, one_more_fits, fewer, goes_on_as}
 use Rattle.gpu_alloc_freelist.proofs.freelist.FreeListAllocator.give_back.Goals as goal
 

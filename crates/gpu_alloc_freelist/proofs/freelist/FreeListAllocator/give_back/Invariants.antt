@@ -2,7 +2,7 @@ use Rattle.std.proofs.Common.{◌≡◌, ℕ, ◌+◌, List}
 use Rattle.std.specs.FinMap as map
 use Rattle.gpu_alloc_types.specs.Device.{Event, Chain}
 use Rattle.gpu_alloc_types.specs.Flags.{property_bits}
-use Rattle.gpu_alloc_freelist.specs.FreeListAllocator.{account}
+use Rattle.gpu_alloc_base.specs.Accounts.{account}
 use Rattle.gpu_alloc_freelist.specs.FreeListInside.{listing_in}
 use Rattle.gpu_alloc_freelist.proofs.ForCallers.{IsOnItsWay}
 use Rattle.gpu_alloc_freelist.proofs.freelist.FreeListAllocator.give_back.Given as goal

@@ -2,7 +2,8 @@ use Rattle.std.proofs.Common.{◌≡◌, ◌+◌, ◌-◌, ◌∷◌, [], None, 
 use Rattle.gpu_alloc_types.specs.Device.{put}
 use Rattle.gpu_alloc_types.specs.Device.Event.{Deallocated}
 use Rattle.gpu_alloc_types.specs.Flags.{property_bits}
-use Rattle.gpu_alloc_freelist.specs.FreeListAllocator.{Account, Agrees, IsCounted, account, account_without_chunk, object_in, size_in, size_of}
+use Rattle.gpu_alloc_base.specs.Accounts.{Account, IsCounted, account}
+use Rattle.gpu_alloc_freelist.specs.FreeListAllocator.{Agrees, account_without_chunk, object_in, size_in, size_of}
 use Rattle.gpu_alloc_freelist.specs.FreeListInside.{listing_in}
 use Rattle.gpu_alloc_freelist.specs.FreeListState.{Listing, Space}
 use Rattle.gpu_alloc_freelist.specs.declared.freelist.FreeListAllocator.TheInside.{Inside}
@@ -57,7 +58,7 @@ deallocate_memory-requires g c =
 pub returns-clause-gives : goal.returns-clause-gives
 returns-clause-gives g c =
     let n = c.in-Some.field-0-2 in
-    let old : Account = account (over g c.self.inside c.self.inside.freelist.space) c.args.heap.now c.args.allocations_remains.now in
+    let old : Account Listing = account (over g c.self.inside c.self.inside.freelist.space) c.args.heap.now c.args.allocations_remains.now in
     let ledger : c.dealloc.new.self ≡ record c.args.heap.now { used = c.args.heap.now.used - size_of c.self.inside.freelist.space n } =
     c.dealloc.ensures ∙ ap (λ k. record c.args.heap.now { used = c.args.heap.now.used - k }) (sym (ap size_in c.in-Some.ensures.chunk)) in
     let after : account (over g c.self.inside c.take_whole.new.self.space) c.dealloc.new.self (c.args.allocations_remains.now + 1) ≡ account_without_chunk old n =
@@ -96,7 +97,7 @@ returns-in_default-clause-agrees g c =
 pub returns-in_default-clause-counted : goal.returns-in_default-clause-counted
 returns-in_default-clause-counted g c =
     let same : over g c.self.inside c.take_whole.new.self.space ≡ c.args.self.now = ap (over g c.self.inside) c.in_default.ensures.none.1 ∙ c.self.view_is in
-    subst (λ x. IsCounted (account x c.args.heap.now c.args.allocations_remains.now)) (sym same) c.requires.counted
+    subst (λ (x : Listing). IsCounted x.space.chunks c.args.heap.now c.args.allocations_remains.now) (sym same) c.requires.counted
 
 pub returns-in_default-clause-gives : goal.returns-in_default-clause-gives
 returns-in_default-clause-gives g c =

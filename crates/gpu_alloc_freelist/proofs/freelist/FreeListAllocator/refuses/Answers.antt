@@ -1,7 +1,8 @@
-use Rattle.std.proofs.Common.{◌+◌, inl, inr, arith}
+use Rattle.std.proofs.Common.{◌≡◌, ◌⊎◌, ◌+◌, inl, inr, arith}
 use Rattle.gpu_alloc_types.specs.Flags.{property_bits}
 use Rattle.gpu_alloc_base.specs.Wanted.{wanted}
-use Rattle.gpu_alloc_freelist.specs.FreeListAllocator.{account, IsBarred}
+use Rattle.gpu_alloc_base.specs.Accounts.{account}
+use Rattle.gpu_alloc_freelist.specs.FreeList.{HasNumber}
 use Rattle.gpu_alloc_freelist.specs.FreeListInside.{listing_in}
 use Rattle.gpu_alloc_freelist.specs.FreeListState.{Listing}
 use Rattle.gpu_alloc_freelist.proofs.FreeListAnswers.{refuses_nothing, refuses_count}
@@ -24,7 +25,7 @@ pub returns : goal.returns
 returns g c =
     let l : Listing = listing_in c.self.inside.freelist.space c.self.inside.chunk_size c.self.inside.final_chunk_size c.self.inside.memory_type (property_bits c.self.inside.props) (c.self.inside.atom_mask + 1) in
     let size = rw (← c.self.view_is) at c.rounded_size-size.ensures.is in
-    let barred : IsBarred (account l c.args.heap.now c.args.allocations_remains) = elim c.else-allocations_remains-gt0.branch [
+    let barred : (c.args.allocations_remains ≡ 0) ⊎ (HasNumber l.space → ⊥) = elim c.else-allocations_remains-gt0.branch [
       | else-allocations_remains-gt0-via-then-allocations_remains-gt0+else-has_number w ↦ inr (λ number. let yes = w.has_number.ensures.1 number in let no = w.if-has_number.false in cc)
       | else-allocations_remains-gt0-via-else-allocations_remains-gt0 w ↦ inl (omega (arith, w.if-allocations_remains-gt0.false))
     ] in

@@ -5,11 +5,18 @@ use Rattle.gpu_alloc_types.specs.Device.{Object, Event, IsHeld, put}
 use Rattle.gpu_alloc_types.specs.Device.Event.{Deallocated}
 use Rattle.gpu_alloc_types.specs.Flags.{allocation_bits, has_bit, property_bits}
 use Rattle.gpu_alloc_freelist.specs.FreeList.{first_tail, with_chunk, with_slot}
-use Rattle.gpu_alloc_freelist.specs.FreeListAllocator.{AsksForChunk, Answers, ObjectsAfter, account, chunk_size, in_new_chunk, next_size, question}
+use Rattle.gpu_alloc_base.specs.Accounts.{account}
+use Rattle.gpu_alloc_base.specs.Case.{Answers, Asks}
+use Rattle.gpu_alloc_freelist.specs.FreeListAllocator.{ObjectsAfter, chunk_size, in_new_chunk, list_case, next_size, question}
+use Rattle.gpu_alloc_base.proofs.Books.{object_more}
+use Rattle.gpu_alloc_base.proofs.Maps.{own_inserted}
+use Rattle.gpu_alloc_freelist.proofs.Spaces.{next_is_new}
 use Rattle.gpu_alloc_freelist.specs.FreeListInside.{listing_in}
 use Rattle.gpu_alloc_freelist.specs.FreeListSound.{IsSound}
 use Rattle.gpu_alloc_freelist.specs.FreeListState.{Listing, Space}
 use Rattle.gpu_alloc_base.specs.NewChunk.{ChunkQuestion, HasOneChunkMore, chunk_question, made}
+use Rattle.std.specs.FinMap as map
+use Rattle.gpu_alloc_base.specs.Chunks.{Chunk}
 use Rattle.gpu_alloc_base.specs.declared.free_list_block.Slot.{Slot}
 use Rattle.gpu_alloc_base.specs.declared.heap.Heap.{Heap}
 use Rattle.gpu_alloc_base.proofs.Outcomes.{when_ok}
@@ -20,7 +27,7 @@ use Rattle.gpu_alloc_freelist.proofs.freelist.FreeListAllocator.take_chunk.Goals
 pub returns-then-is_err-clause-answers : goal.returns-then-is_err-clause-answers
 returns-then-is_err-clause-answers g c =
     let asks = rw (← c.self.view_is) at c.requires.asks in
-    rw (← c.self.view_is) ([], refl, (rw (c.reserve.ensures.kept) refl, inl (refl, inr asks)))
+    rw (← c.self.view_is) ([], refl, (rw (c.reserve.ensures.kept) refl, inl (refl, record { fits = tt; ways = inr asks.remains })))
 
 pub returns-in_err-memory-clause-answers : goal.returns-in_err-memory-clause-answers
 returns-in_err-memory-clause-answers g c =
@@ -102,12 +109,12 @@ new_chunk-requires-clause-askable g c =
 pub new_chunk-requires-clause-visible : goal.new_chunk-requires-clause-visible
 new_chunk-requires-clause-visible g c =
     let agrees = rw (← c.self.view_is) at c.requires.agrees in
-    ap (λ bits. has_bit bits 2) agrees.props ∙ sym c.intersects-visible.ensures
+    ap (λ bits. has_bit bits 2) agrees.same ∙ sym c.intersects-visible.ensures
 
 pub get_block_from_new_memory-made-requires-clause-number : goal.get_block_from_new_memory-made-requires-clause-number
 get_block_from_new_memory-made-requires-clause-number g c =
     let asks = rw (← c.self.view_is) at c.requires.asks in
-    rw (c.reserve.ensures.kept) asks.1.1
+    rw (c.reserve.ensures.kept) asks.remains.number
 
 pub overflow_mul-chunk_size : goal.overflow_mul-chunk_size
 overflow_mul-chunk_size g c = omega (arith, c.chunk_size_for-chunk_size.ensures.bound)
@@ -118,25 +125,24 @@ alloc-requires g c = omega (arith, c.requires.bound, c.chunk_size_for-chunk_size
 pub overflow_sub-allocations_remains : goal.overflow_sub-allocations_remains
 overflow_sub-allocations_remains g c =
     let asks = rw (← c.self.view_is) at c.requires.asks in
-    asks.1.0
+    asks.remains.objects
 
 -- the answer where a block was cut from the new chunk
 grown_answers : (l : Listing) (heap now : Heap) (remaining size alignment flags object whole next : ℕ) (s grown : Space) (slot : Slot) (es : List Event) (q : ChunkQuestion) → s ≡ l.space → slot ≡ first_tail s object whole size alignment
     → grown ≡ with_slot (with_chunk s object whole) slot → whole ≡ chunk_size l size → next ≡ next_size l whole → now ≡ record heap { used = heap.used + whole } → q ≡ question l size flags → es ≡ made q object
-    → AsksForChunk (account l heap remaining) size alignment → Answers (account l heap remaining) size alignment flags es (Ok slot) (account (record l { space = grown; next_chunk = next }) now (remaining - 1))
+    → Asks (list_case (account l heap remaining) size alignment flags) → Answers (list_case (account l heap remaining) size alignment flags) es (Ok slot) (account (record l { space = grown; next_chunk = next }) now (remaining - 1))
 grown_answers l heap now remaining size alignment flags object whole next s grown slot es q s_is slot_is grown_to whole_is next_is now_is q_is es_is asks =
     let back : object ≡ slot.object = sym (ap (λ (x : Slot). x.object) slot_is) in
     let tail : slot ≡ first_tail l.space object (chunk_size l size) size alignment = slot_is ∙ ap (λ x. first_tail x object whole size alignment) s_is ∙ ap (λ n. first_tail l.space object n size alignment) whole_is in
     let listing = grown_is l s grown slot object whole next size alignment s_is slot_is grown_to whole_is next_is in
     let ledger : now ≡ record heap { used = heap.used + chunk_size l size } = now_is ∙ ap (λ n. record heap { used = heap.used + n }) whole_is in
     let after : account (record l { space = grown; next_chunk = next }) now (remaining - 1) ≡ in_new_chunk (account l heap remaining) object size alignment = λ i. account (listing i) (ledger i) (remaining - 1) in
-    inr (
-      asks,
-      (
-        tail ∙ ap (λ n. first_tail l.space n (chunk_size l size) size alignment) back,
-        (es_is ∙ ap (λ x. made x object) q_is ∙ ap (made (question l size flags)) back, after ∙ ap (λ n. in_new_chunk (account l heap remaining) n size alignment) back),
-      ),
-    )
+    inr (record {
+      asks = asks;
+      place = tail ∙ ap (λ n. first_tail l.space n (chunk_size l size) size alignment) back;
+      asked = es_is ∙ ap (λ x. made x object) q_is ∙ ap (made (question l size flags)) back;
+      state = after ∙ ap (λ n. in_new_chunk (account l heap remaining) n size alignment) back;
+    })
 
 pub returns-in-Ok-clause-answers : goal.returns-in-Ok-clause-answers
 returns-in-Ok-clause-answers g c =
@@ -149,18 +155,26 @@ returns-in-Ok-clause-answers g c =
     let after = account (record l { space = c.get_block_from_new_memory-made.new.self.space; next_chunk = c.min-self-inside.result }) c.alloc.new.self (c.args.allocations_remains.now - 1) in (
       told.0,
       told.1,
-      subst (λ x. Answers (account x c.args.heap.now c.args.allocations_remains.now) c.args.size (c.args.align_mask + 1) flags told.0 (Ok c.in-Ok.block) after) c.self.view_is
+      subst (λ x. Answers (list_case (account x c.args.heap.now c.args.allocations_remains.now) c.args.size (c.args.align_mask + 1) flags) told.0 (Ok c.in-Ok.block) after) c.self.view_is
           (grown_answers l c.args.heap.now c.alloc.new.self c.args.allocations_remains.now c.args.size (c.args.align_mask + 1) flags (g.M.MemoryObject.object c.in_ok-memory.memory) c.chunk_size_for-chunk_size.result c.min-self-inside.result
           c.reserve.new.self.space c.get_block_from_new_memory-made.new.self.space c.in-Ok.block told.0 q c.reserve.ensures.kept c.in-Ok.ensures.block c.in-Ok.ensures.chunk c.chunk_size_for-chunk_size.ensures.is c.min-self-inside.ensures
           c.alloc.ensures is told.2 asks),
     )
 
 -- and the device's objects
-grown_objects : (l : Listing) (size alignment flags object whole : ℕ) (s : Space) (slot : Slot) (q : ChunkQuestion) (f g : ℕ → Option Object) → s ≡ l.space → slot ≡ first_tail s object whole size alignment → q ≡ question l size flags
-    → HasOneChunkMore q object f g → ObjectsAfter l size alignment flags (Ok slot) f g
-grown_objects l size alignment flags object whole s slot q f g s_is slot_is q_is more =
+grown_objects : (l : Listing) (size alignment flags object whole next : ℕ) (s grown : Space) (slot : Slot) (q : ChunkQuestion) (f g : ℕ → Option Object) → IsSound l → s ≡ l.space → slot ≡ first_tail s object whole size alignment
+    → grown ≡ with_slot (with_chunk s object whole) slot → whole ≡ chunk_size l size → q ≡ question l size flags → HasOneChunkMore q object f g → ObjectsAfter l (Ok slot) (record l { space = grown; next_chunk = next }) f g
+grown_objects l size alignment flags object whole next s grown slot q f g sound s_is slot_is grown_is whole_is q_is more =
     let back : object ≡ slot.object = sym (ap (λ (x : Slot). x.object) slot_is) in
-    inl (ap (λ (x : Slot). x.chunk) slot_is ∙ ap (λ (x : Space). x.latest + 1) s_is, subst (λ n. HasOneChunkMore (question l size flags) n f g) back (subst (λ x. HasOneChunkMore x object f g) q_is more))
+    let number : slot.chunk ≡ l.space.latest + 1 = ap (λ (x : Slot). x.chunk) slot_is ∙ ap (λ (x : Space). x.latest + 1) s_is in
+    let chunk : Chunk = record { object = slot.object; size = chunk_size l size } in
+    let chunks : grown.chunks ≡ map.insert l.space.chunks slot.chunk chunk =
+    ap (λ (x : Space). x.chunks) grown_is
+    ∙ ap (λ (x : Space). map.insert x.chunks (x.latest + 1) (record { object = object; size = whole })) s_is
+    ∙ (λ i. map.insert l.space.chunks (sym number i) (record { object = back i; size = whole_is i })) in
+    object_more l.memory_type l.props l.space.chunks grown.chunks slot.chunk chunk (question l size flags) f g
+    (rw number (next_is_new l.space sound.space)) (ap (λ m. map.get m slot.chunk) chunks ∙ own_inserted l.space.chunks slot.chunk chunk) refl refl refl
+    (subst (λ n. HasOneChunkMore (question l size flags) n f g) back (subst (λ x. HasOneChunkMore x object f g) q_is more))
 
 pub returns-in-Ok-clause-objects : goal.returns-in-Ok-clause-objects
 returns-in-Ok-clause-objects g c =
@@ -170,9 +184,10 @@ returns-in-Ok-clause-objects g c =
     let is = question_is l c.args.size c.chunk_size_for-chunk_size.result flags c.intersects-visible.result c.chunk_size_for-chunk_size.ensures.is c.intersects-visible.ensures in
     let before = g.D.MemoryDevice.objects c.args.device.now in
     let after = g.D.MemoryDevice.objects c.new_chunk.new.device in
-    subst (λ x. ObjectsAfter x c.args.size (c.args.align_mask + 1) flags (Ok c.in-Ok.block) before after) c.self.view_is
-    (grown_objects l c.args.size (c.args.align_mask + 1) flags (g.M.MemoryObject.object c.in_ok-memory.memory) c.chunk_size_for-chunk_size.result c.reserve.new.self.space c.in-Ok.block q before
-    after c.reserve.ensures.kept c.in-Ok.ensures.block is c.in_ok-memory.ensures.objects)
+    let new : Listing = record l { space = c.get_block_from_new_memory-made.new.self.space; next_chunk = c.min-self-inside.result } in
+    subst (λ x. ObjectsAfter x (Ok c.in-Ok.block) new before after) c.self.view_is
+    (grown_objects l c.args.size (c.args.align_mask + 1) flags (g.M.MemoryObject.object c.in_ok-memory.memory) c.chunk_size_for-chunk_size.result c.min-self-inside.result c.reserve.new.self.space
+    c.get_block_from_new_memory-made.new.self.space c.in-Ok.block q before after c.self.invariant c.reserve.ensures.kept c.in-Ok.ensures.block c.in-Ok.ensures.chunk c.chunk_size_for-chunk_size.ensures.is is c.in_ok-memory.ensures.objects)
 
 pub returns-in_err-memory-clause-objects : goal.returns-in_err-memory-clause-objects
 returns-in_err-memory-clause-objects g c =

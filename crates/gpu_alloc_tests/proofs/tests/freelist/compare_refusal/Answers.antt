@@ -29,7 +29,7 @@ alloc-requires-clause-agrees g c =
     rw (c.new-allocator.ensures.opened, c.in-Ok.ensures.ok, c.in_ok-device.ensures)
     (record {
       known = omega arith;
-      props = refl;
+      same = refl;
       holds = λ key. rw (map.get-empty {K = _} {X = Chunk} nat_cmp key) tt;
     })
 
@@ -37,7 +37,7 @@ pub alloc-requires-clause-counted : goal.alloc-requires-clause-counted
 alloc-requires-clause-counted g c =
     let none = map.len-empty nat_cmp Chunk in
     let nothing = nothing_added (λ (chunk : Chunk). chunk.size) in
-    rw (c.new-allocator.ensures.opened, c.new-heap.ensures) (record { chunks = omega (arith, nothing); objects = omega (arith, none, c.requires.count) })
+    rw (c.new-allocator.ensures.opened, c.new-heap.ensures) (record { ledger = omega (arith, nothing); objects = omega (arith, none, c.requires.count) })
 
 pub close-requires : goal.close-requires
 close-requires g c = ap (λ (l : Listing). map.len l.space.chunks) (c.in-Err-alloc.ensures.refused.0 ∙ c.new-allocator.ensures.opened) ∙ map.len-empty nat_cmp Chunk

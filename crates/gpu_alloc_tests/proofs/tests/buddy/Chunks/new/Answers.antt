@@ -23,8 +23,8 @@ invariant_of-result c =
     rw (c.in-Ok.ensures.opened, c.in_ok-device.ensures, c.new-in-Ok.ensures) (
       record {
         known = omega arith;
-        props = refl;
+        same = refl;
         holds = λ key. rw (map.get-empty {K = _} {X = Chunk} nat_cmp key) tt;
       },
-      (record { chunks = omega (arith, nothing_added (λ (chunk : Chunk). chunk.size)); objects = omega (arith, none) }, omega (arith, none)),
+      (record { ledger = omega (arith, nothing_added (λ (chunk : Chunk). chunk.size)); objects = omega (arith, none) }, omega (arith, none)),
     )

@@ -21,8 +21,8 @@ invariant_of-result c =
     rw (c.new-allocator.ensures.opened, c.in_ok-device.ensures, c.new-2.ensures) (
       record {
         known = omega arith;
-        props = refl;
+        same = refl;
         holds = λ key. rw (map.get-empty {K = _} {X = Chunk} nat_cmp key) tt;
       },
-      (record { chunks = omega (arith, nothing_added (λ (chunk : Chunk). chunk.size)); objects = omega (arith, none) }, (omega (arith, none), (refl, refl))),
+      (record { ledger = omega (arith, nothing_added (λ (chunk : Chunk). chunk.size)); objects = omega (arith, none) }, (omega (arith, none), (refl, refl))),
     )
