@@ -10,7 +10,7 @@ use Rattle.gpu_alloc.specs.State.{HeldObject, State, is_shared}
 
 -- a new chunk is as it is counted
 pub counted_new : (s : State) (h : HeldObject) (q : ChunkQuestion) (object : ℕ) (after : Option HeldObject) (old new : ℕ → Option Object) → after ≡ Some h → q.memory_type ≡ h.memory_type → h.counted ≡ q.size
-    → q.visible ≡ (is_shared h.kind && is_host_visible s.properties h.memory_type) → HasOneChunkMore q object old new → HasOneMore (IsAsCounted s.properties) after object old new
+    → q.mapped ≡ (is_shared h.kind && is_host_visible s.properties h.memory_type) → HasOneChunkMore q object old new → HasOneMore (IsAsCounted s.properties) after object old new
 counted_new s h q object after old new held of_type size seen more = record {
   counted = h;
   is_counted = held;

@@ -39,7 +39,7 @@ buddy_question s t size = record {
   size = max (next_chunk_of (slice_get s.types t)) (2 * size);
   memory_type = t;
   flags = flags_of s.properties;
-  visible = is_host_visible s.properties t;
+  mapped = is_host_visible s.properties t;
 }
 
 -- an unmapped block of a buddy chunk

@@ -18,7 +18,7 @@ use Rattle.gpu_alloc.specs.declared.request.Request.{Request}
 
 -- exactly the request's size is asked for, and nothing of it is mapped
 abbrev pub own_question : State → ℕ → ℕ → ChunkQuestion
-own_question s size t = record { size = size; memory_type = t; flags = flags_of s.properties; visible = false }
+own_question s size t = record { size = size; memory_type = t; flags = flags_of s.properties; mapped = false }
 
 -- an unmapped block that is the whole of an object of its own
 abbrev pub whole_block : State → ℕ → ℕ → ℕ → Block

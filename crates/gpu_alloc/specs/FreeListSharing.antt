@@ -69,7 +69,7 @@ list_question s t size = record {
   size = grown_chunk (next_list_chunk s t) (largest_list_chunk s t) size;
   memory_type = t;
   flags = flags_of s.properties;
-  visible = is_host_visible s.properties t;
+  mapped = is_host_visible s.properties t;
 }
 
 -- there is a number for one more chunk

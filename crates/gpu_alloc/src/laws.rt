@@ -74,7 +74,7 @@ pub fn free_list_chunks_of_samples()
     ensures atoms { list_size (over 3200 2 64) (bytes_for 60 16) 0 ≡ 64 }
     ensures atom_aligned { list_alignment (over 3200 2 64) (bytes_for 60 16) 0 ≡ 64 }
     ensures question { (list_question (over 1048576 1 1) 0 20000).size ≡ 32768 }
-    ensures seen { (list_question (over 3200 2 64) 0 64).visible ≡ true }
+    ensures seen { (list_question (over 3200 2 64) 0 64).mapped ≡ true }
 {}
 
 /// Sizes of buddy blocks and of the chunks for them, over a least block of 1 and a first chunk of 8192, with an atom, and
@@ -102,8 +102,8 @@ pub fn shared_chunks_of_samples()
     ensures large_chunk { (buddy_question (over 1048576 1 1) 0 32768).size ≡ 65536 }
     ensures grown { (buddy_question (with_buddy_chunk (over 1048576 1 1) 0 1 65536) 0 128).size ≡ 65536 }
     ensures atom { buddy_size (over 3200 2 64) (bytes_for 20 0) 0 ≡ 64 }
-    ensures seen { (buddy_question (over 3200 2 64) 0 64).visible ≡ true }
-    ensures unseen { (buddy_question (over 1048576 1 1) 0 128).visible ≡ false }
+    ensures seen { (buddy_question (over 3200 2 64) 0 64).mapped ≡ true }
+    ensures unseen { (buddy_question (over 1048576 1 1) 0 128).mapped ≡ false }
 {}
 
 /// First chunk sizes: of both defaults, of a small heap with an atom, and of a minimum above the initial size.

@@ -1,6 +1,6 @@
 -- What follows from an answer to a request, whatever kind of chunks it is about: nothing changes where it is refused, the totals,
 -- what is counted, and agreement with the device.
-use Rattle.std.proofs.Common.{◌≡◌, ◌≢◌, inl, inr, ℕ, ◌+◌, ◌-◌, ◌≤◌, Bool, List, Option, Some, None, Result, Ok, Err, refl, sym, ◌∙◌, ap, subst, arith}
+use Rattle.std.proofs.Common.{◌≡◌, ◌≢◌, inl, inr, ℕ, ◌+◌, ◌-◌, ◌≤◌, Bool, IsTrue, List, Option, Some, None, Result, Ok, Err, refl, sym, ◌∙◌, ap, subst, arith}
 use Rattle.std.specs.Prelude.{IfSome}
 use Rattle.std.specs.FinMap as map
 use Rattle.gpu_alloc_types.specs.Device.{Object, Event, HeldWith, put}
@@ -8,9 +8,9 @@ use Rattle.gpu_alloc_types.specs.Flags.{has_bit}
 use Rattle.gpu_alloc_types.specs.Objects.{put-same, put-other}
 use Rattle.gpu_alloc_types.specs.Properties.{Properties}
 use Rattle.gpu_alloc_base.specs.Accounts.{Account, HeldChunks, chunk_bytes, chunks_and_remaining, IsCounted, Agrees, ObjectsAfter}
-use Rattle.gpu_alloc_base.specs.Case.{Case, Answers}
+use Rattle.gpu_alloc_base.specs.Case.{Case, Answers, Asks}
 use Rattle.gpu_alloc_base.specs.Chunks.{Chunk, IsThere, IsNew}
-use Rattle.gpu_alloc_base.specs.NewChunk.{ChunkQuestion, HasOneChunkMore}
+use Rattle.gpu_alloc_base.specs.NewChunk.{ChunkQuestion, AsksBlock, HasOneChunkMore, IsGivenBack, LacksDeviceMemory, LacksHostMemory}
 use Rattle.gpu_alloc_base.specs.NewObject.{HasOneMore, ObjectsGiven}
 use Rattle.gpu_alloc_base.specs.declared.error.AllocationError.{AllocationError}
 use Rattle.gpu_alloc_base.specs.declared.error.AllocationError.TheVariants.{OutOfDeviceMemory, OutOfHostMemory, NoCompatibleMemoryTypes, TooManyObjects}
@@ -24,6 +24,14 @@ refused_keeps c es OutOfDeviceMemory new refused = refused.0
 refused_keeps c es OutOfHostMemory new refused = refused.0
 refused_keeps c es NoCompatibleMemoryTypes new refused = absurd refused
 refused_keeps c es TooManyObjects new refused = refused.0
+
+-- what a question ends in that is refused, as the answer to a request for a block in the new object
+pub refused_chunk : {B S : Type 0} (c : Case B S) (q : ChunkQuestion) (es : List Event) (e : AllocationError) → IsTrue c.two_handles → q ≡ c.question → Asks c → AsksBlock q es (Err e) → Answers c es (Err e) c.before
+refused_chunk c q es OutOfDeviceMemory two is asks lacks = (refl, inr (asks, subst (λ x. LacksDeviceMemory x es) is lacks))
+refused_chunk c q es OutOfHostMemory two is asks (inl lacks) = (refl, inr (asks, inl (subst (λ x. LacksHostMemory x es) is lacks)))
+refused_chunk c q es OutOfHostMemory two is asks (inr back) = (refl, inr (asks, inr (two, subst (λ x. IsGivenBack x es) is back)))
+refused_chunk c q es NoCompatibleMemoryTypes two is asks lacks = absurd lacks
+refused_chunk c q es TooManyObjects two is asks lacks = absurd lacks
 
 -- How the books are kept.
 
@@ -145,7 +153,7 @@ made_new key object memory_type props before after b f g given none = rw none at
 
 -- what a new chunk is to the device's objects
 module _ (memory_type props : ℕ) (before after : HeldChunks) (key : ℕ) (chunk : Chunk) (q : ChunkQuestion) (f g : ℕ → Option Object) where
-  pub object_more : map.get before key ≡ None → map.get after key ≡ Some chunk → q.memory_type ≡ memory_type → q.visible ≡ has_bit props 2 → q.size ≡ chunk.size → HasOneChunkMore q chunk.object f g
+  pub object_more : map.get before key ≡ None → map.get after key ≡ Some chunk → q.memory_type ≡ memory_type → q.mapped ≡ has_bit props 2 → q.size ≡ chunk.size → HasOneChunkMore q chunk.object f g
       → ObjectsGiven (IsNew memory_type (has_bit props 2)) (map.get before key) (map.get after key) chunk.object f g
   object_more none held of_type seen size more =
       let o : Object = more.1.0 in
@@ -163,7 +171,7 @@ module _ (memory_type props : ℕ) (before after : HeldChunks) (key : ℕ) (chun
       })
 
   -- and the way back
-  pub chunk_more : (more : HasOneMore (IsNew memory_type (has_bit props 2)) (map.get after key) chunk.object f g) → map.get after key ≡ Some chunk → memory_type ≡ q.memory_type → has_bit props 2 ≡ q.visible → chunk.size ≡ q.size → HasOneChunkMore q chunk.object f g
+  pub chunk_more : (more : HasOneMore (IsNew memory_type (has_bit props 2)) (map.get after key) chunk.object f g) → map.get after key ≡ Some chunk → memory_type ≡ q.memory_type → has_bit props 2 ≡ q.mapped → chunk.size ≡ q.size → HasOneChunkMore q chunk.object f g
   chunk_more more held of_type seen size =
       let is : more.counted ≡ chunk = one_value _ more.counted chunk more.is_counted held in
       let counted : more.counted.size ≡ q.size = ap (λ (x : Chunk). x.size) is ∙ size in (

@@ -1,7 +1,7 @@
 -- A new object that is mapped, or given back.
-use Rattle.std.proofs.Common.{◌≡◌, ◌≢◌, sym, inl, inr, ℕ, ◌<◌, true, [], ◌∷◌, Option, Some, None, Ok, Err, refl, ◌∙◌, ap, arith}
+use Rattle.std.proofs.Common.{◌≡◌, ◌≢◌, sym, inl, inr, ℕ, ◌<◌, true, List, [], ◌∷◌, Option, Some, None, Ok, Err, refl, ◌∙◌, ap, arith}
 use Rattle.gpu_alloc_types.specs.Properties.{Properties, is_host_visible}
-use Rattle.gpu_alloc_types.specs.Device.{Object, Row, HeldWith, IsHeld, IsMappable, put}
+use Rattle.gpu_alloc_types.specs.Device.{Object, Event, Row, HeldWith, IsHeld, IsMappable, put}
 use Rattle.gpu_alloc_types.specs.Device.Event.{Allocated, Mapped}
 use Rattle.gpu_alloc_types.specs.Objects.{put-same, put-other, put-put, put-undone}
 use Rattle.gpu_alloc_types.specs.declared.types.DeviceMapError.{DeviceMapError}
@@ -10,7 +10,9 @@ use Rattle.gpu_alloc_types.specs.declared.types.OutOfMemory.{OutOfMemory}
 use Rattle.gpu_alloc_types.specs.declared.types.OutOfMemory.TheVariants.{OutOfDeviceMemory as DeviceFull, OutOfHostMemory as HostFull}
 use Rattle.gpu_alloc_base.specs.Errors.{like_memory}
 use Rattle.gpu_alloc_base.specs.Chunks.{Chunk, IsThere}
-use Rattle.gpu_alloc_base.specs.NewChunk.{ChunkQuestion, HasOneChunkMore, AsksChunk, unmapped, new_chunk_refusal}
+use Rattle.gpu_alloc_base.specs.NewChunk.{ChunkQuestion, HasOneChunkMore, AsksBlock, AsksChunk, AsksChunkTwice, unmapped, new_chunk_refusal}
+use Rattle.gpu_alloc_base.specs.declared.error.AllocationError.{AllocationError}
+use Rattle.gpu_alloc_base.specs.declared.error.AllocationError.TheVariants.{OutOfDeviceMemory, OutOfHostMemory, NoCompatibleMemoryTypes, TooManyObjects}
 
 module _ (q : ChunkQuestion) (f g : ℕ → Option Object) (flags name : ℕ) (p : Properties) where
   -- a new object may be mapped whole
@@ -28,7 +30,7 @@ module _ (q : ChunkQuestion) (f g : ℕ → Option Object) (flags name : ℕ) (p
         },
       )
 
-  pub mapped_after : (now : Properties) (h : ℕ → Option Object) → q.visible ≡ true → Row p f (Allocated q.size q.memory_type flags (Ok name)) g
+  pub mapped_after : (now : Properties) (h : ℕ → Option Object) → q.mapped ≡ true → Row p f (Allocated q.size q.memory_type flags (Ok name)) g
       → Row now g (Mapped (record { object = name; offset = 0; size = q.size }) (Ok tt)) h → HasOneChunkMore q name f h
   mapped_after now h visible row maps =
       let o : Object = row.1.0 in
@@ -64,7 +66,7 @@ refused_question q DeviceFull = inl refl
 refused_question q HostFull = inl refl
 
 -- a refused mapping, as a refusal of the chunk
-pub refused_mapping : (q : ChunkQuestion) (object : ℕ) (cause : DeviceMapError) → q.visible ≡ true → AsksChunk q (unmapped q object cause) (Err (new_chunk_refusal cause))
+pub refused_mapping : (q : ChunkQuestion) (object : ℕ) (cause : DeviceMapError) → q.mapped ≡ true → AsksChunk q (unmapped q object cause) (Err (new_chunk_refusal cause))
 refused_mapping q object MapDeviceFull visible = inr (visible, (object, refl))
 refused_mapping q object MapHostFull visible = inr (visible, (object, (MapHostFull, (λ e. absurd (cc)), refl)))
 refused_mapping q object MapFailed visible = inr (visible, (object, (MapFailed, (λ e. absurd (cc)), refl)))
@@ -78,7 +80,7 @@ still_held q object f g P name more held =
     (held.0, ap (λ h. h name) more.1.2 ∙ put-other f object (Some more.1.0) name other ∙ held.1, held.2)
 
 -- and the new one is
-pub new_is_there : (q : ChunkQuestion) (chunk : Chunk) (f g : ℕ → Option Object) → HasOneChunkMore q chunk.object f g → chunk.size ≡ q.size → HeldWith g chunk.object (IsThere q.memory_type q.visible chunk)
+pub new_is_there : (q : ChunkQuestion) (chunk : Chunk) (f g : ℕ → Option Object) → HasOneChunkMore q chunk.object f g → chunk.size ≡ q.size → HeldWith g chunk.object (IsThere q.memory_type q.mapped chunk)
 new_is_there q chunk f g more size =
     let o : Object = more.1.0 in (
       o,
@@ -89,3 +91,10 @@ new_is_there q chunk f g more size =
         mapped = λ visible. more.1.1.mapped ∙ rw visible (ap (λ n. Some (0, n)) (sym more.1.1.of_size));
       },
     )
+
+-- a refused question, as the answer for a block in the object
+pub block_refused : (q : ChunkQuestion) (es : List Event) (e : AllocationError) → AsksChunkTwice q es (Err e) → AsksBlock q es (Err e)
+block_refused q es OutOfDeviceMemory lacks = lacks
+block_refused q es OutOfHostMemory lacks = lacks
+block_refused q es NoCompatibleMemoryTypes lacks = absurd lacks
+block_refused q es TooManyObjects lacks = absurd lacks

@@ -13,15 +13,16 @@ use Rattle.gpu_alloc_base.specs.declared.error.AllocationError.TheVariants.{OutO
 abbrev pub flags_of : Properties → ℕ
 flags_of p = cond p.buffer_device_address 1 0
 
--- what is asked for: so many bytes of a memory type with these flags, and whether the host sees that type
+-- what is asked for: so many bytes of a memory type with these flags, and whether the object is then mapped whole, as it is where
+-- the host sees that type
 pub record ChunkQuestion : Type 0 where
   pub size : ℕ
   pub memory_type : ℕ
   pub flags : ℕ
-  pub visible : Bool
+  pub mapped : Bool
 
 abbrev pub chunk_question : ℕ → ℕ → ℕ → Bool → ChunkQuestion
-chunk_question size memory_type flags visible = record { size = size; memory_type = memory_type; flags = flags; visible = visible }
+chunk_question size memory_type flags mapped = record { size = size; memory_type = memory_type; flags = flags; mapped = mapped }
 
 -- the whole of a new object
 abbrev pub whole_of : ChunkQuestion → ℕ → Range
@@ -29,7 +30,7 @@ whole_of q object = record { object = object; offset = 0; size = q.size }
 
 -- the object was granted, and mapped whole where the host sees it
 abbrev pub made : ChunkQuestion → ℕ → List Event
-made q object = Allocated q.size q.memory_type q.flags (Ok object) ∷ cond q.visible (Mapped (whole_of q object) (Ok tt) ∷ []) []
+made q object = Allocated q.size q.memory_type q.flags (Ok object) ∷ cond q.mapped (Mapped (whole_of q object) (Ok tt) ∷ []) []
 
 -- the object was granted, its mapping refused, and the object given back
 abbrev pub unmapped : ChunkQuestion → ℕ → DeviceMapError → List Event
@@ -39,13 +40,13 @@ unmapped q object cause = Allocated q.size q.memory_type q.flags (Ok object) ∷
 abbrev pub LacksDeviceMemory : ChunkQuestion → List Event → Type 0
 LacksDeviceMemory q es =
     (es ≡ Allocated q.size q.memory_type q.flags (Err DeviceFull) ∷ [])
-    ⊎ (IsTrue q.visible × ((object : ℕ) × (es ≡ unmapped q object MapDeviceFull)))
+    ⊎ (IsTrue q.mapped × ((object : ℕ) × (es ≡ unmapped q object MapDeviceFull)))
 
 -- the device answered that the host has no memory, or could not map the object
 abbrev pub LacksHostMemory : ChunkQuestion → List Event → Type 0
 LacksHostMemory q es =
     (es ≡ Allocated q.size q.memory_type q.flags (Err HostFull) ∷ [])
-    ⊎ (IsTrue q.visible × ((object : ℕ) × ((cause : DeviceMapError) × (cause ≢ MapDeviceFull) × (es ≡ unmapped q object cause))))
+    ⊎ (IsTrue q.mapped × ((object : ℕ) × ((cause : DeviceMapError) × (cause ≢ MapDeviceFull) × (es ≡ unmapped q object cause))))
 
 -- the object was made, and given back because there was no host memory for a second handle of it
 abbrev pub IsGivenBack : ChunkQuestion → List Event → Type 0
@@ -73,11 +74,19 @@ AsksChunkTwice q es (Err OutOfHostMemory) = LacksHostMemory q es ⊎ IsGivenBack
 AsksChunkTwice q es (Err NoCompatibleMemoryTypes) = ⊥
 AsksChunkTwice q es (Err TooManyObjects) = ⊥
 
+-- the same for a block in the object, which has the second handle
+abbrev pub AsksBlock : ChunkQuestion → List Event → Result ℕ AllocationError → Type 0
+AsksBlock q es (Ok object) = es ≡ made q object
+AsksBlock q es (Err OutOfDeviceMemory) = LacksDeviceMemory q es
+AsksBlock q es (Err OutOfHostMemory) = LacksHostMemory q es ⊎ IsGivenBack q es
+AsksBlock q es (Err NoCompatibleMemoryTypes) = ⊥
+AsksBlock q es (Err TooManyObjects) = ⊥
+
 -- a new object, and what is mapped of it: all where the host sees it
 pub record IsChunkObject (q : ChunkQuestion) (o : Object) : Type 0 where
   pub of_type : o.memory_type ≡ q.memory_type
   pub of_size : o.size ≡ q.size
-  pub mapped : o.mapped ≡ cond q.visible (Some (0, q.size)) None
+  pub mapped : o.mapped ≡ cond q.mapped (Some (0, q.size)) None
 
 -- the device holds one object more
 abbrev pub HasOneChunkMore : ChunkQuestion → ℕ → (ℕ → Option Object) → (ℕ → Option Object) → Type 0

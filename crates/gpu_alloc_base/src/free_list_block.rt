@@ -21,13 +21,6 @@ pub struct Slot {
     pub size: u64,
 }
 
-impl Slot {
-    /// Whether the block comes before another one: by chunk number, then by where each starts. It is public for the free list.
-    pub fn is_before(&self, other: &Slot) -> bool {
-        (self.chunk, self.offset) < (other.chunk, other.offset)
-    }
-}
-
 /// A block of a free list: the tail of what was a free run of one of its chunks. It cannot be let go, only given back to
 /// its list.
 pub struct FreeListBlock<M: MemoryObject> {

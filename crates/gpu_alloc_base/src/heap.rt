@@ -4,7 +4,7 @@ ghost use Rattle.std.specs.Prelude.{◌≡◌, ◌+◌, ◌-◌, ◌≤◌, ◌<
 ghost use Rattle.gpu_alloc_base.specs.Heap.{unused};
 
 /// A heap of a device: its size, and how much of it is held.
-#[derive(Clone, Copy, Debug, PartialEq, Eq)]
+#[derive(Drop)]
 pub struct Heap {
     size: u64,
     used: u128,

@@ -1,5 +1,5 @@
 -- A block that is granted: what it is, and what the allocator keeps with it.
-use Rattle.std.proofs.Common.{◌≡◌, inl, inr, ℕ, ◌+◌, ◌*◌, ◌-◌, ◌^◌, ◌<◌, ◌≤◌, Bool, true, false, IsTrue, List, [], ◌∷◌, ◌++◌, length, get_or, Option, Some, None, Err, refl, sym, ◌∙◌, ap, subst, arith, Contains}
+use Rattle.std.proofs.Common.{◌≡◌, inl, inr, ℕ, ◌+◌, ◌*◌, ◌-◌, ◌^◌, ◌<◌, ◌≤◌, Bool, true, false, IsTrue, List, [], ◌∷◌, ◌++◌, length, get_or, Option, Some, None, refl, sym, ◌∙◌, ap, subst, arith, Contains}
 use Rattle.std.proofs.lemmas.Bool.{cases_lt}
 use Rattle.std.proofs.lemmas.Bool.Decides.{same_from_decides}
 use Rattle.std.proofs.lemmas.List.Elements.{Contains-get_or}
@@ -12,15 +12,12 @@ use Rattle.std.specs.FinMap as map
 use Rattle.std.specs.FinSet as set
 use Rattle.gpu_alloc_base.specs.FreeSpace.{IsIn, IsMultipleOf, IsFreePiece, IsPowerUpTo}
 use Rattle.gpu_alloc_base.specs.Pieces.{AreKept, AreKeptBeside}
-use Rattle.gpu_alloc_types.specs.Device.{Object, Event, HeldWith}
+use Rattle.gpu_alloc_types.specs.Device.{Object, HeldWith}
 use Rattle.gpu_alloc_types.specs.Properties.{Properties}
 use Rattle.gpu_alloc_base.specs.Accounts.{Account, account}
-use Rattle.gpu_alloc_base.specs.Case.{Answers, Asks}
-use Rattle.gpu_alloc_buddy.specs.Buddy.{Agrees, HasPlace, IsFront, buddy_case, chunk_size, in_new_chunk, question, sees_chunks, with_leaf, with_chunk}
+use Rattle.gpu_alloc_buddy.specs.Buddy.{Agrees, HasPlace, IsFront, chunk_size, in_new_chunk, question, sees_chunks, with_leaf, with_chunk}
 use Rattle.gpu_alloc_base.specs.Chunks.{IsThere, Chunk}
-use Rattle.gpu_alloc_base.specs.NewChunk.{AsksChunkTwice, chunk_question}
-use Rattle.gpu_alloc_base.specs.declared.error.AllocationError.{AllocationError}
-use Rattle.gpu_alloc_base.specs.declared.error.AllocationError.TheVariants.{OutOfDeviceMemory, OutOfHostMemory, NoCompatibleMemoryTypes, TooManyObjects}
+use Rattle.gpu_alloc_base.specs.NewChunk.{chunk_question}
 use Rattle.gpu_alloc_buddy.specs.BuddyState.{Buddy, IsLiveLeaf, IsFreeAt}
 use Rattle.gpu_alloc_base.specs.Leaves.{leaf_cmp}
 use Rattle.gpu_alloc_buddy.specs.BuddyInside.{IsStored, buddy_in, same_leaf}
@@ -283,15 +280,6 @@ found_or_none b pieces order None kept some none = ((λ t. absurd (cc)), (λ pla
 
 -- A new chunk.
 
--- what the device is asked of a chunk, as the answer to a request for a block in it
-pub refused_chunk : (a : Account Buddy) (size flags : ℕ) (es : List Event) (e : AllocationError) → Asks (buddy_case a size flags) → AsksChunkTwice (question a.allocator size flags) es (Err e)
-    → Answers (buddy_case a size flags) es (Err e) a
-refused_chunk a size flags es OutOfDeviceMemory asks lacks = (refl, inr (asks, lacks))
-refused_chunk a size flags es OutOfHostMemory asks (inl lacks) = (refl, inr (asks, inl lacks))
-refused_chunk a size flags es OutOfHostMemory asks (inr back) = (refl, inr (asks, inr (refl, back)))
-refused_chunk a size flags es NoCompatibleMemoryTypes asks lacks = absurd lacks
-refused_chunk a size flags es TooManyObjects asks lacks = absurd lacks
-
 -- the next chunk's order
 pub chunk_size_is : (b : Buddy) (next order : ℕ) → b.next_chunk ≡ 2 ^ next → chunk_size b (2 ^ order) ≡ 2 ^ max next (order + 1)
 chunk_size_is b next order is = elim (cases_lt next (order + 1)) [
@@ -317,7 +305,7 @@ pub question_is : (b : Buddy) (next order size flags : ℕ) (visible : Bool) →
     → chunk_question size b.memory_type flags visible ≡ question b (2 ^ order) flags
 question_is b next order size flags visible is size_is sees =
     let e : size ≡ chunk_size b (2 ^ order) = size_is ∙ sym (chunk_size_is b next order is) in
-    λ i. record { size = e i; memory_type = b.memory_type; flags = flags; visible = sees i }
+    λ i. record { size = e i; memory_type = b.memory_type; flags = flags; mapped = sees i }
 
 pub power_order : (n : ℕ) → IsPowerUpTo 63 (2 ^ n) → n ≤ 63
 power_order n power = omega (arith, power.1.0, order-le n power.0 (omega (arith, power.1.1)))

@@ -37,7 +37,7 @@ abbrev pub sees_chunks : Buddy → Bool
 sees_chunks b = has_bit b.props 2
 
 abbrev pub question : Buddy → ℕ → ℕ → ChunkQuestion
-question b size flags = record { size = chunk_size b size; memory_type = b.memory_type; flags = flags; visible = sees_chunks b }
+question b size flags = record { size = chunk_size b size; memory_type = b.memory_type; flags = flags; mapped = sees_chunks b }
 
 -- somewhere in a held chunk there is room for a block of this size
 abbrev pub HasPlace : Buddy → ℕ → Type 0

@@ -4,16 +4,29 @@ use Rattle.std.specs.List.{IsDistinct}
 use Rattle.std.specs.FinMap as map
 use Rattle.std.specs.FinSet as set
 use Rattle.std.specs.Ordering.{nat_cmp, eq_by_cmp}
+use Rattle.slab.specs.Slab.{Slab}
+use Rattle.gpu_alloc_types.specs.Flags.{allocation_bits}
+use Rattle.gpu_alloc_base.specs.NewChunk.{ChunkQuestion}
+use Rattle.gpu_alloc_base.specs.SlabViews.{by_key}
 use Rattle.gpu_alloc_base.specs.Pieces.{AreKept}
 use Rattle.gpu_alloc_buddy.specs.BuddyState.{Buddy, IsFreeAt}
 use Rattle.gpu_alloc_base.specs.Leaves.{leaf_cmp}
 use Rattle.gpu_alloc_base.specs.Chunks.{Chunk}
 use Rattle.gpu_alloc_base.specs.declared.buddy_block.Leaf.{Leaf}
 use Rattle.gpu_alloc_base.specs.declared.piece.Piece.{Piece}
+use Rattle.gpu_alloc_buddy.specs.declared.buddy.NewChunk.{NewChunk}
 
 -- a list of live blocks as a set
 abbrev pub leaf_set : List Leaf → set.FinSet leaf_cmp
 leaf_set live = set.from_list live
+
+-- held chunks by their keys, from the names of their objects and their sizes as powers of two
+abbrev pub chunks_in : {T : Type 0} → (T → ℕ) → (T → ℕ) → Slab T → map.FinMap nat_cmp Chunk
+chunks_in object order chunks = by_key (λ c. record { object = object c; size = 2 ^ order c }) chunks
+
+-- what the device is asked for a chunk
+abbrev pub question_of : NewChunk → ChunkQuestion
+question_of asked = record { size = 2 ^ asked.order; memory_type = asked.memory_type; flags = allocation_bits asked.flags; mapped = asked.visible }
 
 -- the fields as a contract sees them, the chunks as a map
 abbrev pub buddy_in : map.FinMap nat_cmp Chunk → List Leaf → ℕ → ℕ → ℕ → ℕ → ℕ → Buddy

@@ -4,12 +4,16 @@ ghost use Rattle.std.specs.Prelude.{◌≡◌, ℕ, ◌+◌, ◌≤◌, ◌<◌,
 ghost use Rattle.std.specs.FinMap as map;
 ghost use Rattle.std.specs.FinSet as set;
 ghost use Rattle.gpu_alloc_types.specs.Flags.{allocation_bits, property_bits, has_bit};
-ghost use Rattle.gpu_alloc_types.specs.Device.{Event, Chain};
+ghost use Rattle.gpu_alloc_types.specs.Device.{Event, Chain, IsAskable};
+ghost use Rattle.gpu_alloc_types.specs.Properties.{is_host_visible};
 ghost use Rattle.std.specs.Int.{is_power_of_two};
+ghost use Rattle.std.specs.Result.{result_map_both};
 ghost use Rattle.gpu_alloc_buddy.specs.Buddy.{opened, rounded, buddy_case, case_of, Allocates, HasPlace, TakesPlace, Frees, ObjectsFreed, IsGranted, with_leaf, with_chunk, Agrees, ObjectsAfter};
 ghost use Rattle.gpu_alloc_base.specs.Accounts.{account, IsCounted, chunks_and_remaining};
 ghost use Rattle.gpu_alloc_base.specs.Case.{Answers, Asks, RefusesFirst};
+ghost use Rattle.gpu_alloc_base.specs.NewChunk.{AsksBlock, ChunkAfter};
 ghost use Rattle.gpu_alloc_base.specs.Wanted.{wanted};
+ghost use Rattle.gpu_alloc_buddy.specs.BuddyInside.{chunks_in, question_of};
 ghost use Rattle.gpu_alloc_buddy.specs.BuddySound.{IsSound};
 ghost use Rattle.gpu_alloc_buddy.specs.BuddyState.{Buddy, IsLiveLeaf, IsFreeAt};
 ghost use Rattle.gpu_alloc_base.specs.Pieces.{AreKept};
@@ -35,6 +39,15 @@ use std::marker::Model;
 struct Chunk<M: MemoryObject> {
     memory: M,
     order: u32,
+}
+
+/// What is asked for a chunk: its size as a power of two, its memory type, the flags, and whether the host sees it.
+#[derive(Clone, Copy)]
+struct NewChunk {
+    order: u32,
+    memory_type: u32,
+    flags: AllocationFlags,
+    visible: bool,
 }
 
 /// Gives out blocks of shared chunks of one memory type. It cannot be let go: [`close`](BuddyAllocator::close) ends it.
@@ -95,34 +108,7 @@ impl<M: MemoryObject, A: Allocator + Copy> BuddyAllocator<M, A> {
         ensures sound { IfOk result IsSound }
         ensures refused { IfErr result (λ e. e ≡ AllocationError.OutOfHostMemory) }
     {
-        Ok(BuddyAllocator::empty(
-            alloc,
-            minimal_size,
-            initial_dedicated_size,
-            memory_type,
-            props,
-            atom_mask,
-        ))
-    }
-
-    /// The allocator that `new` gives. It is not refused, since no memory is taken, and is public for `gpu_alloc`, which opens one
-    /// for each memory type.
-    pub fn empty(
-        alloc: A,
-        minimal_size: u64,
-        initial_dedicated_size: u64,
-        memory_type: u32,
-        props: MemoryPropertyFlags,
-        atom_mask: u64,
-    ) -> Self
-        requires minimal { IsTrue (is_power_of_two minimal_size) }
-        requires initial { IsTrue (is_power_of_two initial_dedicated_size) }
-        requires atom { IsTrue (is_power_of_two (atom_mask + 1)) }
-        requires atom_bound { atom_mask + 1 ≤ 2 ^ 62 }
-        ensures opened { result ≡ opened minimal_size initial_dedicated_size memory_type (property_bits props) (atom_mask + 1) }
-        ensures sound { IsSound result }
-    {
-        BuddyAllocator {
+        Ok(BuddyAllocator {
             chunks: Slab::new(alloc),
             pieces: Vec::new(alloc),
             live: Vec::new(alloc),
@@ -131,7 +117,7 @@ impl<M: MemoryObject, A: Allocator + Copy> BuddyAllocator<M, A> {
             memory_type,
             props,
             atom: atom_mask + 1,
-        }
+        })
     }
 }
 
@@ -355,7 +341,7 @@ impl<M: MemoryObject, A: Allocator> BuddyAllocator<M, A> {
         Ok(Some(BuddyBlock::new(memory, leaf)))
     }
 
-    /// Takes the front of a new chunk, where there is no place.
+    /// Takes the front of a new chunk, where there is no place. Room is made before the device is asked.
     fn take_chunk<D: MemoryDevice<M>>(
         &mut self,
         device: &mut D,
@@ -383,26 +369,72 @@ impl<M: MemoryObject, A: Allocator> BuddyAllocator<M, A> {
         let chunk_order = self.next_order.max(order + 1);
         let size = bytes(chunk_order);
         let visible = self.props.intersects(MemoryPropertyFlags::HOST_VISIBLE);
-        let made = new_chunk_with_handle(device, size, self.memory_type, flags, visible);
-        let (memory, handle) = match made {
-            Ok(handles) => handles,
-            Err(refusal) => return Err(refusal),
+        let asked = NewChunk {
+            order: chunk_order,
+            memory_type: self.memory_type,
+            flags,
+            visible,
         };
-        let leaf = begin_chunk(
+        let made = ask_chunk(
             &mut self.chunks,
             &mut self.pieces,
             &mut self.live,
-            Chunk {
-                memory,
-                order: chunk_order,
-            },
+            device,
+            asked,
             order,
         );
+        let block = match made {
+            Ok(block) => block,
+            Err(refusal) => return Err(refusal),
+        };
         self.next_order = chunk_order;
         heap.alloc(size);
         *allocations_remains -= 1;
-        Ok(BuddyBlock::new(handle, leaf))
+        Ok(block)
     }
+}
+
+/// Asks the device for a chunk, holds it, and makes a block of its front. Room for all of it was made, so that only the
+/// device refuses, or the host a second handle of the chunk: then the chunk is given back, and nothing has changed.
+fn ask_chunk<M: MemoryObject, A: Allocator, D: MemoryDevice<M>>(
+    chunks: &mut Slab<Chunk<M>, A>,
+    pieces: &mut Vec<Piece, A>,
+    live: &mut Vec<Leaf, A>,
+    device: &mut D,
+    asked: NewChunk,
+    order: u32,
+) -> Result<BuddyBlock<M>, AllocationError>
+    requires order { order < asked.order }
+    requires bound { asked.order ≤ 63 }
+    requires chunk_room { HasRoomFor chunks.old 1 }
+    requires room { vec_len pieces.old + 64 ≤ vec_capacity pieces.old }
+    requires live_room { vec_len live.old < vec_capacity live.old }
+    requires askable { IsAskable (D.properties device.old) (2 ^ asked.order) asked.memory_type (allocation_bits asked.flags) }
+    requires visible { is_host_visible (D.properties device.old) asked.memory_type ≡ asked.visible }
+    ensures asks { (es : List Event) × Chain D.step device.old es device.new × AsksBlock (question_of asked) es (result_map_both (λ leaf. leaf.object) (λ e. e) result) }
+    ensures objects { ChunkAfter (question_of asked) (result_map_both (λ leaf. leaf.object) (λ e. e) result) (D.objects device.old) (D.objects device.new) }
+    ensures properties { D.properties device.new ≡ D.properties device.old }
+    ensures leaf { IfOk result (λ leaf. leaf ≡ record { object = leaf.object; chunk = leaf.chunk; offset = 0; size = 2 ^ order; index = 0 }) }
+    ensures key { IfOk result (λ leaf. map.get (chunks_in (λ c. M.object c.memory) (λ c. c.order) chunks.old) leaf.chunk ≡ None) }
+    ensures chunks { IfOk result (λ leaf. chunks_in (λ c. M.object c.memory) (λ c. c.order) chunks.new ≡ map.insert (chunks_in (λ c. M.object c.memory) (λ c. c.order) chunks.old) leaf.chunk (record { object = leaf.object; size = 2 ^ asked.order })) }
+    ensures kept { IfOk result (λ leaf. (b : Buddy) → map.get b.chunks leaf.chunk ≡ None → ((other : Leaf) → IsLiveLeaf b other → other.chunk ≢ leaf.chunk) → AreKept pieces.old.items (IsFreeAt b) → AreKept pieces.new.items (IsFreeAt (with_leaf (with_chunk b leaf (2 ^ asked.order)) leaf))) }
+    ensures live { IfOk result (λ leaf. live.new.items ≡ live.old.items ++ leaf ∷ []) }
+    ensures count { OnOk result (vec_len pieces.new + order ≡ vec_len pieces.old + asked.order) }
+    ensures capacity { vec_capacity pieces.new ≡ vec_capacity pieces.old }
+    ensures refused { OnErr result ((chunks.new ≡ chunks.old) × ((pieces.new.items ≡ pieces.old.items) × (live.new.items ≡ live.old.items))) }
+{
+    let size = bytes(asked.order);
+    let made = new_chunk_with_handle(device, size, asked.memory_type, asked.flags, asked.visible);
+    let (memory, handle) = match made {
+        Ok(handles) => handles,
+        Err(refusal) => return Err(refusal),
+    };
+    let chunk = Chunk {
+        memory,
+        order: asked.order,
+    };
+    let leaf = begin_chunk(chunks, pieces, live, chunk, order);
+    Ok(BuddyBlock::new(handle, leaf))
 }
 
 /// Holds a new chunk, and makes a block of its front. Room for both was made.

@@ -1,18 +1,17 @@
 -- What follows from a free list's answer to a request: what is sound stays so, agreement with the device, the totals, and what is
 -- known of the block.
-use Rattle.std.proofs.Common.{◌≡◌, inl, inr, ℕ, ◌+◌, ◌-◌, ◌%◌, ◌<◌, ◌≤◌, Bool, List, [], ◌∷◌, ◌++◌, Option, Some, None, Result, Ok, Err, refl, sym, ◌∙◌, ap, subst, arith}
+use Rattle.std.proofs.Common.{◌≡◌, inl, inr, ℕ, ◌+◌, ◌-◌, ◌%◌, ◌<◌, ◌≤◌, Bool, List, Option, Some, None, Result, Ok, Err, refl, sym, ◌∙◌, ap, subst, arith}
 use Rattle.std.proofs.lemmas.Bool.{cases_lt, cases_eq}
 use Rattle.std.proofs.lemmas.Nat.{pow_pos}
 use Rattle.std.specs.Prelude.{IfOk}
 use Rattle.std.specs.FinMap as map
 use Rattle.gpu_alloc_types.specs.Device.{Object, Event, HeldWith}
-use Rattle.gpu_alloc_types.specs.Device.Event.{Deallocated}
 use Rattle.gpu_alloc_types.specs.Properties.{Properties}
 use Rattle.gpu_alloc_base.specs.Wanted.{Wanted}
 use Rattle.gpu_alloc_base.specs.Chunks.{Chunk, IsNew, IsThere}
 use Rattle.gpu_alloc_freelist.specs.FreeList.{HasPlace, IsTail, with_slot, with_chunk, first_tail}
 use Rattle.gpu_alloc_base.specs.Accounts.{Account}
-use Rattle.gpu_alloc_base.specs.Case.{Answers, Asks, IsBarred, RefusesFirst}
+use Rattle.gpu_alloc_base.specs.Case.{Answers, IsBarred, RefusesFirst}
 use Rattle.gpu_alloc_base.specs.NewObject.{HasOneMore}
 use Rattle.gpu_alloc_freelist.specs.FreeListAllocator.{Agrees, ObjectsAfter, IsGranted, case_of, chunk_size, list_case, next_size, question, sees_chunks, listing_with_slot, rounded, alignment as alignment_of}
 use Rattle.gpu_alloc_base.proofs.Books.{KeepsBooks, refused_keeps, made_new, answers_agree as chunks_agree}
@@ -20,10 +19,10 @@ use Rattle.gpu_alloc_freelist.specs.FreeListSound.{IsSound, IsSoundSpace, LiesIn
 use Rattle.gpu_alloc_freelist.specs.FreeListState.{Space, Listing, IsLiveSlot, IsFreeIn}
 use Rattle.gpu_alloc_base.specs.FreeRuns.{AreFree, IsFreeRun, tail_start}
 use Rattle.gpu_alloc_base.specs.FreeSpace.{IsIn, IsMultipleOf, IsPowerOfTwo}
-use Rattle.gpu_alloc_base.specs.NewChunk.{ChunkQuestion, chunk_question, AsksChunk, LacksDeviceMemory, LacksHostMemory, made}
+use Rattle.gpu_alloc_base.specs.NewChunk.{chunk_question}
 use Rattle.gpu_alloc_base.specs.AlignMasks.{IsAlignMask}
 use Rattle.gpu_alloc_base.specs.declared.error.AllocationError.{AllocationError}
-use Rattle.gpu_alloc_base.specs.declared.error.AllocationError.TheVariants.{OutOfDeviceMemory, OutOfHostMemory, NoCompatibleMemoryTypes, TooManyObjects}
+use Rattle.gpu_alloc_base.specs.declared.error.AllocationError.TheVariants.{TooManyObjects}
 use Rattle.gpu_alloc_base.specs.declared.free_list_block.Slot.{Slot}
 use Rattle.gpu_alloc_base.proofs.Outcomes.{if_some}
 use Rattle.gpu_alloc_freelist.proofs.FreeListSizes.{chunk_size_atoms, chunk_size_bound, chunk_size_enough, next_size_sound}
@@ -382,21 +381,7 @@ module _ (a : Account Listing) (w : Wanted) (size alignment : ℕ) (size_is : si
 
 -- what the device is asked for it
 pub question_is : (l : Listing) (size whole flags : ℕ) (visible : Bool) → whole ≡ chunk_size l size → visible ≡ sees_chunks l → chunk_question whole l.memory_type flags visible ≡ question l size flags
-question_is l size whole flags visible whole_is sees = λ i. record { size = whole_is i; memory_type = l.memory_type; flags = flags; visible = sees i }
-
--- its refusal, as the answer to a request for a block in it
-pub refused_chunk : (a new : Account Listing) (size alignment flags : ℕ) (es : List Event) (q : ChunkQuestion) (e : AllocationError) → q ≡ question a.allocator size flags → new ≡ a → Asks (list_case a size alignment flags) → AsksChunk q es (Err e)
-    → Answers (list_case a size alignment flags) es (Err e) new
-refused_chunk a new size alignment flags es q OutOfDeviceMemory is same asks lacks = (same, inr (asks, subst (λ x. LacksDeviceMemory x es) is lacks))
-refused_chunk a new size alignment flags es q OutOfHostMemory is same asks lacks = (same, inr (asks, inl (subst (λ x. LacksHostMemory x es) is lacks)))
-refused_chunk a new size alignment flags es q NoCompatibleMemoryTypes is same asks lacks = absurd lacks
-refused_chunk a new size alignment flags es q TooManyObjects is same asks lacks = absurd lacks
-
--- it is given back for want of a second handle
-pub handle_refused : (a new : Account Listing) (size alignment flags object name : ℕ) (es : List Event) (q : ChunkQuestion) → q ≡ question a.allocator size flags → new ≡ a → Asks (list_case a size alignment flags) → es ≡ made q object → name ≡ object
-    → Answers (list_case a size alignment flags) (es ++ Deallocated name ∷ []) (Err OutOfHostMemory) new
-handle_refused a new size alignment flags object name es q is same asks es_is name_is =
-    (same, inr (asks, inr (refl, (object, ap (λ x. es ++ Deallocated x ∷ []) name_is ∙ ap (λ xs. xs ++ Deallocated object ∷ []) (es_is ∙ ap (λ x. made x object) is)))))
+question_is l size whole flags visible whole_is sees = λ i. record { size = whole_is i; memory_type = l.memory_type; flags = flags; mapped = sees i }
 
 -- the allocator with a block in it
 pub grown_is : (l : Listing) (s now : Space) (slot : Slot) (object whole next size alignment : ℕ) → s ≡ l.space → slot ≡ first_tail s object whole size alignment → now ≡ with_slot (with_chunk s object whole) slot

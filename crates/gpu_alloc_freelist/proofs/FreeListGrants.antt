@@ -389,6 +389,14 @@ listed chunks latest live new regions slot capacity is once took room =
 pub some_room : (chunks live regions : ℕ) → 0 < room_for chunks live regions → (0 < chunks) × ((0 < live) × (2 ≤ regions))
 some_room chunks live regions some = (omega (arith, some), (omega (arith, some), omega (arith, some)))
 
+-- room stays where no list can take less
+pub room_kept : (chunks live regions chunks' live' regions' : ℕ) → chunks ≤ chunks' → live ≤ live' → regions ≤ regions' → room_for chunks live regions ≤ room_for chunks' live' regions'
+room_kept chunks live regions chunks' live' regions' in_chunks in_live in_regions = omega (arith, in_chunks, in_live, in_regions)
+
+-- and is one less at most where a chunk came with a block
+pub room_taken : (chunks live regions chunks' live' regions' : ℕ) → chunks ≤ chunks' + 1 → live ≤ live' + 1 → regions ≤ regions' + 2 → room_for chunks live regions ≤ room_for chunks' live' regions' + 1
+room_taken chunks live regions chunks' live' regions' in_chunks in_live in_regions = omega (arith, in_chunks, in_live, in_regions)
+
 -- The lists with a new chunk, and the block that is its tail.
 
 -- a slot is the tail of a new chunk

@@ -43,7 +43,7 @@ abbrev pub sees_chunks : Listing → Bool
 sees_chunks l = has_bit l.props 2
 
 abbrev pub question : Listing → ℕ → ℕ → ChunkQuestion
-question l size flags = record { size = chunk_size l size; memory_type = l.memory_type; flags = flags; visible = sees_chunks l }
+question l size flags = record { size = chunk_size l size; memory_type = l.memory_type; flags = flags; mapped = sees_chunks l }
 
 -- one more block is live
 abbrev pub listing_with_slot : Listing → Slot → Listing

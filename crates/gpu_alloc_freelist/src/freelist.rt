@@ -21,7 +21,6 @@ mod list;
 mod regions;
 
 use gpu_alloc_base::heap::Heap;
-use gpu_alloc_base::new_chunk::new_chunk;
 use gpu_alloc_base::sizes::next_power_of_two;
 use gpu_alloc_base::steps::Steps;
 use gpu_alloc_base::{AllocationError, FreeListBlock};
@@ -360,7 +359,7 @@ impl<M: MemoryObject, A: Allocator> FreeListAllocator<M, A> {
         self.take_chunk(device, size, align_mask, flags, heap, allocations_remains)
     }
 
-    /// Takes the tail of a new chunk, where there is no place.
+    /// Takes the tail of a new chunk, where there is no place. Room is made before the device is asked.
     fn take_chunk<D: MemoryDevice<M>>(
         &mut self,
         device: &mut D,
@@ -389,22 +388,19 @@ impl<M: MemoryObject, A: Allocator> FreeListAllocator<M, A> {
         }
         let chunk_size = self.chunk_size_for(size);
         let visible = self.props.intersects(MemoryPropertyFlags::HOST_VISIBLE);
-        let memory = new_chunk(device, chunk_size, self.memory_type, flags, visible)?;
-        let made = self
-            .freelist
-            .get_block_from_new_memory(memory, chunk_size, align_mask, size);
-        match made {
-            Ok(block) => {
-                self.chunk_size = (2 * chunk_size).min(self.final_chunk_size);
-                heap.alloc(chunk_size);
-                *allocations_remains -= 1;
-                Ok(block)
-            }
-            Err(memory) => {
-                device.deallocate_memory(&memory);
-                Err(AllocationError::OutOfHostMemory)
-            }
-        }
+        let block = self.freelist.get_block_from_new_chunk(
+            device,
+            chunk_size,
+            self.memory_type,
+            flags,
+            visible,
+            align_mask,
+            size,
+        )?;
+        self.chunk_size = (2 * chunk_size).min(self.final_chunk_size);
+        heap.alloc(chunk_size);
+        *allocations_remains -= 1;
+        Ok(block)
     }
 
     /// The size of a new chunk with a block of this size.

@@ -147,7 +147,7 @@ module _ (s : State) (places : map.FinMap span_cmp Place) (room index : ℕ) (b 
       let next : b.next_chunk ≡ next_chunk_of (slice_get s.types index) = sym serves.next in
       let type : b.memory_type ≡ index = serves.of.for_type.memory_type in
       let props : b.props ≡ props_at s.properties index = serves.of.for_type.props in
-      λ i. record { size = max (next i) (2 * size); memory_type = type i; flags = flags_of s.properties; visible = has_bit (props i) 2 }
+      λ i. record { size = max (next i) (2 * size); memory_type = type i; flags = flags_of s.properties; mapped = has_bit (props i) 2 }
 
   -- A request, which both tell.
 

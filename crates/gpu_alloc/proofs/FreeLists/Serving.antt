@@ -118,7 +118,7 @@ module _ (s : State) (places : map.FinMap span_cmp Place) (room index : ℕ) (l 
       let final : l.final_chunk ≡ largest_list_chunk s index = serves.of.for_type.final_chunk in
       let type : l.memory_type ≡ index = serves.of.for_type.memory_type in
       let props : l.props ≡ props_at s.properties index = serves.of.for_type.props in
-      λ i. record { size = grown_chunk (next i) (final i) size; memory_type = type i; flags = flags_of s.properties; visible = has_bit (props i) 2 }
+      λ i. record { size = grown_chunk (next i) (final i) size; memory_type = type i; flags = flags_of s.properties; mapped = has_bit (props i) 2 }
 
   pub number_is : HasNumber l.space → HasListNumber s index
   number_is has = omega (arith, has, serves.number)

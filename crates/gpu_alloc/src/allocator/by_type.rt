@@ -9,8 +9,8 @@ ghost use Rattle.gpu_alloc_freelist.specs.FreeListSound.{IsSound as IsSoundListi
 ghost use Rattle.gpu_alloc.specs.Opening.{first_buddy, AreFirstBuddies, first_listing, AreFirstListings};
 
 use crate::limits::atom_of;
-use gpu_alloc_base::Config;
 use gpu_alloc_base::heap::Heap;
+use gpu_alloc_base::{AllocationError, Config};
 use gpu_alloc_buddy::BuddyAllocator;
 use gpu_alloc_freelist::FreeListAllocator;
 use gpu_alloc_types::{DeviceProperties, MemoryHeap, MemoryObject};
@@ -39,7 +39,13 @@ pub(super) fn empty_buddies<M: MemoryObject, A: Allocator + Copy>(
     let count = props.memory_types.len();
     let mut buddies = Vec::with_capacity(alloc, count)?;
     for memory_type in 0..count {
-        buddies.push_reserved(empty_buddy(alloc, config, props, memory_type));
+        match empty_buddy(alloc, config, props, memory_type) {
+            Ok(buddy) => buddies.push_reserved(buddy),
+            Err(_) => {
+                close_buddies(buddies);
+                return Err(AllocError);
+            }
+        }
     }
     Ok(buddies)
 }
@@ -50,16 +56,16 @@ fn empty_buddy<M: MemoryObject, A: Allocator + Copy>(
     config: Config,
     props: &DeviceProperties<'_>,
     memory_type: usize,
-) -> BuddyAllocator<M, A>
+) -> Result<BuddyAllocator<M, A>, AllocationError>
     requires usable { IsUsable (properties_of props.now) }
     requires known { memory_type < length (properties_of props.now).memory_types }
-    ensures first { result ≡ first_buddy config (properties_of props.now) memory_type }
-    ensures sound { IsSound result }
+    ensures first { IfOk result (λ buddy. buddy ≡ first_buddy config (properties_of props.now) memory_type) }
+    ensures sound { IfOk result IsSound }
 {
     let own = props.memory_types[memory_type];
     let heap = props.memory_heaps[own.heap as usize].size;
     let atom = atom_of(own.props, props.non_coherent_atom_size);
-    BuddyAllocator::empty(
+    BuddyAllocator::new(
         alloc,
         config.minimal_size(heap),
         config.initial_size(heap),

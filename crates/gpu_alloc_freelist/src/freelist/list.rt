@@ -1,21 +1,27 @@
 //! A free list: chunks of memory by number, their free runs, and the blocks that are live in them.
 
-ghost use Rattle.std.specs.Prelude.{◌≡◌, ◌≤◌, ◌<◌, ◌+◌, ◌↔◌, ℕ, length, slice_get, false, Some, None, IfSome, IfNone, IfOk, IfErr, OnOk, IsOk, IsSome, IsTrue, MatchOption, vec_len, vec_capacity};
+ghost use Rattle.std.specs.Prelude.{◌≡◌, ◌≤◌, ◌<◌, ◌+◌, ◌↔◌, ℕ, List, length, slice_get, false, Some, None, IfSome, IfNone, IfOk, IfErr, OnOk, OnErr, IsOk, IsSome, IsTrue, MatchOption, vec_len, vec_capacity};
 ghost use Rattle.std.specs.FinMap as map;
 ghost use Rattle.std.specs.FinSet as set;
 ghost use Rattle.std.specs.List.{Contains, IsDistinct};
+ghost use Rattle.std.specs.Result.{result_map_both};
+ghost use Rattle.gpu_alloc_types.specs.Flags.{allocation_bits};
+ghost use Rattle.gpu_alloc_types.specs.Properties.{is_host_visible};
+ghost use Rattle.gpu_alloc_types.specs.Device.{Event, Chain, IsAskable};
 ghost use Rattle.gpu_alloc_freelist.specs.FreeList.{TakesTail, IsFirstToGo, MayGo, HasNumber, HasPlace, with_slot, without_slot, with_chunk, without_chunk, first_tail, no_space};
 ghost use Rattle.gpu_alloc_freelist.specs.FreeListInside.{by_number, IsWholeRegion, MayBeTaken, IsFirstWhole, same_slot, slot_set};
 ghost use Rattle.gpu_alloc_freelist.specs.FreeListSound.{IsSoundSpace};
 ghost use Rattle.gpu_alloc_freelist.specs.FreeListState.{IsLiveSlot, IsFreeIn};
 ghost use Rattle.gpu_alloc_base.specs.FreeRuns.{IsFreeRun, AreRising};
 ghost use Rattle.gpu_alloc_base.specs.AlignMasks.{IsAlignMask};
+ghost use Rattle.gpu_alloc_base.specs.NewChunk.{AsksBlock, ChunkAfter, chunk_question};
 ghost use Rattle.gpu_alloc_base.specs.declared.region.FreeListRegion.{FreeListRegion as Region};
 
 use super::regions::{insert, last_with_room, tail_of, take_tail};
+use gpu_alloc_base::new_chunk::new_chunk;
 use gpu_alloc_base::steps::Steps;
-use gpu_alloc_base::{FreeListBlock, FreeListRegion, Slot};
-use gpu_alloc_types::MemoryObject;
+use gpu_alloc_base::{AllocationError, FreeListBlock, FreeListRegion, Slot};
+use gpu_alloc_types::{AllocationFlags, MemoryDevice, MemoryObject};
 use std::alloc::{AllocError, Allocator, Global};
 use std::marker::Model;
 use std::sync::ledger::Ledger;
@@ -98,7 +104,7 @@ impl<M: MemoryObject, A: Allocator> FreeList<M, A> {
     ///
     /// `memory` is the chunk's object, of `memory_size` bytes. The size has to be at least 1 and at most that,
     /// `align_mask + 1` a power of two of at most 2^63, room has to be made (`reserve`), and the latest number below
-    /// 2^64 - 1.
+    /// 2^64 - 1. The call takes one chunk's room at most.
     ///
     /// Where there is no host memory for a second handle of the object, the first is handed back and nothing has changed.
     pub fn get_block_from_new_memory(
@@ -116,6 +122,7 @@ impl<M: MemoryObject, A: Allocator> FreeList<M, A> {
         ensures block { IfOk result (λ slot. slot ≡ first_tail self.old.space (M.object memory) memory_size size (align_mask + 1)) }
         ensures chunk { IfOk result (λ slot. self.new.space ≡ with_slot (with_chunk self.old.space (M.object memory) memory_size) slot) }
         ensures refused { IfErr result (λ back. (M.object back ≡ M.object memory) × (self.new ≡ self.old)) }
+        ensures room { OnOk result (self.old.room ≤ self.new.room + 1) }
         ensures sound { IsSoundSpace self.new.space }
     {
         let number = self.latest + 1;
@@ -144,6 +151,43 @@ impl<M: MemoryObject, A: Allocator> FreeList<M, A> {
         }
         keep(&mut self.live, slot);
         Ok(FreeListBlock::new(handle, slot))
+    }
+
+    /// A block as [`get_block_from_new_memory`](FreeList::get_block_from_new_memory) gives it, in a chunk that the device is
+    /// asked for. Room is made before, so that after the question only the device refuses, or the host a second handle of
+    /// the chunk: then the chunk is given back, and nothing has changed.
+    pub(crate) fn get_block_from_new_chunk<D: MemoryDevice<M>>(
+        &mut self,
+        device: &mut D,
+        chunk_size: u64,
+        memory_type: u32,
+        flags: AllocationFlags,
+        visible: bool,
+        align_mask: u64,
+        size: u64,
+    ) -> Result<FreeListBlock<M>, AllocationError>
+        requires room { 0 < self.old.room }
+        requires nonempty { 0 < size }
+        requires inside { size ≤ chunk_size }
+        requires alignment { IsAlignMask align_mask }
+        requires number { HasNumber self.old.space }
+        requires askable { IsAskable (D.properties device.old) chunk_size memory_type (allocation_bits flags) }
+        requires visible { is_host_visible (D.properties device.old) memory_type ≡ visible }
+        ensures asks { (es : List Event) × Chain D.step device.old es device.new × AsksBlock (chunk_question chunk_size memory_type (allocation_bits flags) visible) es (result_map_both (λ slot. slot.object) (λ e. e) result) }
+        ensures objects { ChunkAfter (chunk_question chunk_size memory_type (allocation_bits flags) visible) (result_map_both (λ slot. slot.object) (λ e. e) result) (D.objects device.old) (D.objects device.new) }
+        ensures properties { D.properties device.new ≡ D.properties device.old }
+        ensures block { IfOk result (λ slot. slot ≡ first_tail self.old.space slot.object chunk_size size (align_mask + 1)) }
+        ensures chunk { IfOk result (λ slot. self.new.space ≡ with_slot (with_chunk self.old.space slot.object chunk_size) slot) }
+        ensures refused { OnErr result (self.new ≡ self.old) }
+    {
+        let memory = new_chunk(device, chunk_size, memory_type, flags, visible)?;
+        match self.get_block_from_new_memory(memory, chunk_size, align_mask, size) {
+            Ok(block) => Ok(block),
+            Err(memory) => {
+                device.deallocate_memory(&memory);
+                Err(AllocationError::OutOfHostMemory)
+            }
+        }
     }
 
     /// A block that is the tail of the last free run with room for it: all from the last multiple of `align_mask + 1` on that
@@ -192,7 +236,8 @@ impl<M: MemoryObject, A: Allocator> FreeList<M, A> {
         self.latest < u64::MAX
     }
 
-    /// Takes a block back, and joins it with the free runs beside it. It takes no memory and cannot fail.
+    /// Takes a block back, and joins it with the free runs beside it. It takes no memory and cannot fail, and room that was
+    /// made stays.
     ///
     /// The block has to be live here, by its object, chunk, offset and size. `steps` counts the comparisons of a run with
     /// the block. A caller who counts nothing makes a counter in a ledger that nothing else uses:
@@ -212,6 +257,7 @@ impl<M: MemoryObject, A: Allocator> FreeList<M, A> {
     pub fn insert_block<L: Ledger>(&mut self, block: FreeListBlock<M>, steps: &mut Steps<L>)
         requires { IsLiveSlot self.old.space block }
         ensures back { self.new.space ≡ without_slot self.old.space block }
+        ensures room { self.old.room ≤ self.new.room }
         ensures sound { IsSoundSpace self.new.space }
     {
         forget(&mut self.live, block.slot());
@@ -221,12 +267,13 @@ impl<M: MemoryObject, A: Allocator> FreeList<M, A> {
 
     /// Takes the wholly free chunk of the least number out of the list: its memory, its size in bytes and its number. Where
     /// `keep_last` says so, the chunk in which the last run lies is passed over. None where there is no such chunk. It takes
-    /// no memory.
+    /// no memory, and room that was made stays.
     pub fn take_whole(&mut self, keep_last: bool) -> Option<(M, u64, u64)>
         ensures none { IfNone result (((number : ℕ) → MayGo self.old.space keep_last number → ⊥) × (self.new.space ≡ self.old.space)) }
         ensures first { IfSome result (λ taken. IsFirstToGo self.old.space keep_last taken.2) }
         ensures chunk { IfSome result (λ taken. map.get (self.old.space).chunks taken.2 ≡ Some (record { object = M.object taken.0; size = taken.1 })) }
         ensures gone { IfSome result (λ taken. self.new.space ≡ without_chunk self.old.space taken.2) }
+        ensures room { self.old.room ≤ self.new.room }
         ensures sound { IsSoundSpace self.new.space }
     {
         let index = first_whole(self.regions.as_slice(), self.chunks.as_slice(), keep_last)?;
@@ -319,6 +366,11 @@ fn first_whole<M: MemoryObject>(
     None
 }
 
+/// Whether a block comes before another one: by chunk number, then by where each starts.
+fn is_before(slot: &Slot, other: &Slot) -> bool {
+    (slot.chunk, slot.offset) < (other.chunk, other.offset)
+}
+
 /// Adds a block to those that are live, in their order.
 fn keep<A: Allocator>(live: &mut Vec<Slot, A>, slot: Slot)
     requires room { vec_len live.old < vec_capacity live.old }
@@ -327,7 +379,7 @@ fn keep<A: Allocator>(live: &mut Vec<Slot, A>, slot: Slot)
     ensures len { vec_len live.new ≡ vec_len live.old + 1 }
     ensures capacity { vec_capacity live.old ≤ vec_capacity live.new }
 {
-    let after = live.iter().position(|other| slot.is_before(other));
+    let after = live.iter().position(|other| is_before(&slot, other));
     let place = after.unwrap_or(live.len());
     live.insert(place, slot).unwrap();
 }
@@ -339,6 +391,7 @@ fn forget<A: Allocator>(live: &mut Vec<Slot, A>, slot: Slot)
     ensures once { IsDistinct same_slot live.new.items }
     ensures live { slot_set live.new.items ≡ set.remove (slot_set live.old.items) slot }
     ensures len { vec_len live.new + 1 ≡ vec_len live.old }
+    ensures capacity { vec_capacity live.new ≡ vec_capacity live.old }
 {
     match live.iter().position(|other| *other == slot) {
         Some(at) => {

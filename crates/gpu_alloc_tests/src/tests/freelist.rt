@@ -49,7 +49,8 @@ fn compare_nothing_held(
 ) {
     assert_eq!(rt; device.objects(), 0);
     assert_eq!(rt; device.asked(Question::Allocate), case.asked);
-    assert_eq!(rt; *heap, Heap::new(1 << 20));
+    assert_eq!(rt; heap.size(), 1 << 20);
+    assert_eq!(rt; heap.used(), 0);
     assert_eq!(rt; remaining, case.remaining);
 }
 

@@ -263,7 +263,7 @@ fn reached_in_hole(
 }
 
 /// Each request for host memory is refused in turn, as the hole grows by 8 bytes until the block is granted. Once there is an
-/// object only its second handle is wanted, and no room for 65 free pieces or for the books of a chunk.
+/// object only its second handle is wanted, which two holes are too small for: all room was made before the question.
 fn compare_wants(rt: &impl Abort, alloc: Global, request: Request) -> Result<(), Fail> {
     let mut nothing = 0u32;
     let mut question = 0u32;
@@ -275,7 +275,7 @@ fn compare_wants(rt: &impl Abort, alloc: Global, request: Request) -> Result<(),
             Reached::Object => object = object.saturating_add(1),
             Reached::Block => {
                 assert!(rt;
-                    nothing > 0 && question > 0 && object > 0 && object < 65,
+                    nothing > 0 && question > 0 && object > 0 && object <= 2,
                     "{nothing}, {question} and {object}"
                 );
                 return Ok(());

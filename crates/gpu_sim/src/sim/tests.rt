@@ -269,3 +269,31 @@ fn a_duplicate_is_refused_with_its_memory(rt: HostRuntime) -> Result<(), Fail> {
     assert_eq!(rt; memory.object(), 7);
     Ok(())
 }
+
+// A type that the host does not see.
+const HIDDEN: [MemoryType; 1] = [MemoryType {
+    heap: 0,
+    props: MemoryPropertyFlags::DEVICE_LOCAL,
+}];
+
+#[test]
+fn a_device_local_object_may_be_of_any_size(rt: HostRuntime) -> Result<(), Fail> {
+    let props = DeviceProperties {
+        memory_types: &HIDDEN,
+        memory_heaps: &HEAPS,
+        max_memory_allocation_count: 1,
+        max_memory_allocation_size: 1,
+        non_coherent_atom_size: 64,
+        buffer_device_address: false,
+    };
+    let mut sim: Sim = Sim::new(rt.alloc(), props)?;
+    let flags = AllocationFlags::from_bits_retain(0);
+    let answer = match sim.allocate_memory(1 << 63, 0, flags) {
+        Ok(memory) => Ok(memory.object()),
+        Err(refusal) => Err(refusal),
+    };
+    let objects = sim.objects();
+    drop(sim);
+    assert_eq!(rt; (answer, objects), (Ok(1), 1));
+    Ok(())
+}

@@ -1,14 +1,12 @@
-use Rattle.std.proofs.Common.{arith, ◌≡◌, ℕ, ◌+◌, ◌-◌, List, Option, Ok, ◌++◌, ◌∷◌, [], None, inl, inr, refl, sym, ◌∙◌, ap, subst}
+use Rattle.std.proofs.Common.{arith, ◌≡◌, ℕ, ◌+◌, ◌-◌, List, Option, Ok, [], inl, inr, refl, sym, ◌∙◌, ap, subst}
 use Rattle.std.proofs.lemmas.Result.{err_from_is_err_and}
-use Rattle.gpu_alloc_types.specs.Chains.{chain_more}
-use Rattle.gpu_alloc_types.specs.Device.{Object, Event, IsHeld, put}
-use Rattle.gpu_alloc_types.specs.Device.Event.{Deallocated}
+use Rattle.gpu_alloc_types.specs.Device.{Object, Event}
 use Rattle.gpu_alloc_types.specs.Flags.{allocation_bits, has_bit, property_bits}
 use Rattle.gpu_alloc_freelist.specs.FreeList.{first_tail, with_chunk, with_slot}
 use Rattle.gpu_alloc_base.specs.Accounts.{account}
 use Rattle.gpu_alloc_base.specs.Case.{Answers, Asks}
 use Rattle.gpu_alloc_freelist.specs.FreeListAllocator.{ObjectsAfter, chunk_size, in_new_chunk, list_case, next_size, question}
-use Rattle.gpu_alloc_base.proofs.Books.{object_more}
+use Rattle.gpu_alloc_base.proofs.Books.{object_more, refused_chunk}
 use Rattle.gpu_alloc_base.proofs.Maps.{own_inserted}
 use Rattle.gpu_alloc_freelist.proofs.Spaces.{next_is_new}
 use Rattle.gpu_alloc_freelist.specs.FreeListInside.{listing_in}
@@ -19,9 +17,7 @@ use Rattle.std.specs.FinMap as map
 use Rattle.gpu_alloc_base.specs.Chunks.{Chunk}
 use Rattle.gpu_alloc_base.specs.declared.free_list_block.Slot.{Slot}
 use Rattle.gpu_alloc_base.specs.declared.heap.Heap.{Heap}
-use Rattle.gpu_alloc_base.proofs.Outcomes.{when_ok}
-use Rattle.gpu_alloc_freelist.proofs.FreeListAnswers.{IsOther, askable, grown_is, handle_refused, other_objects, question_is, refused_chunk, sound_in_new_chunk}
-use Rattle.gpu_alloc_base.proofs.NewChunks.{chunk_is_there, chunk_given_back}
+use Rattle.gpu_alloc_freelist.proofs.FreeListAnswers.{IsOther, askable, grown_is, other_objects, question_is, sound_in_new_chunk}
 use Rattle.gpu_alloc_freelist.proofs.freelist.FreeListAllocator.take_chunk.Goals as goal
 
 pub returns-then-is_err-clause-answers : goal.returns-then-is_err-clause-answers
@@ -29,62 +25,30 @@ returns-then-is_err-clause-answers g c =
     let asks = rw (← c.self.view_is) at c.requires.asks in
     rw (← c.self.view_is) ([], refl, (rw (c.reserve.ensures.kept) refl, inl (refl, record { fits = tt; ways = inr asks.remains })))
 
-pub returns-in_err-memory-clause-answers : goal.returns-in_err-memory-clause-answers
-returns-in_err-memory-clause-answers g c =
+pub returns-in_err-block-clause-answers : goal.returns-in_err-block-clause-answers
+returns-in_err-block-clause-answers g c =
     let p = err_from_is_err_and c.from_residual.result c.from_residual.ensures.1 in
     let l = listing_in c.self.inside.freelist.space c.self.inside.chunk_size c.self.inside.final_chunk_size c.self.inside.memory_type (property_bits c.self.inside.props) (c.self.inside.atom_mask + 1) in
     let asks = rw (← c.self.view_is) at c.requires.asks in
-    let told = c.in_err-memory.ensures.asks in
+    let told = c.in_err-block.ensures.asks in
     let flags = allocation_bits c.args.flags in
-    let q = chunk_question c.chunk_size_for-chunk_size.result c.self.inside.memory_type flags c.intersects-visible.result in
     let is = question_is l c.args.size c.chunk_size_for-chunk_size.result flags c.intersects-visible.result c.chunk_size_for-chunk_size.ensures.is c.intersects-visible.ensures in
-    rw (← c.self.view_is, p.1, p.2) (
-      told.0,
-      told.1,
-      refused_chunk (account l c.args.heap.now c.args.allocations_remains.now) _ c.args.size (c.args.align_mask + 1) flags told.0 q _ is (rw (c.reserve.ensures.kept) refl) asks told.2,
-    )
+    let case = list_case (account l c.args.heap.now c.args.allocations_remains.now) c.args.size (c.args.align_mask + 1) flags in
+    let q = chunk_question c.chunk_size_for-chunk_size.result c.self.inside.memory_type flags c.intersects-visible.result in
+    rw (← c.self.view_is, p.1, p.2, c.in_err-block.ensures.refused, c.reserve.ensures.kept) (told.0, told.1, refused_chunk case q told.0 _ refl is asks told.2)
 
-pub invariant_of-self-in-Ok : goal.invariant_of-self-in-Ok
-invariant_of-self-in-Ok g c =
+pub invariant_of-self-3 : goal.invariant_of-self-3
+invariant_of-self-3 g c =
     let l : Listing = listing_in c.self.inside.freelist.space c.self.inside.chunk_size c.self.inside.final_chunk_size c.self.inside.memory_type (property_bits c.self.inside.props) (c.self.inside.atom_mask + 1) in
-    let object = g.M.MemoryObject.object c.in_ok-memory.memory in
+    let object = c.in_ok-block.block.object in
     let fits = rw (← c.self.view_is) at c.requires.fits in
     let aligned = rw (← c.self.view_is) at c.requires.aligned in
     let agrees = rw (← c.self.view_is) at c.requires.agrees in
-    let other : IsOther l object = other_objects l (g.D.MemoryDevice.properties c.args.device.now) (g.D.MemoryDevice.objects c.args.device.now) object agrees c.in_ok-memory.ensures.objects.0 in
+    let other : IsOther l object = other_objects l (g.D.MemoryDevice.properties c.args.device.now) (g.D.MemoryDevice.objects c.args.device.now) object agrees c.in_ok-block.ensures.objects.0 in
     let asked = askable l c.args.size c.args.align_mask c.requires.nonempty fits c.requires.alignment aligned in
-    let is = grown_is l c.reserve.new.self.space c.get_block_from_new_memory-made.new.self.space c.in-Ok.block object c.chunk_size_for-chunk_size.result c.min-self-inside.result c.args.size (c.args.align_mask + 1)
-    c.reserve.ensures.kept c.in-Ok.ensures.block c.in-Ok.ensures.chunk c.chunk_size_for-chunk_size.ensures.is c.min-self-inside.ensures in
+    let is = grown_is l c.reserve.new.self.space c.get_block_from_new_chunk.new.self.space c.in_ok-block.block object c.chunk_size_for-chunk_size.result c.min-self-inside.result c.args.size (c.args.align_mask + 1)
+    c.reserve.ensures.kept c.in_ok-block.ensures.block c.in_ok-block.ensures.chunk c.chunk_size_for-chunk_size.ensures.is c.min-self-inside.ensures in
     subst IsSound (sym is) (sound_in_new_chunk l object c.args.size (c.args.align_mask + 1) c.self.invariant other asked)
-
-pub deallocate_memory-requires : goal.deallocate_memory-requires
-deallocate_memory-requires g c =
-    let q : ChunkQuestion = chunk_question c.chunk_size_for-chunk_size.result c.self.inside.memory_type (allocation_bits c.args.flags) c.intersects-visible.result in
-    subst (IsHeld (g.D.MemoryDevice.objects c.new_chunk.new.device)) (sym c.in-Err.ensures.refused.0)
-    (chunk_is_there q (g.D.MemoryDevice.objects c.args.device.now) (g.D.MemoryDevice.objects c.new_chunk.new.device) (g.M.MemoryObject.object c.in_ok-memory.memory) c.in_ok-memory.ensures.objects)
-
-pub returns-in-Err-clause-answers : goal.returns-in-Err-clause-answers
-returns-in-Err-clause-answers g c =
-    let l = listing_in c.self.inside.freelist.space c.self.inside.chunk_size c.self.inside.final_chunk_size c.self.inside.memory_type (property_bits c.self.inside.props) (c.self.inside.atom_mask + 1) in
-    let asks = rw (← c.self.view_is) at c.requires.asks in
-    let told = c.in_ok-memory.ensures.asks in
-    let flags = allocation_bits c.args.flags in
-    let q : ChunkQuestion = chunk_question c.chunk_size_for-chunk_size.result c.self.inside.memory_type flags c.intersects-visible.result in
-    let is = question_is l c.args.size c.chunk_size_for-chunk_size.result flags c.intersects-visible.result c.chunk_size_for-chunk_size.ensures.is c.intersects-visible.ensures in
-    let name = g.M.MemoryObject.object c.in-Err.memory in
-    rw (← c.self.view_is) (
-      told.0 ++ Deallocated name ∷ [],
-      chain_more g.D.MemoryDevice.step told.0 (Deallocated name) c.args.device.now c.new_chunk.new.device c.deallocate_memory.new.self told.1 c.deallocate_memory.ensures,
-      handle_refused (account l c.args.heap.now c.args.allocations_remains.now) _ c.args.size (c.args.align_mask + 1) flags (g.M.MemoryObject.object c.in_ok-memory.memory) name told.0 q is (rw (c.in-Err.ensures.refused.1, c.reserve.ensures.kept) refl) asks told.2 c.in-Err.ensures.refused.0,
-    )
-
-pub returns-in-Err-clause-objects : goal.returns-in-Err-clause-objects
-returns-in-Err-clause-objects g c =
-    let q : ChunkQuestion = chunk_question c.chunk_size_for-chunk_size.result c.self.inside.memory_type (allocation_bits c.args.flags) c.intersects-visible.result in
-    let gone = g.met.D.MemoryDevice.row _ _ _ c.deallocate_memory.ensures in
-    let object = g.M.MemoryObject.object c.in_ok-memory.memory in
-    chunk_given_back q (g.D.MemoryDevice.objects c.args.device.now) (g.D.MemoryDevice.objects c.new_chunk.new.device) (g.D.MemoryDevice.objects c.deallocate_memory.new.self) object c.in_ok-memory.ensures.objects
-    (gone ∙ ap (λ n. put (g.D.MemoryDevice.objects c.new_chunk.new.device) n None) c.in-Err.ensures.refused.0)
 
 pub invariant_of-self : goal.invariant_of-self
 invariant_of-self g c = rw (c.reserve.ensures.kept) c.self.invariant
@@ -92,29 +56,29 @@ invariant_of-self g c = rw (c.reserve.ensures.kept) c.self.invariant
 pub invariant_of-self-2 : goal.invariant_of-self-2
 invariant_of-self-2 g c = rw (c.reserve.ensures.kept) c.self.invariant
 
-pub invariant_of-self-in_err-memory : goal.invariant_of-self-in_err-memory
-invariant_of-self-in_err-memory g c = rw (c.reserve.ensures.kept) c.self.invariant
-
-pub invariant_of-self-in-Err : goal.invariant_of-self-in-Err
-invariant_of-self-in-Err g c = rw (c.in-Err.ensures.refused.1, c.reserve.ensures.kept) c.self.invariant
+pub invariant_of-self-in_err-block : goal.invariant_of-self-in_err-block
+invariant_of-self-in_err-block g c = rw (c.in_err-block.ensures.refused, c.reserve.ensures.kept) c.self.invariant
 
 pub chunk_size_for-chunk_size-requires-clause-fits : goal.chunk_size_for-chunk_size-requires-clause-fits
 chunk_size_for-chunk_size-requires-clause-fits g c = rw (← c.self.view_is) at c.requires.fits
 
-pub new_chunk-requires-clause-askable : goal.new_chunk-requires-clause-askable
-new_chunk-requires-clause-askable g c =
+pub get_block_from_new_chunk-requires-clause-askable : goal.get_block_from_new_chunk-requires-clause-askable
+get_block_from_new_chunk-requires-clause-askable g c =
     let agrees = rw (← c.self.view_is) at c.requires.agrees in
     record { nonempty = omega (arith, c.requires.nonempty, c.chunk_size_for-chunk_size.ensures.enough); known = agrees.known; address = c.requires.address }
 
-pub new_chunk-requires-clause-visible : goal.new_chunk-requires-clause-visible
-new_chunk-requires-clause-visible g c =
+pub get_block_from_new_chunk-requires-clause-visible : goal.get_block_from_new_chunk-requires-clause-visible
+get_block_from_new_chunk-requires-clause-visible g c =
     let agrees = rw (← c.self.view_is) at c.requires.agrees in
     ap (λ bits. has_bit bits 2) agrees.same ∙ sym c.intersects-visible.ensures
 
-pub get_block_from_new_memory-made-requires-clause-number : goal.get_block_from_new_memory-made-requires-clause-number
-get_block_from_new_memory-made-requires-clause-number g c =
+pub get_block_from_new_chunk-requires-clause-number : goal.get_block_from_new_chunk-requires-clause-number
+get_block_from_new_chunk-requires-clause-number g c =
     let asks = rw (← c.self.view_is) at c.requires.asks in
     rw (c.reserve.ensures.kept) asks.remains.number
+
+pub get_block_from_new_chunk-requires-clause-inside : goal.get_block_from_new_chunk-requires-clause-inside
+get_block_from_new_chunk-requires-clause-inside g c = c.chunk_size_for-chunk_size.ensures.enough
 
 pub overflow_mul-chunk_size : goal.overflow_mul-chunk_size
 overflow_mul-chunk_size g c = omega (arith, c.chunk_size_for-chunk_size.ensures.bound)
@@ -144,20 +108,20 @@ grown_answers l heap now remaining size alignment flags object whole next s grow
       state = after ∙ ap (λ n. in_new_chunk (account l heap remaining) n size alignment) back;
     })
 
-pub returns-in-Ok-clause-answers : goal.returns-in-Ok-clause-answers
-returns-in-Ok-clause-answers g c =
+pub returns-clause-answers : goal.returns-clause-answers
+returns-clause-answers g c =
     let l : Listing = listing_in c.self.inside.freelist.space c.self.inside.chunk_size c.self.inside.final_chunk_size c.self.inside.memory_type (property_bits c.self.inside.props) (c.self.inside.atom_mask + 1) in
     let asks = rw (← c.self.view_is) at c.requires.asks in
-    let told = c.in_ok-memory.ensures.asks in
+    let told = c.in_ok-block.ensures.asks in
     let flags = allocation_bits c.args.flags in
     let q : ChunkQuestion = chunk_question c.chunk_size_for-chunk_size.result c.self.inside.memory_type flags c.intersects-visible.result in
     let is = question_is l c.args.size c.chunk_size_for-chunk_size.result flags c.intersects-visible.result c.chunk_size_for-chunk_size.ensures.is c.intersects-visible.ensures in
-    let after = account (record l { space = c.get_block_from_new_memory-made.new.self.space; next_chunk = c.min-self-inside.result }) c.alloc.new.self (c.args.allocations_remains.now - 1) in (
+    let after = account (record l { space = c.get_block_from_new_chunk.new.self.space; next_chunk = c.min-self-inside.result }) c.alloc.new.self (c.args.allocations_remains.now - 1) in (
       told.0,
       told.1,
-      subst (λ x. Answers (list_case (account x c.args.heap.now c.args.allocations_remains.now) c.args.size (c.args.align_mask + 1) flags) told.0 (Ok c.in-Ok.block) after) c.self.view_is
-          (grown_answers l c.args.heap.now c.alloc.new.self c.args.allocations_remains.now c.args.size (c.args.align_mask + 1) flags (g.M.MemoryObject.object c.in_ok-memory.memory) c.chunk_size_for-chunk_size.result c.min-self-inside.result
-          c.reserve.new.self.space c.get_block_from_new_memory-made.new.self.space c.in-Ok.block told.0 q c.reserve.ensures.kept c.in-Ok.ensures.block c.in-Ok.ensures.chunk c.chunk_size_for-chunk_size.ensures.is c.min-self-inside.ensures
+      subst (λ x. Answers (list_case (account x c.args.heap.now c.args.allocations_remains.now) c.args.size (c.args.align_mask + 1) flags) told.0 (Ok c.in_ok-block.block) after) c.self.view_is
+          (grown_answers l c.args.heap.now c.alloc.new.self c.args.allocations_remains.now c.args.size (c.args.align_mask + 1) flags c.in_ok-block.block.object c.chunk_size_for-chunk_size.result c.min-self-inside.result
+          c.reserve.new.self.space c.get_block_from_new_chunk.new.self.space c.in_ok-block.block told.0 q c.reserve.ensures.kept c.in_ok-block.ensures.block c.in_ok-block.ensures.chunk c.chunk_size_for-chunk_size.ensures.is c.min-self-inside.ensures
           c.alloc.ensures is told.2 asks),
     )
 
@@ -176,35 +140,20 @@ grown_objects l size alignment flags object whole next s grown slot q f g sound 
     (rw number (next_is_new l.space sound.space)) (ap (λ m. map.get m slot.chunk) chunks ∙ own_inserted l.space.chunks slot.chunk chunk) refl refl refl
     (subst (λ n. HasOneChunkMore (question l size flags) n f g) back (subst (λ x. HasOneChunkMore x object f g) q_is more))
 
-pub returns-in-Ok-clause-objects : goal.returns-in-Ok-clause-objects
-returns-in-Ok-clause-objects g c =
+pub returns-clause-objects : goal.returns-clause-objects
+returns-clause-objects g c =
     let l : Listing = listing_in c.self.inside.freelist.space c.self.inside.chunk_size c.self.inside.final_chunk_size c.self.inside.memory_type (property_bits c.self.inside.props) (c.self.inside.atom_mask + 1) in
     let flags = allocation_bits c.args.flags in
     let q : ChunkQuestion = chunk_question c.chunk_size_for-chunk_size.result c.self.inside.memory_type flags c.intersects-visible.result in
     let is = question_is l c.args.size c.chunk_size_for-chunk_size.result flags c.intersects-visible.result c.chunk_size_for-chunk_size.ensures.is c.intersects-visible.ensures in
     let before = g.D.MemoryDevice.objects c.args.device.now in
-    let after = g.D.MemoryDevice.objects c.new_chunk.new.device in
-    let new : Listing = record l { space = c.get_block_from_new_memory-made.new.self.space; next_chunk = c.min-self-inside.result } in
-    subst (λ x. ObjectsAfter x (Ok c.in-Ok.block) new before after) c.self.view_is
-    (grown_objects l c.args.size (c.args.align_mask + 1) flags (g.M.MemoryObject.object c.in_ok-memory.memory) c.chunk_size_for-chunk_size.result c.min-self-inside.result c.reserve.new.self.space
-    c.get_block_from_new_memory-made.new.self.space c.in-Ok.block q before after c.self.invariant c.reserve.ensures.kept c.in-Ok.ensures.block c.in-Ok.ensures.chunk c.chunk_size_for-chunk_size.ensures.is is c.in_ok-memory.ensures.objects)
+    let after = g.D.MemoryDevice.objects c.get_block_from_new_chunk.new.device in
+    let new : Listing = record l { space = c.get_block_from_new_chunk.new.self.space; next_chunk = c.min-self-inside.result } in
+    subst (λ x. ObjectsAfter x (Ok c.in_ok-block.block) new before after) c.self.view_is
+    (grown_objects l c.args.size (c.args.align_mask + 1) flags c.in_ok-block.block.object c.chunk_size_for-chunk_size.result c.min-self-inside.result c.reserve.new.self.space
+    c.get_block_from_new_chunk.new.self.space c.in_ok-block.block q before after c.self.invariant c.reserve.ensures.kept c.in_ok-block.ensures.block c.in_ok-block.ensures.chunk c.chunk_size_for-chunk_size.ensures.is is c.in_ok-block.ensures.objects)
 
-pub returns-in_err-memory-clause-objects : goal.returns-in_err-memory-clause-objects
-returns-in_err-memory-clause-objects g c =
+pub returns-in_err-block-clause-objects : goal.returns-in_err-block-clause-objects
+returns-in_err-block-clause-objects g c =
     let p = err_from_is_err_and c.from_residual.result c.from_residual.ensures.1 in
-    rw (p.1) c.in_err-memory.ensures.objects
-
-pub returns-in_err-memory-clause-properties : goal.returns-in_err-memory-clause-properties
-returns-in_err-memory-clause-properties g c = c.in_err-memory.ensures.properties
-
-pub returns-in-Ok-clause-properties : goal.returns-in-Ok-clause-properties
-returns-in-Ok-clause-properties g c = c.in_ok-memory.ensures.properties
-
-pub returns-in-Err-clause-properties : goal.returns-in-Err-clause-properties
-returns-in-Err-clause-properties g c = g.met.D.MemoryDevice.keeps_properties _ _ _ c.deallocate_memory.ensures ∙ c.in_ok-memory.ensures.properties
-
-pub get_block_from_new_memory-made-requires-clause-room : goal.get_block_from_new_memory-made-requires-clause-room
-get_block_from_new_memory-made-requires-clause-room g c = when_ok c.reserve.result (sym c.is_err.ensures.value ∙ c.if-is_err.false) c.reserve.ensures.room
-
-pub get_block_from_new_memory-made-requires-clause-inside : goal.get_block_from_new_memory-made-requires-clause-inside
-get_block_from_new_memory-made-requires-clause-inside g c = c.chunk_size_for-chunk_size.ensures.enough
+    rw (p.1) c.in_err-block.ensures.objects

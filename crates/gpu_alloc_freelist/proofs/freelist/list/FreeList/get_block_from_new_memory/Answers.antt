@@ -10,7 +10,7 @@ use Rattle.gpu_alloc_freelist.specs.FreeListState.{Space, Store, IsFreeIn}
 use Rattle.gpu_alloc_base.specs.FreeRuns.{AreRunsBeside}
 use Rattle.gpu_alloc_freelist.specs.declared.freelist.list.FreeList.TheInside.{Inside}
 use Rattle.gpu_alloc_freelist.specs.declared.freelist.list.ListChunk.{ListChunk}
-use Rattle.gpu_alloc_freelist.proofs.FreeListGrants.{IsFirstTail, IsTaken, begun_at_0, begun_behind, begun_taken, listed_with_chunk, next_numbered, next_pushed, some_room, with_chunk_in}
+use Rattle.gpu_alloc_freelist.proofs.FreeListGrants.{IsFirstTail, IsTaken, begun_at_0, begun_behind, begun_taken, listed_with_chunk, next_numbered, next_pushed, room_taken, some_room, with_chunk_in}
 use Rattle.gpu_alloc_freelist.proofs.freelist.list.FreeList.get_block_from_new_memory.Given.{Over}
 use Rattle.gpu_alloc_freelist.proofs.freelist.list.FreeList.get_block_from_new_memory.Goals.{then-slot-gt0, else-slot-gt0}
 use Rattle.gpu_alloc_freelist.proofs.freelist.list.FreeList.get_block_from_new_memory.Goals as goal
@@ -118,3 +118,13 @@ returns-clause-chunk g c =
 
 pub returns-clause-sound : goal.returns-clause-sound
 returns-clause-sound g c = subst IsSoundSpace (sym (after_is g c)) (took g c).sound
+
+pub returns-clause-room : goal.returns-clause-room
+returns-clause-room g c =
+    let b = begun g c in
+    let rows_len : length c.if-slot-gt0.self-inside.chunks.items ≡ length c.push_reserved.new.self.items = ap length (ap (λ v. v.items) b.chunks) in
+    rw (← c.self.view_is)
+    (room_taken _ _ _ _ _ _
+    (omega (arith, ap vec_capacity b.chunks, ap vec_len b.chunks, rows_len, c.push_reserved.ensures.len, c.push_reserved.ensures.capacity, c.self.inside.chunks.ok.0, c.push_reserved.new.self.ok.0))
+    (omega (arith, ap vec_capacity b.live, ap vec_len b.live, c.keep.ensures.len, c.keep.ensures.capacity, c.self.inside.live.ok.0, c.keep.new.live.ok.0))
+    (omega (arith, b.len, b.capacity, ap vec_capacity b.spare, ap vec_len b.live, c.keep.ensures.len, c.self.inside.live.ok.0, c.keep.new.live.ok.0)))

@@ -3,6 +3,7 @@ use Rattle.std.proofs.lemmas.Option.{slice_get_read}
 use Rattle.gpu_alloc_base.specs.Chunks.{Chunk}
 use Rattle.gpu_alloc_freelist.specs.declared.freelist.list.ListChunk.{ListChunk}
 use Rattle.gpu_alloc_base.proofs.Outcomes.{if_some}
+use Rattle.gpu_alloc_freelist.proofs.FreeListGrants.{room_kept}
 use Rattle.gpu_alloc_freelist.proofs.FreeListReturns.{IsTakenWhole, sized_regions, none_may_go, taken_first, taken_chunk, taken_gone, taken_numbered, taken_listed}
 use Rattle.gpu_alloc_freelist.proofs.freelist.list.FreeList.take_whole.Given.{Over}
 use Rattle.gpu_alloc_freelist.proofs.freelist.list.FreeList.take_whole.Goals as goal
@@ -56,3 +57,11 @@ returns-clause-gone g c =
 
 pub returns-clause-sound : goal.returns-clause-sound
 returns-clause-sound g c = (invariant_of-self g c).1.sound
+
+pub returns-clause-room : goal.returns-clause-room
+returns-clause-room g c =
+    rw (← c.self.view_is)
+    (room_kept _ _ _ _ _ _
+    (omega (arith, c.remove-number.ensures.len, c.remove-number.ensures.capacity, c.self.inside.chunks.ok, c.remove-number.new.self.ok))
+    (omega arith)
+    (omega (arith, c.remove-region.ensures.len, c.remove-region.ensures.capacity, c.self.inside.regions.ok, c.remove-region.new.self.ok)))

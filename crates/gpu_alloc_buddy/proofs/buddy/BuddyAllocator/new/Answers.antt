@@ -5,7 +5,7 @@ use Rattle.gpu_alloc_base.specs.Sizes.{next_power_of_two}
 use Rattle.gpu_alloc_buddy.proofs.BuddyGrants.{sound_empty, stored_empty, power_below}
 use Rattle.gpu_alloc_base.proofs.AlignedPowers.{power_up_to}
 use Rattle.gpu_alloc_base.proofs.PowersOfTwo.{power_of_bit, power_is_next, greater_power}
-use Rattle.gpu_alloc_buddy.proofs.buddy.BuddyAllocator.empty.Goals as goal
+use Rattle.gpu_alloc_buddy.proofs.buddy.BuddyAllocator.new.Goals as goal
 
 pub invariant_of-result : goal.invariant_of-result
 invariant_of-result g c =
