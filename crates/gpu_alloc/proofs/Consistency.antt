@@ -39,6 +39,7 @@ own_is_no_chunk kind own chunk = let both = ap is_shared (sym own) ∙ chunk in 
 
 -- a held object with a span in it: an object of its own with its whole, or a chunk with any span
 pub record IsHeldWith (p : Properties) (h : HeldObject) (span : Span) : Type 0 where
+  pub nonempty : 0 < span.size
   pub small : h.counted < 2 ^ 64
   pub known : h.memory_type < length p.memory_types
   pub kind : ((h.kind ≡ Dedicated) × (span ≡ whole_span span.object h)) ⊎ (is_shared h.kind ≡ true)
@@ -49,7 +50,7 @@ known_still p t now q h still k = record { of_type = k.of_type; of_kind = elim (
 
 -- a span is of its object as long as that is held
 of_object_still : (t now : Table) (span : Span) → finite.get now.held span.object ≡ finite.get t.held span.object → IsOfObject t span → IsOfObject now span
-of_object_still t now span same o = record { object = o.object; held = same ∙ o.held; whole = o.whole }
+of_object_still t now span same o = record { nonempty = o.nonempty; object = o.object; held = same ∙ o.held; whole = o.whole }
 
 module _ (p : Properties) (heaps : List Heap) (t : Table) (remaining : ℕ) (is : IsBooked p heaps t remaining) (offers : p.memory_heaps ≡ map offer_of heaps) where
   pub heap_there : (memory_type : ℕ) → memory_type < length p.memory_types → heap_at p memory_type < length heaps
@@ -110,6 +111,7 @@ module _ (p : Properties) (heaps : List Heap) (t : Table) (remaining : ℕ) (is 
     spans_more : (other : Span) → IsLiveIn now other → IsOfObject now other
     spans_more other is_now = elim (live_before t.live span other (subst (λ s. IsTrue (set_of.contains s other)) m.live is_now)) [
       | inl new ↦ subst (IsOfObject now) (sym new) (record {
+        nonempty = m.with.nonempty;
         object = h;
         held = get_more span.object ∙ ap (λ b. cond b (Some h) (finite.get t.held span.object)) (eq-true span.object span.object refl);
         whole = λ own. elim (m.with.kind) [ inl is_own ↦ is_own.1 | inr chunk ↦ absurd (own_is_no_chunk h.kind own chunk) ];
@@ -251,11 +253,11 @@ module _ (p : Properties) (heaps : List Heap) (t : Table) (remaining : ℕ) (is 
       kept q (Some h) found k = record { of_type = k.of_type; of_kind = elim (k.of_kind) [ inl own ↦ inl (own.0, still q h found own.0 own.1) | inr chunk ↦ inr chunk ] }
 
   module _ (now : Table) (h : HeldObject) (span : Span) (found : finite.get t.held span.object ≡ Some h) (chunk : is_shared h.kind ≡ true) (held : now.held ≡ t.held) where
-    pub booked-span : now.live ≡ set_of.insert t.live span → IsBooked p heaps now remaining
-    booked-span live = same_held now held
+    pub booked-span : 0 < span.size → now.live ≡ set_of.insert t.live span → IsBooked p heaps now remaining
+    booked-span some live = same_held now held
         (λ q x there own was. subst (λ s. IsTrue (set_of.contains s (whole_span q x))) (sym live) (live_still t.live span _ was))
         (λ other is_now. elim (live_before t.live span other (subst (λ s. IsTrue (set_of.contains s other)) live is_now)) [
-          | inl new ↦ subst (IsOfObject t) (sym new) (record { object = h; held = found; whole = λ own. absurd (own_is_no_chunk h.kind own chunk) })
+          | inl new ↦ subst (IsOfObject t) (sym new) (record { nonempty = some; object = h; held = found; whole = λ own. absurd (own_is_no_chunk h.kind own chunk) })
           | inr was ↦ is.spans other was
         ])
 

@@ -35,7 +35,7 @@ module _ (c : Config) (p : Properties) (t : Table) (room : ℕ) where
   known_wider q h k = record { of_type = k.of_type; of_kind = k.of_kind }
 
   of_object_wider : (span : Span) → IsOfObject t span → IsOfObject wider span
-  of_object_wider span o = record { object = o.object; held = o.held; whole = o.whole }
+  of_object_wider span o = record { nonempty = o.nonempty; object = o.object; held = o.held; whole = o.whole }
 
   chunk_before : (memory_type object : ℕ) (h : HeldObject) → IsChunkOf wider memory_type object h → IsChunkOf t memory_type object h
   chunk_before memory_type object h chunk = record { held = chunk.held; of_kind = chunk.of_kind; of_type = chunk.of_type }

@@ -10,7 +10,7 @@ use Rattle.gpu_alloc_freelist.specs.FreeListState.{Listing, IsLiveSlot}
 use Rattle.gpu_alloc.specs.FreeListSharing.{IsListChunk, latest_number}
 use Rattle.gpu_alloc.specs.FirstTypes.{first_types, first_type_state}
 use Rattle.gpu_alloc.specs.Inside.{state_in, properties_in, types_in, span_of_leaf, leaf_at, span_of_slot, slot_at, whole_span, IsLiveIn, IsChunkOf, IsNumberedChunk, IsKnown, IsBuddyOf, IsListOf, IsConsistent}
-use Rattle.gpu_alloc.specs.Sound.{IsSound, is_list_chunk}
+use Rattle.gpu_alloc.specs.Sound.{IsSound, LiesIn, is_list_chunk}
 use Rattle.gpu_alloc.specs.Spans.{Place, Table}
 use Rattle.gpu_alloc.specs.State.{HeldObject, Span, State, AreApart, is_shared}
 use Rattle.gpu_alloc.specs.declared.block.Kind.TheVariants.{Dedicated, BuddyChunk, FreeListChunk}
@@ -139,18 +139,32 @@ module _ {c : Config} {p : Properties} {t : Table} {buddies : List Buddy} {lists
       let same : of.object ≡ h = one_value _ of.object h of.held held in
       of.whole (ap (λ (x : HeldObject). x.kind) same ∙ kind) ∙ ap (whole_span span.object) same
 
-  lies_inside : (span : Span) → IsLiveIn t span → (h : HeldObject) × (map.get t.held span.object ≡ Some h) × (span.offset + span.size ≤ h.counted)
+  lies_inside : (span : Span) → IsLiveIn t span → (h : HeldObject) × (map.get t.held span.object ≡ Some h) × LiesIn h.kind h.counted span
   lies_inside span live =
-      let of = is.books.spans span live in (
+      let of = is.books.spans span live in
+      let in_chunk : is_shared of.object.kind ≡ true → span.offset + span.size ≤ of.object.counted = λ kind. chunk_inside span.object of.object of.held kind span live refl in (
         of.object,
         of.held,
         elim ((known_at span.object of.object of.held).of_kind) [
           | inl own ↦
               let whole = of.whole own.0 in
-              omega (arith, ap (λ (x : Span). x.offset) whole, ap (λ (x : Span). x.size) whole)
-          | inr kind ↦ chunk_inside span.object of.object of.held kind span live refl
+              subst (λ k. LiesIn k of.object.counted span) (sym own.0) (ap (λ (x : Span). x.offset) whole, ap (λ (x : Span). x.size) whole)
+          | inr kind ↦ elim (chunk_kinds of.object.kind kind) [
+            | inl of_buddy ↦ subst (λ k. LiesIn k of.object.counted span) (sym of_buddy) (in_chunk kind)
+            | inr of_list ↦ subst (λ k. LiesIn k of.object.counted span) (sym of_list.1) (in_chunk kind)
+          ]
         ],
       )
+
+  -- an object of one block has one live span
+  is_alone : (object : ℕ) (h : HeldObject) → map.get t.held object ≡ Some h → is_shared h.kind ≡ false → (x y : Span) → IsLiveIn t x → IsLiveIn t y → x.object ≡ object → y.object ≡ object → x ≡ y
+  is_alone object h held no_chunk x y live also named same = elim ((known_at object h held).of_kind) [
+    | inl own ↦
+        let of_x = is_whole x h live (subst (λ n. map.get t.held n ≡ Some h) (sym named) held) own.0 in
+        let of_y = is_whole y h also (subst (λ n. map.get t.held n ≡ Some h) (sym same) held) own.0 in
+        of_x ∙ ap (λ n. whole_span n h) (named ∙ sym same) ∙ sym of_y
+    | inr chunk ↦ absurd (cc)
+  ]
 
   are_apart : (x y : Span) → IsLiveIn t x → IsLiveIn t y → x ≢ y → AreApart x y
   are_apart x y live also other = elim (cases_eq x.object y.object) [
@@ -224,7 +238,9 @@ module _ {A : Type 0} (l : Limits A) (heaps : List Heap) (buddies : List Buddy) 
 pub sound_is : {A : Type 0} (l : Limits A) (heaps : List Heap) (buddies : List Buddy) (lists : List Listing) (t : Table) (remaining : ℕ) → IsConsistent l.config (properties_in l heaps) heaps buddies lists t remaining
     → IsSound (state_in l heaps buddies lists t remaining)
 sound_is l heaps buddies lists t remaining is = record {
+  nonempty = λ span live. (is.books.spans span live).nonempty;
   inside = lies_inside is;
+  alone = is_alone is;
   apart = are_apart is;
   used = λ object. each_used is object (map.get t.held object) refl;
   numbers = λ index number a b. one_object l heaps buddies lists t remaining is index number a b;

@@ -4,7 +4,7 @@ use Rattle.std.specs.FinMap as map
 use Rattle.gpu_alloc.specs.declared.block.Kind.{Kind}
 use Rattle.gpu_alloc.specs.declared.block.Kind.TheVariants.{Dedicated, Imported, BuddyChunk, FreeListChunk}
 use Rattle.gpu_alloc.specs.FreeListSharing.{IsListChunk, latest_number}
-use Rattle.gpu_alloc.specs.State.{HeldObject, Span, State, IsLive, AreApart}
+use Rattle.gpu_alloc.specs.State.{HeldObject, Span, State, IsLive, AreApart, is_shared}
 
 -- whether an object is held for a free list, which may keep a chunk in which nothing is live
 abbrev pub is_list_chunk : Kind → Bool
@@ -17,9 +17,22 @@ is_list_chunk (FreeListChunk number) = true
 abbrev pub HasLiveSpan : State → ℕ → Type 0
 HasLiveSpan s object = (span : Span) × IsLive s span × (span.object ≡ object)
 
+-- how a live span lies in an object that is held so and counts so many bytes: it is the whole of an object of its own; of an import it
+-- has as many bytes, and where they lie, agreement says; and else it lies inside
+abbrev pub LiesIn : Kind → ℕ → Span → Type 0
+LiesIn Dedicated counted span = (span.offset ≡ 0) × (span.size ≡ counted)
+LiesIn Imported counted span = span.size ≡ counted
+LiesIn BuddyChunk counted span = span.offset + span.size ≤ counted
+LiesIn (FreeListChunk number) counted span = span.offset + span.size ≤ counted
+
 pub record IsSound (s : State) : Type 0 where
-  -- a live span lies inside its object, which is held
-  pub inside : (span : Span) → IsLive s span → (h : HeldObject) × (map.get s.held span.object ≡ Some h) × (span.offset + span.size ≤ h.counted)
+  -- a live span is not empty
+  pub nonempty : (span : Span) → IsLive s span → 0 < span.size
+  -- it lies in its object, which is held
+  pub inside : (span : Span) → IsLive s span → (h : HeldObject) × (map.get s.held span.object ≡ Some h) × LiesIn h.kind h.counted span
+  -- in an object of one block it is alone
+  pub alone : (object : ℕ) (h : HeldObject) → map.get s.held object ≡ Some h → is_shared h.kind ≡ false
+      → (x y : Span) → IsLive s x → IsLive s y → x.object ≡ object → y.object ≡ object → x ≡ y
   -- live spans share no byte unless they are one
   pub apart : (x y : Span) → IsLive s x → IsLive s y → x ≢ y → AreApart x y
   -- each held object of one block and each held buddy chunk has a live span

@@ -84,10 +84,14 @@ impl<M: MemoryObject, A: Allocator + Copy> GpuAllocator<M, A> {
     ) -> Result<Self, AllocationError>
         requires { IsUsable (properties_of props) }
         ensures opened { IfOk result (λ allocator. allocator ≡ opened config (properties_of props.entry)) }
+        ensures sound { IfOk result Sound.IsSound }
         ensures refused { IfErr result (λ e. e ≡ AllocationError.OutOfHostMemory) }
     {
         match GpuAllocator::open(alloc, config, props) {
-            Ok(allocator) => Ok(allocator),
+            Ok(allocator) => {
+                allocator.keeps_sound();
+                Ok(allocator)
+            }
             Err(_) => Err(AllocationError::OutOfHostMemory),
         }
     }
@@ -177,8 +181,11 @@ impl<M: MemoryObject, A: Allocator> GpuAllocator<M, A> {
         ensures granted { IfOk result (IsGranted self.old request self.new) }
         ensures refused { OnErr result (self.new ≡ self.old) }
         ensures total { total self.new ≡ total self.old }
+        ensures sound { Sound.IsSound self.new }
     {
-        self.allocate(device, request, None)
+        let answer = self.allocate(device, request, None);
+        self.keeps_sound();
+        answer
     }
 
     /// Allocates a block as [`alloc`](GpuAllocator::alloc) does, with a hint that it wants a memory object of its own.
@@ -206,8 +213,11 @@ impl<M: MemoryObject, A: Allocator> GpuAllocator<M, A> {
         ensures granted { IfOk result (IsGranted self.old request self.new) }
         ensures refused { OnErr result (self.new ≡ self.old) }
         ensures total { total self.new ≡ total self.old }
+        ensures sound { Sound.IsSound self.new }
     {
-        self.allocate(device, request, Some(dedicated))
+        let answer = self.allocate(device, request, Some(dedicated));
+        self.keeps_sound();
+        answer
     }
 
     /// Allocates a block with a hint or none.
@@ -555,6 +565,7 @@ impl<M: MemoryObject, A: Allocator> GpuAllocator<M, A> {
         ensures objects { ObjectsFreed self.old block (D.objects device.old) (D.objects device.new) }
         ensures agrees { Agrees self.new (D.properties device.new) (D.objects device.new) }
         ensures total { total self.new ≡ total self.old }
+        ensures sound { Sound.IsSound self.new }
     {
         match block.kind() {
             Kind::Dedicated | Kind::Imported => self.dealloc_object(device, block),
@@ -573,6 +584,7 @@ impl<M: MemoryObject, A: Allocator> GpuAllocator<M, A> {
         ensures objects { ObjectsFreed self.old block (D.objects device.old) (D.objects device.new) }
         ensures agrees { Agrees self.new (D.properties device.new) (D.objects device.new) }
         ensures total { total self.new ≡ total self.old }
+        ensures sound { Sound.IsSound self.new }
     {
         let (key, offset, size) = (block.key(), block.offset(), block.size());
         let memory = block.into_memory();
@@ -582,6 +594,7 @@ impl<M: MemoryObject, A: Allocator> GpuAllocator<M, A> {
         let heap = self.limits.heap_index(object.memory_type);
         self.heaps[heap].dealloc(object.counted);
         self.allocations_remains += 1;
+        self.keeps_sound();
     }
 
     /// Takes back a block of a buddy chunk. Where it stands there is what the table of spans says.
@@ -594,6 +607,7 @@ impl<M: MemoryObject, A: Allocator> GpuAllocator<M, A> {
         ensures objects { ObjectsFreed self.old block (D.objects device.old) (D.objects device.new) }
         ensures agrees { Agrees self.new (D.properties device.new) (D.objects device.new) }
         ensures total { total self.new ≡ total self.old }
+        ensures sound { Sound.IsSound self.new }
     {
         let (key, memory_type) = (block.key(), block.memory_type());
         let (offset, size) = (block.offset(), block.size());
@@ -627,10 +641,12 @@ impl<M: MemoryObject, A: Allocator> GpuAllocator<M, A> {
         ensures objects { ObjectsFreed self.old block (D.objects device.old) (D.objects device.new) }
         ensures agrees { Agrees self.new (D.properties device.new) (D.objects device.new) }
         ensures total { total self.new ≡ total self.old }
+        ensures sound { Sound.IsSound self.new }
     {
         let memory_type = block.memory_type();
         self.free_block(block, number);
         self.give_back(device, memory_type, true);
+        self.keeps_sound();
     }
 
     /// Takes a block's span off the table, and its bytes back into its memory type's free list.
@@ -688,21 +704,31 @@ impl<M: MemoryObject, A: Allocator> GpuAllocator<M, A> {
         ensures total { total self.new ≡ total self.old }
         ensures left { (object : ℕ) (h : HeldObject) → map.get self.new.held object ≡ Some h ↔ ((map.get self.old.held object ≡ Some h) × (IsCleanedUp self.old object h → ⊥)) }
         ensures ends { ((span : Span) → IsLive self.old span → ⊥) → (self.new.held ≡ map.empty) × ((heap : ℕ) → ledger self.new heap ≡ 0) }
+        ensures sound { Sound.IsSound self.new }
     {
         let count = self.limits.memory_types.len() as u32;
         for memory_type in 0..count {
             self.give_back(device, memory_type, false);
         }
+        self.keeps_sound();
+    }
+
+    /// Nothing is done: its contract tells what every allocator keeps.
+    fn keeps_sound(&self)
+        ensures { Sound.IsSound self.now }
+    {
+        let _ = &self.limits;
     }
 
     /// Whether a block is live here: its object, span, memory type and kind are. Which allocator made it is not asked.
     ///
-    /// Its contract also tells, of every allocator, that live blocks are apart and inside their objects, and that no object
-    /// but a chunk of a free list is held without one.
+    /// Its contract also tells, of every allocator, that live blocks are apart and lie in their objects, that an object of one
+    /// block has no other, and that no object but a chunk of a free list is held without one.
     pub fn owns(&self, block: &MemoryBlock<M>) -> bool
         ensures owned { IsTrue result ↔ IsOwned self.now block.now }
         ensures sound { Sound.IsSound self.now }
     {
+        self.keeps_sound();
         let object = block.memory().object();
         match self.spans.held(object) {
             Some(held) if held.is_of(block.memory_type(), block.kind()) => self

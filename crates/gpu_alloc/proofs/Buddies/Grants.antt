@@ -2,6 +2,7 @@
 use Rattle.std.proofs.Common.{◌≡◌, inr, ℕ, ◌+◌, ◌-◌, ◌^◌, ◌<◌, ◌≤◌, false, cond, List, length, get_or, Option, Some, None, IfSome, refl, sym, ◌∙◌, ap, subst, arith}
 use Rattle.std.proofs.Math.ListN.{set}
 use Rattle.std.proofs.lemmas.List.{length-map, set-get_or}
+use Rattle.std.proofs.lemmas.Nat.{pow_pos}
 use Rattle.std.proofs.lemmas.Option.{slice_get_read}
 use Rattle.std.specs.Cmp.{nat_cmp_total}
 use Rattle.std.specs.FinMap as finite
@@ -10,7 +11,7 @@ use Rattle.gpu_alloc_types.specs.Properties.{Properties, heap_at}
 use Rattle.gpu_alloc_base.specs.Accounts.{IsCounted}
 use Rattle.gpu_alloc_buddy.specs.Buddy.{with_leaf, with_chunk, chunk_size}
 use Rattle.gpu_alloc_buddy.specs.BuddySound.{IsSound}
-use Rattle.gpu_alloc_buddy.specs.BuddyState.{Buddy}
+use Rattle.gpu_alloc_buddy.specs.BuddyState.{Buddy, IsLiveLeaf}
 use Rattle.gpu_alloc_base.specs.Chunks.{Chunk}
 use Rattle.gpu_alloc_freelist.specs.FreeListState.{Listing}
 use Rattle.gpu_alloc.specs.Inside.{state_in, properties_in, types_in, lists_in, chunk_object, span_of_leaf, place_of_leaf, IsConsistent, IsForType, IsBuddyOf}
@@ -26,6 +27,7 @@ use Rattle.gpu_alloc.specs.declared.limits.Limits.{Limits}
 use Rattle.gpu_alloc.proofs.Consistency.{heap_there, booked-held, booked-span}
 use Rattle.gpu_alloc.proofs.Buddies.HasBuddies.{beside_more, buddies_set}
 use Rattle.gpu_alloc.proofs.FreeLists.HasLists.{lists_beside}
+use Rattle.gpu_alloc_base.proofs.Leaves.{now_live}
 use Rattle.gpu_alloc_base.proofs.Maps.{other_inserted, name_test, eq-true}
 use Rattle.gpu_alloc.proofs.HeapLists.{properties_kept, state_kept}
 use Rattle.gpu_alloc.proofs.Ledgers.{Held}
@@ -33,6 +35,10 @@ use Rattle.gpu_alloc.proofs.Buddies.Links.{IsBeside, HasLeafMore, linked_with_le
 use Rattle.gpu_alloc.proofs.Buddies.Served.{buddy_counted, ledger_bounded}
 use Rattle.gpu_alloc.proofs.Buddies.Serving.{Serves, question_is}
 use Rattle.gpu_alloc.proofs.Buddies.States.{next_at, types_set, types_kept, lists_next, lists_next_at}
+
+-- a live block is not empty
+some_bytes : (b : Buddy) (leaf : Leaf) → IsSound b → IsLiveLeaf b leaf → 0 < leaf.size
+some_bytes b leaf sound live = let lies = sound.inside leaf live in omega (arith, lies.power.1, pow_pos lies.power.0)
 
 -- a list with its own element put in its place
 pub same_set : {X : Type 0} (xs : List X) (i : ℕ) (x old : X) → old ≡ get_or xs i old → x ≡ old → set xs i x ≡ xs
@@ -108,7 +114,7 @@ module _ {A : Type 0} (l : Limits A) (heaps : List Heap) (buddies : List Buddy) 
       pub consistent_with_leaf : IsConsistentWith (with_leaf b leaf) heap now remaining
       consistent_with_leaf =
           subst (λ (hs : List Heap). IsConsistent l.config (properties_in l hs) hs (set buddies index (with_leaf b leaf)) lists now remaining) (sym (same_set heaps i heap heap at_heap refl)) (record {
-            books = booked-span p heaps t remaining is.books refl now (chunk_object b chunk) (span_of_leaf leaf) chunk_held refl held more.live;
+            books = booked-span p heaps t remaining is.books refl now (chunk_object b chunk) (span_of_leaf leaf) chunk_held refl held (some_bytes (with_leaf b leaf) leaf sound (now_live b.live leaf)) more.live;
             shared = buddies_set l.config p t now buddies leaf.object leaf_beside is.shared index (with_leaf b leaf)
                 (subst (λ (o : Option HeldObject). IfSome o (λ h. h.memory_type ≡ index)) (sym chunk_held) buddy_of.for_type.memory_type)
                 (subst (λ (o : Option HeldObject). IfSome o (λ h. h.memory_type ≡ index)) (sym found_still) buddy_of.for_type.memory_type)
@@ -154,7 +160,7 @@ module _ {A : Type 0} (l : Limits A) (heaps : List Heap) (buddies : List Buddy) 
           subst (λ (q : Properties). IsConsistent l.config q (set heaps i changed) (set buddies index (with_leaf (with_chunk b leaf size) leaf)) lists now (remaining - 1))
           (sym (properties_kept l heaps i changed heap at_heap (ap (λ (h : Heap). h.size) counts))) (record {
             books = booked-held p heaps t remaining is.books refl now object_of (span_of_leaf leaf)
-                (record { with = record { small = small; known = known; kind = inr refl }; free = free; held = held; live = more.live })
+                (record { with = record { nonempty = some_bytes (with_leaf (with_chunk b leaf size) leaf) leaf sound (now_live b.live leaf); small = small; known = known; kind = inr refl }; free = free; held = held; live = more.live })
                 heap changed i some here at_heap (ap (λ (h : Heap). h.used) counts);
             shared = buddies_set l.config p t now buddies leaf.object chunk_beside is.shared index (with_leaf (with_chunk b leaf size) leaf)
                 (subst (λ (o : Option HeldObject). IfSome o (λ h. h.memory_type ≡ index)) (sym free) tt)

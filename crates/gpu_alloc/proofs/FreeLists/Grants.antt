@@ -1,5 +1,5 @@
 -- What a block that a memory type's free list gives leaves in the allocator's fields, in a held chunk or in a new one.
-use Rattle.std.proofs.Common.{◌≡◌, ◌≢◌, inr, ℕ, ◌+◌, ◌-◌, ◌^◌, ◌<◌, ◌≤◌, true, List, length, get_or, Some, None, refl, sym, ◌∙◌, ap, subst, arith}
+use Rattle.std.proofs.Common.{◌≡◌, ◌≢◌, inl, inr, ℕ, ◌+◌, ◌-◌, ◌^◌, ◌<◌, ◌≤◌, true, List, length, get_or, Some, None, refl, sym, ◌∙◌, ap, subst, arith}
 use Rattle.std.proofs.Math.ListN.{set}
 use Rattle.std.proofs.lemmas.Bool.Decides.{nat_tests}
 use Rattle.std.specs.FinMap as finite
@@ -35,6 +35,7 @@ use Rattle.gpu_alloc.proofs.FreeLists.Served.{list_counted, list_ledger_bounded}
 use Rattle.gpu_alloc.proofs.FreeLists.Serving.{ServesList, question_is}
 use Rattle.gpu_alloc.proofs.FreeLists.States.{list_types_set, list_types_kept}
 use Rattle.gpu_alloc_base.proofs.Maps.{own_inserted, other_inserted}
+use Rattle.gpu_alloc_base.proofs.Slots.{slot_inserted}
 use Rattle.gpu_alloc.proofs.Buddies.Grants.{same_set}
 use Rattle.gpu_alloc.proofs.FreeLists.Types.{own_listing, serves_own, same_listing_for, typed_list, of_type_at, no_buddy_at, none_at}
 
@@ -115,7 +116,7 @@ module _ {A : Type 0} (limits : Limits A) (heaps : List Heap) (buddies : List Bu
       pub consistent_with_slot : IsConsistentWith (listing_with_slot l slot) heap now remaining
       consistent_with_slot =
           subst (λ (hs : List Heap). IsConsistent limits.config (properties_in limits hs) hs buddies (set lists index (listing_with_slot l slot)) now remaining) (sym (same_set heaps i heap heap at_heap refl)) (record {
-            books = booked-span p heaps t remaining is.books refl now (list_object l slot.chunk chunk) (span_of_slot slot) chunk_held refl held more.live;
+            books = booked-span p heaps t remaining is.books refl now (list_object l slot.chunk chunk) (span_of_slot slot) chunk_held refl held (sound.space.inside slot ((slot_inserted l.space.live slot slot).1 (inl refl))).nonempty more.live;
             shared = buddies_beside limits.config p t now buddies slot.object slot_beside is.shared
                 (no_buddy_at t slot.chunk slot.object (list_object l slot.chunk chunk) chunk_held refl)
                 (no_buddy_at now slot.chunk slot.object (list_object l slot.chunk chunk) found_still refl);
@@ -163,7 +164,7 @@ module _ {A : Type 0} (limits : Limits A) (heaps : List Heap) (buddies : List Bu
           subst (λ (q : Properties). IsConsistent limits.config q (set heaps i changed) buddies (set lists index list_after) now (remaining - 1))
           (sym (properties_kept limits heaps i changed heap at_heap (ap (λ (h : Heap). h.size) counts))) (record {
             books = booked-held p heaps t remaining is.books refl now object_of (span_of_slot slot)
-                (record { with = record { small = small; known = known; kind = inr refl }; free = free; held = held; live = more.live })
+                (record { with = record { nonempty = (sound.space.inside slot ((slot_inserted l.space.live slot slot).1 (inl refl))).nonempty; small = small; known = known; kind = inr refl }; free = free; held = held; live = more.live })
                 heap changed i some here at_heap (ap (λ (h : Heap). h.used) counts);
             shared = buddies_beside limits.config p t now buddies slot.object chunk_beside is.shared
                 (none_at t slot.object (λ h. h.kind ≢ BuddyChunk) free)

@@ -16,7 +16,7 @@ loop-memory_type-preserved g c =
     )
 
 -- At the end all of all memory types went that may go.
-all_went : (g : Over) (c : goal.After-loop-memory_type g) → AreAllGone c.args.self.now (length c.args.self.now.properties.memory_types) c.loop-memory_type.invariant.0
+all_went : (g : Over) (c : goal.After-keeps_sound g) → AreAllGone c.args.self.now (length c.args.self.now.properties.memory_types) c.loop-memory_type.invariant.0
 all_went g c =
     let last : c.loop-memory_type.memory_type ≡ length c.self.inside.limits.memory_types.items =
     omega (arith, c.loop-memory_type.auto.memory_type-end, c.loop-memory_type-test.false, c.len-count.ensures, c.self.inside.limits.memory_types.ok) in

@@ -6,6 +6,7 @@ use Rattle.gpu_alloc.specs.Spans.{span_at, span_in, place_in, without_old}
 use Rattle.gpu_alloc.specs.State.{Span, span_of}
 use Rattle.gpu_alloc.specs.declared.spans.LiveSpan.{LiveSpan}
 use Rattle.gpu_alloc.proofs.Buddies.Returns.{Given, given_back, agrees_before, counted_first, IsReturned, back}
+use Rattle.gpu_alloc.proofs.Soundness.{sound_is}
 use Rattle.gpu_alloc.proofs.allocator.GpuAllocator.dealloc_in_chunk.Given.{Over}
 use Rattle.gpu_alloc.proofs.allocator.GpuAllocator.dealloc_in_chunk.Goals as goal
 
@@ -85,3 +86,6 @@ returns-clause-agrees g c = (returned_by g c).agreed
 
 pub returns-clause-total : goal.returns-clause-total
 returns-clause-total g c = rw (← c.self.view_is) ((returned_by g c).whole)
+
+pub returns-clause-sound : goal.returns-clause-sound
+returns-clause-sound g c = sound_is c.self.inside.limits _ _ _ _ _ (returned_by g c).consistent

@@ -13,7 +13,7 @@ give_back-requires-clause-agrees g c = rw (c.free_block.ensures.freed) (agrees_w
 
 -- The chunks that went, as the state without the block's span tells.
 
-with_it : (g : Over) (c : goal.After-give_back g) → GoesWith c.args.block.kind (without_span c.args.self.now c.args.block) c.args.block.object c.give_back.ensures.gives.0
+with_it : (g : Over) (c : goal.After-keeps_sound g) → GoesWith c.args.block.kind (without_span c.args.self.now c.args.block) c.args.block.object c.give_back.ensures.gives.0
 with_it g c = goes_with_list _ _ c.args.block c.args.number _ _ c.requires.owned c.requires.listed c.memory_type-memory_type.ensures c.free_block.ensures.freed c.give_back.ensures.gives.3
 
 pub returns-clause-freed : goal.returns-clause-freed

@@ -95,7 +95,7 @@ more g c =
     let known = rw (← c.self.view_is) at c.requires.known in
     let small : c.args.request.size < 2 ^ 64 = c.well_formed.1.1.0.1.1.0.1 in
     record {
-      with = record { small = small; known = known; kind = inl (refl, refl) };
+      with = record { nonempty = c.requires.askable.nonempty; small = small; known = known; kind = inl (refl, refl) };
       free = free g c;
       held = c.insert-key.ensures.held ∙ ap (λ held. finite.insert held c.object.result (object g c)) (held_kept c.reserve.new.self c.self.inside.spans c.reserve.ensures.kept);
       live = c.insert-key.ensures.live ∙ ap (λ live. set_of.insert live (whole_span c.object.result (object g c))) (live_kept c.reserve.new.self c.self.inside.spans c.reserve.ensures.kept);
