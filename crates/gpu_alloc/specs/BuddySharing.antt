@@ -9,7 +9,7 @@ use Rattle.gpu_alloc_base.specs.FreeSpace.{IsPlace, IsFreePiece}
 use Rattle.gpu_alloc.specs.FreeBytes.{IsFreeByte}
 use Rattle.gpu_alloc_base.specs.NewChunk.{ChunkQuestion, flags_of}
 use Rattle.gpu_alloc_base.specs.Sizes.{next_power_of_two, minimal_size}
-use Rattle.gpu_alloc.specs.State.{Span, Block, TypeState, State}
+use Rattle.gpu_alloc.specs.State.{Span, Block, TypeState, State, granted_block}
 
 -- the size of a block for a request: the least power of two that is not below the request's size and alignment, the atom
 -- and the least buddy block
@@ -44,15 +44,7 @@ buddy_question s t size = record {
 
 -- an unmapped block of a buddy chunk
 abbrev pub buddy_block : State → ℕ → Span → Block
-buddy_block s t span = record {
-  object = span.object;
-  offset = span.offset;
-  size = span.size;
-  memory_type = t;
-  props = props_at s.properties t;
-  kind = BuddyChunk;
-  mapping = None;
-}
+buddy_block s t span = granted_block s t BuddyChunk span
 
 -- the front of an object
 abbrev pub front_of : ℕ → ℕ → Span

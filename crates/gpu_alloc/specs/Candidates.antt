@@ -8,7 +8,7 @@ use Rattle.gpu_alloc_base.specs.NewChunk.{ChunkQuestion, flags_of}
 use Rattle.gpu_alloc_buddy.specs.Buddy.{Fits}
 use Rattle.gpu_alloc.specs.BuddySharing.{buddy_size, buddy_question, buddy_block, front_of, HasBuddyPlace, IsPieceFront, with_span, with_buddy_chunk}
 use Rattle.gpu_alloc.specs.FreeListSharing.{list_size, list_alignment, list_question, list_block, tail_of, latest_number, HasListNumber, HasListPlace, IsRunTail, with_list_chunk}
-use Rattle.gpu_alloc.specs.State.{HeldObject, Block, State, span_of}
+use Rattle.gpu_alloc.specs.State.{HeldObject, Block, State, granted_block, span_of}
 use Rattle.gpu_alloc.specs.declared.allocator.Strategy.{Strategy}
 use Rattle.gpu_alloc.specs.declared.allocator.Strategy.TheVariants.{OwnObject, InBuddyChunk, InFreeList}
 use Rattle.gpu_alloc.specs.declared.block.Kind.TheVariants.{Dedicated as DedicatedObject}
@@ -22,15 +22,7 @@ own_question s size t = record { size = size; memory_type = t; flags = flags_of 
 
 -- an unmapped block that is the whole of an object of its own
 abbrev pub whole_block : State → ℕ → ℕ → ℕ → Block
-whole_block s object size t = record {
-  object = object;
-  offset = 0;
-  size = size;
-  memory_type = t;
-  props = props_at s.properties t;
-  kind = DedicatedObject;
-  mapping = None;
-}
+whole_block s object size t = granted_block s t DedicatedObject (front_of object size)
 
 -- one more object is held, with the block in it
 abbrev pub holding : State → HeldObject → Block → State

@@ -53,9 +53,19 @@ mapping_code =
 
 abbrev pub block_code : Coded Block
 block_code =
-    code_by (Span × ((ℕ × ℕ) × (Kind × Option Mapping))) (coded× span_code (coded× (coded× coded_ℕ coded_ℕ) (coded× kind_code (coded_option mapping_code))))
-    (λ b. (span_of b, ((b.memory_type, b.props), (b.kind, b.mapping))))
-    (λ c. record { object = c.0.object; offset = c.0.offset; size = c.0.size; memory_type = c.1.0.0; props = c.1.0.1; kind = c.1.1.0; mapping = c.1.1.1 })
+    code_by (Span × ((ℕ × (ℕ × ℕ)) × (Kind × Option Mapping)))
+    (coded× span_code (coded× (coded× coded_ℕ (coded× coded_ℕ coded_ℕ)) (coded× kind_code (coded_option mapping_code))))
+    (λ b. (span_of b, ((b.memory_type, (b.props, b.atom)), (b.kind, b.mapping))))
+    (λ c. record {
+      object = c.0.object;
+      offset = c.0.offset;
+      size = c.0.size;
+      memory_type = c.1.0.0;
+      props = c.1.0.1.0;
+      atom = c.1.0.1.1;
+      kind = c.1.1.0;
+      mapping = c.1.1.1;
+    })
     (λ _. refl)
 
 abbrev pub type_state_code : Coded TypeState

@@ -9,7 +9,7 @@ use Rattle.gpu_alloc_base.specs.FreeRuns.{IsListPlace, IsLastWithRoom, tail_star
 use Rattle.gpu_alloc.specs.FreeBytes.{IsFreeByte}
 use Rattle.gpu_alloc_base.specs.NewChunk.{ChunkQuestion, flags_of}
 use Rattle.gpu_alloc_base.specs.Sizes.{up, final_size, grown_chunk, doubled_chunk}
-use Rattle.gpu_alloc.specs.State.{HeldObject, Span, Block, TypeState, State}
+use Rattle.gpu_alloc.specs.State.{HeldObject, Span, Block, TypeState, State, granted_block}
 
 -- the size that is looked for, in whole atoms
 abbrev pub list_size : State → Request → ℕ → ℕ
@@ -78,15 +78,7 @@ HasListNumber s t = latest_number s t + 1 < 2 ^ 64
 
 -- an unmapped block of a free list's chunk
 abbrev pub list_block : State → ℕ → ℕ → Span → Block
-list_block s t number span = record {
-  object = span.object;
-  offset = span.offset;
-  size = span.size;
-  memory_type = t;
-  props = props_at s.properties t;
-  kind = FreeListChunk number;
-  mapping = None;
-}
+list_block s t number span = granted_block s t (FreeListChunk number) span
 
 -- the tail of an object of which nothing is used
 abbrev pub tail_of : ℕ → ℕ → ℕ → ℕ → Span

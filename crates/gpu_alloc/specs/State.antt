@@ -1,11 +1,11 @@
 -- What an allocator holds and has given out.
-use Rattle.std.specs.Prelude.{◌≡◌, ◌≢◌, ◌⊎◌, ℕ, ◌+◌, ◌≤◌, ◌==◌, Bool, true, false, List, [], ◌∷◌, cond, Option, Some, IsTrue, sum_by}
+use Rattle.std.specs.Prelude.{◌≡◌, ◌≢◌, ◌⊎◌, ℕ, ◌+◌, ◌≤◌, ◌==◌, Bool, true, false, List, [], ◌∷◌, cond, Option, Some, None, IsTrue, sum_by}
 use Rattle.std.specs.FinMap as map
 use Rattle.std.specs.FinSet as set
 use Rattle.std.specs.declared.cmp.Ordering.{Ordering}
 use Rattle.std.specs.Ordering.{nat_cmp}
 use Rattle.std.specs.Cmp.Lexicographic.{slice_cmp}
-use Rattle.gpu_alloc_types.specs.Properties.{Properties, heap_at}
+use Rattle.gpu_alloc_types.specs.Properties.{Properties, heap_at, props_at, atom_of}
 use Rattle.gpu_alloc.specs.declared.block.Kind.{Kind}
 use Rattle.gpu_alloc.specs.declared.block.Kind.TheVariants.{Dedicated, Imported, BuddyChunk, FreeListChunk}
 use Rattle.gpu_alloc.specs.declared.block.Mapping.{Mapping}
@@ -41,14 +41,15 @@ AreApart a b = (a.object ≢ b.object) ⊎ ((a.offset + a.size ≤ b.offset) ⊎
 abbrev pub span_cmp : Span → Span → Ordering
 span_cmp a b = slice_cmp nat_cmp (span_numbers a) (span_numbers b)
 
--- A block: its span, the memory type of its object with that type's property bits, what its object is held for, and
--- what it has mapped of it.
+-- A block: its span, the memory type of its object with that type's property bits and atom, what its object is held for,
+-- and what it has mapped of it.
 pub record Block : Type 0 where
   pub object : ℕ
   pub offset : ℕ
   pub size : ℕ
   pub memory_type : ℕ
   pub props : ℕ
+  pub atom : ℕ
   pub kind : Kind
   pub mapping : Option Mapping
 
@@ -71,6 +72,19 @@ pub record State : Type 0 where
   pub types : List TypeState
   pub config : Config
   pub properties : Properties
+
+-- the block that a grant gives: the span, in an object of the memory type that is held so, with nothing mapped
+abbrev pub granted_block : State → ℕ → Kind → Span → Block
+granted_block s t kind span = record {
+  object = span.object;
+  offset = span.offset;
+  size = span.size;
+  memory_type = t;
+  props = props_at s.properties t;
+  atom = atom_of s.properties t;
+  kind = kind;
+  mapping = None;
+}
 
 abbrev pub IsLive : State → Span → Type 0
 IsLive s span = IsTrue (set.contains s.live span)

@@ -404,12 +404,14 @@ impl<M: MemoryObject, A: Allocator> GpuAllocator<M, A> {
                 self.heaps[heap].alloc(object.counted);
                 self.allocations_remains -= 1;
                 let props = self.limits.props(memory_type);
+                let atom = self.limits.atom(memory_type);
                 Ok(Some(MemoryBlock::new(
                     memory,
                     span.offset,
                     span.size,
                     object.memory_type,
                     props,
+                    atom,
                     object.kind,
                     key,
                 )))
@@ -463,6 +465,7 @@ impl<M: MemoryObject, A: Allocator> GpuAllocator<M, A> {
         match answer {
             Ok(block) => {
                 let props = self.limits.props(memory_type);
+                let atom = self.limits.atom(memory_type);
                 let (memory, leaf) = block.into_parts();
                 let chunk_size = self.buddies[own].chunk_size(leaf.chunk);
                 let key = add_leaf(&mut self.spans, leaf, memory_type, chunk_size);
@@ -472,6 +475,7 @@ impl<M: MemoryObject, A: Allocator> GpuAllocator<M, A> {
                     leaf.size,
                     memory_type,
                     props,
+                    atom,
                     Kind::BuddyChunk,
                     key,
                 )))
@@ -525,6 +529,7 @@ impl<M: MemoryObject, A: Allocator> GpuAllocator<M, A> {
         match answer {
             Ok(block) => {
                 let props = self.limits.props(memory_type);
+                let atom = self.limits.atom(memory_type);
                 let (memory, slot) = block.into_parts();
                 let key = add_slot(&mut self.spans, slot, memory_type);
                 Ok(Some(MemoryBlock::new(
@@ -533,6 +538,7 @@ impl<M: MemoryObject, A: Allocator> GpuAllocator<M, A> {
                     slot.size,
                     memory_type,
                     props,
+                    atom,
                     Kind::FreeListChunk(slot.chunk),
                     key,
                 )))

@@ -39,6 +39,8 @@ pub struct MemoryBlock<M: MemoryObject> {
     size: u64,
     memory_type: u32,
     props: MemoryPropertyFlags,
+    // The least unit of what has to be flushed of it, in bytes. A block's calls see no properties of the device.
+    atom: u64,
     kind: Kind,
     mapping: Option<Mapping>,
     // Under which the table of live spans has it. Contracts don't see it, since the table confirms it.
@@ -61,6 +63,7 @@ impl<M: MemoryObject> Model for MemoryBlock<M> {
       size = b.size;
       memory_type = b.memory_type;
       props = property_bits b.props;
+      atom = b.atom;
       kind = b.kind;
       mapping = b.mapping;
     } };
@@ -74,6 +77,7 @@ impl<M: MemoryObject> MemoryBlock<M> {
         size: u64,
         memory_type: u32,
         props: MemoryPropertyFlags,
+        atom: u64,
         kind: Kind,
         key: usize,
     ) -> Self
@@ -83,6 +87,7 @@ impl<M: MemoryObject> MemoryBlock<M> {
           size = size;
           memory_type = memory_type;
           props = property_bits props;
+          atom = atom;
           kind = kind;
           mapping = None;
         } }
@@ -93,6 +98,7 @@ impl<M: MemoryObject> MemoryBlock<M> {
             size,
             memory_type,
             props,
+            atom,
             kind,
             mapping: None,
             key,
@@ -109,6 +115,7 @@ impl<M: MemoryObject> MemoryBlock<M> {
             size: _,
             memory_type: _,
             props: _,
+            atom: _,
             kind: _,
             mapping: _,
             key: _,

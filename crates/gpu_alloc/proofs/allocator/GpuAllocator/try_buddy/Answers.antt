@@ -150,7 +150,7 @@ block_is : (g : Over) (c : goal.After-new g) → c.new.result ≡ block g c
 block_is g c =
     let leaf = c.into_parts-memory.ensures.leaf in
     let object = c.into_parts-memory.ensures.handle in
-    c.new.ensures ∙ (λ k. record (block g c) { object = object k; offset = (leaf k).offset; size = (leaf k).size; props = c.props-props.ensures k })
+    c.new.ensures ∙ (λ k. record (block g c) { object = object k; offset = (leaf k).offset; size = (leaf k).size; props = c.props-props.ensures k; atom = c.atom-atom.ensures k })
 
 serves_now : (g : Over) (c : goal.After-new g) → Serves (before g c) c.self.inside.spans.places c.self.inside.spans.room c.args.memory_type c.index_mut.result.now
 serves_now g c = serves c.self.inside.limits _ _ _ _ _ c.args.memory_type c.index_mut.result.now c.self.invariant (given g c).known c.index_mut.ensures.value

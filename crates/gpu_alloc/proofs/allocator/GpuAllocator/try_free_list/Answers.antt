@@ -158,7 +158,7 @@ block_is : (g : Over) (c : goal.After-new g) → c.new.result ≡ block g c
 block_is g c =
     let slot = c.into_parts-memory.ensures.slot in
     let object = c.into_parts-memory.ensures.handle in
-    c.new.ensures ∙ (λ k. record (block g c) { object = object k; offset = (slot k).offset; size = (slot k).size; props = c.props-props.ensures k; kind = FreeListChunk (slot k).chunk })
+    c.new.ensures ∙ (λ k. record (block g c) { object = object k; offset = (slot k).offset; size = (slot k).size; props = c.props-props.ensures k; atom = c.atom-atom.ensures k; kind = FreeListChunk (slot k).chunk })
 
 serves_now : (g : Over) (c : goal.After-new g) → ServesList (before g c) c.self.inside.spans.places c.self.inside.spans.room c.args.memory_type c.index_mut.result.now
 serves_now g c = serves_own c.self.inside.limits _ _ _ _ _ c.args.memory_type c.index_mut.result.now c.self.invariant (given g c).known c.index_mut.ensures.value

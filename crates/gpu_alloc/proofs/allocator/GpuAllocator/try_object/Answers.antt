@@ -109,7 +109,7 @@ state_is g c =
     (more g c).held (more g c).live
 
 block_is : (g : Over) (c : goal.After-new g) → c.new.result ≡ block g c
-block_is g c = c.new.ensures ∙ (λ k. record (block g c) { object = sym c.object.ensures k; props = c.props-props.ensures k })
+block_is g c = c.new.ensures ∙ (λ k. record (block g c) { object = sym c.object.ensures k; props = c.props-props.ensures k; atom = c.atom-atom.ensures k })
 
 pub invariant_of-self-in-Ok : goal.invariant_of-self-in-Ok
 invariant_of-self-in-Ok g c =
