@@ -14,7 +14,8 @@ IsMappedWhole p o = is_host_visible p o.memory_type ≡ true → o.mapped ≡ So
 -- an import lies inside its object, and where it has to be flushed ends on the atom or where the object ends
 pub record IsInside (p : Properties) (span : Span) (o : Object) : Type 0 where
   pub within : span.offset + span.size ≤ o.size
-  pub finish : is_non_coherent p o.memory_type ≡ true → ((span.offset + span.size) % p.non_coherent_atom_size ≡ 0) ⊎ (span.offset + span.size ≡ o.size)
+  pub finish : is_non_coherent p o.memory_type ≡ true → ((span.offset + span.size) % p.non_coherent_atom_size ≡ 0)
+      ⊎ (span.offset + span.size ≡ o.size)
 
 -- what is counted of an object on the device, by what it is held for
 abbrev pub IsCounted : Kind → State → ℕ → ℕ → Object → Type 0

@@ -1,6 +1,7 @@
 -- How an allocation is decided: what is asked of the device for each candidate, and what the first one that is not
 -- passed answers.
-use Rattle.std.specs.Prelude.{◌≡◌, ◌⊎◌, ℕ, ◌+◌, ◌%◌, ◌/◌, ◌<◌, ◌≤◌, ◌==◌, Bool, true, ◌&&◌, List, [], ◌∷◌, ◌++◌, length, Option, Some, None, Result, Ok, Err, cond, min, nat_lt, nat_le, nat_eq, MatchBool}
+use Rattle.std.specs.Prelude.{◌≡◌, ◌⊎◌, ℕ, ◌+◌, ◌%◌, ◌/◌, ◌<◌, ◌≤◌, ◌==◌, Bool, true, ◌&&◌, List, [], ◌∷◌, ◌++◌, length}
+use Rattle.std.specs.Prelude.{Option, Some, None, Result, Ok, Err, cond, min, nat_lt, nat_le, nat_eq, MatchBool}
 use Rattle.std.specs.FinMap as map
 use Rattle.gpu_alloc_types.specs.Flags.{usage_bits, has_bit}
 use Rattle.gpu_alloc_types.specs.Properties.{Properties, heap_size, atom_of, is_host_visible}
@@ -10,7 +11,8 @@ use Rattle.gpu_alloc_base.specs.FreeSpace.{IsMultipleOf, IsPowerOfTwo}
 use Rattle.gpu_alloc_base.specs.NewObject.{ObjectsGiven}
 use Rattle.gpu_alloc_base.specs.Sizes.{up, preferred_threshold, transient_threshold, final_size}
 use Rattle.gpu_alloc_base.specs.declared.error.AllocationError.{AllocationError}
-use Rattle.gpu_alloc_base.specs.declared.error.AllocationError.TheVariants.{OutOfDeviceMemory, OutOfHostMemory, NoCompatibleMemoryTypes, TooManyObjects}
+use Rattle.gpu_alloc_base.specs.declared.error.AllocationError.TheVariants.{OutOfDeviceMemory, OutOfHostMemory}
+use Rattle.gpu_alloc_base.specs.declared.error.AllocationError.TheVariants.{NoCompatibleMemoryTypes, TooManyObjects}
 use Rattle.gpu_alloc_usage.specs.Ranking.{candidates}
 use Rattle.gpu_alloc.specs.Candidates.{candidate}
 use Rattle.gpu_alloc.specs.Request.{is_required}
@@ -55,7 +57,8 @@ IsPassed s r hint t es =
 
 -- It decides: its heap is no smaller than the request, and what its way of being served answers is the answer.
 abbrev pub Decides : State → Request → Option Dedicated → ℕ → List Event → Result Block AllocationError → State → Type 0
-Decides s r hint t es answer new = (r.size ≤ heap_size s.properties t) × case.Decides (candidate (strategy s r hint t) s r t) es answer new
+Decides s r hint t es answer new =
+    (r.size ≤ heap_size s.properties t) × case.Decides (candidate (strategy s r hint t) s r t) es answer new
 
 -- a refusal of a candidate: where there is no device memory it is passed
 abbrev pub passing : {T : Type 0} → AllocationError → Result (Option T) AllocationError
@@ -65,20 +68,24 @@ passing NoCompatibleMemoryTypes = Err NoCompatibleMemoryTypes
 passing TooManyObjects = Err TooManyObjects
 
 -- A candidate was tried that is served so, and whose heap is no smaller than the request.
-abbrev pub TriesBy : Strategy → State → Request → ℕ → List Event → Result (Option Block) AllocationError → State → Type 0
+abbrev pub TriesBy : Strategy → State → Request → ℕ → List Event → Result (Option Block) AllocationError → State
+    → Type 0
 TriesBy w s r t es answer new = case.Tries (candidate w s r t) es answer new
 
 -- One candidate was tried: it is passed, or it decides.
-abbrev pub Tries : State → Request → Option Dedicated → ℕ → List Event → Result (Option Block) AllocationError → State → Type 0
+abbrev pub Tries : State → Request → Option Dedicated → ℕ → List Event → Result (Option Block) AllocationError → State
+    → Type 0
 Tries s r hint t es (Ok None) new = IsPassed s r hint t es × (new ≡ s)
 Tries s r hint t es (Ok (Some b)) new = Decides s r hint t es (Ok b) new
 Tries s r hint t es (Err e) new = Decides s r hint t es (Err e) new
 
 -- In rank, the first candidate that is not passed decides. Where all are passed there is no device memory.
-abbrev pub TriesAll : State → Request → Option Dedicated → List ℕ → List Event → Result Block AllocationError → State → Type 0
+abbrev pub TriesAll : State → Request → Option Dedicated → List ℕ → List Event → Result Block AllocationError → State
+    → Type 0
 TriesAll s r hint [] es answer new = (es ≡ []) × (answer ≡ Err OutOfDeviceMemory) × (new ≡ s)
 TriesAll s r hint (t ∷ ts) es answer new =
-    ((first rest : List Event) × (es ≡ first ++ rest) × IsPassed s r hint t first × TriesAll s r hint ts rest answer new)
+    ((first rest : List Event) × (es ≡ first ++ rest) × IsPassed s r hint t first × TriesAll s r hint ts rest answer
+    new)
     ⊎ Decides s r hint t es answer new
 
 -- nothing is asked, and nothing changes
@@ -107,15 +114,18 @@ pub record IsAsCounted (p : Properties) (h : HeldObject) (o : Object) : Type 0 w
 
 -- a grant: one object more where the block's object was not held, as it is counted now, and else nothing
 abbrev pub ObjectsWith : State → Block → State → (ℕ → Option Object) → (ℕ → Option Object) → Type 0
-ObjectsWith s b after old new = ObjectsGiven (IsAsCounted s.properties) (map.get s.held b.object) (map.get after.held b.object) b.object old new
+ObjectsWith s b after old new =
+    ObjectsGiven (IsAsCounted s.properties) (map.get s.held b.object) (map.get after.held b.object) b.object old new
 
 -- an allocation: nothing where it is refused
-abbrev pub ObjectsAfter : State → Result Block AllocationError → State → (ℕ → Option Object) → (ℕ → Option Object) → Type 0
+abbrev pub ObjectsAfter : State → Result Block AllocationError → State → (ℕ → Option Object) → (ℕ → Option Object)
+    → Type 0
 ObjectsAfter s (Ok b) after old new = ObjectsWith s b after old new
 ObjectsAfter s (Err e) after old new = new ≡ old
 
 -- the same of one candidate that was tried
-abbrev pub ObjectsTried : State → Result (Option Block) AllocationError → State → (ℕ → Option Object) → (ℕ → Option Object) → Type 0
+abbrev pub ObjectsTried : State → Result (Option Block) AllocationError → State → (ℕ → Option Object)
+    → (ℕ → Option Object) → Type 0
 ObjectsTried s (Ok None) after old new = new ≡ old
 ObjectsTried s (Ok (Some b)) after old new = ObjectsWith s b after old new
 ObjectsTried s (Err e) after old new = new ≡ old
@@ -124,7 +134,8 @@ ObjectsTried s (Err e) after old new = new ≡ old
 pub record IsGranted (s : State) (r : Request) (new : State) (b : Block) : Type 0 where
   pub enough : r.size ≤ b.size
   pub aligned : b.offset % (r.align_mask + 1) ≡ 0
-  pub whole_atoms : is_shared b.kind ≡ true → (b.offset % atom_of s.properties b.memory_type ≡ 0) × (b.size % atom_of s.properties b.memory_type ≡ 0)
+  pub whole_atoms : is_shared b.kind ≡ true → (b.offset % atom_of s.properties b.memory_type ≡ 0)
+      × (b.size % atom_of s.properties b.memory_type ≡ 0)
   -- a block of a buddy chunk has a power of two of bytes and begins at a multiple of its size
   pub buddy : b.kind ≡ BuddyChunk → IsPowerOfTwo b.size × IsMultipleOf b.size b.offset
   -- the block lies inside its object

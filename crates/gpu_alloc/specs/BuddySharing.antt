@@ -11,10 +11,12 @@ use Rattle.gpu_alloc_base.specs.NewChunk.{ChunkQuestion, flags_of}
 use Rattle.gpu_alloc_base.specs.Sizes.{next_power_of_two, minimal_size}
 use Rattle.gpu_alloc.specs.State.{Span, Block, TypeState, State, granted_block}
 
--- the size of a block for a request: the least power of two that is not below the request's size and alignment, the atom
--- and the least buddy block
+-- the size of a block for a request: the least power of two that is not below the request's size and alignment, the
+-- atom and the least buddy block
 abbrev pub buddy_size : State → Request → ℕ → ℕ
-buddy_size s r t = next_power_of_two (max (max r.size (r.align_mask + 1)) (max (atom_of s.properties t) (minimal_size s.config (heap_size s.properties t))))
+buddy_size s r t =
+    next_power_of_two (max (max r.size (r.align_mask + 1))
+    (max (atom_of s.properties t) (minimal_size s.config (heap_size s.properties t))))
 
 -- somewhere in a held buddy chunk of the memory type there is room for a block of this size
 abbrev pub HasBuddyPlace : State → ℕ → ℕ → Type 0
@@ -26,7 +28,8 @@ pub record IsPieceFront (s : State) (t size : ℕ) (span : Span) : Type 0 where
   pub length : ℕ
   pub piece : IsFreePiece (IsFreeByte s t BuddyChunk) span.object span.offset length
   pub enough : size ≤ length
-  pub shortest : (object start other : ℕ) → IsFreePiece (IsFreeByte s t BuddyChunk) object start other → size ≤ other → length ≤ other
+  pub shortest : (object start other : ℕ) → IsFreePiece (IsFreeByte s t BuddyChunk) object start other → size ≤ other
+      → length ≤ other
 
 -- the least size of a memory type's next buddy chunk, 0 where there is no such type
 abbrev pub next_chunk_of : Option TypeState → ℕ

@@ -6,8 +6,10 @@ use Rattle.gpu_alloc_types.specs.Properties.{props_at}
 use Rattle.gpu_alloc_base.specs.Case.{Case}
 use Rattle.gpu_alloc_base.specs.NewChunk.{ChunkQuestion, flags_of}
 use Rattle.gpu_alloc_buddy.specs.Buddy.{Fits}
-use Rattle.gpu_alloc.specs.BuddySharing.{buddy_size, buddy_question, buddy_block, front_of, HasBuddyPlace, IsPieceFront, with_span, with_buddy_chunk}
-use Rattle.gpu_alloc.specs.FreeListSharing.{list_size, list_alignment, list_question, list_block, tail_of, latest_number, HasListNumber, HasListPlace, IsRunTail, with_list_chunk}
+use Rattle.gpu_alloc.specs.BuddySharing.{buddy_size, buddy_question, buddy_block, front_of, HasBuddyPlace, IsPieceFront}
+use Rattle.gpu_alloc.specs.BuddySharing.{with_span, with_buddy_chunk}
+use Rattle.gpu_alloc.specs.FreeListSharing.{list_size, list_alignment, list_question, list_block, tail_of}
+use Rattle.gpu_alloc.specs.FreeListSharing.{latest_number, HasListNumber, HasListPlace, IsRunTail, with_list_chunk}
 use Rattle.gpu_alloc.specs.State.{HeldObject, Block, State, granted_block, span_of}
 use Rattle.gpu_alloc.specs.declared.allocator.Strategy.{Strategy}
 use Rattle.gpu_alloc.specs.declared.allocator.Strategy.TheVariants.{OwnObject, InBuddyChunk, InFreeList}
@@ -95,7 +97,8 @@ list_candidate s size alignment t = record {
   object = λ b. b.object;
   IsInPlace = IsTailBlock s t size alignment;
   with_block = λ b. with_span s (span_of b);
-  IsInNewObject = λ b. IsNewBlock s b (list_block s t (latest_number s t + 1) (tail_of b.object (list_question s t size).size size alignment));
+  IsInNewObject = λ b. IsNewBlock s b
+      (list_block s t (latest_number s t + 1) (tail_of b.object (list_question s t size).size size alignment));
   with_object = λ b. with_span (with_list_chunk s t b.object (list_question s t size).size) (span_of b);
 }
 

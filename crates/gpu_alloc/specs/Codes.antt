@@ -49,7 +49,11 @@ span_code =
 
 abbrev pub mapping_code : Coded Mapping
 mapping_code =
-    code_by (ℕ × ℕ) (coded× coded_ℕ coded_ℕ) (λ m. (m.start, m.len)) (λ c. record { start = c.0; len = c.1 }) (λ _. refl)
+    code_by (ℕ × ℕ) (coded× coded_ℕ coded_ℕ) (λ m. (m.start, m.len)) (λ c. record {
+      start =
+          c.0;
+      len = c.1;
+    }) (λ _. refl)
 
 abbrev pub block_code : Coded Block
 block_code =
@@ -77,13 +81,25 @@ type_state_code =
 abbrev pub state_code : Coded State
 state_code =
     code_by (map.FinMap nat_cmp HeldObject × (set.FinSet span_cmp × ((ℕ × List TypeState) × (Config × Properties))))
-    (coded× (map.code coded_ℕ held_code) (coded× (set.code span_code) (coded× (coded× coded_ℕ (coded_list type_state_code)) (coded× config_code properties_code))))
+    (coded× (map.code coded_ℕ held_code)
+    (coded× (set.code span_code)
+    (coded× (coded× coded_ℕ (coded_list type_state_code)) (coded× config_code properties_code))))
     (λ s. (s.held, (s.live, ((s.remaining, s.types), (s.config, s.properties)))))
-    (λ c. record { held = c.0; live = c.1.0; remaining = c.1.1.0.0; types = c.1.1.0.1; config = c.1.1.1.0; properties = c.1.1.1.1 })
+    (λ c. record {
+      held =
+          c.0;
+      live = c.1.0;
+      remaining = c.1.1.0.0;
+      types = c.1.1.0.1;
+      config = c.1.1.1.0;
+      properties = c.1.1.1.1;
+    })
     (λ _. refl)
 
 abbrev pub place_code : Coded Place
-place_code = code_by (ℕ × ℕ) (coded× coded_ℕ coded_ℕ) (λ p. (p.chunk, p.index)) (λ c. record { chunk = c.0; index = c.1 }) (λ _. refl)
+place_code =
+    code_by (ℕ × ℕ) (coded× coded_ℕ coded_ℕ) (λ p. (p.chunk, p.index)) (λ c. record { chunk = c.0; index = c.1 })
+    (λ _. refl)
 
 abbrev pub table_code : Coded Table
 table_code =

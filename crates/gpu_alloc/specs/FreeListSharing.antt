@@ -30,7 +30,8 @@ pub record IsListChunk (s : State) (t number object : ℕ) : Type 0 where
 abbrev pub IsFreeInChunk : State → ℕ → ℕ → ℕ → Type 0
 IsFreeInChunk s t number at = (object : ℕ) × IsFreeByte s t (FreeListChunk number) object at
 
--- somewhere in a held free-list chunk of the memory type there is room for a block of this size, at a multiple of the alignment
+-- somewhere in a held free-list chunk of the memory type there is room for a block of this size, at a multiple of the
+-- alignment
 abbrev pub HasListPlace : State → ℕ → ℕ → ℕ → Type 0
 HasListPlace s t size alignment = (number start : ℕ) × IsListPlace (IsFreeInChunk s t) size alignment number start
 
@@ -43,7 +44,8 @@ pub record IsRunTail (s : State) (t size alignment number : ℕ) (span : Span) :
   pub end : span.offset + span.size ≡ run.end
   pub chunk : IsListChunk s t number span.object
 
--- What a memory type's next free-list chunk has at least, and the number of its latest one; 0 where there is no such type.
+-- What a memory type's next free-list chunk has at least, and the number of its latest one; 0 where there is no such
+-- type.
 
 abbrev pub list_chunk_of : Option TypeState → ℕ
 list_chunk_of None = 0
@@ -82,7 +84,8 @@ list_block s t number span = granted_block s t (FreeListChunk number) span
 
 -- the tail of an object of which nothing is used
 abbrev pub tail_of : ℕ → ℕ → ℕ → ℕ → Span
-tail_of object whole size alignment = record { object = object; offset = tail_start size alignment whole; size = whole - tail_start size alignment whole }
+tail_of object whole size alignment =
+    record { object = object; offset = tail_start size alignment whole; size = whole - tail_start size alignment whole }
 
 -- a memory type's next free-list chunk will have this size at least, and its latest one has the next number
 unfoldable pub with_next_list : List TypeState → ℕ → ℕ → List TypeState
@@ -93,7 +96,8 @@ with_next_list (type ∷ types) (suc t) size = type ∷ with_next_list types t s
 -- one more free-list chunk is held
 abbrev pub with_list_chunk : State → ℕ → ℕ → ℕ → State
 with_list_chunk s t object size = record s {
-  held = map.insert s.held object (record { memory_type = t; counted = size; kind = FreeListChunk (latest_number s t + 1) });
+  held = map.insert s.held object
+      (record { memory_type = t; counted = size; kind = FreeListChunk (latest_number s t + 1) });
   remaining = s.remaining - 1;
   types = with_next_list s.types t (doubled_chunk (largest_list_chunk s t) size);
 }

@@ -1,5 +1,6 @@
 -- What an allocator's fields stand for, and what they keep.
-use Rattle.std.specs.Prelude.{◌≡◌, ◌⊎◌, ℕ, ◌+◌, ◌<◌, ◌^◌, true, List, [], ◌∷◌, map, length, slice_get, sum_by, Some, is_some, IfSome, IsTrue, cond}
+use Rattle.std.specs.Prelude.{◌≡◌, ◌⊎◌, ℕ, ◌+◌, ◌<◌, ◌^◌, true, List, [], ◌∷◌, map, length, slice_get, sum_by, Some}
+use Rattle.std.specs.Prelude.{is_some, IfSome, IsTrue, cond}
 use Rattle.std.specs.FinMap as map_of
 use Rattle.std.specs.FinSet as set
 use Rattle.std.specs.Ordering.{nat_cmp}
@@ -45,7 +46,8 @@ types_in (type ∷ types) (b ∷ buddies) = record type { next_chunk = b.next_ch
 abbrev pub lists_in : List TypeState → List Listing → List TypeState
 lists_in [] lists = []
 lists_in (type ∷ types) [] = []
-lists_in (type ∷ types) (l ∷ lists) = record type { list_chunk = l.next_chunk; number = l.space.latest } ∷ lists_in types lists
+lists_in (type ∷ types) (l ∷ lists) =
+    record type { list_chunk = l.next_chunk; number = l.space.latest } ∷ lists_in types lists
 
 abbrev pub state_in : {A : Type 0} → Limits A → List Heap → List Buddy → List Listing → Table → ℕ → State
 state_in l heaps buddies lists t remaining = record {
@@ -105,7 +107,8 @@ abbrev pub place_of_leaf : Leaf → Place
 place_of_leaf leaf = record { chunk = leaf.chunk; index = leaf.index }
 
 abbrev pub leaf_at : Span → Place → Leaf
-leaf_at span place = record { object = span.object; chunk = place.chunk; offset = span.offset; size = span.size; index = place.index }
+leaf_at span place =
+    record { object = span.object; chunk = place.chunk; offset = span.offset; size = span.size; index = place.index }
 
 -- the held objects with the block's chunk, where it was not among them
 abbrev pub with_chunk_of : map_of.FinMap nat_cmp HeldObject → Leaf → HeldObject → map_of.FinMap nat_cmp HeldObject
@@ -113,10 +116,14 @@ with_chunk_of held leaf chunk = cond (is_some (map_of.get held leaf.object)) hel
 
 -- Both have the same chunks and the same blocks in them, and the table has each block's place.
 pub record IsLinked (t : Table) (b : Buddy) : Type 0 where
-  pub chunks : (key : ℕ) (c : Chunk) → map_of.get b.chunks key ≡ Some c → map_of.get t.held c.object ≡ Some (chunk_object b c)
-  pub objects : (object : ℕ) (h : HeldObject) → IsChunkOf t b.memory_type object h → (key : ℕ) × (map_of.get b.chunks key ≡ Some (record { object = object; size = h.counted }))
-  pub leaves : (leaf : Leaf) → IsLiveLeaf b leaf → IsLiveIn t (span_of_leaf leaf) × (map_of.get t.places (span_of_leaf leaf) ≡ Some (place_of_leaf leaf))
-  pub spans : (span : Span) (h : HeldObject) → IsLiveIn t span → IsChunkOf t b.memory_type span.object h → (place : Place) × ((map_of.get t.places span ≡ Some place) × IsLiveLeaf b (leaf_at span place))
+  pub chunks : (key : ℕ) (c : Chunk) → map_of.get b.chunks key ≡ Some c
+      → map_of.get t.held c.object ≡ Some (chunk_object b c)
+  pub objects : (object : ℕ) (h : HeldObject) → IsChunkOf t b.memory_type object h → (key : ℕ)
+      × (map_of.get b.chunks key ≡ Some (record { object = object; size = h.counted }))
+  pub leaves : (leaf : Leaf) → IsLiveLeaf b leaf → IsLiveIn t (span_of_leaf leaf)
+      × (map_of.get t.places (span_of_leaf leaf) ≡ Some (place_of_leaf leaf))
+  pub spans : (span : Span) (h : HeldObject) → IsLiveIn t span → IsChunkOf t b.memory_type span.object h
+      → (place : Place) × ((map_of.get t.places span ≡ Some place) × IsLiveLeaf b (leaf_at span place))
 
 -- what a memory type's buddy allocator was given
 pub record IsForType (c : Config) (p : Properties) (index : ℕ) (b : Buddy) : Type 0 where
@@ -159,14 +166,18 @@ no_place = record { chunk = 0; index = 0 }
 
 -- the held objects with the block's chunk, where it was not among them
 abbrev pub with_chunk_of_slot : map_of.FinMap nat_cmp HeldObject → Slot → HeldObject → map_of.FinMap nat_cmp HeldObject
-with_chunk_of_slot held slot chunk = cond (is_some (map_of.get held slot.object)) held (map_of.insert held slot.object chunk)
+with_chunk_of_slot held slot chunk =
+    cond (is_some (map_of.get held slot.object)) held (map_of.insert held slot.object chunk)
 
 -- Both have the same chunks under the same numbers, and the same blocks in them.
 pub record IsListLinked (t : Table) (l : Listing) : Type 0 where
-  pub chunks : (number : ℕ) (c : Chunk) → map_of.get l.space.chunks number ≡ Some c → map_of.get t.held c.object ≡ Some (list_object l number c)
-  pub objects : (number object : ℕ) (h : HeldObject) → IsNumberedChunk t l.memory_type number object h → map_of.get l.space.chunks number ≡ Some (record { object = object; size = h.counted })
+  pub chunks : (number : ℕ) (c : Chunk) → map_of.get l.space.chunks number ≡ Some c
+      → map_of.get t.held c.object ≡ Some (list_object l number c)
+  pub objects : (number object : ℕ) (h : HeldObject) → IsNumberedChunk t l.memory_type number object h
+      → map_of.get l.space.chunks number ≡ Some (record { object = object; size = h.counted })
   pub slots : (slot : Slot) → IsLiveSlot l.space slot → IsLiveIn t (span_of_slot slot)
-  pub spans : (span : Span) (number : ℕ) (h : HeldObject) → IsLiveIn t span → IsNumberedChunk t l.memory_type number span.object h → IsLiveSlot l.space (slot_at span number)
+  pub spans : (span : Span) (number : ℕ) (h : HeldObject) → IsLiveIn t span
+      → IsNumberedChunk t l.memory_type number span.object h → IsLiveSlot l.space (slot_at span number)
 
 -- what a memory type's free list was given
 pub record IsListForType (c : Config) (p : Properties) (index : ℕ) (l : Listing) : Type 0 where
@@ -194,7 +205,8 @@ pub record IsBooked (p : Properties) (heaps : List Heap) (t : Table) (remaining 
   pub small : AreSmall (map_of.entries t.held)
   pub ledgers : AreLedgers p heaps (map_of.entries t.held)
 
-pub record IsConsistent (c : Config) (p : Properties) (heaps : List Heap) (buddies : List Buddy) (lists : List Listing) (t : Table) (remaining : ℕ) : Type 0 where
+pub record IsConsistent (c : Config) (p : Properties) (heaps : List Heap) (buddies : List Buddy) (lists : List Listing)
+    (t : Table) (remaining : ℕ) : Type 0 where
   pub books : IsBooked p heaps t remaining
   pub shared : HasBuddies c p t buddies
   pub listed : HasLists c p t lists

@@ -42,4 +42,5 @@ first_listing c p t =
     list.opened (starting_size c heap atom) (final_size c heap atom) t (props_at p t) atom
 
 abbrev pub AreFirstListings : Config → Properties → List Listing → Type 0
-AreFirstListings c p lists = (t : ℕ) → IfSome (slice_get lists t) (λ l. (l ≡ first_listing c p t) × list_sound.IsSound l)
+AreFirstListings c p lists =
+    (t : ℕ) → IfSome (slice_get lists t) (λ l. (l ≡ first_listing c p t) × list_sound.IsSound l)

@@ -1,5 +1,6 @@
 -- How a block comes back.
-use Rattle.std.specs.Prelude.{◌≡◌, ◌≢◌, ◌⊎◌, ◌↔◌, ℕ, zero, suc, ◌+◌, Bool, true, false, List, [], ◌∷◌, ◌++◌, length, map, Option, Some, None}
+use Rattle.std.specs.Prelude.{◌≡◌, ◌≢◌, ◌⊎◌, ◌↔◌, ℕ, zero, suc, ◌+◌, Bool, true, false, List, [], ◌∷◌, ◌++◌, length}
+use Rattle.std.specs.Prelude.{map, Option, Some, None}
 use Rattle.std.specs.List.{Contains}
 use Rattle.std.specs.FinMap as finite
 use Rattle.std.specs.FinSet as set
@@ -34,7 +35,9 @@ without_objects objects (name ∷ names) = without_objects (put objects name Non
 
 -- these objects go back to the device, in this order
 abbrev pub LetsGo : State → List ℕ → List Event → State → Type 0
-LetsGo s gone es new = (es ≡ map Deallocated gone) × (new ≡ record s { held = without_all s.held gone; remaining = s.remaining + length gone })
+LetsGo s gone es new =
+    (es ≡ map Deallocated gone)
+    × (new ≡ record s { held = without_all s.held gone; remaining = s.remaining + length gone })
 
 -- Free-list chunks of a memory type.
 
@@ -53,14 +56,16 @@ MayGo s t keep_last number = IsUnusedChunk s t number × (keep_last ≡ true →
 -- these are the objects of the chunks of these numbers
 abbrev pub AreObjectsOf : State → ℕ → List ℕ → List ℕ → Type 0
 AreObjectsOf s t [] [] = Unit {0}
-AreObjectsOf s t (number ∷ numbers) (object ∷ objects) = IsListChunk s t number object × AreObjectsOf s t numbers objects
+AreObjectsOf s t (number ∷ numbers) (object ∷ objects) =
+    IsListChunk s t number object × AreObjectsOf s t numbers objects
 AreObjectsOf s t [] (object ∷ objects) = ⊥
 AreObjectsOf s t (number ∷ numbers) [] = ⊥
 
 -- the objects of all chunks that may go, in rising number
 abbrev pub AreChunksGone : State → ℕ → Bool → List ℕ → Type 0
 AreChunksGone s t keep_last gone =
-    (numbers : List ℕ) × (AreRisingNumbers numbers × (((number : ℕ) → Contains numbers number ↔ MayGo s t keep_last number) × AreObjectsOf s t numbers gone))
+    (numbers : List ℕ) × (AreRisingNumbers numbers ×
+    (((number : ℕ) → Contains numbers number ↔ MayGo s t keep_last number) × AreObjectsOf s t numbers gone))
 
 -- What goes with a block whose span was taken off, by what its object is held for: an object of its own, or a buddy
 -- chunk without a live block.
@@ -68,26 +73,31 @@ abbrev pub GoesWith : Kind → State → ℕ → List ℕ → Type 0
 GoesWith Dedicated s object gone = gone ≡ object ∷ []
 GoesWith Imported s object gone = gone ≡ object ∷ []
 GoesWith BuddyChunk s object gone = (IsUnused s object × (gone ≡ object ∷ [])) ⊎ ((IsUnused s object → ⊥) × (gone ≡ []))
-GoesWith (FreeListChunk number) s object gone = (chunk : HeldObject) × (finite.get s.held object ≡ Some chunk) × AreChunksGone s chunk.memory_type true gone
+GoesWith (FreeListChunk number) s object gone =
+    (chunk : HeldObject) × (finite.get s.held object ≡ Some chunk) × AreChunksGone s chunk.memory_type true gone
 
 abbrev pub Frees : State → Block → List Event → State → Type 0
-Frees s b es new = (gone : List ℕ) × GoesWith b.kind (without_span s b) b.object gone × LetsGo (without_span s b) gone es new
+Frees s b es new =
+    (gone : List ℕ) × GoesWith b.kind (without_span s b) b.object gone × LetsGo (without_span s b) gone es new
 
 -- What a return makes of the device's objects: what goes with the block goes.
 abbrev pub ObjectsFreed : State → Block → (ℕ → Option Object) → (ℕ → Option Object) → Type 0
-ObjectsFreed s b old new = (gone : List ℕ) × GoesWith b.kind (without_span s b) b.object gone × (new ≡ without_objects old gone)
+ObjectsFreed s b old new =
+    (gone : List ℕ) × GoesWith b.kind (without_span s b) b.object gone × (new ≡ without_objects old gone)
 
 -- What a cleanup gives back: each memory type's chunks without a live block, the types in their order.
 
 abbrev pub AreAllGone : State → ℕ → List ℕ → Type 0
 AreAllGone s zero gone = gone ≡ []
-AreAllGone s (suc t) gone = (earlier own : List ℕ) × (gone ≡ earlier ++ own) × AreAllGone s t earlier × AreChunksGone s t false own
+AreAllGone s (suc t) gone =
+    (earlier own : List ℕ) × (gone ≡ earlier ++ own) × AreAllGone s t earlier × AreChunksGone s t false own
 
 abbrev pub Cleans : State → List Event → State → Type 0
 Cleans s es new = (gone : List ℕ) × AreAllGone s (length s.properties.memory_types) gone × LetsGo s gone es new
 
 abbrev pub ObjectsCleaned : State → (ℕ → Option Object) → (ℕ → Option Object) → Type 0
-ObjectsCleaned s old new = (gone : List ℕ) × AreAllGone s (length s.properties.memory_types) gone × (new ≡ without_objects old gone)
+ObjectsCleaned s old new =
+    (gone : List ℕ) × AreAllGone s (length s.properties.memory_types) gone × (new ≡ without_objects old gone)
 
 -- What a cleanup takes: a free list's chunk in which nothing is live.
 abbrev pub IsCleanedUp : State → ℕ → HeldObject → Type 0

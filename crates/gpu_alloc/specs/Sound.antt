@@ -17,8 +17,8 @@ is_list_chunk (FreeListChunk number) = true
 abbrev pub HasLiveSpan : State → ℕ → Type 0
 HasLiveSpan s object = (span : Span) × IsLive s span × (span.object ≡ object)
 
--- how a live span lies in an object that is held so and counts so many bytes: it is the whole of an object of its own; of an import it
--- has as many bytes, and where they lie, agreement says; and else it lies inside
+-- how a live span lies in an object that is held so and counts so many bytes: it is the whole of an object of its own;
+-- of an import it has as many bytes, and where they lie, agreement says; and else it lies inside
 abbrev pub LiesIn : Kind → ℕ → Span → Type 0
 LiesIn Dedicated counted span = (span.offset ≡ 0) × (span.size ≡ counted)
 LiesIn Imported counted span = span.size ≡ counted
@@ -29,7 +29,8 @@ pub record IsSound (s : State) : Type 0 where
   -- a live span is not empty
   pub nonempty : (span : Span) → IsLive s span → 0 < span.size
   -- it lies in its object, which is held
-  pub inside : (span : Span) → IsLive s span → (h : HeldObject) × (map.get s.held span.object ≡ Some h) × LiesIn h.kind h.counted span
+  pub inside : (span : Span) → IsLive s span → (h : HeldObject) × (map.get s.held span.object ≡ Some h)
+      × LiesIn h.kind h.counted span
   -- in an object of one block it is alone
   pub alone : (object : ℕ) (h : HeldObject) → map.get s.held object ≡ Some h → is_shared h.kind ≡ false
       → (x y : Span) → IsLive s x → IsLive s y → x.object ≡ object → y.object ≡ object → x ≡ y

@@ -15,8 +15,8 @@ pub record Place : Type 0 where
   pub chunk : ℕ
   pub index : ℕ
 
--- the held objects by name, the live spans, where each live span's block stands, and for how many more spans and objects
--- there is room
+-- the held objects by name, the live spans, where each live span's block stands, and for how many more spans and
+-- objects there is room
 pub record Table : Type 0 where
   pub held : map_of.FinMap nat_cmp HeldObject
   pub live : set.FinSet span_cmp

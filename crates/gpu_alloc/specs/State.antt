@@ -1,5 +1,6 @@
 -- What an allocator holds and has given out.
-use Rattle.std.specs.Prelude.{◌≡◌, ◌≢◌, ◌⊎◌, ℕ, ◌+◌, ◌≤◌, ◌==◌, Bool, true, false, List, [], ◌∷◌, cond, Option, Some, None, IsTrue, sum_by}
+use Rattle.std.specs.Prelude.{◌≡◌, ◌≢◌, ◌⊎◌, ℕ, ◌+◌, ◌≤◌, ◌==◌, Bool, true, false, List, [], ◌∷◌, cond, Option, Some}
+use Rattle.std.specs.Prelude.{None, IsTrue, sum_by}
 use Rattle.std.specs.FinMap as map
 use Rattle.std.specs.FinSet as set
 use Rattle.std.specs.declared.cmp.Ordering.{Ordering}
@@ -41,8 +42,8 @@ AreApart a b = (a.object ≢ b.object) ⊎ ((a.offset + a.size ≤ b.offset) ⊎
 abbrev pub span_cmp : Span → Span → Ordering
 span_cmp a b = slice_cmp nat_cmp (span_numbers a) (span_numbers b)
 
--- A block: its span, the memory type of its object with that type's property bits and atom, what its object is held for,
--- and what it has mapped of it.
+-- A block: its span, the memory type of its object with that type's property bits and atom, what its object is held
+-- for, and what it has mapped of it.
 pub record Block : Type 0 where
   pub object : ℕ
   pub offset : ℕ

@@ -1,16 +1,19 @@
 //! The allocator.
 
-ghost use Rattle.std.specs.Prelude.{◌≡◌, ◌↔◌, ℕ, ◌+◌, ◌/◌, ◌^◌, ◌<◌, true, length, List, All, IsTrue, IfOk, IfErr, OnErr, Some, None, cond, false};
+ghost use Rattle.std.specs.Prelude.{◌≡◌, ◌↔◌, ℕ, ◌+◌, ◌/◌, ◌^◌, ◌<◌, true, length, List, All, IsTrue, IfOk, IfErr};
+ghost use Rattle.std.specs.Prelude.{OnErr, Some, None, cond, false};
 ghost use Rattle.std.specs.FinMap as map;
 ghost use Rattle.std.specs.FinSet as set;
 ghost use Rattle.gpu_alloc_types.specs.Properties.{IsUsable, properties_of, heap_size};
 ghost use Rattle.gpu_alloc_types.specs.Flags.{has_bit, usage_bits};
 ghost use Rattle.gpu_alloc_types.specs.Device.{Event, Chain};
 ghost use Rattle.gpu_alloc.specs.Agreement.{Agrees};
-ghost use Rattle.gpu_alloc.specs.Allocation.{passing, strategy, unhinted, fits_a_chunk, Tries, TriesBy, TriesAll, Allocates, ObjectsAfter, ObjectsTried, IsGranted, GrantsTried};
+ghost use Rattle.gpu_alloc.specs.Allocation.{passing, strategy, unhinted, fits_a_chunk, Tries, TriesBy, TriesAll};
+ghost use Rattle.gpu_alloc.specs.Allocation.{Allocates, ObjectsAfter, ObjectsTried, IsGranted, GrantsTried};
 ghost use Rattle.gpu_alloc.specs.declared.allocator.Strategy.TheVariants.{OwnObject, InBuddyChunk, InFreeList};
 ghost use Rattle.gpu_alloc.specs.Opening.{opened};
-ghost use Rattle.gpu_alloc.specs.Release.{Frees, ObjectsFreed, LetsGo, Cleans, ObjectsCleaned, AreChunksGone, IsCleanedUp, without_span, without_objects};
+ghost use Rattle.gpu_alloc.specs.Release.{Frees, ObjectsFreed, LetsGo, Cleans, ObjectsCleaned, AreChunksGone};
+ghost use Rattle.gpu_alloc.specs.Release.{IsCleanedUp, without_span, without_objects};
 ghost use Rattle.gpu_alloc.specs.Request.{IsAskable};
 ghost use Rattle.gpu_alloc.specs.Sound as Sound;
 ghost use Rattle.gpu_alloc.specs.State.{HeldObject, Span, IsLive, IsOwned, is_shared, ledger, total};
@@ -66,17 +69,20 @@ impl<M: MemoryObject, A: Allocator> Model for GpuAllocator<M, A> {
 
     ghost use Rattle.gpu_alloc.specs.Inside.{state_in, properties_in, IsConsistent};
 
-    ghost view = { λ a. state_in a.limits a.heaps.items a.buddies.items a.free_lists.items a.spans a.allocations_remains };
+    ghost view = { λ a.
+        state_in a.limits a.heaps.items a.buddies.items a.free_lists.items a.spans a.allocations_remains };
 
-    ghost invariant = { λ a. IsConsistent a.limits.config (properties_in a.limits a.heaps.items) a.heaps.items a.buddies.items a.free_lists.items a.spans a.allocations_remains };
+    ghost invariant = { λ a. IsConsistent a.limits.config (properties_in a.limits a.heaps.items) a.heaps.items
+        a.buddies.items a.free_lists.items a.spans a.allocations_remains };
 }
 
 impl<M: MemoryObject, A: Allocator + Copy> GpuAllocator<M, A> {
-    /// An allocator that holds nothing, for a device with these properties, which have to be that device's own. The device
-    /// is not asked. It may hold `max_memory_allocation_count` objects, and `config` decides which requests share one.
+    /// An allocator that holds nothing, for a device with these properties, which have to be that device's own. The
+    /// device is not asked. It may hold `max_memory_allocation_count` objects, and `config` decides which requests
+    /// share one.
     ///
-    /// `alloc` gives the memory of its tables. The properties have to be usable (`DeviceProperties::is_usable`). The only
-    /// refusal is `OutOfHostMemory`.
+    /// `alloc` gives the memory of its tables. The properties have to be usable (`DeviceProperties::is_usable`). The
+    /// only refusal is `OutOfHostMemory`.
     pub fn new(
         alloc: A,
         config: Config,
@@ -131,39 +137,38 @@ impl<M: MemoryObject, A: Allocator + Copy> GpuAllocator<M, A> {
 }
 
 impl<M: MemoryObject, A: Allocator> GpuAllocator<M, A> {
-    /// Allocates a block as the request asks: a memory object of its own where it is large, and else a place in a shared one.
+    /// Allocates a block as the request asks: a memory object of its own where it is large, and else a place in a
+    /// shared one.
     ///
-    /// A request of at least the configuration's `dedicated_threshold`, or of the 32nd part of its heap where that is less,
-    /// gets an object of its own: the block starts at offset 0 and has exactly the request's size. With the usage
+    /// A request of at least the configuration's `dedicated_threshold`, or of the 32nd part of its heap where that is
+    /// less, gets an object of its own: the block starts at offset 0 and has exactly the request's size. With the usage
     /// `TRANSIENT` it is the transient threshold in place of that one, and a request that is too large for a largest
     /// free-list chunk in whole atoms gets an object of its own too. (The thresholds are the original crate's rule.)
     ///
     /// Any other request gets a block of a shared chunk. Each memory type has a buddy allocator and a free list.
-    /// Without `TRANSIENT` it is a buddy chunk: the block's size is the least power of two, in bytes, that is not below the
-    /// request's size and alignment, the type's atom and the least buddy block. It starts at a multiple of its size, in the
-    /// shortest free place that suffices. Where none does, a chunk is asked for: the greater of twice the block and the latest
-    /// buddy chunk of the type.
-    /// With `TRANSIENT` it is a free list's chunk: the block is the tail of the last free run with room, all from the last
-    /// byte that is aligned (to the request's alignment and the atom) and leaves the size in whole atoms. Where no run
-    /// has room, a chunk is asked for that is twice as large as the latest one of the free list, or larger where the
-    /// request wants it, cut at the largest (`FreeListAllocator::alloc` tells more).
+    /// Without `TRANSIENT` it is a buddy chunk: the block's size is the least power of two, in bytes, that is not below
+    /// the request's size and alignment, the type's atom and the least buddy block. It starts at a multiple of its
+    /// size, in the shortest free place that suffices. Where none does, a chunk is asked for: the greater of twice the
+    /// block and the latest buddy chunk of the type. With `TRANSIENT` it is a free list's chunk: the block is the tail
+    /// of the last free run with room, all from the last byte that is aligned (to the request's alignment and the atom)
+    /// and leaves the size in whole atoms. Where no run has room, a chunk is asked for that is twice as large as the
+    /// latest one of the free list, or larger where the request wants it, cut at the largest
+    /// (`FreeListAllocator::alloc` tells more).
     ///
-    /// A chunk is mapped whole where the host sees the type. It may be larger than `max_memory_allocation_size`; the device
-    /// decides. A block lies inside its object, and is not mapped. Each question to the device carries `DEVICE_ADDRESS`
-    /// exactly where the device has the feature (the original crate's rule).
+    /// A chunk is mapped whole where the host sees the type. It may be larger than `max_memory_allocation_size`; the
+    /// device decides. A block lies inside its object, and is not mapped. Each question to the device carries
+    /// `DEVICE_ADDRESS` exactly where the device has the feature (the original crate's rule).
     ///
-    /// The request has to be askable (`Request::is_askable`, for the device's `buffer_device_address`), and the device has
-    /// to be the one that this allocator has served, so that the two agree. The refusals, in the order in which they are
-    /// tested (the original crate's):
-    /// `OutOfDeviceMemory` where the size is over the limit given to `new`;
-    /// `NoCompatibleMemoryTypes` where no memory type among the request's serves its usage.
-    /// Then the memory types are tried in rank. One is passed where its heap is smaller than the request, where a chunk for
-    /// it would have 2^64 bytes or more, or where the device answers `OutOfDeviceMemory`. The first that is not passed gives
-    /// the block, or `TooManyObjects` where an object is wanted and no more may be held (or the numbers of free-list chunks
-    /// are spent, after 2^64 - 1 of them), or `OutOfHostMemory` where the host's memory was refused to the allocator or to
-    /// the device, or a new chunk could not be mapped. Where all are passed
-    /// it is `OutOfDeviceMemory`. After a refusal the allocator and the device's objects are as before: a chunk that was
-    /// made is given back.
+    /// The request has to be askable (`Request::is_askable`, for the device's `buffer_device_address`), and the device
+    /// has to be the one that this allocator has served, so that the two agree. The refusals, in the order in which
+    /// they are tested (the original crate's): `OutOfDeviceMemory` where the size is over the limit given to `new`;
+    /// `NoCompatibleMemoryTypes` where no memory type among the request's serves its usage. Then the memory types are
+    /// tried in rank. One is passed where its heap is smaller than the request, where a chunk for it would have 2^64
+    /// bytes or more, or where the device answers `OutOfDeviceMemory`. The first that is not passed gives the block, or
+    /// `TooManyObjects` where an object is wanted and no more may be held (or the numbers of free-list chunks are
+    /// spent, after 2^64 - 1 of them), or `OutOfHostMemory` where the host's memory was refused to the allocator or to
+    /// the device, or a new chunk could not be mapped. Where all are passed it is `OutOfDeviceMemory`. After a refusal
+    /// the allocator and the device's objects are as before: a chunk that was made is given back.
     pub fn alloc<D: MemoryDevice<M>>(
         &mut self,
         device: &mut D,
@@ -173,7 +178,8 @@ impl<M: MemoryObject, A: Allocator> GpuAllocator<M, A> {
         requires agrees { Agrees self.old (D.properties device.old) (D.objects device.old) }
 
         // What was asked of the device, the answer and the new state are what the decision says.
-        ensures decided { (es : List Event) × Chain D.step device.old es device.new × Allocates self.old request None es result self.new }
+        ensures decided { (es : List Event) × Chain D.step device.old es device.new
+            × Allocates self.old request None es result self.new }
         ensures objects { ObjectsAfter self.old result self.new (D.objects device.old) (D.objects device.new) }
         ensures agrees { Agrees self.new (D.properties device.new) (D.objects device.new) }
 
@@ -190,9 +196,9 @@ impl<M: MemoryObject, A: Allocator> GpuAllocator<M, A> {
 
     /// Allocates a block as [`alloc`](GpuAllocator::alloc) does, with a hint that it wants a memory object of its own.
     ///
-    /// With `Required` it gets one: where no more objects may be held it is then `TooManyObjects`, after the test of its
-    /// size and before any memory type is looked at. With `Preferred` it gets one where its size is at least the configuration's
-    /// `preferred_dedicated_threshold` or `dedicated_threshold`, and else what `alloc` gives.
+    /// With `Required` it gets one: where no more objects may be held it is then `TooManyObjects`, after the test of
+    /// its size and before any memory type is looked at. With `Preferred` it gets one where its size is at least the
+    /// configuration's `preferred_dedicated_threshold` or `dedicated_threshold`, and else what `alloc` gives.
     ///
     /// The conditions and the refusals are those of `alloc`.
     pub fn alloc_with_dedicated<D: MemoryDevice<M>>(
@@ -205,7 +211,8 @@ impl<M: MemoryObject, A: Allocator> GpuAllocator<M, A> {
         requires agrees { Agrees self.old (D.properties device.old) (D.objects device.old) }
 
         // What was asked of the device, the answer and the new state are what the decision says.
-        ensures decided { (es : List Event) × Chain D.step device.old es device.new × Allocates self.old request (Some dedicated) es result self.new }
+        ensures decided { (es : List Event) × Chain D.step device.old es device.new
+            × Allocates self.old request (Some dedicated) es result self.new }
         ensures objects { ObjectsAfter self.old result self.new (D.objects device.old) (D.objects device.new) }
         ensures agrees { Agrees self.new (D.properties device.new) (D.objects device.new) }
 
@@ -230,7 +237,8 @@ impl<M: MemoryObject, A: Allocator> GpuAllocator<M, A> {
         requires askable { IsAskable (self.old.properties).buffer_device_address request }
         requires agrees { Agrees self.old (D.properties device.old) (D.objects device.old) }
 
-        ensures decided { (es : List Event) × Chain D.step device.old es device.new × Allocates self.old request hint es result self.new }
+        ensures decided { (es : List Event) × Chain D.step device.old es device.new
+            × Allocates self.old request hint es result self.new }
         ensures objects { ObjectsAfter self.old result self.new (D.objects device.old) (D.objects device.new) }
         ensures agrees { Agrees self.new (D.properties device.new) (D.objects device.new) }
 
@@ -264,7 +272,8 @@ impl<M: MemoryObject, A: Allocator> GpuAllocator<M, A> {
         requires known { All (λ t. t < length (self.old.properties).memory_types) candidates.now }
         requires agrees { Agrees self.old (D.properties device.old) (D.objects device.old) }
 
-        ensures tries { (es : List Event) × Chain D.step device.old es device.new × TriesAll self.old request hint candidates.now es result self.new }
+        ensures tries { (es : List Event) × Chain D.step device.old es device.new
+            × TriesAll self.old request hint candidates.now es result self.new }
         ensures objects { ObjectsAfter self.old result self.new (D.objects device.old) (D.objects device.new) }
         ensures agrees { Agrees self.new (D.properties device.new) (D.objects device.new) }
 
@@ -293,7 +302,8 @@ impl<M: MemoryObject, A: Allocator> GpuAllocator<M, A> {
         requires known { memory_type < length (self.old.properties).memory_types }
         requires agrees { Agrees self.old (D.properties device.old) (D.objects device.old) }
 
-        ensures tries { (es : List Event) × Chain D.step device.old es device.new × Tries self.old request hint memory_type es result self.new }
+        ensures tries { (es : List Event) × Chain D.step device.old es device.new
+            × Tries self.old request hint memory_type es result self.new }
         ensures objects { ObjectsTried self.old result self.new (D.objects device.old) (D.objects device.new) }
         ensures agrees { Agrees self.new (D.properties device.new) (D.objects device.new) }
 
@@ -370,7 +380,8 @@ impl<M: MemoryObject, A: Allocator> GpuAllocator<M, A> {
         requires known { memory_type < length (self.old.properties).memory_types }
         requires agrees { Agrees self.old (D.properties device.old) (D.objects device.old) }
 
-        ensures tries { (es : List Event) × Chain D.step device.old es device.new × TriesBy OwnObject self.old request memory_type es result self.new }
+        ensures tries { (es : List Event) × Chain D.step device.old es device.new
+            × TriesBy OwnObject self.old request memory_type es result self.new }
         ensures objects { ObjectsTried self.old result self.new (D.objects device.old) (D.objects device.new) }
         ensures agrees { Agrees self.new (D.properties device.new) (D.objects device.new) }
 
@@ -432,7 +443,8 @@ impl<M: MemoryObject, A: Allocator> GpuAllocator<M, A> {
         requires known { memory_type < length (self.old.properties).memory_types }
         requires agrees { Agrees self.old (D.properties device.old) (D.objects device.old) }
 
-        ensures tries { (es : List Event) × Chain D.step device.old es device.new × TriesBy InBuddyChunk self.old request memory_type es result self.new }
+        ensures tries { (es : List Event) × Chain D.step device.old es device.new
+            × TriesBy InBuddyChunk self.old request memory_type es result self.new }
         ensures objects { ObjectsTried self.old result self.new (D.objects device.old) (D.objects device.new) }
         ensures agrees { Agrees self.new (D.properties device.new) (D.objects device.new) }
 
@@ -496,7 +508,8 @@ impl<M: MemoryObject, A: Allocator> GpuAllocator<M, A> {
         requires fits { fits_a_chunk self.old request memory_type ≡ true }
         requires agrees { Agrees self.old (D.properties device.old) (D.objects device.old) }
 
-        ensures tries { (es : List Event) × Chain D.step device.old es device.new × TriesBy InFreeList self.old request memory_type es result self.new }
+        ensures tries { (es : List Event) × Chain D.step device.old es device.new
+            × TriesBy InFreeList self.old request memory_type es result self.new }
         ensures objects { ObjectsTried self.old result self.new (D.objects device.old) (D.objects device.new) }
         ensures agrees { Agrees self.new (D.properties device.new) (D.objects device.new) }
 
@@ -555,14 +568,14 @@ impl<M: MemoryObject, A: Allocator> GpuAllocator<M, A> {
         self.heaps[self.limits.heap_index(memory_type)].size()
     }
 
-    /// Takes a block back. An object of its own goes back to the device, and so does a buddy chunk in which no other block
-    /// is live. With a block of a free list each chunk of that list goes in which no block is live, the oldest first, but not
-    /// the one in which the list's last free run lies (the original crate's rule); [`cleanup`](GpuAllocator::cleanup) gives
-    /// that one back. For each object that goes, one more may be held, and the ledger of its heap is lowered by its size. Any
-    /// other chunk stays, and joins what is free in it.
+    /// Takes a block back. An object of its own goes back to the device, and so does a buddy chunk in which no other
+    /// block is live. With a block of a free list each chunk of that list goes in which no block is live, the oldest
+    /// first, but not the one in which the list's last free run lies (the original crate's rule);
+    /// [`cleanup`](GpuAllocator::cleanup) gives that one back. For each object that goes, one more may be held, and the
+    /// ledger of its heap is lowered by its size. Any other chunk stays, and joins what is free in it.
     ///
-    /// The block has to be live here (`owns` tells), and the device has to be the one that this allocator has served, so
-    /// that the two agree. It takes no memory and cannot fail.
+    /// The block has to be live here (`owns` tells), and the device has to be the one that this allocator has served,
+    /// so that the two agree. It takes no memory and cannot fail.
     pub fn dealloc<D: MemoryDevice<M>>(&mut self, device: &mut D, block: MemoryBlock<M>)
         requires owned { IsOwned self.old block }
         requires agrees { Agrees self.old (D.properties device.old) (D.objects device.old) }
@@ -675,13 +688,15 @@ impl<M: MemoryObject, A: Allocator> GpuAllocator<M, A> {
         self.free_lists[memory_type as usize].free(FreeListBlock::new(memory, slot));
     }
 
-    /// Gives a memory type's free-list chunks in which no block is live back to the device, the oldest first, but not the
-    /// one in which the last run lies where this one is kept.
+    /// Gives a memory type's free-list chunks in which no block is live back to the device, the oldest first, but not
+    /// the one in which the last run lies where this one is kept.
     fn give_back<D: MemoryDevice<M>>(&mut self, device: &mut D, memory_type: u32, keep_last: bool)
         requires known { memory_type < length (self.old.properties).memory_types }
         requires agrees { Agrees self.old (D.properties device.old) (D.objects device.old) }
 
-        ensures gives { (gone : List ℕ) × (es : List Event) × Chain D.step device.old es device.new × AreChunksGone self.old memory_type keep_last gone × LetsGo self.old gone es self.new × (D.objects device.new ≡ without_objects (D.objects device.old) gone) }
+        ensures gives { (gone : List ℕ) × (es : List Event) × Chain D.step device.old es device.new
+            × AreChunksGone self.old memory_type keep_last gone × LetsGo self.old gone es self.new
+            × (D.objects device.new ≡ without_objects (D.objects device.old) gone) }
         ensures agrees { Agrees self.new (D.properties device.new) (D.objects device.new) }
         ensures total { total self.new ≡ total self.old }
     {
@@ -696,11 +711,11 @@ impl<M: MemoryObject, A: Allocator> GpuAllocator<M, A> {
         }
     }
 
-    /// Gives every free-list chunk in which no block is live back to the device: by memory type, and then the oldest first.
-    /// For each, one more object may be held, and the ledger of its heap is lowered by its size.
+    /// Gives every free-list chunk in which no block is live back to the device: by memory type, and then the oldest
+    /// first. For each, one more object may be held, and the ledger of its heap is lowered by its size.
     ///
-    /// Where no block is live, nothing is held afterwards, and every ledger is 0. The device has to be the one that this
-    /// allocator has served, so that the two agree. It takes no memory and cannot fail.
+    /// Where no block is live, nothing is held afterwards, and every ledger is 0. The device has to be the one that
+    /// this allocator has served, so that the two agree. It takes no memory and cannot fail.
     pub fn cleanup<D: MemoryDevice<M>>(&mut self, device: &mut D)
         requires agrees { Agrees self.old (D.properties device.old) (D.objects device.old) }
 
@@ -708,8 +723,10 @@ impl<M: MemoryObject, A: Allocator> GpuAllocator<M, A> {
         ensures objects { ObjectsCleaned self.old (D.objects device.old) (D.objects device.new) }
         ensures agrees { Agrees self.new (D.properties device.new) (D.objects device.new) }
         ensures total { total self.new ≡ total self.old }
-        ensures left { (object : ℕ) (h : HeldObject) → map.get self.new.held object ≡ Some h ↔ ((map.get self.old.held object ≡ Some h) × (IsCleanedUp self.old object h → ⊥)) }
-        ensures ends { ((span : Span) → IsLive self.old span → ⊥) → (self.new.held ≡ map.empty) × ((heap : ℕ) → ledger self.new heap ≡ 0) }
+        ensures left { (object : ℕ) (h : HeldObject) → map.get self.new.held object ≡ Some h
+            ↔ ((map.get self.old.held object ≡ Some h) × (IsCleanedUp self.old object h → ⊥)) }
+        ensures ends { ((span : Span) → IsLive self.old span → ⊥) → (self.new.held ≡ map.empty)
+            × ((heap : ℕ) → ledger self.new heap ≡ 0) }
         ensures sound { Sound.IsSound self.new }
     {
         let count = self.limits.memory_types.len() as u32;
@@ -728,8 +745,8 @@ impl<M: MemoryObject, A: Allocator> GpuAllocator<M, A> {
 
     /// Whether a block is live here: its object, span, memory type and kind are. Which allocator made it is not asked.
     ///
-    /// Its contract also tells, of every allocator, that live blocks are apart and lie in their objects, that an object of one
-    /// block has no other, and that no object but a chunk of a free list is held without one.
+    /// Its contract also tells, of every allocator, that live blocks are apart and lie in their objects, that an object
+    /// of one block has no other, and that no object but a chunk of a free list is held without one.
     pub fn owns(&self, block: &MemoryBlock<M>) -> bool
         ensures owned { IsTrue result ↔ IsOwned self.now block.now }
         ensures sound { Sound.IsSound self.now }

@@ -12,13 +12,15 @@ ghost use Rattle.gpu_alloc.specs.FreeBytes.{IsFreeByte};
 ghost use Rattle.gpu_alloc_freelist.specs.FreeList.{HasPlace};
 ghost use Rattle.gpu_alloc_freelist.specs.FreeListState.{Space, IsFreeIn};
 ghost use Rattle.gpu_alloc_base.specs.FreeRuns.{IsFreeRun, IsSpaced, HasRoom, tail_start};
-ghost use Rattle.gpu_alloc.specs.FreeListSharing.{IsFreeInChunk, HasListPlace, list_size, list_alignment, list_question};
+ghost use Rattle.gpu_alloc.specs.FreeListSharing.{IsFreeInChunk, HasListPlace, list_size, list_alignment};
+ghost use Rattle.gpu_alloc.specs.FreeListSharing.{list_question};
 ghost use Rattle.gpu_alloc_base.specs.declared.region.FreeListRegion.{FreeListRegion};
 ghost use Rattle.gpu_alloc_base.specs.Pieces.{IsCanonical};
 ghost use Rattle.gpu_alloc_base.specs.AlignMasks.{IsAlignMask};
 ghost use Rattle.gpu_alloc.specs.Samples.{one_type, over, bytes_for, buddy_config};
 ghost use Rattle.gpu_alloc.specs.BuddySharing.{buddy_size, buddy_question, with_buddy_chunk};
-ghost use Rattle.gpu_alloc_base.specs.Sizes.{IsNextPowerOfTwo, next_power_of_two, minimal_size, initial_size, starting_size, final_size, grown_chunk, IsLeastProduct, doubled_chunk};
+ghost use Rattle.gpu_alloc_base.specs.Sizes.{IsNextPowerOfTwo, next_power_of_two, minimal_size, initial_size};
+ghost use Rattle.gpu_alloc_base.specs.Sizes.{starting_size, final_size, grown_chunk, IsLeastProduct, doubled_chunk};
 ghost use Rattle.gpu_alloc.specs.FirstTypes.{first_types};
 ghost use Rattle.gpu_alloc.specs.State.{State};
 ghost use Rattle.gpu_alloc.specs.declared.block.Kind.{Kind};
@@ -32,34 +34,53 @@ pub use gpu_alloc_usage::laws::{
     candidates_are_exact_and_sorted, ranking_is_exact_and_sorted, rankings_of_samples,
 };
 
-/// Pieces that are aligned and apart, of which no two are halves of one range, and which together are the free bytes, are
-/// exactly the longest free ranges of a power of two that start at a multiple of their length: of a buddy allocator's chunks
-/// by key, and of an allocator's objects by name.
+/// Pieces that are aligned and apart, of which no two are halves of one range, and which together are the free bytes,
+/// are exactly the longest free ranges of a power of two that start at a multiple of their length: of a buddy
+/// allocator's chunks by key, and of an allocator's objects by name.
 pub fn kept_pieces_are_the_free_pieces()
-    ensures exact { (b : Buddy) (pieces : List Piece) → IsCanonical (Contains pieces) (IsFreeAt b) → (p : Piece) → Contains pieces p ↔ IsFreePiece (IsFreeAt b) p.chunk p.start (2 ^ p.order) }
-    ensures place { (b : Buddy) (pieces : List Piece) → IsCanonical (Contains pieces) (IsFreeAt b) → (chunk start order : ℕ) → IsPlace (IsFreeAt b) chunk start (2 ^ order) → (p : Piece) × Contains pieces p × (order ≤ p.order) }
-    ensures exact_in_objects { (s : State) (memory_type : ℕ) (kind : Kind) (pieces : List Piece) → IsCanonical (Contains pieces) (IsFreeByte s memory_type kind) → (p : Piece) → Contains pieces p ↔ IsFreePiece (IsFreeByte s memory_type kind) p.chunk p.start (2 ^ p.order) }
-    ensures place_in_objects { (s : State) (memory_type : ℕ) (kind : Kind) (pieces : List Piece) → IsCanonical (Contains pieces) (IsFreeByte s memory_type kind) → (object start order : ℕ) → IsPlace (IsFreeByte s memory_type kind) object start (2 ^ order) → (p : Piece) × Contains pieces p × (order ≤ p.order) }
+    ensures exact { (b : Buddy) (pieces : List Piece) → IsCanonical (Contains pieces) (IsFreeAt b) → (p : Piece)
+        → Contains pieces p ↔ IsFreePiece (IsFreeAt b) p.chunk p.start (2 ^ p.order) }
+    ensures place { (b : Buddy) (pieces : List Piece) → IsCanonical (Contains pieces) (IsFreeAt b)
+        → (chunk start order : ℕ) → IsPlace (IsFreeAt b) chunk start (2 ^ order) → (p : Piece) × Contains pieces p
+        × (order ≤ p.order) }
+    ensures exact_in_objects { (s : State) (memory_type : ℕ) (kind : Kind) (pieces : List Piece)
+        → IsCanonical (Contains pieces) (IsFreeByte s memory_type kind) → (p : Piece) → Contains pieces p
+        ↔ IsFreePiece (IsFreeByte s memory_type kind) p.chunk p.start (2 ^ p.order) }
+    ensures place_in_objects { (s : State) (memory_type : ℕ) (kind : Kind) (pieces : List Piece)
+        → IsCanonical (Contains pieces) (IsFreeByte s memory_type kind) → (object start order : ℕ)
+        → IsPlace (IsFreeByte s memory_type kind) object start (2 ^ order) → (p : Piece) × Contains pieces p
+        × (order ≤ p.order) }
 {}
 
 /// Two free pieces that share a byte are one.
 pub fn free_pieces_are_apart()
-    ensures in_chunks { (b : Buddy) (chunk a n c m at : ℕ) → IsFreePiece (IsFreeAt b) chunk a n → IsFreePiece (IsFreeAt b) chunk c m → IsIn a n at → IsIn c m at → (a ≡ c) × (n ≡ m) }
-    ensures in_objects { (s : State) (memory_type : ℕ) (kind : Kind) (object a n b m at : ℕ) → IsFreePiece (IsFreeByte s memory_type kind) object a n → IsFreePiece (IsFreeByte s memory_type kind) object b m → IsIn a n at → IsIn b m at → (a ≡ b) × (n ≡ m) }
+    ensures in_chunks { (b : Buddy) (chunk a n c m at : ℕ) → IsFreePiece (IsFreeAt b) chunk a n
+        → IsFreePiece (IsFreeAt b) chunk c m → IsIn a n at → IsIn c m at → (a ≡ c) × (n ≡ m) }
+    ensures in_objects { (s : State) (memory_type : ℕ) (kind : Kind) (object a n b m at : ℕ)
+        → IsFreePiece (IsFreeByte s memory_type kind) object a n
+        → IsFreePiece (IsFreeByte s memory_type kind) object b m → IsIn a n at → IsIn b m at → (a ≡ b) × (n ≡ m) }
 {}
 
-/// Regions that are not empty, of which no two overlap or touch, and which together are the free bytes, are exactly the free
-/// runs: of a free list's chunks, and of a memory type's chunks in the whole allocator. There is a place for a block exactly
-/// where some region has room for it.
+/// Regions that are not empty, of which no two overlap or touch, and which together are the free bytes, are exactly the
+/// free runs: of a free list's chunks, and of a memory type's chunks in the whole allocator. There is a place for a
+/// block exactly where some region has room for it.
 pub fn regions_are_the_free_runs()
-    ensures exact { (s : Space) (regions : List FreeListRegion) → IsSpaced (IsFreeIn s) (Contains regions) → (r : FreeListRegion) → Contains regions r ↔ IsFreeRun (IsFreeIn s) r.chunk r.start r.end }
-    ensures place { (s : Space) (regions : List FreeListRegion) → IsSpaced (IsFreeIn s) (Contains regions) → (size order : ℕ) → 0 < size → HasPlace s size (2 ^ order) ↔ ((r : FreeListRegion) × Contains regions r × HasRoom size (2 ^ order) r.start r.end) }
-    ensures exact_in_state { (s : State) (memory_type : ℕ) (regions : List FreeListRegion) → IsSpaced (IsFreeInChunk s memory_type) (Contains regions) → (r : FreeListRegion) → Contains regions r ↔ IsFreeRun (IsFreeInChunk s memory_type) r.chunk r.start r.end }
-    ensures place_in_state { (s : State) (memory_type : ℕ) (regions : List FreeListRegion) → IsSpaced (IsFreeInChunk s memory_type) (Contains regions) → (size order : ℕ) → 0 < size → HasListPlace s memory_type size (2 ^ order) ↔ ((r : FreeListRegion) × Contains regions r × HasRoom size (2 ^ order) r.start r.end) }
+    ensures exact { (s : Space) (regions : List FreeListRegion) → IsSpaced (IsFreeIn s) (Contains regions)
+        → (r : FreeListRegion) → Contains regions r ↔ IsFreeRun (IsFreeIn s) r.chunk r.start r.end }
+    ensures place { (s : Space) (regions : List FreeListRegion) → IsSpaced (IsFreeIn s) (Contains regions)
+        → (size order : ℕ) → 0 < size → HasPlace s size (2 ^ order)
+        ↔ ((r : FreeListRegion) × Contains regions r × HasRoom size (2 ^ order) r.start r.end) }
+    ensures exact_in_state { (s : State) (memory_type : ℕ) (regions : List FreeListRegion)
+        → IsSpaced (IsFreeInChunk s memory_type) (Contains regions) → (r : FreeListRegion) → Contains regions r
+        ↔ IsFreeRun (IsFreeInChunk s memory_type) r.chunk r.start r.end }
+    ensures place_in_state { (s : State) (memory_type : ℕ) (regions : List FreeListRegion)
+        → IsSpaced (IsFreeInChunk s memory_type) (Contains regions) → (size order : ℕ) → 0 < size
+        → HasListPlace s memory_type size (2 ^ order)
+        ↔ ((r : FreeListRegion) × Contains regions r × HasRoom size (2 ^ order) r.start r.end) }
 {}
 
-/// Chunks of free lists and the tails that blocks are, for a first chunk of 8192 bytes: the next chunk, one that has to be
-/// larger, one that is cut at the largest; a tail, and one at a multiple of 256.
+/// Chunks of free lists and the tails that blocks are, for a first chunk of 8192 bytes: the next chunk, one that has to
+/// be larger, one that is cut at the largest; a tail, and one at a multiple of 256.
 #[tactic(auto, unfolding(gpu_alloc_base::specs::Sizes::doubled_up))]
 pub fn free_list_chunks_of_samples()
     ensures first { grown_chunk 8192 32768 100 ≡ 8192 }
@@ -77,8 +98,8 @@ pub fn free_list_chunks_of_samples()
     ensures seen { (list_question (over 3200 2 64) 0 64).mapped ≡ true }
 {}
 
-/// Sizes of buddy blocks and of the chunks for them, over a least block of 1 and a first chunk of 8192, with an atom, and
-/// with a least block that is larger.
+/// Sizes of buddy blocks and of the chunks for them, over a least block of 1 and a first chunk of 8192, with an atom,
+/// and with a least block that is larger.
 #[tactic(auto, unfolding(gpu_alloc_base::specs::Sizes::doubled_up))]
 pub fn buddy_sizes_of_samples()
     ensures small { rounded (empty_buddy 1 8192 0 1 1) (wanted 100 0 0) ≡ 128 }
@@ -109,16 +130,22 @@ pub fn shared_chunks_of_samples()
 /// First chunk sizes: of both defaults, of a small heap with an atom, and of a minimum above the initial size.
 #[tactic(auto, unfolding(gpu_alloc_base::specs::Sizes::doubled_up))]
 pub fn first_sizes_of_samples()
-    ensures potato { first_types potato (one_type 1048576 1 1) ≡ record { next_chunk = 8192; list_chunk = 8192; number = 0 } ∷ [] }
+    ensures potato { first_types potato (one_type 1048576 1 1) ≡ record
+        { next_chunk = 8192; list_chunk = 8192; number = 0 } ∷ [] }
     ensures potato_final { final_size potato 1048576 1 ≡ 32768 }
     ensures potato_minimal { minimal_size potato 1048576 ≡ 1 }
-    ensures prototyping { first_types prototyping (one_type 4294967296 1 1) ≡ record { next_chunk = 8388608; list_chunk = 8388608; number = 0 } ∷ [] }
+    ensures prototyping { first_types prototyping (one_type 4294967296 1 1) ≡ record
+        { next_chunk = 8388608; list_chunk = 8388608; number = 0 } ∷ [] }
     ensures prototyping_final { final_size prototyping 4294967296 1 ≡ 134217728 }
-    ensures atoms { first_types potato (one_type 3200 2 64) ≡ record { next_chunk = 128; list_chunk = 64; number = 0 } ∷ [] }
-    ensures one_atom { first_types potato (one_type 1024 2 64) ≡ record { next_chunk = 32; list_chunk = 64; number = 0 } ∷ [] }
+    ensures atoms { first_types potato (one_type 3200 2 64) ≡ record { next_chunk = 128; list_chunk = 64; number = 0 } ∷
+        [] }
+    ensures one_atom { first_types potato (one_type 1024 2 64) ≡ record { next_chunk = 32; list_chunk = 64; number = 0 }
+        ∷ [] }
     ensures one_atom_at_most { final_size potato 1024 64 ≡ 64 }
-    ensures empty_heap { first_types potato (one_type 0 1 1) ≡ record { next_chunk = 1; list_chunk = 1; number = 0 } ∷ [] }
-    ensures minimum_wins { first_types (buddy_config 1024 1) (one_type 1048576 1 1) ≡ record { next_chunk = 1024; list_chunk = 1; number = 0 } ∷ [] }
+    ensures empty_heap { first_types potato (one_type 0 1 1) ≡ record { next_chunk = 1; list_chunk = 1; number = 0 } ∷
+        [] }
+    ensures minimum_wins { first_types (buddy_config 1024 1) (one_type 1048576 1 1) ≡ record
+        { next_chunk = 1024; list_chunk = 1; number = 0 } ∷ [] }
 {}
 
 /// The strategy at its thresholds: exactly at one a request has an object of its own.

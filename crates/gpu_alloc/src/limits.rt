@@ -45,7 +45,8 @@ impl<A: Allocator> Limits<A> {
 
     /// The memory types to be tried for a request, the best first.
     pub(crate) fn candidates(&self, request: Request) -> MemoryForOneUsage
-        ensures { ranked_types result ≡ candidates self.now.memory_types.items (usage_bits request.usage) request.memory_types }
+        ensures { ranked_types result ≡ candidates self.now.memory_types.items (usage_bits request.usage)
+            request.memory_types }
     {
         self.memory_for_usage
             .candidates(request.usage, request.memory_types)
@@ -65,14 +66,15 @@ impl<A: Allocator> Limits<A> {
     /// The atom of a memory type, in bytes.
     pub(crate) fn atom(&self, memory_type: u32) -> u64
         requires { memory_type < length self.now.memory_types.items }
-        ensures { result ≡ atom_where self.now.non_coherent_atom_size (bits_of (slice_get self.now.memory_types.items memory_type)) }
+        ensures { result ≡ atom_where self.now.non_coherent_atom_size
+            (bits_of (slice_get self.now.memory_types.items memory_type)) }
     {
         atom_of(self.props(memory_type), self.non_coherent_atom_size)
     }
 }
 
-/// The atom of a memory type with these properties, in bytes: of the device where what the host writes has to be flushed,
-/// and else one byte.
+/// The atom of a memory type with these properties, in bytes: of the device where what the host writes has to be
+/// flushed, and else one byte.
 pub(crate) fn atom_of(props: MemoryPropertyFlags, non_coherent_atom_size: u64) -> u64
     ensures { result ≡ atom_where non_coherent_atom_size (property_bits props) }
 {

@@ -22,8 +22,8 @@ pub struct Request {
 }
 
 impl Request {
-    /// Whether an allocator can be asked for this: a size of at least 1, an alignment mask as it has to be, and the usage
-    /// `DEVICE_ADDRESS` only where `address`, that is where the device has the feature.
+    /// Whether an allocator can be asked for this: a size of at least 1, an alignment mask as it has to be, and the
+    /// usage `DEVICE_ADDRESS` only where `address`, that is where the device has the feature.
     pub fn is_askable(&self, address: bool) -> bool
         ensures { IsTrue result ↔ IsAskable address self.now }
     {

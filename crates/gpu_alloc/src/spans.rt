@@ -1,10 +1,12 @@
 //! The table of held objects and live spans.
 
-ghost use Rattle.std.specs.Prelude.{◌≡◌, ◌↔◌, ◌+◌, ◌<◌, ◌≤◌, None, Some, IsOk, IsSome, IsTrue, OnOk, IfSome, MatchOption, cond, is_some, false, true};
+ghost use Rattle.std.specs.Prelude.{◌≡◌, ◌↔◌, ◌+◌, ◌<◌, ◌≤◌, None, Some, IsOk, IsSome, IsTrue, OnOk, IfSome};
+ghost use Rattle.std.specs.Prelude.{MatchOption, cond, is_some, false, true};
 ghost use Rattle.std.specs.FinMap as map;
 ghost use Rattle.std.specs.FinSet as set;
 ghost use Rattle.std.specs.Option.{option_map};
-ghost use Rattle.gpu_alloc.specs.Spans.{span_at, span_in, place_in, held_of, objects_in, with_new, without_old, IsUnder, IsNowhere};
+ghost use Rattle.gpu_alloc.specs.Spans.{span_at, span_in, place_in, held_of, objects_in, with_new, without_old};
+ghost use Rattle.gpu_alloc.specs.Spans.{IsUnder, IsNowhere};
 ghost use Rattle.indexmap.specs.IndexMap.{spare};
 
 pub use crate::block::Kind;
@@ -111,7 +113,8 @@ fn key_of<A: Allocator>(
     offset: u64,
     size: u64,
 ) -> Option<usize>
-    ensures { MatchOption result (IsNowhere spans.now (span_at object offset size)) (IsUnder spans.now (span_at object offset size)) }
+    ensures { MatchOption result (IsNowhere spans.now (span_at object offset size))
+        (IsUnder spans.now (span_at object offset size)) }
 {
     match spans.get(key) {
         Some(span) if span.is(object, offset, size) => Some(key),
@@ -126,7 +129,8 @@ fn search<A: Allocator>(
     offset: u64,
     size: u64,
 ) -> Option<usize>
-    ensures { MatchOption result (IsNowhere spans.now (span_at object offset size)) (IsUnder spans.now (span_at object offset size)) }
+    ensures { MatchOption result (IsNowhere spans.now (span_at object offset size))
+        (IsUnder spans.now (span_at object offset size)) }
 {
     for (key, span) in spans.iter() {
         if span.is(object, offset, size) {
@@ -201,7 +205,8 @@ impl<A: Allocator> Spans<A> {
     pub fn insert(&mut self, span: LiveSpan, new_object: Option<HeldRow>) -> usize
         requires room { 0 < self.old.room }
         requires free { set.contains self.old.live (span_in span) ≡ false }
-        requires object { MatchOption new_object (IsSome (map.get self.old.held span.object)) (λ _. map.get self.old.held span.object ≡ None) }
+        requires object { MatchOption new_object (IsSome (map.get self.old.held span.object))
+            (λ _. map.get self.old.held span.object ≡ None) }
         ensures held { self.new.held ≡ with_new self.old.held span.object new_object }
         ensures live { self.new.live ≡ set.insert self.old.live (span_in span) }
         ensures places { self.new.places ≡ map.insert self.old.places (span_in span) (place_in span) }
@@ -264,7 +269,8 @@ impl<A: Allocator> Spans<A> {
         }
     }
 
-    /// Takes an object off those that are held, where it is one. Spans stay as they are. It takes no memory and cannot fail.
+    /// Takes an object off those that are held, where it is one. Spans stay as they are. It takes no memory and cannot
+    /// fail.
     pub(crate) fn let_go(&mut self, object: u64)
         ensures held { self.new.held ≡ map.remove self.old.held object }
         ensures live { self.new.live ≡ self.old.live }

@@ -1,5 +1,5 @@
--- What an allocator of shared chunks accounts for: its chunks, by what tells them apart, the ledger of their heap, and how many more
--- objects may be held.
+-- What an allocator of shared chunks accounts for: its chunks, by what tells them apart, the ledger of their heap, and
+-- how many more objects may be held.
 use Rattle.std.specs.Prelude.{◌≡◌, ℕ, ◌+◌, ◌^◌, ◌<◌, ◌≤◌, length, Option, Result, Ok, Err, IfSome, sum_by}
 use Rattle.std.specs.FinMap as map
 use Rattle.std.specs.Ordering.{nat_cmp}
@@ -37,15 +37,20 @@ pub record IsCounted (chunks : HeldChunks) (heap : Heap) (remaining : ℕ) : Typ
   pub ledger : chunk_bytes chunks ≤ heap.used
   pub objects : chunks_and_remaining chunks remaining < 2 ^ 32
 
--- Device and allocator: the device has the memory type with its properties, and holds each chunk, mapped whole where the host sees it.
-pub record Agrees (memory_type props : ℕ) (chunks : HeldChunks) (p : Properties) (objects : ℕ → Option Object) : Type 0 where
+-- Device and allocator: the device has the memory type with its properties, and holds each chunk, mapped whole where
+-- the host sees it.
+pub record Agrees (memory_type props : ℕ) (chunks : HeldChunks) (p : Properties) (objects : ℕ → Option Object) : Type
+    0 where
   pub known : memory_type < length p.memory_types
   pub same : props_at p memory_type ≡ props
-  pub holds : (key : ℕ) → IfSome (map.get chunks key) (λ chunk. HeldWith objects chunk.object (IsThere memory_type (has_bit props 2) chunk))
+  pub holds : (key : ℕ) → IfSome (map.get chunks key)
+      (λ chunk. HeldWith objects chunk.object (IsThere memory_type (has_bit props 2) chunk))
 
--- What a request makes of the device's objects, of which a block has the chunk and the object that are told: one object more where
--- that chunk was not held before, as it is held after, and else nothing.
-abbrev pub ObjectsAfter : {B : Type 0} → (B → ℕ) → (B → ℕ) → ℕ → ℕ → HeldChunks → Result B AllocationError → HeldChunks → (ℕ → Option Object) → (ℕ → Option Object) → Type 0
+-- What a request makes of the device's objects, of which a block has the chunk and the object that are told: one object
+-- more where that chunk was not held before, as it is held after, and else nothing.
+abbrev pub ObjectsAfter : {B : Type 0} → (B → ℕ) → (B → ℕ) → ℕ → ℕ → HeldChunks → Result B AllocationError → HeldChunks
+    → (ℕ → Option Object) → (ℕ → Option Object) → Type 0
 ObjectsAfter chunk object memory_type props before (Ok b) after old new =
-    ObjectsGiven (IsNew memory_type (has_bit props 2)) (map.get before (chunk b)) (map.get after (chunk b)) (object b) old new
+    ObjectsGiven (IsNew memory_type (has_bit props 2)) (map.get before (chunk b)) (map.get after (chunk b)) (object b)
+    old new
 ObjectsAfter chunk object memory_type props before (Err e) after old new = new ≡ old

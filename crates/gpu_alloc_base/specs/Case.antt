@@ -1,10 +1,11 @@
--- How an allocator decides a request: one vocabulary, for a buddy allocator and a free list among their own chunks, and for each
--- way in which the whole allocator serves a candidate.
+-- How an allocator decides a request: one vocabulary, for a buddy allocator and a free list among their own chunks, and
+-- for each way in which the whole allocator serves a candidate.
 use Rattle.std.specs.Prelude.{◌≡◌, ◌⊎◌, ℕ, ◌<◌, Bool, List, [], Option, Some, None, Result, Ok, Err, IsTrue}
 use Rattle.gpu_alloc_types.specs.Device.{Event}
 use Rattle.gpu_alloc_base.specs.NewChunk.{ChunkQuestion, made, LacksDeviceMemory, LacksHostMemory, IsGivenBack}
 use Rattle.gpu_alloc_base.specs.declared.error.AllocationError.{AllocationError}
-use Rattle.gpu_alloc_base.specs.declared.error.AllocationError.TheVariants.{OutOfDeviceMemory, OutOfHostMemory, NoCompatibleMemoryTypes, TooManyObjects}
+use Rattle.gpu_alloc_base.specs.declared.error.AllocationError.TheVariants.{OutOfDeviceMemory, OutOfHostMemory}
+use Rattle.gpu_alloc_base.specs.declared.error.AllocationError.TheVariants.{NoCompatibleMemoryTypes, TooManyObjects}
 
 -- What the decision of one request rests on, before anything is asked. B are the blocks, S the states.
 pub record Case (B S : Type 0) : Type 1 where
@@ -58,8 +59,8 @@ module _ {B S : Type 0} (c : Case B S) where
     pub no_place : c.HasPlace → ⊥
     pub barred : IsBarred
 
-  -- The request is passed: what would be asked for is too large for any device, or the device, asked exactly for it, had no
-  -- memory.
+  -- The request is passed: what would be asked for is too large for any device, or the device, asked exactly for it,
+  -- had no memory.
   abbrev pub IsPassed : List Event → Type 0
   IsPassed es = ((c.Fits → ⊥) × (es ≡ [])) ⊎ (Asks × LacksDeviceMemory c.question es)
 

@@ -8,7 +8,8 @@ use Rattle.gpu_alloc_base.specs.declared.free_list_block.Slot.{Slot}
 
 abbrev pub config_code : Coded Config
 config_code =
-    code_by ((ℕ × (ℕ × ℕ)) × ((ℕ × ℕ) × (ℕ × ℕ))) (coded× (coded× coded_ℕ (coded× coded_ℕ coded_ℕ)) (coded× (coded× coded_ℕ coded_ℕ) (coded× coded_ℕ coded_ℕ)))
+    code_by ((ℕ × (ℕ × ℕ)) × ((ℕ × ℕ) × (ℕ × ℕ)))
+    (coded× (coded× coded_ℕ (coded× coded_ℕ coded_ℕ)) (coded× (coded× coded_ℕ coded_ℕ) (coded× coded_ℕ coded_ℕ)))
     (λ c. (
       (c.dedicated_threshold, (c.preferred_dedicated_threshold, c.transient_dedicated_threshold)),
       ((c.starting_free_list_chunk, c.final_free_list_chunk), (c.minimal_buddy_size, c.initial_buddy_dedicated_size)),
@@ -31,7 +32,9 @@ leaf_code =
     (λ c. record { object = c.0; chunk = c.1.0; offset = c.1.1.0; size = c.1.1.1.0; index = c.1.1.1.1 }) (λ _. refl)
 
 abbrev pub chunk_code : Coded Chunk
-chunk_code = code_by (ℕ × ℕ) (coded× coded_ℕ coded_ℕ) (λ c. (c.object, c.size)) (λ c. record { object = c.0; size = c.1 }) (λ _. refl)
+chunk_code =
+    code_by (ℕ × ℕ) (coded× coded_ℕ coded_ℕ) (λ c. (c.object, c.size)) (λ c. record { object = c.0; size = c.1 })
+    (λ _. refl)
 
 abbrev pub slot_code : Coded Slot
 slot_code =

@@ -13,7 +13,8 @@ use Rattle.gpu_alloc_base.specs.declared.error.MapError.TheVariants as Map
 abbrev pub allocation_text : AllocationError → List ℕ
 allocation_text Allocation.OutOfDeviceMemory = codes "Device memory exhausted"
 allocation_text Allocation.OutOfHostMemory = codes "Host memory exhausted"
-allocation_text Allocation.NoCompatibleMemoryTypes = codes "No compatible memory types from requested types support requested usage"
+allocation_text Allocation.NoCompatibleMemoryTypes =
+    codes "No compatible memory types from requested types support requested usage"
 allocation_text Allocation.TooManyObjects = codes "Reached limit on allocated memory objects count"
 
 -- the allocation error of the same name

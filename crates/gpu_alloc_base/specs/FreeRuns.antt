@@ -19,7 +19,8 @@ pub record HasRoom (size alignment start end : ℕ) : Type 0 where
 
 -- the regions rise
 abbrev pub AreRising : List FreeListRegion → Type 0
-AreRising regions = (i j : ℕ) (d : FreeListRegion) → i < j → j < length regions → IsBefore (get_or regions i d) (get_or regions j d)
+AreRising regions =
+    (i j : ℕ) (d : FreeListRegion) → i < j → j < length regions → IsBefore (get_or regions i d) (get_or regions j d)
 
 -- the free bytes but those of a range, and with those of a range
 abbrev pub Without : (ℕ → ℕ → Type 0) → FreeListRegion → ℕ → ℕ → Type 0
@@ -38,7 +39,8 @@ module _ (F : ℕ → ℕ → Type 0) where
   pub record IsFreeRun (chunk start end : ℕ) : Type 0 where
     pub nonempty : start < end
     pub free : AreFree chunk start end
-    pub longest : (start' end' : ℕ) → AreFree chunk start' end' → start' ≤ start → end ≤ end' → (start' ≡ start) × (end' ≡ end)
+    pub longest : (start' end' : ℕ) → AreFree chunk start' end' → start' ≤ start → end ≤ end' → (start' ≡ start)
+        × (end' ≡ end)
 
   -- room for a block of this size at a multiple of the alignment
   pub record IsListPlace (size alignment chunk start : ℕ) : Type 0 where
@@ -50,13 +52,15 @@ module _ (F : ℕ → ℕ → Type 0) where
     pub nonempty : (r : FreeListRegion) → Has r → r.start < r.end
     pub apart : (r s : FreeListRegion) → Has r → Has s → r.chunk ≡ s.chunk → r.start ≤ s.end → s.start ≤ r.end → r ≡ s
     pub free : (r : FreeListRegion) → Has r → AreFree r.chunk r.start r.end
-    pub covers : (chunk at : ℕ) → F chunk at → (r : FreeListRegion) × Has r × (r.chunk ≡ chunk) × (r.start ≤ at) × (at < r.end)
+    pub covers : (chunk at : ℕ) → F chunk at → (r : FreeListRegion) × Has r × (r.chunk ≡ chunk) × (r.start ≤ at)
+        × (at < r.end)
 
   -- the last run that has room
   pub record IsLastWithRoom (size alignment : ℕ) (r : FreeListRegion) : Type 0 where
     pub run : IsFreeRun r.chunk r.start r.end
     pub room : HasRoom size alignment r.start r.end
-    pub last : (s : FreeListRegion) → IsFreeRun s.chunk s.start s.end → HasRoom size alignment s.start s.end → (s ≡ r) ⊎ IsBefore s r
+    pub last : (s : FreeListRegion) → IsFreeRun s.chunk s.start s.end → HasRoom size alignment s.start s.end → (s ≡ r)
+        ⊎ IsBefore s r
 
   -- no run comes after it
   pub record IsLastRun (r : FreeListRegion) : Type 0 where

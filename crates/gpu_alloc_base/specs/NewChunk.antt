@@ -1,20 +1,24 @@
 -- What a device is asked for a new shared chunk, and how that ends.
-use Rattle.std.specs.Prelude.{◌≡◌, ◌≢◌, ◌⊎◌, ℕ, Bool, List, [], ◌∷◌, ◌++◌, Option, Some, None, Result, Ok, Err, IsTrue, cond}
+use Rattle.std.specs.Prelude.{◌≡◌, ◌≢◌, ◌⊎◌, ℕ, Bool, List, [], ◌∷◌, ◌++◌, Option, Some, None, Result, Ok, Err, IsTrue}
+use Rattle.std.specs.Prelude.{cond}
 use Rattle.gpu_alloc_types.specs.Device.{Object, Event, Range, put}
 use Rattle.gpu_alloc_types.specs.Properties.{Properties}
 use Rattle.gpu_alloc_types.specs.Device.Event.{Allocated, Deallocated, Mapped}
-use Rattle.gpu_alloc_types.specs.declared.types.OutOfMemory.TheVariants.{OutOfDeviceMemory as DeviceFull, OutOfHostMemory as HostFull}
+use Rattle.gpu_alloc_types.specs.declared.types.OutOfMemory.TheVariants.{OutOfDeviceMemory as DeviceFull}
+use Rattle.gpu_alloc_types.specs.declared.types.OutOfMemory.TheVariants.{OutOfHostMemory as HostFull}
 use Rattle.gpu_alloc_types.specs.declared.types.DeviceMapError.{DeviceMapError}
-use Rattle.gpu_alloc_types.specs.declared.types.DeviceMapError.TheVariants.{OutOfDeviceMemory as MapDeviceFull, OutOfHostMemory as MapHostFull, MapFailed}
+use Rattle.gpu_alloc_types.specs.declared.types.DeviceMapError.TheVariants.{OutOfDeviceMemory as MapDeviceFull}
+use Rattle.gpu_alloc_types.specs.declared.types.DeviceMapError.TheVariants.{OutOfHostMemory as MapHostFull, MapFailed}
 use Rattle.gpu_alloc_base.specs.declared.error.AllocationError.{AllocationError}
-use Rattle.gpu_alloc_base.specs.declared.error.AllocationError.TheVariants.{OutOfDeviceMemory, OutOfHostMemory, NoCompatibleMemoryTypes, TooManyObjects}
+use Rattle.gpu_alloc_base.specs.declared.error.AllocationError.TheVariants.{OutOfDeviceMemory, OutOfHostMemory}
+use Rattle.gpu_alloc_base.specs.declared.error.AllocationError.TheVariants.{NoCompatibleMemoryTypes, TooManyObjects}
 
 -- the flags of every question: the address flag exactly where the device has the feature
 abbrev pub flags_of : Properties → ℕ
 flags_of p = cond p.buffer_device_address 1 0
 
--- what is asked for: so many bytes of a memory type with these flags, and whether the object is then mapped whole, as it is where
--- the host sees that type
+-- what is asked for: so many bytes of a memory type with these flags, and whether the object is then mapped whole, as
+-- it is where the host sees that type
 pub record ChunkQuestion : Type 0 where
   pub size : ℕ
   pub memory_type : ℕ
@@ -22,7 +26,8 @@ pub record ChunkQuestion : Type 0 where
   pub mapped : Bool
 
 abbrev pub chunk_question : ℕ → ℕ → ℕ → Bool → ChunkQuestion
-chunk_question size memory_type flags mapped = record { size = size; memory_type = memory_type; flags = flags; mapped = mapped }
+chunk_question size memory_type flags mapped =
+    record { size = size; memory_type = memory_type; flags = flags; mapped = mapped }
 
 -- the whole of a new object
 abbrev pub whole_of : ChunkQuestion → ℕ → Range
@@ -30,11 +35,14 @@ whole_of q object = record { object = object; offset = 0; size = q.size }
 
 -- the object was granted, and mapped whole where the host sees it
 abbrev pub made : ChunkQuestion → ℕ → List Event
-made q object = Allocated q.size q.memory_type q.flags (Ok object) ∷ cond q.mapped (Mapped (whole_of q object) (Ok tt) ∷ []) []
+made q object =
+    Allocated q.size q.memory_type q.flags (Ok object) ∷ cond q.mapped (Mapped (whole_of q object) (Ok tt) ∷ []) []
 
 -- the object was granted, its mapping refused, and the object given back
 abbrev pub unmapped : ChunkQuestion → ℕ → DeviceMapError → List Event
-unmapped q object cause = Allocated q.size q.memory_type q.flags (Ok object) ∷ Mapped (whole_of q object) (Err cause) ∷ Deallocated object ∷ []
+unmapped q object cause =
+    Allocated q.size q.memory_type q.flags (Ok object) ∷ Mapped (whole_of q object) (Err cause) ∷ Deallocated
+    object ∷ []
 
 -- the device answered that it has no memory of its own for the object, or none for its mapping
 abbrev pub LacksDeviceMemory : ChunkQuestion → List Event → Type 0
@@ -46,7 +54,8 @@ LacksDeviceMemory q es =
 abbrev pub LacksHostMemory : ChunkQuestion → List Event → Type 0
 LacksHostMemory q es =
     (es ≡ Allocated q.size q.memory_type q.flags (Err HostFull) ∷ [])
-    ⊎ (IsTrue q.mapped × ((object : ℕ) × ((cause : DeviceMapError) × (cause ≢ MapDeviceFull) × (es ≡ unmapped q object cause))))
+    ⊎ (IsTrue q.mapped × ((object : ℕ) ×
+    ((cause : DeviceMapError) × (cause ≢ MapDeviceFull) × (es ≡ unmapped q object cause))))
 
 -- the object was made, and given back because there was no host memory for a second handle of it
 abbrev pub IsGivenBack : ChunkQuestion → List Event → Type 0
@@ -90,13 +99,15 @@ pub record IsChunkObject (q : ChunkQuestion) (o : Object) : Type 0 where
 
 -- the device holds one object more
 abbrev pub HasOneChunkMore : ChunkQuestion → ℕ → (ℕ → Option Object) → (ℕ → Option Object) → Type 0
-HasOneChunkMore q object old new = (old object ≡ None) × ((o : Object) × IsChunkObject q o × (new ≡ put old object (Some o)))
+HasOneChunkMore q object old new =
+    (old object ≡ None) × ((o : Object) × IsChunkObject q o × (new ≡ put old object (Some o)))
 
 -- the same where it was made, and nothing where it was not
 abbrev pub ChunkAfter : ChunkQuestion → Result ℕ AllocationError → (ℕ → Option Object) → (ℕ → Option Object) → Type 0
 ChunkAfter q (Ok object) old new = HasOneChunkMore q object old new
 ChunkAfter q (Err e) old new = new ≡ old
 
-abbrev pub ChunkAfterTwice : ChunkQuestion → Result (ℕ × ℕ) AllocationError → (ℕ → Option Object) → (ℕ → Option Object) → Type 0
+abbrev pub ChunkAfterTwice : ChunkQuestion → Result (ℕ × ℕ) AllocationError → (ℕ → Option Object) → (ℕ → Option Object)
+    → Type 0
 ChunkAfterTwice q (Ok handles) old new = HasOneChunkMore q handles.0 old new
 ChunkAfterTwice q (Err e) old new = new ≡ old

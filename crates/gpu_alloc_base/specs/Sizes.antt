@@ -1,5 +1,6 @@
 -- Sizes that follow from a configuration and from what a device offers. All are bytes.
-use Rattle.std.specs.Prelude.{◌≡◌, ◌≤◌, ◌^◌, ℕ, zero, suc, ◌+◌, ◌-◌, ◌*◌, ◌/◌, ◌==◌, min, max, nat_le, cond, if◌then◌else◌}
+use Rattle.std.specs.Prelude.{◌≡◌, ◌≤◌, ◌^◌, ℕ, zero, suc, ◌+◌, ◌-◌, ◌*◌, ◌/◌, ◌==◌, min, max, nat_le, cond}
+use Rattle.std.specs.Prelude.{if◌then◌else◌}
 use Rattle.gpu_alloc_types.specs.Properties.{are_non_coherent}
 use Rattle.gpu_alloc_base.specs.declared.config.Config.{Config}
 
@@ -60,12 +61,14 @@ starting_size c heap atom = cut heap atom c.starting_free_list_chunk
 
 -- the largest free-list chunk
 abbrev pub final_size : Config → ℕ → ℕ → ℕ
-final_size c heap atom = cut heap atom (max (max c.final_free_list_chunk c.starting_free_list_chunk) (transient_threshold c))
+final_size c heap atom =
+    cut heap atom (max (max c.final_free_list_chunk c.starting_free_list_chunk) (transient_threshold c))
 
--- a chunk for a block of this size, where the next one would have `next` bytes and none has more than `final`: the next one,
--- or where that is too small, its least product with a power of two that suffices, cut at the largest
+-- a chunk for a block of this size, where the next one would have `next` bytes and none has more than `final`: the next
+-- one, or where that is too small, its least product with a power of two that suffices, cut at the largest
 abbrev pub grown_chunk : ℕ → ℕ → ℕ → ℕ
-grown_chunk next final size = cond (nat_le size next) next (min (next * next_power_of_two ((size + (next - 1)) / next)) final)
+grown_chunk next final size =
+    cond (nat_le size next) next (min (next * next_power_of_two ((size + (next - 1)) / next)) final)
 
 -- the same without steps: it holds the block, and is the least that does so of the products of the next one's size with
 -- powers of two, each cut at the largest

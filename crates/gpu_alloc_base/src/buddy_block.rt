@@ -24,8 +24,8 @@ pub struct Leaf {
     pub index: usize,
 }
 
-/// A block of a buddy allocator: a power of two of bytes of one of its chunks, at a multiple of its size. It cannot be let
-/// go, only given back to its allocator.
+/// A block of a buddy allocator: a power of two of bytes of one of its chunks, at a multiple of its size. It cannot be
+/// let go, only given back to its allocator.
 pub struct BuddyBlock<M: MemoryObject> {
     memory: M,
     chunk: usize,
@@ -42,12 +42,18 @@ impl<M: MemoryObject> Model for BuddyBlock<M> {
 
     ghost coded = { leaf_code };
 
-    ghost view = { λ b. record { object = M.object b.memory; chunk = b.chunk; offset = b.offset; size = b.size; index = b.index } };
+    ghost view = { λ b. record {
+      object = M.object b.memory;
+      chunk = b.chunk;
+      offset = b.offset;
+      size = b.size;
+      index = b.index;
+    } };
 }
 
 impl<M: MemoryObject> BuddyBlock<M> {
-    /// The block with this handle of its chunk's object. It is public for the crates above: users get their blocks from a
-    /// buddy allocator.
+    /// The block with this handle of its chunk's object. It is public for the crates above: users get their blocks from
+    /// a buddy allocator.
     pub fn new(memory: M, leaf: Leaf) -> Self
         requires { leaf.object ≡ M.object memory }
         ensures { result ≡ leaf }
@@ -61,8 +67,8 @@ impl<M: MemoryObject> BuddyBlock<M> {
         }
     }
 
-    /// Takes the block apart, for its handle and what it was known by. It is public for the crates above: users give their
-    /// blocks back.
+    /// Takes the block apart, for its handle and what it was known by. It is public for the crates above: users give
+    /// their blocks back.
     pub fn into_parts(self) -> (M, Leaf)
         ensures handle { M.object result.0 ≡ self.object }
         ensures leaf { result.1 ≡ self }

@@ -3,7 +3,8 @@
 ghost use Rattle.std.specs.Prelude.{◌≡◌, IsTrue, ◌<◌};
 ghost use Rattle.std.specs.Int.{is_power_of_two};
 ghost use Rattle.gpu_alloc_base.specs.Config.{potato, prototyping};
-ghost use Rattle.gpu_alloc_base.specs.Sizes.{preferred_threshold, minimal_size, initial_size, transient_threshold, starting_size, final_size, cut};
+ghost use Rattle.gpu_alloc_base.specs.Sizes.{preferred_threshold, minimal_size, initial_size, transient_threshold};
+ghost use Rattle.gpu_alloc_base.specs.Sizes.{starting_size, final_size, cut};
 
 use crate::sizes::next_power_of_two;
 use serde::{Deserialize, Serialize};
@@ -33,8 +34,8 @@ pub struct Config {
     /// request that in whole atoms is larger than the largest shared object gets one of its own too.
     pub transient_dedicated_threshold: u64,
 
-    /// The least size of the first object that transient requests share, at most the 32nd part of its heap, in whole atoms,
-    /// one atom at least.
+    /// The least size of the first object that transient requests share, at most the 32nd part of its heap, in whole
+    /// atoms, one atom at least.
     pub starting_free_list_chunk: u64,
 
     /// The size up to which such objects grow. A value below [`Config::starting_free_list_chunk`] or the threshold of
@@ -45,9 +46,9 @@ pub struct Config {
     /// heap, raised to a power of two.
     pub minimal_buddy_size: u64,
 
-    /// The least size of the first object that such requests share, at most the 32nd part of its heap, raised to a power
-    /// of two. A value below [`Config::minimal_buddy_size`] counts as that one; the object has at least twice the size of
-    /// its first block all the same.
+    /// The least size of the first object that such requests share, at most the 32nd part of its heap, raised to a
+    /// power of two. A value below [`Config::minimal_buddy_size`] counts as that one; the object has at least twice the
+    /// size of its first block all the same.
     pub initial_buddy_dedicated_size: u64,
 }
 

@@ -10,9 +10,9 @@ use std::fmt;
 /// Why an allocation is refused. What the allocator holds is then as it was.
 #[derive(Clone, Copy, Debug, PartialEq, Eq, Hash)]
 pub enum AllocationError {
-    /// The size is over the limit that `new` was given, no heap that serves the request is large enough for it, a shared
-    /// object for it would have 2^64 bytes or more, or the device's memory is exhausted. In the last case to give memory of
-    /// the same heap back may help.
+    /// The size is over the limit that `new` was given, no heap that serves the request is large enough for it, a
+    /// shared object for it would have 2^64 bytes or more, or the device's memory is exhausted. In the last case to
+    /// give memory of the same heap back may help.
     OutOfDeviceMemory,
 
     /// The host's memory is exhausted, for the device or for the allocator itself, or a new shared object could not be
@@ -23,8 +23,8 @@ pub enum AllocationError {
     NoCompatibleMemoryTypes,
 
     /// As many memory objects are held as the device allows. To give objects back may help, those of dedicated blocks
-    /// first. Where the heaps are far from exhausted, a [`Config`](crate::Config) with larger shared objects helps. (A free
-    /// list that made 2^64 - 1 chunks answers so too.)
+    /// first. Where the heaps are far from exhausted, a [`Config`](crate::Config) with larger shared objects helps. (A
+    /// free list that made 2^64 - 1 chunks answers so too.)
     TooManyObjects,
 }
 

@@ -21,8 +21,8 @@ pub struct Slot {
     pub size: u64,
 }
 
-/// A block of a free list: the tail of what was a free run of one of its chunks. It cannot be let go, only given back to
-/// its list.
+/// A block of a free list: the tail of what was a free run of one of its chunks. It cannot be let go, only given back
+/// to its list.
 pub struct FreeListBlock<M: MemoryObject> {
     memory: M,
     chunk: u64,
@@ -42,8 +42,8 @@ impl<M: MemoryObject> Model for FreeListBlock<M> {
 }
 
 impl<M: MemoryObject> FreeListBlock<M> {
-    /// The block with this handle of its chunk's object. It is public for the crates above: users get their blocks from a free
-    /// list.
+    /// The block with this handle of its chunk's object. It is public for the crates above: users get their blocks from
+    /// a free list.
     pub fn new(memory: M, slot: Slot) -> Self
         requires { slot.object ≡ M.object memory }
         ensures { result ≡ slot }
@@ -56,8 +56,8 @@ impl<M: MemoryObject> FreeListBlock<M> {
         }
     }
 
-    /// Takes the block apart, for its handle and what it was known by. It is public for the crates above: users give their
-    /// blocks back.
+    /// Takes the block apart, for its handle and what it was known by. It is public for the crates above: users give
+    /// their blocks back.
     pub fn into_parts(self) -> (M, Slot)
         ensures handle { M.object result.0 ≡ self.object }
         ensures slot { result.1 ≡ self }

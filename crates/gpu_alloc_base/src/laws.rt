@@ -4,11 +4,13 @@ ghost use Rattle.std.specs.Prelude.{◌≡◌, ◌-◌, ◌<◌, ◌≤◌, ◌^
 ghost use Rattle.gpu_alloc_base.specs.AlignMasks.{IsAlignMask};
 ghost use Rattle.gpu_alloc_base.specs.Sizes.{IsNextPowerOfTwo, next_power_of_two, grown_chunk, IsLeastProduct};
 
-/// A chunk for a block that is no larger than the largest chunk holds it, and is the least that does so of the next chunk's
-/// size, its double, and so on, each cut at the largest. No other number is.
+/// A chunk for a block that is no larger than the largest chunk holds it, and is the least that does so of the next
+/// chunk's size, its double, and so on, each cut at the largest. No other number is.
 pub fn free_list_chunk_is_least()
-    ensures is { (next final size : ℕ) → 0 < next → next ≤ final → final ≤ 2 ^ 62 → size ≤ final → IsLeastProduct next final size (grown_chunk next final size) }
-    ensures only { (next final size chunk other : ℕ) → IsLeastProduct next final size chunk → IsLeastProduct next final size other → chunk ≡ other }
+    ensures is { (next final size : ℕ) → 0 < next → next ≤ final → final ≤ 2 ^ 62 → size ≤ final
+        → IsLeastProduct next final size (grown_chunk next final size) }
+    ensures only { (next final size chunk other : ℕ) → IsLeastProduct next final size chunk
+        → IsLeastProduct next final size other → chunk ≡ other }
 {}
 
 /// The next power of two is the least one that is not below.

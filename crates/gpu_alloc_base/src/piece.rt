@@ -1,7 +1,7 @@
 //! Pieces of buddy chunks.
 
-/// 2^order bytes of a chunk. Orders are at most 63, and a piece ends at 2^63 at most. It is public for the buddy allocator and
-/// for the laws of free pieces.
+/// 2^order bytes of a chunk. Orders are at most 63, and a piece ends at 2^63 at most. It is public for the buddy
+/// allocator and for the laws of free pieces.
 #[derive(Clone, Copy, PartialEq, Eq)]
 pub struct Piece {
     /// The key of the chunk.

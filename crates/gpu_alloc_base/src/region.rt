@@ -21,8 +21,9 @@ pub struct FreeListRegion {
 }
 
 impl FreeListRegion {
-    /// `Less` where the run comes before the block, `Greater` where it comes after: by chunk number, and then by where each
-    /// starts (the original crate's order). A run and a live block of one list share no byte, so they are never equal.
+    /// `Less` where the run comes before the block, `Greater` where it comes after: by chunk number, and then by where
+    /// each starts (the original crate's order). A run and a live block of one list share no byte, so they are never
+    /// equal.
     pub fn cmp<M: MemoryObject>(&self, block: &FreeListBlock<M>) -> Ordering
         ensures { result ≡ region_cmp self.now block.now }
     {

@@ -5,8 +5,8 @@ ghost use Rattle.std.specs.Prelude.{◌≡◌, ◌+◌, ◌<◌};
 use std::marker::Model;
 use std::sync::ledger::{Blank, Book, Ledger, Share};
 
-/// How many steps of one kind were made, for contracts alone: the counter has no bytes. It counts in a ledger of counts of
-/// its own, which is no heap's.
+/// How many steps of one kind were made, for contracts alone: the counter has no bytes. It counts in a ledger of counts
+/// of its own, which is no heap's.
 #[derive(Drop)]
 pub struct Steps<L: Ledger> {
     book: Book<L>,
@@ -24,8 +24,8 @@ impl<L: Ledger> Model for Steps<L> {
 }
 
 impl<L: Ledger> Steps<L> {
-    /// A counter of no steps, in the ledger that the blank begins: its name and its parts, at least one, are the ledger's.
-    /// Whoever counts nothing makes one of `Blank::new(1)`, and picks the ledger so.
+    /// A counter of no steps, in the ledger that the blank begins: its name and its parts, at least one, are the
+    /// ledger's. Whoever counts nothing makes one of `Blank::new(1)`, and picks the ledger so.
     pub fn new(blank: Blank) -> Self
         requires name { blank.name ≡ L.name }
         requires parts { blank.parts ≡ L.parts }
@@ -36,7 +36,8 @@ impl<L: Ledger> Steps<L> {
         Steps { book, share }
     }
 
-    /// Counts one step. It is public for what counts: a caller hands its counter in, and leaves the counting to the call.
+    /// Counts one step. It is public for what counts: a caller hands its counter in, and leaves the counting to the
+    /// call.
     pub fn tick(&mut self)
         ensures { self.new ≡ self.old + 1 }
     {

@@ -1,5 +1,6 @@
 -- What the calls of a buddy allocator do.
-use Rattle.std.specs.Prelude.{◌≡◌, ◌⊎◌, ℕ, ◌+◌, ◌-◌, ◌*◌, ◌%◌, ◌^◌, ◌<◌, ◌≤◌, Bool, true, List, [], ◌∷◌, max, Option, Some, None, Result, Ok, Err}
+use Rattle.std.specs.Prelude.{◌≡◌, ◌⊎◌, ℕ, ◌+◌, ◌-◌, ◌*◌, ◌%◌, ◌^◌, ◌<◌, ◌≤◌, Bool, true, List, [], ◌∷◌, max, Option}
+use Rattle.std.specs.Prelude.{Some, None, Result, Ok, Err}
 use Rattle.std.specs.FinMap as map
 use Rattle.std.specs.FinSet as set
 use Rattle.gpu_alloc_types.specs.Flags.{has_bit}
@@ -37,7 +38,8 @@ abbrev pub sees_chunks : Buddy → Bool
 sees_chunks b = has_bit b.props 2
 
 abbrev pub question : Buddy → ℕ → ℕ → ChunkQuestion
-question b size flags = record { size = chunk_size b size; memory_type = b.memory_type; flags = flags; mapped = sees_chunks b }
+question b size flags =
+    record { size = chunk_size b size; memory_type = b.memory_type; flags = flags; mapped = sees_chunks b }
 
 -- somewhere in a held chunk there is room for a block of this size
 abbrev pub HasPlace : Buddy → ℕ → Type 0
@@ -66,7 +68,11 @@ with_leaf b leaf = record b { live = set.insert b.live leaf }
 
 -- one more chunk is held, and the next one will be as large at least
 abbrev pub with_chunk : Buddy → Leaf → ℕ → Buddy
-with_chunk b leaf size = record b { chunks = map.insert b.chunks leaf.chunk (record { object = leaf.object; size = size }); next_chunk = size }
+with_chunk b leaf size =
+    record b {
+      chunks = map.insert b.chunks leaf.chunk (record { object = leaf.object; size = size });
+      next_chunk = size;
+    }
 
 abbrev pub in_new_chunk : Account Buddy → Leaf → ℕ → Account Buddy
 in_new_chunk a leaf size = record {
@@ -116,7 +122,10 @@ without_leaf b leaf = record b { live = set.remove b.live leaf }
 -- A block comes back: its chunk goes with it where no other block of the chunk is live, and stays where one is.
 abbrev pub Frees : Account Buddy → Leaf → List Event → Account Buddy → Type 0
 Frees a leaf es new =
-    ((IsUnusedChunk (without_leaf a.allocator leaf) leaf.chunk → ⊥) × ((es ≡ []) × (new ≡ record a { allocator = without_leaf a.allocator leaf })))
+    ((IsUnusedChunk (without_leaf a.allocator leaf) leaf.chunk → ⊥) × ((es ≡ []) × (new ≡ record a {
+      allocator =
+          without_leaf a.allocator leaf;
+    })))
     ⊎ (IsUnusedChunk (without_leaf a.allocator leaf) leaf.chunk
     × ((chunk : Chunk) × (map.get a.allocator.chunks leaf.chunk ≡ Some chunk)
     × ((es ≡ Deallocated leaf.object ∷ [])
@@ -145,9 +154,11 @@ pub record IsGranted (old : Buddy) (w : Wanted) (new : Buddy) (leaf : Leaf) : Ty
   pub whole_atoms : (leaf.offset % old.atom ≡ 0) × (leaf.size % old.atom ≡ 0)
   pub power : IsPowerOfTwo leaf.size
   pub front : IsMultipleOf leaf.size leaf.offset
-  pub inside : (chunk : Chunk) × (map.get new.chunks leaf.chunk ≡ Some chunk) × ((leaf.object ≡ chunk.object) × (leaf.offset + leaf.size ≤ chunk.size))
+  pub inside : (chunk : Chunk) × (map.get new.chunks leaf.chunk ≡ Some chunk)
+      × ((leaf.object ≡ chunk.object) × (leaf.offset + leaf.size ≤ chunk.size))
   pub live : IsLiveLeaf new leaf
-  pub was_free : (other : Leaf) → IsLiveLeaf old other → other.object ≡ leaf.object → (at : ℕ) → IsIn other.offset other.size at → IsIn leaf.offset leaf.size at → ⊥
+  pub was_free : (other : Leaf) → IsLiveLeaf old other → other.object ≡ leaf.object → (at : ℕ)
+      → IsIn other.offset other.size at → IsIn leaf.offset leaf.size at → ⊥
 
 -- Device and allocator.
 
@@ -156,8 +167,11 @@ abbrev pub Agrees : Buddy → Properties → (ℕ → Option Object) → Type 0
 Agrees b p objects = accounts.Agrees b.memory_type b.props b.chunks p objects
 
 -- what a request makes of the device's objects
-abbrev pub ObjectsAfter : Buddy → Result Leaf AllocationError → Buddy → (ℕ → Option Object) → (ℕ → Option Object) → Type 0
-ObjectsAfter b answer after old new = accounts.ObjectsAfter (λ leaf. leaf.chunk) (λ leaf. leaf.object) b.memory_type b.props b.chunks answer after.chunks old new
+abbrev pub ObjectsAfter : Buddy → Result Leaf AllocationError → Buddy → (ℕ → Option Object) → (ℕ → Option Object)
+    → Type 0
+ObjectsAfter b answer after old new =
+    accounts.ObjectsAfter (λ leaf. leaf.chunk) (λ leaf. leaf.object) b.memory_type b.props b.chunks answer after.chunks
+    old new
 
 -- what a return makes of them: the block's chunk goes with its last block
 abbrev pub ObjectsFreed : Buddy → Leaf → (ℕ → Option Object) → (ℕ → Option Object) → Type 0

@@ -26,7 +26,13 @@ chunks_in object order chunks = by_key (λ c. record { object = object c; size =
 
 -- what the device is asked for a chunk
 abbrev pub question_of : NewChunk → ChunkQuestion
-question_of asked = record { size = 2 ^ asked.order; memory_type = asked.memory_type; flags = allocation_bits asked.flags; mapped = asked.visible }
+question_of asked =
+    record {
+      size = 2 ^ asked.order;
+      memory_type = asked.memory_type;
+      flags = allocation_bits asked.flags;
+      mapped = asked.visible;
+    }
 
 -- the fields as a contract sees them, the chunks as a map
 abbrev pub buddy_in : map.FinMap nat_cmp Chunk → List Leaf → ℕ → ℕ → ℕ → ℕ → ℕ → Buddy
@@ -45,7 +51,9 @@ same_leaf a b = eq_by_cmp leaf_cmp a b
 
 -- the same, field by field, as a list is searched
 abbrev pub same_fields : Leaf → Leaf → Bool
-same_fields a b = (a.object == b.object) && ((a.chunk == b.chunk) && ((a.offset == b.offset) && ((a.size == b.size) && (a.index == b.index))))
+same_fields a b =
+    (a.object == b.object) &&
+    ((a.chunk == b.chunk) && ((a.offset == b.offset) && ((a.size == b.size) && (a.index == b.index))))
 
 -- the free pieces are kept, no live block stands twice in the list, and there is room for the piece of each return
 pub record IsStored (b : Buddy) (pieces : List Piece) (live : List Leaf) (capacity : ℕ) : Type 0 where

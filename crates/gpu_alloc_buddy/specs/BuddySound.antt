@@ -21,11 +21,13 @@ IsUsedChunk b key = (leaf : Leaf) × (IsLiveLeaf b leaf × (leaf.chunk ≡ key))
 
 -- chunks are of objects of their own, with a live block each, and live blocks are apart
 pub record IsSound (b : Buddy) : Type 0 where
-  pub one_object : (k l : ℕ) (c d : Chunk) → map.get b.chunks k ≡ Some c → map.get b.chunks l ≡ Some d → c.object ≡ d.object → k ≡ l
+  pub one_object : (k l : ℕ) (c d : Chunk) → map.get b.chunks k ≡ Some c → map.get b.chunks l ≡ Some d
+      → c.object ≡ d.object → k ≡ l
   pub powers : (k : ℕ) (c : Chunk) → map.get b.chunks k ≡ Some c → IsPowerUpTo 63 c.size
   pub used : (k : ℕ) (c : Chunk) → map.get b.chunks k ≡ Some c → IsUsedChunk b k
   pub inside : (leaf : Leaf) → IsLiveLeaf b leaf → LiesInChunk b leaf
-  pub apart : (x y : Leaf) → IsLiveLeaf b x → IsLiveLeaf b y → x.chunk ≡ y.chunk → (at : ℕ) → IsIn x.offset x.size at → IsIn y.offset y.size at → x ≡ y
+  pub apart : (x y : Leaf) → IsLiveLeaf b x → IsLiveLeaf b y → x.chunk ≡ y.chunk → (at : ℕ) → IsIn x.offset x.size at
+      → IsIn y.offset y.size at → x ≡ y
   pub next_chunk : IsPowerUpTo 63 b.next_chunk
   pub minimal : IsPowerUpTo 63 b.minimal
   pub atom : IsPowerUpTo 62 b.atom

@@ -12,7 +12,8 @@ use Rattle.gpu_alloc_base.specs.Leaves.{leaf_cmp}
 abbrev pub buddy_code : Coded Buddy
 buddy_code =
     code_by (map.FinMap nat_cmp Chunk × (set.FinSet leaf_cmp × ((ℕ × ℕ) × (ℕ × (ℕ × ℕ)))))
-    (coded× (map.code coded_ℕ chunk_code) (coded× (set.code leaf_code) (coded× (coded× coded_ℕ coded_ℕ) (coded× coded_ℕ (coded× coded_ℕ coded_ℕ)))))
+    (coded× (map.code coded_ℕ chunk_code)
+    (coded× (set.code leaf_code) (coded× (coded× coded_ℕ coded_ℕ) (coded× coded_ℕ (coded× coded_ℕ coded_ℕ)))))
     (λ b. (b.chunks, (b.live, ((b.next_chunk, b.minimal), (b.memory_type, (b.props, b.atom))))))
     (λ c. record {
       chunks = c.0;

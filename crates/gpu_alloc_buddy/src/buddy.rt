@@ -1,6 +1,8 @@
 //! The buddy allocator: shared chunks of one memory type, whose blocks are aligned powers of two.
 
-ghost use Rattle.std.specs.Prelude.{◌≡◌, ℕ, ◌+◌, ◌≤◌, ◌<◌, ◌≢◌, ◌↔◌, ◌^◌, ◌++◌, ◌∷◌, [], max, List, length, IfOk, IfErr, OnOk, OnErr, IfSome, IsSome, IsTrue, Some, None, slice_index_or, vec_len, vec_capacity};
+ghost use Rattle.std.specs.Prelude.{◌≡◌, ℕ, ◌+◌, ◌≤◌, ◌<◌, ◌≢◌, ◌↔◌, ◌^◌, ◌++◌, ◌∷◌, [], max, List, length, IfOk};
+ghost use Rattle.std.specs.Prelude.{IfErr, OnOk, OnErr, IfSome, IsSome, IsTrue, Some, None, slice_index_or, vec_len};
+ghost use Rattle.std.specs.Prelude.{vec_capacity};
 ghost use Rattle.std.specs.FinMap as map;
 ghost use Rattle.std.specs.FinSet as set;
 ghost use Rattle.gpu_alloc_types.specs.Flags.{allocation_bits, property_bits, has_bit};
@@ -8,7 +10,9 @@ ghost use Rattle.gpu_alloc_types.specs.Device.{Event, Chain, IsAskable};
 ghost use Rattle.gpu_alloc_types.specs.Properties.{is_host_visible};
 ghost use Rattle.std.specs.Int.{is_power_of_two};
 ghost use Rattle.std.specs.Result.{result_map_both};
-ghost use Rattle.gpu_alloc_buddy.specs.Buddy.{opened, rounded, buddy_case, case_of, Allocates, HasPlace, TakesPlace, Frees, ObjectsFreed, IsGranted, with_leaf, with_chunk, Agrees, ObjectsAfter};
+ghost use Rattle.gpu_alloc_buddy.specs.Buddy.{opened, rounded, buddy_case, case_of, Allocates, HasPlace, TakesPlace};
+ghost use Rattle.gpu_alloc_buddy.specs.Buddy.{Frees, ObjectsFreed, IsGranted, with_leaf, with_chunk, Agrees};
+ghost use Rattle.gpu_alloc_buddy.specs.Buddy.{ObjectsAfter};
 ghost use Rattle.gpu_alloc_base.specs.Accounts.{account, IsCounted, chunks_and_remaining};
 ghost use Rattle.gpu_alloc_base.specs.Case.{Answers, Asks, RefusesFirst};
 ghost use Rattle.gpu_alloc_base.specs.NewChunk.{AsksBlock, ChunkAfter};
@@ -52,8 +56,8 @@ struct NewChunk {
 
 /// Gives out blocks of shared chunks of one memory type. It cannot be let go: [`close`](BuddyAllocator::close) ends it.
 ///
-/// Between calls each held chunk is of an object of its own, of a power of two of at most 2^63 bytes, and some block in it is
-/// live. Each live block lies whole in its chunk, at a multiple of its size, and no two of them share a byte.
+/// Between calls each held chunk is of an object of its own, of a power of two of at most 2^63 bytes, and some block in
+/// it is live. Each live block lies whole in its chunk, at a multiple of its size, and no two of them share a byte.
 pub struct BuddyAllocator<M: MemoryObject, A: Allocator = Global> {
     chunks: Slab<Chunk<M>, A>,
     pieces: Vec<Piece, A>,
@@ -80,16 +84,20 @@ impl<M: MemoryObject, A: Allocator> Model for BuddyAllocator<M, A> {
     ghost use Rattle.gpu_alloc_buddy.specs.BuddyInside.{IsStored, buddy_in};
     ghost use Rattle.gpu_alloc_buddy.specs.BuddySound.{IsSound};
 
-    ghost view = { λ a. buddy_in (by_key (λ c. record { object = M.object c.memory; size = 2 ^ c.order }) a.chunks) a.live.items a.next_order a.minimal_size a.memory_type (property_bits a.props) a.atom };
+    ghost view = { λ a. buddy_in (by_key (λ c. record { object = M.object c.memory; size = 2 ^ c.order }) a.chunks)
+        a.live.items a.next_order a.minimal_size a.memory_type (property_bits a.props) a.atom };
 
-    ghost invariant = { λ a. let b = buddy_in (by_key (λ c. record { object = M.object c.memory; size = 2 ^ c.order }) a.chunks) a.live.items a.next_order a.minimal_size a.memory_type (property_bits a.props) a.atom in IsSound b × IsStored b a.pieces.items a.live.items (vec_capacity a.pieces) };
+    ghost invariant = { λ a. let b = buddy_in
+        (by_key (λ c. record { object = M.object c.memory; size = 2 ^ c.order }) a.chunks) a.live.items a.next_order
+        a.minimal_size a.memory_type (property_bits a.props) a.atom in IsSound b × IsStored b a.pieces.items
+        a.live.items (vec_capacity a.pieces) };
 }
 
 impl<M: MemoryObject, A: Allocator + Copy> BuddyAllocator<M, A> {
-    /// An allocator that holds nothing, for a memory type with these properties. Each size is in bytes and a power of two, as
-    /// the original crate asserts: no block is smaller than `minimal_size`, and the first chunk has at least the greater of
-    /// `minimal_size` and `initial_dedicated_size`, and at least twice its first block. Block sizes are multiples of
-    /// `atom_mask + 1`, a power of two of at most 2^62.
+    /// An allocator that holds nothing, for a memory type with these properties. Each size is in bytes and a power of
+    /// two, as the original crate asserts: no block is smaller than `minimal_size`, and the first chunk has at least
+    /// the greater of `minimal_size` and `initial_dedicated_size`, and at least twice its first block. Block sizes are
+    /// multiples of `atom_mask + 1`, a power of two of at most 2^62.
     ///
     /// `alloc` gives the memory of its lists. The only refusal is `OutOfHostMemory`.
     pub fn new(
@@ -104,7 +112,8 @@ impl<M: MemoryObject, A: Allocator + Copy> BuddyAllocator<M, A> {
         requires initial { IsTrue (is_power_of_two initial_dedicated_size) }
         requires atom { IsTrue (is_power_of_two (atom_mask + 1)) }
         requires atom_bound { atom_mask + 1 ≤ 2 ^ 62 }
-        ensures opened { IfOk result (λ b. b ≡ opened minimal_size initial_dedicated_size memory_type (property_bits props) (atom_mask + 1)) }
+        ensures opened { IfOk result
+            (λ b. b ≡ opened minimal_size initial_dedicated_size memory_type (property_bits props) (atom_mask + 1)) }
         ensures sound { IfOk result IsSound }
         ensures refused { IfErr result (λ e. e ≡ AllocationError.OutOfHostMemory) }
     {
@@ -125,24 +134,24 @@ impl<M: MemoryObject, A: Allocator> BuddyAllocator<M, A> {
     /// Allocates a block of at least `size` bytes at a multiple of `align_mask + 1`: the front of a shortest free piece
     /// that is long enough, or, where none is, of a new chunk that the device is asked for with these flags.
     ///
-    /// The block's size is the least power of two that is not below the size, the alignment, the atom and the least block.
-    /// The block starts at a multiple of its size and lies whole in a held chunk, whose object is its own. A new chunk has
-    /// exactly the greater of twice the block and the size of the latest chunk that was made, which counts even where that
-    /// one is held no more. A chunk that the host sees is mapped whole.
-    /// `heap` is the ledger of the memory type's heap, to which a chunk is added, and `allocations_remains` how many more
-    /// objects may be held, which a chunk lowers.
+    /// The block's size is the least power of two that is not below the size, the alignment, the atom and the least
+    /// block. The block starts at a multiple of its size and lies whole in a held chunk, whose object is its own. A new
+    /// chunk has exactly the greater of twice the block and the size of the latest chunk that was made, which counts
+    /// even where that one is held no more. A chunk that the host sees is mapped whole. `heap` is the ledger of the
+    /// memory type's heap, to which a chunk is added, and `allocations_remains` how many more objects may be held,
+    /// which a chunk lowers.
     ///
-    /// The size has to be at least 1, `align_mask + 1` a power of two of at most 2^63, the address flag set only where the
-    /// device has the feature, and the device the one that this allocator has served: it has the memory type with the
-    /// properties given to `new`, and each held chunk.
+    /// The size has to be at least 1, `align_mask + 1` a power of two of at most 2^63, the address flag set only where
+    /// the device has the feature, and the device the one that this allocator has served: it has the memory type with
+    /// the properties given to `new`, and each held chunk.
     ///
-    /// Refusals, after which all is as before: `OutOfDeviceMemory` where a chunk would be of 2^64 bytes or more, and where
-    /// the device answers so; `TooManyObjects` where a chunk is wanted and no more objects may be held; `OutOfHostMemory`
-    /// where the host's memory is refused to the allocator or to the device, and where a chunk cannot be mapped for another
-    /// reason. A chunk that was made is given back then.
+    /// Refusals, after which all is as before: `OutOfDeviceMemory` where a chunk would be of 2^64 bytes or more, and
+    /// where the device answers so; `TooManyObjects` where a chunk is wanted and no more objects may be held;
+    /// `OutOfHostMemory` where the host's memory is refused to the allocator or to the device, and where a chunk cannot
+    /// be mapped for another reason. A chunk that was made is given back then.
     ///
-    /// `heap` has to count no less than the sum of the held chunks, and at most 2^127 bytes; what remains and the number of
-    /// held chunks have to fit 32 bits together. All but the bound of 2^127 bytes is so again after the call.
+    /// `heap` has to count no less than the sum of the held chunks, and at most 2^127 bytes; what remains and the
+    /// number of held chunks have to fit 32 bits together. All but the bound of 2^127 bytes is so again after the call.
     pub fn alloc<D: MemoryDevice<M>>(
         &mut self,
         device: &mut D,
@@ -154,31 +163,37 @@ impl<M: MemoryObject, A: Allocator> BuddyAllocator<M, A> {
     ) -> Result<BuddyBlock<M>, AllocationError>
         requires nonempty { 0 < size }
         requires alignment { IsAlignMask align_mask }
-        requires address { IsTrue (has_bit (allocation_bits flags) 1) → IsTrue (D.properties device.old).buffer_device_address }
+        requires address { IsTrue (has_bit (allocation_bits flags) 1)
+            → IsTrue (D.properties device.old).buffer_device_address }
         requires agrees { Agrees self.old (D.properties device.old) (D.objects device.old) }
         requires counted { IsCounted self.old.chunks heap.old allocations_remains.old }
         requires bound { heap.old.used ≤ 2 ^ 127 }
 
         // What was asked of the device, the answer, and what changed.
-        ensures allocates { (es : List Event) × Chain D.step device.old es device.new × Allocates (account self.old heap.old allocations_remains.old) (wanted size align_mask (allocation_bits flags)) es result (account self.new heap.new allocations_remains.new) }
+        ensures allocates { (es : List Event) × Chain D.step device.old es device.new
+            × Allocates (account self.old heap.old allocations_remains.old)
+            (wanted size align_mask (allocation_bits flags)) es result
+            (account self.new heap.new allocations_remains.new) }
         ensures objects { ObjectsAfter self.old result self.new (D.objects device.old) (D.objects device.new) }
         ensures agrees { Agrees self.new (D.properties device.new) (D.objects device.new) }
         ensures properties { D.properties device.new ≡ D.properties device.old }
 
         // What follows from it.
         ensures granted { IfOk result (IsGranted self.old (wanted size align_mask (allocation_bits flags)) self.new) }
-        ensures refused { OnErr result ((self.new ≡ self.old) × ((heap.new ≡ heap.old) × (allocations_remains.new ≡ allocations_remains.old))) }
+        ensures refused { OnErr result
+            ((self.new ≡ self.old) × ((heap.new ≡ heap.old) × (allocations_remains.new ≡ allocations_remains.old))) }
         ensures sound { IsSound self.new }
         ensures counted { IsCounted self.new.chunks heap.new allocations_remains.new }
-        ensures total { chunks_and_remaining self.new.chunks allocations_remains.new ≡ chunks_and_remaining self.old.chunks allocations_remains.old }
+        ensures total { chunks_and_remaining self.new.chunks allocations_remains.new ≡ chunks_and_remaining
+            self.old.chunks allocations_remains.old }
     {
         let order = self.rounded_order(size, align_mask);
         self.alloc_rounded(device, order, flags, heap, allocations_remains)
     }
 
-    /// The refusal that `alloc` gives such a request before it takes any memory or asks anything:
-    /// `OutOfDeviceMemory` where a chunk for it would be of 2^64 bytes or more, `TooManyObjects` where a chunk is wanted and
-    /// no more objects may be held. None where it goes further. It takes no memory.
+    /// The refusal that `alloc` gives such a request before it takes any memory or asks anything: `OutOfDeviceMemory`
+    /// where a chunk for it would be of 2^64 bytes or more, `TooManyObjects` where a chunk is wanted and no more
+    /// objects may be held. None where it goes further. It takes no memory.
     pub fn refuses(
         &self,
         size: u64,
@@ -188,7 +203,9 @@ impl<M: MemoryObject, A: Allocator> BuddyAllocator<M, A> {
     ) -> Option<AllocationError>
         requires nonempty { 0 < size }
         requires alignment { IsAlignMask align_mask }
-        ensures { (flags : ℕ) → RefusesFirst (case_of (account self.now heap.now allocations_remains) (wanted size align_mask flags)) result }
+        ensures { (flags : ℕ)
+            → RefusesFirst (case_of (account self.now heap.now allocations_remains) (wanted size align_mask flags))
+            result }
     {
         let order = self.rounded_order(size, align_mask);
         if order > 62 {
@@ -203,13 +220,13 @@ impl<M: MemoryObject, A: Allocator> BuddyAllocator<M, A> {
         Some(AllocationError::TooManyObjects)
     }
 
-    /// Takes a block back. Free halves are joined, and a chunk in which no other block is live goes back to the device at
-    /// once: then `heap` is lowered by its size, and one more object may be held. It takes no memory and cannot fail.
+    /// Takes a block back. Free halves are joined, and a chunk in which no other block is live goes back to the device
+    /// at once: then `heap` is lowered by its size, and one more object may be held. It takes no memory and cannot
+    /// fail.
     ///
     /// The block has to be live here, by its object, chunk, offset, size and index, and the device the one that this
-    /// allocator has served. `heap` has to count no less than
-    /// the sum of the held chunks; what remains and the number of held chunks have to fit 32 bits together. Both is so again
-    /// after the call.
+    /// allocator has served. `heap` has to count no less than the sum of the held chunks; what remains and the number
+    /// of held chunks have to fit 32 bits together. Both is so again after the call.
     pub fn dealloc<D: MemoryDevice<M>>(
         &mut self,
         device: &mut D,
@@ -221,13 +238,16 @@ impl<M: MemoryObject, A: Allocator> BuddyAllocator<M, A> {
         requires agrees { Agrees self.old (D.properties device.old) (D.objects device.old) }
         requires counted { IsCounted self.old.chunks heap.old allocations_remains.old }
 
-        ensures frees { (es : List Event) × Chain D.step device.old es device.new × Frees (account self.old heap.old allocations_remains.old) block es (account self.new heap.new allocations_remains.new) }
+        ensures frees { (es : List Event) × Chain D.step device.old es device.new
+            × Frees (account self.old heap.old allocations_remains.old) block es
+            (account self.new heap.new allocations_remains.new) }
         ensures objects { ObjectsFreed self.old block (D.objects device.old) (D.objects device.new) }
         ensures agrees { Agrees self.new (D.properties device.new) (D.objects device.new) }
         ensures properties { D.properties device.new ≡ D.properties device.old }
         ensures sound { IsSound self.new }
         ensures counted { IsCounted self.new.chunks heap.new allocations_remains.new }
-        ensures total { chunks_and_remaining self.new.chunks allocations_remains.new ≡ chunks_and_remaining self.old.chunks allocations_remains.old }
+        ensures total { chunks_and_remaining self.new.chunks allocations_remains.new ≡ chunks_and_remaining
+            self.old.chunks allocations_remains.old }
     {
         let (memory, leaf) = block.into_parts();
         forget(&mut self.live, leaf);
@@ -290,11 +310,15 @@ impl<M: MemoryObject, A: Allocator> BuddyAllocator<M, A> {
         heap: &mut Heap,
         allocations_remains: &mut u32,
     ) -> Result<BuddyBlock<M>, AllocationError>
-        requires address { IsTrue (has_bit (allocation_bits flags) 1) → IsTrue (D.properties device.old).buffer_device_address }
+        requires address { IsTrue (has_bit (allocation_bits flags) 1)
+            → IsTrue (D.properties device.old).buffer_device_address }
         requires agrees { Agrees self.old (D.properties device.old) (D.objects device.old) }
         requires counted { IsCounted self.old.chunks heap.old allocations_remains.old }
         requires bound { heap.old.used ≤ 2 ^ 127 }
-        ensures answers { (es : List Event) × Chain D.step device.old es device.new × Answers (buddy_case (account self.old heap.old allocations_remains.old) (2 ^ order) (allocation_bits flags)) es result (account self.new heap.new allocations_remains.new) }
+        ensures answers { (es : List Event) × Chain D.step device.old es device.new
+            × Answers
+            (buddy_case (account self.old heap.old allocations_remains.old) (2 ^ order) (allocation_bits flags)) es
+            result (account self.new heap.new allocations_remains.new) }
         ensures objects { ObjectsAfter self.old result self.new (D.objects device.old) (D.objects device.new) }
         ensures properties { D.properties device.new ≡ D.properties device.old }
     {
@@ -319,8 +343,8 @@ impl<M: MemoryObject, A: Allocator> BuddyAllocator<M, A> {
         shortest(self.pieces.as_slice(), order).is_some()
     }
 
-    /// Takes the front of a shortest free piece that is long enough: none where there is none. It fails only for want of
-    /// host memory.
+    /// Takes the front of a shortest free piece that is long enough: none where there is none. It fails only for want
+    /// of host memory.
     fn take_place(&mut self, order: u32) -> Result<Option<BuddyBlock<M>>, AllocationError>
         requires { order ≤ 62 }
         ensures { TakesPlace self.old (2 ^ order) result self.new }
@@ -351,12 +375,17 @@ impl<M: MemoryObject, A: Allocator> BuddyAllocator<M, A> {
         allocations_remains: &mut u32,
     ) -> Result<BuddyBlock<M>, AllocationError>
         requires short { order ≤ 62 }
-        requires asks { Asks (buddy_case (account self.old heap.old allocations_remains.old) (2 ^ order) (allocation_bits flags)) }
-        requires address { IsTrue (has_bit (allocation_bits flags) 1) → IsTrue (D.properties device.old).buffer_device_address }
+        requires asks { Asks (buddy_case (account self.old heap.old allocations_remains.old) (2 ^ order)
+            (allocation_bits flags)) }
+        requires address { IsTrue (has_bit (allocation_bits flags) 1)
+            → IsTrue (D.properties device.old).buffer_device_address }
         requires agrees { Agrees self.old (D.properties device.old) (D.objects device.old) }
         requires counted { IsCounted self.old.chunks heap.old allocations_remains.old }
         requires bound { heap.old.used ≤ 2 ^ 127 }
-        ensures answers { (es : List Event) × Chain D.step device.old es device.new × Answers (buddy_case (account self.old heap.old allocations_remains.old) (2 ^ order) (allocation_bits flags)) es result (account self.new heap.new allocations_remains.new) }
+        ensures answers { (es : List Event) × Chain D.step device.old es device.new
+            × Answers
+            (buddy_case (account self.old heap.old allocations_remains.old) (2 ^ order) (allocation_bits flags)) es
+            result (account self.new heap.new allocations_remains.new) }
         ensures objects { ObjectsAfter self.old result self.new (D.objects device.old) (D.objects device.new) }
         ensures properties { D.properties device.new ≡ D.properties device.old }
     {
@@ -409,19 +438,31 @@ fn ask_chunk<M: MemoryObject, A: Allocator, D: MemoryDevice<M>>(
     requires chunk_room { HasRoomFor chunks.old 1 }
     requires room { vec_len pieces.old + 64 ≤ vec_capacity pieces.old }
     requires live_room { vec_len live.old < vec_capacity live.old }
-    requires askable { IsAskable (D.properties device.old) (2 ^ asked.order) asked.memory_type (allocation_bits asked.flags) }
+    requires askable { IsAskable (D.properties device.old) (2 ^ asked.order) asked.memory_type
+        (allocation_bits asked.flags) }
     requires visible { is_host_visible (D.properties device.old) asked.memory_type ≡ asked.visible }
-    ensures asks { (es : List Event) × Chain D.step device.old es device.new × AsksBlock (question_of asked) es (result_map_both (λ leaf. leaf.object) (λ e. e) result) }
-    ensures objects { ChunkAfter (question_of asked) (result_map_both (λ leaf. leaf.object) (λ e. e) result) (D.objects device.old) (D.objects device.new) }
+    ensures asks { (es : List Event) × Chain D.step device.old es device.new
+        × AsksBlock (question_of asked) es (result_map_both (λ leaf. leaf.object) (λ e. e) result) }
+    ensures objects { ChunkAfter (question_of asked) (result_map_both (λ leaf. leaf.object) (λ e. e) result)
+        (D.objects device.old) (D.objects device.new) }
     ensures properties { D.properties device.new ≡ D.properties device.old }
-    ensures leaf { IfOk result (λ leaf. leaf ≡ record { object = leaf.object; chunk = leaf.chunk; offset = 0; size = 2 ^ order; index = 0 }) }
-    ensures key { IfOk result (λ leaf. map.get (chunks_in (λ c. M.object c.memory) (λ c. c.order) chunks.old) leaf.chunk ≡ None) }
-    ensures chunks { IfOk result (λ leaf. chunks_in (λ c. M.object c.memory) (λ c. c.order) chunks.new ≡ map.insert (chunks_in (λ c. M.object c.memory) (λ c. c.order) chunks.old) leaf.chunk (record { object = leaf.object; size = 2 ^ asked.order })) }
-    ensures kept { IfOk result (λ leaf. (b : Buddy) → map.get b.chunks leaf.chunk ≡ None → ((other : Leaf) → IsLiveLeaf b other → other.chunk ≢ leaf.chunk) → AreKept pieces.old.items (IsFreeAt b) → AreKept pieces.new.items (IsFreeAt (with_leaf (with_chunk b leaf (2 ^ asked.order)) leaf))) }
+    ensures leaf { IfOk result
+        (λ leaf. leaf ≡ record { object = leaf.object; chunk = leaf.chunk; offset = 0; size = 2 ^ order; index = 0 }) }
+    ensures key { IfOk result
+        (λ leaf. map.get (chunks_in (λ c. M.object c.memory) (λ c. c.order) chunks.old) leaf.chunk ≡ None) }
+    ensures chunks { IfOk result
+        (λ leaf. chunks_in (λ c. M.object c.memory) (λ c. c.order) chunks.new ≡ map.insert
+        (chunks_in (λ c. M.object c.memory) (λ c. c.order) chunks.old) leaf.chunk
+        (record { object = leaf.object; size = 2 ^ asked.order })) }
+    ensures kept { IfOk result
+        (λ leaf. (b : Buddy) → map.get b.chunks leaf.chunk ≡ None
+        → ((other : Leaf) → IsLiveLeaf b other → other.chunk ≢ leaf.chunk) → AreKept pieces.old.items (IsFreeAt b)
+        → AreKept pieces.new.items (IsFreeAt (with_leaf (with_chunk b leaf (2 ^ asked.order)) leaf))) }
     ensures live { IfOk result (λ leaf. live.new.items ≡ live.old.items ++ leaf ∷ []) }
     ensures count { OnOk result (vec_len pieces.new + order ≡ vec_len pieces.old + asked.order) }
     ensures capacity { vec_capacity pieces.new ≡ vec_capacity pieces.old }
-    ensures refused { OnErr result ((chunks.new ≡ chunks.old) × ((pieces.new.items ≡ pieces.old.items) × (live.new.items ≡ live.old.items))) }
+    ensures refused { OnErr result
+        ((chunks.new ≡ chunks.old) × ((pieces.new.items ≡ pieces.old.items) × (live.new.items ≡ live.old.items))) }
 {
     let size = bytes(asked.order);
     let made = new_chunk_with_handle(device, size, asked.memory_type, asked.flags, asked.visible);
@@ -450,11 +491,14 @@ fn begin_chunk<M: MemoryObject, A: Allocator>(
     requires chunk_room { HasRoomFor chunks.old 1 }
     requires room { vec_len pieces.old + 64 ≤ vec_capacity pieces.old }
     requires live_room { vec_len live.old < vec_capacity live.old }
-    ensures leaf { result ≡ record { object = M.object chunk.memory; chunk = result.chunk; offset = 0; size = 2 ^ order; index = 0 } }
+    ensures leaf { result ≡ record
+        { object = M.object chunk.memory; chunk = result.chunk; offset = 0; size = 2 ^ order; index = 0 } }
     ensures key { get chunks.old result.chunk ≡ None }
     ensures chunks { Updates chunks.old chunks.new result.chunk (Some chunk) }
     ensures len { slab_len chunks.new ≡ slab_len chunks.old + 1 }
-    ensures kept { (b : Buddy) → map.get b.chunks result.chunk ≡ None → ((leaf : Leaf) → IsLiveLeaf b leaf → leaf.chunk ≢ result.chunk) → AreKept pieces.old.items (IsFreeAt b) → AreKept pieces.new.items (IsFreeAt (with_leaf (with_chunk b result (2 ^ chunk.order)) result)) }
+    ensures kept { (b : Buddy) → map.get b.chunks result.chunk ≡ None
+        → ((leaf : Leaf) → IsLiveLeaf b leaf → leaf.chunk ≢ result.chunk) → AreKept pieces.old.items (IsFreeAt b)
+        → AreKept pieces.new.items (IsFreeAt (with_leaf (with_chunk b result (2 ^ chunk.order)) result)) }
     ensures live { live.new.items ≡ live.old.items ++ result ∷ [] }
     ensures count { vec_len pieces.new + order ≡ vec_len pieces.old + chunk.order }
     ensures capacity { vec_capacity pieces.new ≡ vec_capacity pieces.old }

@@ -1,5 +1,7 @@
 -- What the calls of a free-list allocator do.
-use Rattle.std.specs.Prelude.{◌≡◌, ◌⊎◌, ℕ, ◌+◌, ◌-◌, ◌*◌, ◌/◌, ◌%◌, ◌^◌, ◌<◌, ◌≤◌, ◌↔◌, Bool, true, false, List, [], ◌∷◌, length, get_or, cond, min, max, nat_le, Option, Some, None, Result, Ok, Err, IfSome, IsTrue, sum_by}
+use Rattle.std.specs.Prelude.{◌≡◌, ◌⊎◌, ℕ, ◌+◌, ◌-◌, ◌*◌, ◌/◌, ◌%◌, ◌^◌, ◌<◌, ◌≤◌, ◌↔◌, Bool, true, false, List, []}
+use Rattle.std.specs.Prelude.{◌∷◌, length, get_or, cond, min, max, nat_le, Option, Some, None, Result, Ok, Err, IfSome}
+use Rattle.std.specs.Prelude.{IsTrue, sum_by}
 use Rattle.std.specs.Prelude as list
 use Rattle.std.specs.List.{Contains}
 use Rattle.std.specs.FinMap as map
@@ -15,7 +17,8 @@ use Rattle.gpu_alloc_base.specs.Case.{Case, Answers}
 use Rattle.gpu_alloc_base.specs.Wanted.{Wanted}
 use Rattle.gpu_alloc_base.specs.Chunks.{Chunk}
 use Rattle.gpu_alloc_base.specs.FreeSpace.{IsIn}
-use Rattle.gpu_alloc_freelist.specs.FreeList.{HasPlace, IsTail, HasNumber, MayGo, IsFirstToGo, with_slot, without_slot, without_chunk, with_chunk, first_tail, no_space}
+use Rattle.gpu_alloc_freelist.specs.FreeList.{HasPlace, IsTail, HasNumber, MayGo, IsFirstToGo, with_slot, without_slot}
+use Rattle.gpu_alloc_freelist.specs.FreeList.{without_chunk, with_chunk, first_tail, no_space}
 use Rattle.gpu_alloc_freelist.specs.FreeListState.{Space, Listing, IsLiveSlot, IsFreeIn}
 use Rattle.gpu_alloc_base.specs.FreeRuns.{IsFreeRun}
 use Rattle.gpu_alloc_base.specs.NewChunk.{ChunkQuestion}
@@ -43,7 +46,8 @@ abbrev pub sees_chunks : Listing → Bool
 sees_chunks l = has_bit l.props 2
 
 abbrev pub question : Listing → ℕ → ℕ → ChunkQuestion
-question l size flags = record { size = chunk_size l size; memory_type = l.memory_type; flags = flags; mapped = sees_chunks l }
+question l size flags =
+    record { size = chunk_size l size; memory_type = l.memory_type; flags = flags; mapped = sees_chunks l }
 
 -- one more block is live
 abbrev pub listing_with_slot : Listing → Slot → Listing
@@ -55,7 +59,11 @@ in_new_chunk a object size alignment =
     let l = a.allocator in
     let whole = chunk_size l size in
     record {
-      allocator = record l { space = with_slot (with_chunk l.space object whole) (first_tail l.space object whole size alignment); next_chunk = next_size l whole };
+      allocator = record l {
+        space = with_slot (with_chunk l.space object whole)
+            (first_tail l.space object whole size alignment);
+        next_chunk = next_size l whole;
+      };
       heap = record a.heap { used = a.heap.used + whole };
       remaining = a.remaining - 1;
     }
@@ -118,7 +126,8 @@ abbrev pub LetsGo : Account Listing → List ℕ → List Event → Account List
 LetsGo a gone es new =
     (es ≡ list.map (λ number. Deallocated (object_of a.allocator.space number)) gone)
     × (new ≡ record {
-      allocator = record a.allocator { space = record a.allocator.space { chunks = without_numbers a.allocator.space.chunks gone } };
+      allocator = record a.allocator
+          { space = record a.allocator.space { chunks = without_numbers a.allocator.space.chunks gone } };
       heap = record a.heap { used = a.heap.used - sum_by (size_of a.allocator.space) gone };
       remaining = a.remaining + length gone;
     })
@@ -134,7 +143,9 @@ account_without a slot = record a { allocator = record a.allocator { space = wit
 
 -- A block comes back, and then every wholly free chunk goes but that of the last run.
 abbrev pub Frees : Account Listing → Slot → List Event → Account Listing → Type 0
-Frees a slot es new = (gone : List ℕ) × (AreGone (without_slot a.allocator.space slot) true gone × LetsGo (account_without a slot) gone es new)
+Frees a slot es new =
+    (gone : List ℕ)
+    × (AreGone (without_slot a.allocator.space slot) true gone × LetsGo (account_without a slot) gone es new)
 
 -- every wholly free chunk goes
 abbrev pub Cleans : Account Listing → List Event → Account Listing → Type 0
@@ -156,9 +167,11 @@ pub record IsGranted (old : Listing) (w : Wanted) (new : Listing) (slot : Slot) 
   pub enough : w.size ≤ slot.size
   pub aligned : slot.offset % (w.align_mask + 1) ≡ 0
   pub whole_atoms : (slot.offset % old.atom ≡ 0) × (slot.size % old.atom ≡ 0)
-  pub inside : (chunk : Chunk) × (map.get new.space.chunks slot.chunk ≡ Some chunk) × ((slot.object ≡ chunk.object) × (slot.offset + slot.size ≤ chunk.size))
+  pub inside : (chunk : Chunk) × (map.get new.space.chunks slot.chunk ≡ Some chunk)
+      × ((slot.object ≡ chunk.object) × (slot.offset + slot.size ≤ chunk.size))
   pub live : IsLiveSlot new.space slot
-  pub was_free : (other : Slot) → IsLiveSlot old.space other → other.object ≡ slot.object → (at : ℕ) → IsIn other.offset other.size at → IsIn slot.offset slot.size at → ⊥
+  pub was_free : (other : Slot) → IsLiveSlot old.space other → other.object ≡ slot.object → (at : ℕ)
+      → IsIn other.offset other.size at → IsIn slot.offset slot.size at → ⊥
 
 -- Device and allocator.
 
@@ -167,21 +180,27 @@ abbrev pub Agrees : Listing → Properties → (ℕ → Option Object) → Type 
 Agrees l p objects = accounts.Agrees l.memory_type l.props l.space.chunks p objects
 
 -- what a request makes of the device's objects
-abbrev pub ObjectsAfter : Listing → Result Slot AllocationError → Listing → (ℕ → Option Object) → (ℕ → Option Object) → Type 0
-ObjectsAfter l answer after old new = accounts.ObjectsAfter (λ slot. slot.chunk) (λ slot. slot.object) l.memory_type l.props l.space.chunks answer after.space.chunks old new
+abbrev pub ObjectsAfter : Listing → Result Slot AllocationError → Listing → (ℕ → Option Object) → (ℕ → Option Object)
+    → Type 0
+ObjectsAfter l answer after old new =
+    accounts.ObjectsAfter (λ slot. slot.chunk) (λ slot. slot.object) l.memory_type l.props l.space.chunks answer
+    after.space.chunks old new
 
 -- what a return makes of them: the chunks that go with it
 abbrev pub ObjectsFreed : Listing → Slot → (ℕ → Option Object) → (ℕ → Option Object) → Type 0
-ObjectsFreed l slot old new = (gone : List ℕ) × (AreGone (without_slot l.space slot) true gone × (new ≡ without_objects_of l.space old gone))
+ObjectsFreed l slot old new =
+    (gone : List ℕ) × (AreGone (without_slot l.space slot) true gone × (new ≡ without_objects_of l.space old gone))
 
 -- and what is given back without one
 abbrev pub ObjectsCleaned : Listing → (ℕ → Option Object) → (ℕ → Option Object) → Type 0
 ObjectsCleaned l old new = (gone : List ℕ) × (AreGone l.space false gone × (new ≡ without_objects_of l.space old gone))
 
 -- The chunks go one by one, each the first that may, until none may.
-abbrev pub GivesBack : Bool → Account Listing → List ℕ → List Event → Account Listing → (ℕ → Option Object) → (ℕ → Option Object) → Type 0
+abbrev pub GivesBack : Bool → Account Listing → List ℕ → List Event → Account Listing → (ℕ → Option Object)
+    → (ℕ → Option Object) → Type 0
 GivesBack keep_last a gone es new old_objects new_objects =
-    AreGone a.allocator.space keep_last gone × (LetsGo a gone es new × (new_objects ≡ without_objects_of a.allocator.space old_objects gone))
+    AreGone a.allocator.space keep_last gone
+    × (LetsGo a gone es new × (new_objects ≡ without_objects_of a.allocator.space old_objects gone))
 
 -- One chunk goes.
 
@@ -193,9 +212,11 @@ account_without_chunk a number = record {
 }
 
 -- the first chunk that may go is given back, or none may
-abbrev pub GivesFirst : Bool → Account Listing → List Event → Option ℕ → Account Listing → (ℕ → Option Object) → (ℕ → Option Object) → Type 0
+abbrev pub GivesFirst : Bool → Account Listing → List Event → Option ℕ → Account Listing → (ℕ → Option Object)
+    → (ℕ → Option Object) → Type 0
 GivesFirst keep_last a es None new old_objects new_objects =
-    ((number : ℕ) → MayGo a.allocator.space keep_last number → ⊥) × ((es ≡ []) × ((new ≡ a) × (new_objects ≡ old_objects)))
+    ((number : ℕ) → MayGo a.allocator.space keep_last number → ⊥)
+    × ((es ≡ []) × ((new ≡ a) × (new_objects ≡ old_objects)))
 GivesFirst keep_last a es (Some object) new old_objects new_objects =
     (number : ℕ) × (IsFirstToGo a.allocator.space keep_last number
     × ((object ≡ object_of a.allocator.space number)
@@ -222,4 +243,5 @@ IsRangeBefore r t = (r.object < t.object) ⊎ ((r.object ≡ t.object) × (r.sta
 
 -- by object, then by start, and none twice
 abbrev pub AreInOrder : List FreeRange → Type 0
-AreInOrder ranges = (i j : ℕ) (d : FreeRange) → i < j → j < length ranges → IsRangeBefore (get_or ranges i d) (get_or ranges j d)
+AreInOrder ranges =
+    (i j : ℕ) (d : FreeRange) → i < j → j < length ranges → IsRangeBefore (get_or ranges i d) (get_or ranges j d)

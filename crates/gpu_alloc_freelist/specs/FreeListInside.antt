@@ -18,7 +18,8 @@ by_number number value rows = map_of.from_entries (map (λ row. (number row, val
 
 -- the numbers of the rows rise
 abbrev pub AreNumbered : {T : Type 0} → (T → ℕ) → List T → Type 0
-AreNumbered {T} number rows = (i j : ℕ) (d : T) → i < j → j < length rows → number (get_or rows i d) < number (get_or rows j d)
+AreNumbered {T} number rows =
+    (i j : ℕ) (d : T) → i < j → j < length rows → number (get_or rows i d) < number (get_or rows j d)
 
 -- a list of live blocks as a set
 abbrev pub slot_set : List Slot → set.FinSet slot_cmp
@@ -65,22 +66,29 @@ IsBeforeBlock r slot = (r.chunk < slot.chunk) ⊎ ((r.chunk ≡ slot.chunk) × (
 -- the last one that has room stands here
 pub record IsLastFit (regions : List FreeListRegion) (size alignment i : ℕ) (d : FreeListRegion) : Type 0 where
   pub room : HasRoom size alignment (get_or regions i d).start (get_or regions i d).end
-  pub later : (j : ℕ) → i < j → j < length regions → HasRoom size alignment (get_or regions j d).start (get_or regions j d).end → ⊥
+  pub later : (j : ℕ) → i < j → j < length regions
+      → HasRoom size alignment (get_or regions j d).start (get_or regions j d).end → ⊥
 
 -- the run before this place ends where the block starts
 abbrev pub TouchesBefore : List FreeListRegion → ℕ → FreeListRegion → FreeListRegion → Type 0
-TouchesBefore regions place block d = (0 < place) × (((get_or regions (place - 1) d).chunk ≡ block.chunk) × ((get_or regions (place - 1) d).end ≡ block.start))
+TouchesBefore regions place block d =
+    (0 < place)
+    × (((get_or regions (place - 1) d).chunk ≡ block.chunk) × ((get_or regions (place - 1) d).end ≡ block.start))
 
 -- the run at this place starts where the block ends
 abbrev pub TouchesAfter : List FreeListRegion → ℕ → FreeListRegion → FreeListRegion → Type 0
-TouchesAfter regions place block d = (place < length regions) × (((get_or regions place d).chunk ≡ block.chunk) × ((get_or regions place d).start ≡ block.end))
+TouchesAfter regions place block d =
+    (place < length regions)
+    × (((get_or regions place d).chunk ≡ block.chunk) × ((get_or regions place d).start ≡ block.end))
 
--- The block at this place is joined with the runs that it touches: the joint stands in place of those from one index on to
--- before another.
-pub record IsJoint (regions : List FreeListRegion) (place : ℕ) (block d : FreeListRegion) (from to : ℕ) (joint : FreeListRegion) : Type 0 where
+-- The block at this place is joined with the runs that it touches: the joint stands in place of those from one index on
+-- to before another.
+pub record IsJoint (regions : List FreeListRegion) (place : ℕ) (block d : FreeListRegion) (from to : ℕ)
+    (joint : FreeListRegion) : Type 0 where
   pub chunk : joint.chunk ≡ block.chunk
   pub before :
-      (TouchesBefore regions place block d × ((from + 1 ≡ place) × (joint.start ≡ (get_or regions (place - 1) d).start)))
+      (TouchesBefore regions place block d ×
+      ((from + 1 ≡ place) × (joint.start ≡ (get_or regions (place - 1) d).start)))
       ⊎ ((TouchesBefore regions place block d → ⊥) × ((from ≡ place) × (joint.start ≡ block.start)))
   pub after :
       (TouchesAfter regions place block d × ((to ≡ place + 1) × (joint.end ≡ (get_or regions place d).end)))
@@ -91,11 +99,13 @@ abbrev pub IsWholeRegion : map_of.FinMap nat_cmp ℕ → FreeListRegion → Type
 IsWholeRegion sizes r = (r.start ≡ 0) × (map_of.get sizes r.chunk ≡ Some r.end)
 
 -- the run at this place is a whole chunk, and not the last run where that is kept
-pub record MayBeTaken (sizes : map_of.FinMap nat_cmp ℕ) (regions : List FreeListRegion) (keep_last : Bool) (d : FreeListRegion) (i : ℕ) : Type 0 where
+pub record MayBeTaken (sizes : map_of.FinMap nat_cmp ℕ) (regions : List FreeListRegion) (keep_last : Bool)
+    (d : FreeListRegion) (i : ℕ) : Type 0 where
   pub within : i < length regions
   pub whole : IsWholeRegion sizes (get_or regions i d)
   pub not_last : keep_last ≡ true → i + 1 < length regions
 
-pub record IsFirstWhole (sizes : map_of.FinMap nat_cmp ℕ) (regions : List FreeListRegion) (keep_last : Bool) (d : FreeListRegion) (i : ℕ) : Type 0 where
+pub record IsFirstWhole (sizes : map_of.FinMap nat_cmp ℕ) (regions : List FreeListRegion) (keep_last : Bool)
+    (d : FreeListRegion) (i : ℕ) : Type 0 where
   pub taken : MayBeTaken sizes regions keep_last d i
   pub earlier : (j : ℕ) → j < i → MayBeTaken sizes regions keep_last d j → ⊥

@@ -19,13 +19,16 @@ pub record IsSoundSpace (s : Space) : Type 0 where
   pub numbers : (k : ℕ) (c : Chunk) → map.get s.chunks k ≡ Some c → (0 < k) × (k ≤ s.latest)
   pub sizes : (k : ℕ) (c : Chunk) → map.get s.chunks k ≡ Some c → (0 < c.size) × (c.size < 2 ^ 64)
   pub inside : (slot : Slot) → IsLiveSlot s slot → LiesInChunk s slot
-  pub apart : (x y : Slot) → IsLiveSlot s x → IsLiveSlot s y → x.chunk ≡ y.chunk → (at : ℕ) → IsIn x.offset x.size at → IsIn y.offset y.size at → x ≡ y
+  pub apart : (x y : Slot) → IsLiveSlot s x → IsLiveSlot s y → x.chunk ≡ y.chunk → (at : ℕ) → IsIn x.offset x.size at
+      → IsIn y.offset y.size at → x ≡ y
 
 -- chunks are of objects of their own and no larger than the largest, and chunks and blocks are of whole atoms
 pub record IsSound (l : Listing) : Type 0 where
   pub space : IsSoundSpace l.space
-  pub one_object : (k n : ℕ) (c d : Chunk) → map.get l.space.chunks k ≡ Some c → map.get l.space.chunks n ≡ Some d → c.object ≡ d.object → k ≡ n
-  pub chunks : (k : ℕ) (c : Chunk) → map.get l.space.chunks k ≡ Some c → IsMultipleOf l.atom c.size × (c.size ≤ l.final_chunk)
+  pub one_object : (k n : ℕ) (c d : Chunk) → map.get l.space.chunks k ≡ Some c → map.get l.space.chunks n ≡ Some d
+      → c.object ≡ d.object → k ≡ n
+  pub chunks : (k : ℕ) (c : Chunk) → map.get l.space.chunks k ≡ Some c → IsMultipleOf l.atom c.size
+      × (c.size ≤ l.final_chunk)
   pub slots : (slot : Slot) → IsLiveSlot l.space slot → IsMultipleOf l.atom slot.offset × IsMultipleOf l.atom slot.size
   pub next_chunk : (IsMultipleOf l.atom l.next_chunk × (0 < l.next_chunk)) × (l.next_chunk ≤ l.final_chunk)
   pub final_chunk : IsMultipleOf l.atom l.final_chunk × (l.final_chunk ≤ 2 ^ 62)

@@ -1,6 +1,7 @@
 //! The free-list allocator: shared chunks of one memory type, whose blocks are the tails of free runs.
 
-ghost use Rattle.std.specs.Prelude.{◌≡◌, ℕ, ◌+◌, ◌≤◌, ◌<◌, ◌^◌, ◌↔◌, List, Contains, IfOk, IfErr, IfSome, OnErr, IsSome, IsTrue, Some, None, true, false, cond};
+ghost use Rattle.std.specs.Prelude.{◌≡◌, ℕ, ◌+◌, ◌≤◌, ◌<◌, ◌^◌, ◌↔◌, List, Contains, IfOk, IfErr, IfSome, OnErr};
+ghost use Rattle.std.specs.Prelude.{IsSome, IsTrue, Some, None, true, false, cond};
 ghost use Rattle.std.specs.FinMap as map;
 ghost use Rattle.std.specs.Int.{is_power_of_two};
 ghost use Rattle.gpu_alloc_types.specs.Flags.{allocation_bits, property_bits, has_bit};
@@ -8,7 +9,11 @@ ghost use Rattle.gpu_alloc_types.specs.Device.{Event, Chain};
 ghost use Rattle.gpu_alloc_types.specs.declared.types.FreeRange.{FreeRange as Range};
 ghost use Rattle.gpu_alloc_base.specs.Wanted.{wanted};
 ghost use Rattle.gpu_alloc_freelist.specs.FreeList.{HasPlace, without_slot};
-ghost use Rattle.gpu_alloc_freelist.specs.FreeListAllocator.{Agrees, alignment, Allocates, AreInOrder, case_of, chunk_size, Cleans, Frees, GivesBack, GivesFirst, IsGranted, IsRunOf, list_case, listing_without, ObjectsAfter, ObjectsCleaned, ObjectsFreed, opened, rounded};
+ghost use Rattle.gpu_alloc_freelist.specs.FreeListAllocator.{Agrees, alignment, Allocates, AreInOrder, case_of};
+ghost use Rattle.gpu_alloc_freelist.specs.FreeListAllocator.{chunk_size, Cleans, Frees, GivesBack, GivesFirst};
+ghost use Rattle.gpu_alloc_freelist.specs.FreeListAllocator.{IsGranted, IsRunOf, list_case, listing_without};
+ghost use Rattle.gpu_alloc_freelist.specs.FreeListAllocator.{ObjectsAfter, ObjectsCleaned, ObjectsFreed, opened};
+ghost use Rattle.gpu_alloc_freelist.specs.FreeListAllocator.{rounded};
 ghost use Rattle.gpu_alloc_base.specs.Accounts.{account, IsCounted, chunks_and_remaining};
 ghost use Rattle.gpu_alloc_base.specs.Case.{Answers, Asks, RefusesFirst};
 ghost use Rattle.gpu_alloc_freelist.specs.FreeListSound.{IsSound, IsSoundSpace};
@@ -32,10 +37,11 @@ use std::alloc::{AllocError, Allocator, Global};
 use std::marker::{Brand, Model};
 use std::sync::ledger::{Blank, Ledger};
 
-/// Gives out blocks of shared chunks of one memory type. It cannot be let go: [`close`](FreeListAllocator::close) ends it.
+/// Gives out blocks of shared chunks of one memory type. It cannot be let go: [`close`](FreeListAllocator::close) ends
+/// it.
 ///
-/// Between calls each held chunk is of an object of its own, of at most 2^62 bytes. Each live block lies whole in its chunk,
-/// and no two of them share a byte. Chunks and blocks begin and end at multiples of the atom.
+/// Between calls each held chunk is of an object of its own, of at most 2^62 bytes. Each live block lies whole in its
+/// chunk, and no two of them share a byte. Chunks and blocks begin and end at multiples of the atom.
 pub struct FreeListAllocator<M: MemoryObject, A: Allocator = Global> {
     freelist: FreeList<M, A>,
     chunk_size: u64,
@@ -58,16 +64,18 @@ impl<M: MemoryObject, A: Allocator> Model for FreeListAllocator<M, A> {
     ghost use Rattle.gpu_alloc_freelist.specs.FreeListInside.{listing_in};
     ghost use Rattle.gpu_alloc_freelist.specs.FreeListSound.{IsSound};
 
-    ghost view = { λ a. listing_in (a.freelist).space a.chunk_size a.final_chunk_size a.memory_type (property_bits a.props) (a.atom_mask + 1) };
+    ghost view = { λ a. listing_in (a.freelist).space a.chunk_size a.final_chunk_size a.memory_type
+        (property_bits a.props) (a.atom_mask + 1) };
 
-    ghost invariant = { λ a. IsSound (listing_in (a.freelist).space a.chunk_size a.final_chunk_size a.memory_type (property_bits a.props) (a.atom_mask + 1)) };
+    ghost invariant = { λ a. IsSound (listing_in (a.freelist).space a.chunk_size a.final_chunk_size a.memory_type
+        (property_bits a.props) (a.atom_mask + 1)) };
 }
 
 impl<M: MemoryObject, A: Allocator + Copy> FreeListAllocator<M, A> {
-    /// An allocator that holds nothing, for a memory type with these properties. Each size is in bytes and a multiple of
-    /// `atom_mask + 1`, which is a power of two of at most 2^62: the first chunk has at least `starting_chunk_size`, which is
-    /// at least one atom, and none has more than `final_chunk_size`, which is no less and at most 2^62. (The original crate
-    /// asserts the multiples.)
+    /// An allocator that holds nothing, for a memory type with these properties. Each size is in bytes and a multiple
+    /// of `atom_mask + 1`, which is a power of two of at most 2^62: the first chunk has at least `starting_chunk_size`,
+    /// which is at least one atom, and none has more than `final_chunk_size`, which is no less and at most 2^62. (The
+    /// original crate asserts the multiples.)
     ///
     /// `alloc` gives the memory of its lists, none of which is taken yet.
     pub fn new(
@@ -85,7 +93,8 @@ impl<M: MemoryObject, A: Allocator + Copy> FreeListAllocator<M, A> {
         requires largest { IsMultipleOf (atom_mask + 1) final_chunk_size }
         requires growing { starting_chunk_size ≤ final_chunk_size }
         requires bound { final_chunk_size ≤ 2 ^ 62 }
-        ensures opened { result ≡ opened starting_chunk_size final_chunk_size memory_type (property_bits props) (atom_mask + 1) }
+        ensures opened { result ≡ opened starting_chunk_size final_chunk_size memory_type (property_bits props)
+            (atom_mask + 1) }
         ensures sound { IsSound result }
     {
         FreeListAllocator {
@@ -98,8 +107,8 @@ impl<M: MemoryObject, A: Allocator + Copy> FreeListAllocator<M, A> {
         }
     }
 
-    /// The free ranges of the held chunks: the longest ranges of bytes that lie in a chunk and in no live block, by the name
-    /// of their object, then by start. Each is in bytes of its object.
+    /// The free ranges of the held chunks: the longest ranges of bytes that lie in a chunk and in no live block, by the
+    /// name of their object, then by start. Each is in bytes of its object.
     ///
     /// The only refusal is want of host memory. Nothing changes.
     pub fn free_ranges(&self) -> Result<Vec<FreeRange, A>, AllocError>
@@ -121,29 +130,28 @@ impl<M: MemoryObject, A: Allocator + Copy> FreeListAllocator<M, A> {
 }
 
 impl<M: MemoryObject, A: Allocator> FreeListAllocator<M, A> {
-    /// Allocates a block of at least `size` bytes at a multiple of `align_mask + 1`: the tail of the last free run with room
-    /// for it, or, where none has, of a new chunk that the device is asked for with these flags.
+    /// Allocates a block of at least `size` bytes at a multiple of `align_mask + 1`: the tail of the last free run with
+    /// room for it, or, where none has, of a new chunk that the device is asked for with these flags.
     ///
-    /// The size is rounded up to whole atoms, and the alignment is the greater of the request's and the atom. The block is
-    /// all from the last aligned byte that leaves the rounded size to the end of its run. Runs are ordered by chunk, the
-    /// oldest first, then by start. A new chunk has the size that the allocator has come to: at first the starting one, and
-    /// after each chunk twice that chunk, cut at the final size. Where that is below the rounded size, it is its least
-    /// product with a power of two that suffices, cut at the final size too. (All this is the original crate's rule.) A
-    /// chunk that the host sees is mapped whole.
-    /// `heap` is the ledger of the memory type's heap, to which a chunk is added, and `allocations_remains` how many more
-    /// objects may be held, which a chunk lowers.
+    /// The size is rounded up to whole atoms, and the alignment is the greater of the request's and the atom. The block
+    /// is all from the last aligned byte that leaves the rounded size to the end of its run. Runs are ordered by chunk,
+    /// the oldest first, then by start. A new chunk has the size that the allocator has come to: at first the starting
+    /// one, and after each chunk twice that chunk, cut at the final size. Where that is below the rounded size, it is
+    /// its least product with a power of two that suffices, cut at the final size too. (All this is the original
+    /// crate's rule.) A chunk that the host sees is mapped whole. `heap` is the ledger of the memory type's heap, to
+    /// which a chunk is added, and `allocations_remains` how many more objects may be held, which a chunk lowers.
     ///
-    /// The size has to be at least 1, and at most the final size when it is rounded; `align_mask + 1` a power of two of at
-    /// most 2^63, the address flag set only where the device has the feature, and the device the one that this allocator has
-    /// served: it has the memory type with the properties given to `new`, and each held chunk.
+    /// The size has to be at least 1, and at most the final size when it is rounded; `align_mask + 1` a power of two of
+    /// at most 2^63, the address flag set only where the device has the feature, and the device the one that this
+    /// allocator has served: it has the memory type with the properties given to `new`, and each held chunk.
     ///
-    /// Refusals, after which all is as before: `TooManyObjects` where a chunk is wanted and no more objects may be held, or
-    /// 2^64 - 1 chunks were made; `OutOfDeviceMemory` where the device answers so; `OutOfHostMemory` where the host's memory
-    /// is refused to the allocator or to the device, and where a chunk cannot be mapped for another reason. A chunk that was
-    /// made is given back then.
+    /// Refusals, after which all is as before: `TooManyObjects` where a chunk is wanted and no more objects may be
+    /// held, or 2^64 - 1 chunks were made; `OutOfDeviceMemory` where the device answers so; `OutOfHostMemory` where the
+    /// host's memory is refused to the allocator or to the device, and where a chunk cannot be mapped for another
+    /// reason. A chunk that was made is given back then.
     ///
-    /// `heap` has to count no less than the sum of the held chunks, and at most 2^127 bytes; what remains and the number of
-    /// held chunks have to fit 32 bits together. All but the bound of 2^127 bytes is so again after the call.
+    /// `heap` has to count no less than the sum of the held chunks, and at most 2^127 bytes; what remains and the
+    /// number of held chunks have to fit 32 bits together. All but the bound of 2^127 bytes is so again after the call.
     pub fn alloc<D: MemoryDevice<M>>(
         &mut self,
         device: &mut D,
@@ -156,32 +164,39 @@ impl<M: MemoryObject, A: Allocator> FreeListAllocator<M, A> {
         requires nonempty { 0 < size }
         requires fits { up size (self.old).atom ≤ (self.old).final_chunk }
         requires alignment { IsAlignMask align_mask }
-        requires address { IsTrue (has_bit (allocation_bits flags) 1) → IsTrue (D.properties device.old).buffer_device_address }
+        requires address { IsTrue (has_bit (allocation_bits flags) 1)
+            → IsTrue (D.properties device.old).buffer_device_address }
         requires agrees { Agrees self.old (D.properties device.old) (D.objects device.old) }
         requires counted { IsCounted (self.old).space.chunks heap.old allocations_remains.old }
         requires bound { heap.old.used ≤ 2 ^ 127 }
 
         // What was asked of the device, the answer, and what changed.
-        ensures allocates { (es : List Event) × Chain D.step device.old es device.new × Allocates (account self.old heap.old allocations_remains.old) (wanted size align_mask (allocation_bits flags)) es result (account self.new heap.new allocations_remains.new) }
+        ensures allocates { (es : List Event) × Chain D.step device.old es device.new
+            × Allocates (account self.old heap.old allocations_remains.old)
+            (wanted size align_mask (allocation_bits flags)) es result
+            (account self.new heap.new allocations_remains.new) }
         ensures objects { ObjectsAfter self.old result self.new (D.objects device.old) (D.objects device.new) }
         ensures agrees { Agrees self.new (D.properties device.new) (D.objects device.new) }
         ensures properties { D.properties device.new ≡ D.properties device.old }
 
         // What follows from it.
         ensures granted { IfOk result (IsGranted self.old (wanted size align_mask (allocation_bits flags)) self.new) }
-        ensures refused { OnErr result ((self.new ≡ self.old) × ((heap.new ≡ heap.old) × (allocations_remains.new ≡ allocations_remains.old))) }
+        ensures refused { OnErr result
+            ((self.new ≡ self.old) × ((heap.new ≡ heap.old) × (allocations_remains.new ≡ allocations_remains.old))) }
         ensures sound { IsSound self.new }
         ensures counted { IsCounted (self.new).space.chunks heap.new allocations_remains.new }
-        ensures total { chunks_and_remaining (self.new).space.chunks allocations_remains.new ≡ chunks_and_remaining (self.old).space.chunks allocations_remains.old }
+        ensures total { chunks_and_remaining (self.new).space.chunks allocations_remains.new ≡ chunks_and_remaining
+            (self.old).space.chunks allocations_remains.old }
     {
         let size = self.rounded_size(size);
         let align_mask = align_mask.max(self.atom_mask);
         self.alloc_rounded(device, size, align_mask, flags, heap, allocations_remains)
     }
 
-    /// The refusal that `alloc` gives such a request before it takes any memory or asks anything: `TooManyObjects` where a
-    /// chunk is wanted and no more objects may be held, or no number is left for it. None where it goes further. It takes no
-    /// memory. The conditions on size and alignment are those of `alloc`; what `heap` counts decides nothing yet.
+    /// The refusal that `alloc` gives such a request before it takes any memory or asks anything: `TooManyObjects`
+    /// where a chunk is wanted and no more objects may be held, or no number is left for it. None where it goes
+    /// further. It takes no memory. The conditions on size and alignment are those of `alloc`; what `heap` counts
+    /// decides nothing yet.
     pub fn refuses(
         &self,
         size: u64,
@@ -192,7 +207,9 @@ impl<M: MemoryObject, A: Allocator> FreeListAllocator<M, A> {
         requires nonempty { 0 < size }
         requires fits { up size (self.now).atom ≤ (self.now).final_chunk }
         requires alignment { IsAlignMask align_mask }
-        ensures { (flags : ℕ) → RefusesFirst (case_of (account self.now heap.now allocations_remains) (wanted size align_mask flags)) result }
+        ensures { (flags : ℕ)
+            → RefusesFirst (case_of (account self.now heap.now allocations_remains) (wanted size align_mask flags))
+            result }
     {
         if allocations_remains > 0 && self.freelist.has_number() {
             return None;
@@ -205,14 +222,14 @@ impl<M: MemoryObject, A: Allocator> FreeListAllocator<M, A> {
         Some(AllocationError::TooManyObjects)
     }
 
-    /// Takes a block back, and joins it with the free runs beside it. Then each chunk in which no block is live goes back to
-    /// the device, but not the chunk in which the last run lies (the original crate's rule), and the oldest first (in the
-    /// original crate in no certain order): `heap` is lowered by its size, and one more object may be held. It takes no memory
-    /// and cannot fail.
+    /// Takes a block back, and joins it with the free runs beside it. Then each chunk in which no block is live goes
+    /// back to the device, but not the chunk in which the last run lies (the original crate's rule), and the oldest
+    /// first (in the original crate in no certain order): `heap` is lowered by its size, and one more object may be
+    /// held. It takes no memory and cannot fail.
     ///
-    /// The block has to be live here, by its object, chunk, offset and size, and the device the one that this allocator has
-    /// served. `heap` has to count no less than the sum of the held chunks; what remains and the number of held chunks have
-    /// to fit 32 bits together. Both is so again after the call.
+    /// The block has to be live here, by its object, chunk, offset and size, and the device the one that this allocator
+    /// has served. `heap` has to count no less than the sum of the held chunks; what remains and the number of held
+    /// chunks have to fit 32 bits together. Both is so again after the call.
     pub fn dealloc<D: MemoryDevice<M>>(
         &mut self,
         device: &mut D,
@@ -224,23 +241,27 @@ impl<M: MemoryObject, A: Allocator> FreeListAllocator<M, A> {
         requires agrees { Agrees self.old (D.properties device.old) (D.objects device.old) }
         requires counted { IsCounted (self.old).space.chunks heap.old allocations_remains.old }
 
-        ensures frees { (es : List Event) × Chain D.step device.old es device.new × Frees (account self.old heap.old allocations_remains.old) block es (account self.new heap.new allocations_remains.new) }
+        ensures frees { (es : List Event) × Chain D.step device.old es device.new
+            × Frees (account self.old heap.old allocations_remains.old) block es
+            (account self.new heap.new allocations_remains.new) }
         ensures objects { ObjectsFreed self.old block (D.objects device.old) (D.objects device.new) }
         ensures agrees { Agrees self.new (D.properties device.new) (D.objects device.new) }
         ensures properties { D.properties device.new ≡ D.properties device.old }
         ensures sound { IsSound self.new }
         ensures counted { IsCounted (self.new).space.chunks heap.new allocations_remains.new }
-        ensures total { chunks_and_remaining (self.new).space.chunks allocations_remains.new ≡ chunks_and_remaining (self.old).space.chunks allocations_remains.old }
+        ensures total { chunks_and_remaining (self.new).space.chunks allocations_remains.new ≡ chunks_and_remaining
+            (self.old).space.chunks allocations_remains.old }
     {
         self.free(block);
         self.give_back(device, true, heap, allocations_remains);
     }
 
-    /// Gives each chunk in which no block is live back to the device, the oldest first: `heap` is lowered by its size, and
-    /// one more object may be held. It takes no memory and cannot fail.
+    /// Gives each chunk in which no block is live back to the device, the oldest first: `heap` is lowered by its size,
+    /// and one more object may be held. It takes no memory and cannot fail.
     ///
-    /// The device has to be the one that this allocator has served. `heap` has to count no less than the sum of the held
-    /// chunks; what remains and the number of held chunks have to fit 32 bits together. Both is so again after the call.
+    /// The device has to be the one that this allocator has served. `heap` has to count no less than the sum of the
+    /// held chunks; what remains and the number of held chunks have to fit 32 bits together. Both is so again after the
+    /// call.
     pub fn cleanup<D: MemoryDevice<M>>(
         &mut self,
         device: &mut D,
@@ -250,19 +271,22 @@ impl<M: MemoryObject, A: Allocator> FreeListAllocator<M, A> {
         requires agrees { Agrees self.old (D.properties device.old) (D.objects device.old) }
         requires counted { IsCounted (self.old).space.chunks heap.old allocations_remains.old }
 
-        ensures cleans { (es : List Event) × Chain D.step device.old es device.new × Cleans (account self.old heap.old allocations_remains.old) es (account self.new heap.new allocations_remains.new) }
+        ensures cleans { (es : List Event) × Chain D.step device.old es device.new
+            × Cleans (account self.old heap.old allocations_remains.old) es
+            (account self.new heap.new allocations_remains.new) }
         ensures objects { ObjectsCleaned self.old (D.objects device.old) (D.objects device.new) }
         ensures agrees { Agrees self.new (D.properties device.new) (D.objects device.new) }
         ensures properties { D.properties device.new ≡ D.properties device.old }
         ensures sound { IsSound self.new }
         ensures counted { IsCounted (self.new).space.chunks heap.new allocations_remains.new }
-        ensures total { chunks_and_remaining (self.new).space.chunks allocations_remains.new ≡ chunks_and_remaining (self.old).space.chunks allocations_remains.old }
+        ensures total { chunks_and_remaining (self.new).space.chunks allocations_remains.new ≡ chunks_and_remaining
+            (self.old).space.chunks allocations_remains.old }
     {
         self.give_back(device, false, heap, allocations_remains);
     }
 
-    /// Takes a block back, which has to be live here, and gives no chunk back. It is public for `gpu_alloc`, which lets chunks go
-    /// one by one.
+    /// Takes a block back, which has to be live here, and gives no chunk back. It is public for `gpu_alloc`, which lets
+    /// chunks go one by one.
     pub fn free(&mut self, block: FreeListBlock<M>)
         requires { IsLiveSlot (self.old).space block }
         ensures back { self.new ≡ listing_without self.old block }
@@ -271,9 +295,9 @@ impl<M: MemoryObject, A: Allocator> FreeListAllocator<M, A> {
         insert_uncounted::<M, A, Brand>(&mut self.freelist, block, Blank::new(1));
     }
 
-    /// Gives the oldest chunk in which no block is live back to the device, but not the one in which the last run lies where
-    /// this one is kept: the name of its object. None where there is no such chunk. It is public for `gpu_alloc`, which takes that
-    /// object off its books.
+    /// Gives the oldest chunk in which no block is live back to the device, but not the one in which the last run lies
+    /// where this one is kept: the name of its object. None where there is no such chunk. It is public for `gpu_alloc`,
+    /// which takes that object off its books.
     pub fn give_back_first<D: MemoryDevice<M>>(
         &mut self,
         device: &mut D,
@@ -283,7 +307,9 @@ impl<M: MemoryObject, A: Allocator> FreeListAllocator<M, A> {
     ) -> Option<u64>
         requires agrees { Agrees self.old (D.properties device.old) (D.objects device.old) }
         requires counted { IsCounted (self.old).space.chunks heap.old allocations_remains.old }
-        ensures gives { (es : List Event) × Chain D.step device.old es device.new × GivesFirst keep_last (account self.old heap.old allocations_remains.old) es result (account self.new heap.new allocations_remains.new) (D.objects device.old) (D.objects device.new) }
+        ensures gives { (es : List Event) × Chain D.step device.old es device.new
+            × GivesFirst keep_last (account self.old heap.old allocations_remains.old) es result
+            (account self.new heap.new allocations_remains.new) (D.objects device.old) (D.objects device.new) }
         ensures agrees { Agrees self.new (D.properties device.new) (D.objects device.new) }
         ensures properties { D.properties device.new ≡ D.properties device.old }
         ensures sound { IsSound self.new }
@@ -339,11 +365,15 @@ impl<M: MemoryObject, A: Allocator> FreeListAllocator<M, A> {
         requires fits { size ≤ (self.old).final_chunk }
         requires alignment { IsAlignMask align_mask }
         requires aligned { (self.old).atom ≤ align_mask + 1 }
-        requires address { IsTrue (has_bit (allocation_bits flags) 1) → IsTrue (D.properties device.old).buffer_device_address }
+        requires address { IsTrue (has_bit (allocation_bits flags) 1)
+            → IsTrue (D.properties device.old).buffer_device_address }
         requires agrees { Agrees self.old (D.properties device.old) (D.objects device.old) }
         requires counted { IsCounted (self.old).space.chunks heap.old allocations_remains.old }
         requires bound { heap.old.used ≤ 2 ^ 127 }
-        ensures answers { (es : List Event) × Chain D.step device.old es device.new × Answers (list_case (account self.old heap.old allocations_remains.old) size (align_mask + 1) (allocation_bits flags)) es result (account self.new heap.new allocations_remains.new) }
+        ensures answers { (es : List Event) × Chain D.step device.old es device.new
+            × Answers
+            (list_case (account self.old heap.old allocations_remains.old) size (align_mask + 1)
+            (allocation_bits flags)) es result (account self.new heap.new allocations_remains.new) }
         ensures objects { ObjectsAfter self.old result self.new (D.objects device.old) (D.objects device.new) }
         ensures properties { D.properties device.new ≡ D.properties device.old }
         ensures sound { IsSound self.old }
@@ -374,12 +404,17 @@ impl<M: MemoryObject, A: Allocator> FreeListAllocator<M, A> {
         requires fits { size ≤ (self.old).final_chunk }
         requires alignment { IsAlignMask align_mask }
         requires aligned { (self.old).atom ≤ align_mask + 1 }
-        requires asks { Asks (list_case (account self.old heap.old allocations_remains.old) size (align_mask + 1) (allocation_bits flags)) }
-        requires address { IsTrue (has_bit (allocation_bits flags) 1) → IsTrue (D.properties device.old).buffer_device_address }
+        requires asks { Asks (list_case (account self.old heap.old allocations_remains.old) size (align_mask + 1)
+            (allocation_bits flags)) }
+        requires address { IsTrue (has_bit (allocation_bits flags) 1)
+            → IsTrue (D.properties device.old).buffer_device_address }
         requires agrees { Agrees self.old (D.properties device.old) (D.objects device.old) }
         requires counted { IsCounted (self.old).space.chunks heap.old allocations_remains.old }
         requires bound { heap.old.used ≤ 2 ^ 127 }
-        ensures answers { (es : List Event) × Chain D.step device.old es device.new × Answers (list_case (account self.old heap.old allocations_remains.old) size (align_mask + 1) (allocation_bits flags)) es result (account self.new heap.new allocations_remains.new) }
+        ensures answers { (es : List Event) × Chain D.step device.old es device.new
+            × Answers
+            (list_case (account self.old heap.old allocations_remains.old) size (align_mask + 1)
+            (allocation_bits flags)) es result (account self.new heap.new allocations_remains.new) }
         ensures objects { ObjectsAfter self.old result self.new (D.objects device.old) (D.objects device.new) }
         ensures properties { D.properties device.new ≡ D.properties device.old }
     {
@@ -430,12 +465,15 @@ impl<M: MemoryObject, A: Allocator> FreeListAllocator<M, A> {
     )
         requires agrees { Agrees self.old (D.properties device.old) (D.objects device.old) }
         requires counted { IsCounted (self.old).space.chunks heap.old allocations_remains.old }
-        ensures gives { (gone : List ℕ) × (es : List Event) × Chain D.step device.old es device.new × GivesBack keep_last (account self.old heap.old allocations_remains.old) gone es (account self.new heap.new allocations_remains.new) (D.objects device.old) (D.objects device.new) }
+        ensures gives { (gone : List ℕ) × (es : List Event) × Chain D.step device.old es device.new
+            × GivesBack keep_last (account self.old heap.old allocations_remains.old) gone es
+            (account self.new heap.new allocations_remains.new) (D.objects device.old) (D.objects device.new) }
         ensures agrees { Agrees self.new (D.properties device.new) (D.objects device.new) }
         ensures properties { D.properties device.new ≡ D.properties device.old }
         ensures sound { IsSound self.new }
         ensures counted { IsCounted (self.new).space.chunks heap.new allocations_remains.new }
-        ensures total { chunks_and_remaining (self.new).space.chunks allocations_remains.new ≡ chunks_and_remaining (self.old).space.chunks allocations_remains.old }
+        ensures total { chunks_and_remaining (self.new).space.chunks allocations_remains.new ≡ chunks_and_remaining
+            (self.old).space.chunks allocations_remains.old }
     {
         while let Some((memory, size, _)) = self.freelist.take_whole(keep_last) {
             device.deallocate_memory(&memory);

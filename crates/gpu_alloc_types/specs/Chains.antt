@@ -13,10 +13,12 @@ module _ {D : Type 0} (step : D → Event → D → Type 0) where
   chain_one a e b s = (b, s, refl)
 
   -- two chains that meet are a chain
-  pub chain_append : (es fs : List Event) (a b c : D) → Chain step a es b → Chain step b fs c → Chain step a (es ++ fs) c
+  pub chain_append : (es fs : List Event) (a b c : D) → Chain step a es b → Chain step b fs c
+      → Chain step a (es ++ fs) c
   chain_append [] fs a b c first second = subst (λ d. Chain step d fs c) first second
   chain_append (e ∷ es) fs a b c first second = (first.0, first.1, chain_append es fs first.0 b c first.2 second)
 
   -- one question more
-  pub chain_more : (es : List Event) (e : Event) (a b c : D) → Chain step a es b → step b e c → Chain step a (es ++ e ∷ []) c
+  pub chain_more : (es : List Event) (e : Event) (a b c : D) → Chain step a es b → step b e c
+      → Chain step a (es ++ e ∷ []) c
   chain_more es e a b c first s = chain_append es (e ∷ []) a b c first (chain_one b e c s)

@@ -17,8 +17,18 @@ heap_code = code_by ℕ coded_ℕ (λ h. h.size) (λ n. record { size = n }) (λ
 abbrev pub properties_code : Coded Properties
 properties_code =
     code_by (List MemoryType × (List MemoryHeap × ((ℕ × ℕ) × (ℕ × Bool))))
-    (coded× (coded_list type_code) (coded× (coded_list heap_code) (coded× (coded× coded_ℕ coded_ℕ) (coded× coded_ℕ coded_bool))))
-    (λ p. (p.memory_types, (p.memory_heaps, ((p.max_memory_allocation_count, p.max_memory_allocation_size), (p.non_coherent_atom_size, p.buffer_device_address)))))
+    (coded× (coded_list type_code)
+    (coded× (coded_list heap_code) (coded× (coded× coded_ℕ coded_ℕ) (coded× coded_ℕ coded_bool))))
+    (λ p. (
+      p.memory_types,
+      (
+        p.memory_heaps,
+        (
+          (p.max_memory_allocation_count, p.max_memory_allocation_size),
+          (p.non_coherent_atom_size, p.buffer_device_address),
+        ),
+      ),
+    ))
     (λ c. record {
       memory_types = c.0;
       memory_heaps = c.1.0;

@@ -1,5 +1,6 @@
 -- The objects that a device holds, what may be asked of it, and what each call does to them.
-use Rattle.std.specs.Prelude.{◌≡◌, ◌⊎◌, ℕ, ◌+◌, ◌<◌, ◌≤◌, ◌==◌, Bool, true, false, cond, List, [], ◌∷◌, length, slice_get, Option, Some, None, Result, Ok, Err, IsTrue, IfSome, IsSome}
+use Rattle.std.specs.Prelude.{◌≡◌, ◌⊎◌, ℕ, ◌+◌, ◌<◌, ◌≤◌, ◌==◌, Bool, true, false, cond, List, [], ◌∷◌, length}
+use Rattle.std.specs.Prelude.{slice_get, Option, Some, None, Result, Ok, Err, IsTrue, IfSome, IsSome}
 use Rattle.gpu_alloc_types.specs.Flags.{has_bit}
 use Rattle.gpu_alloc_types.specs.Properties.{Properties, is_host_visible, is_coherent}
 use Rattle.gpu_alloc_types.specs.declared.types.OutOfMemory.{OutOfMemory}
@@ -101,10 +102,12 @@ abbrev pub IsUnmapped : Object → Object → Type 0
 IsUnmapped o new = new ≡ record o { mapped = None }
 
 abbrev pub IsFlushed : {E : Type 0} → Result (Unit {0}) E → Range → Object → Object → Type 0
-IsFlushed answer r o new = (b : List ℕ) × copies answer r.offset r.size o.host_bytes o.device_bytes b × (new ≡ record o { device_bytes = b })
+IsFlushed answer r o new =
+    (b : List ℕ) × copies answer r.offset r.size o.host_bytes o.device_bytes b × (new ≡ record o { device_bytes = b })
 
 abbrev pub IsInvalidated : {E : Type 0} → Result (Unit {0}) E → Range → Object → Object → Type 0
-IsInvalidated answer r o new = (b : List ℕ) × copies answer r.offset r.size o.device_bytes o.host_bytes b × (new ≡ record o { host_bytes = b })
+IsInvalidated answer r o new =
+    (b : List ℕ) × copies answer r.offset r.size o.device_bytes o.host_bytes b × (new ≡ record o { host_bytes = b })
 
 -- what is put into a coherent object is there for the device at once
 abbrev pub IsPutDevice : Bool → ℕ → List ℕ → List ℕ → List ℕ → Type 0
@@ -130,7 +133,8 @@ pub record IsFresh (size memory_type : ℕ) (o : Object) : Type 0 where
 
 -- What each call, answered so, makes of the objects. What it does not name stays.
 abbrev pub Row : Properties → (ℕ → Option Object) → Event → (ℕ → Option Object) → Type 0
-Row p old (Allocated size t flags (Ok name)) new = (old name ≡ None) × ((o : Object) × IsFresh size t o × (new ≡ put old name (Some o)))
+Row p old (Allocated size t flags (Ok name)) new =
+    (old name ≡ None) × ((o : Object) × IsFresh size t o × (new ≡ put old name (Some o)))
 Row p old (Allocated size t flags (Err e)) new = new ≡ old
 Row p old (Deallocated name) new = new ≡ put old name None
 Row p old (Mapped r (Ok _)) new = Changes (IsMappedOver r) old r.object new
@@ -139,7 +143,9 @@ Row p old (Unmapped name) new = Changes IsUnmapped old name new
 Row p old (Flushed rs answer) new = InTurn (IsFlushed answer) rs old new
 Row p old (Invalidated rs answer) new = InTurn (IsInvalidated answer) rs old new
 Row p old (BytesPut name offset bytes) new = Changes (IsPut p offset bytes) old name new
-Row p old (BytesGot name offset bytes) new = (new ≡ old) × HeldWith old name (λ o. (k : ℕ) → k < length bytes → slice_get bytes k ≡ slice_get o.host_bytes (offset + k))
+Row p old (BytesGot name offset bytes) new =
+    (new ≡ old)
+    × HeldWith old name (λ o. (k : ℕ) → k < length bytes → slice_get bytes k ≡ slice_get o.host_bytes (offset + k))
 
 -- What was asked of a device between two of its states: steps, each from where the one before it ended.
 abbrev pub Chain : {D : Type 0} → (D → Event → D → Type 0) → D → List Event → D → Type 0

@@ -1,5 +1,6 @@
 -- What a device offers, as a value with no references.
-use Rattle.std.specs.Prelude.{ℕ, ◌<◌, ◌≤◌, ◌^◌, Bool, List, length, All, Option, Some, None, IsTrue, slice_get, not, ◌&&◌, cond}
+use Rattle.std.specs.Prelude.{ℕ, ◌<◌, ◌≤◌, ◌^◌, Bool, List, length, All, Option, Some, None, IsTrue, slice_get, not}
+use Rattle.std.specs.Prelude.{◌&&◌, cond}
 use Rattle.std.specs.Int.{is_power_of_two}
 use Rattle.gpu_alloc_types.specs.Flags.{property_bits, has_bit}
 use Rattle.gpu_alloc_types.specs.declared.types.MemoryType.{MemoryType}

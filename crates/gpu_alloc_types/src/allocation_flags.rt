@@ -1,7 +1,9 @@
 //! What is asked of a device, as a set of flags.
 
-ghost use Rattle.std.specs.Prelude.{⊤, ◌≡◌, ◌↔◌, ◌==◌, [], ◌∷◌, codes, bit_and, bit_or, bit_xor, if◌then◌else◌, IsTrue, IsSome, IfSome};
-ghost use Rattle.gpu_alloc_types.specs.Flags.{allocation_bits, named_allocation_bits, has_bit, has_all_bits, bits_without};
+ghost use Rattle.std.specs.Prelude.{⊤, ◌≡◌, ◌↔◌, ◌==◌, [], ◌∷◌, codes, bit_and, bit_or, bit_xor, if◌then◌else◌, IsTrue};
+ghost use Rattle.std.specs.Prelude.{IsSome, IfSome};
+ghost use Rattle.gpu_alloc_types.specs.Flags.{allocation_bits, named_allocation_bits, has_bit, has_all_bits};
+ghost use Rattle.gpu_alloc_types.specs.Flags.{bits_without};
 
 use bitflags::{Flag, Flags};
 use std::ops::{
@@ -10,8 +12,8 @@ use std::ops::{
 
 /// What is asked of a device beside a size and a memory type.
 ///
-/// The calls and operators are those of the crate `bitflags`, on which the original crate's flags stand. A bit without a
-/// name is kept like any other, but [`from_bits`](Self::from_bits) refuses it, and
+/// The calls and operators are those of the crate `bitflags`, on which the original crate's flags stand. A bit without
+/// a name is kept like any other, but [`from_bits`](Self::from_bits) refuses it, and
 /// [`from_bits_truncate`](Self::from_bits_truncate) and [`complement`](Self::complement) drop it.
 #[derive(Clone, Copy, Debug, PartialEq, Eq, Hash, PartialOrd, Ord)]
 pub struct AllocationFlags {

@@ -4,7 +4,8 @@ ghost use Rattle.std.specs.Prelude.{◌≡◌, ℕ, Option, IfOk, IfSome};
 ghost use Rattle.std.specs.Result.{result_map_both};
 ghost use Rattle.gpu_alloc_types.specs.Flags.{allocation_bits};
 ghost use Rattle.gpu_alloc_types.specs.Properties.{Properties};
-ghost use Rattle.gpu_alloc_types.specs.Device.{Object, Event, Row, IsWellFormed, IsAskable, IsHeld, HeldWith, IsMappable};
+ghost use Rattle.gpu_alloc_types.specs.Device.{Object, Event, Row, IsWellFormed, IsAskable, IsHeld, HeldWith};
+ghost use Rattle.gpu_alloc_types.specs.Device.{IsMappable};
 ghost use Rattle.gpu_alloc_types.specs.Device.Event.{Allocated, Deallocated, Mapped};
 
 use crate::{AllocationFlags, DeviceMapError, OutOfMemory};
@@ -19,8 +20,8 @@ pub trait MemoryObject: Drop {
     fn object(&self) -> u64
         ensures { result ≡ object self.now };
 
-    /// Another handle of the same object. It asks the device nothing, and fails only for want of host memory; nothing has
-    /// changed then.
+    /// Another handle of the same object. It asks the device nothing, and fails only for want of host memory; nothing
+    /// has changed then.
     fn duplicate(&self) -> Result<Self, AllocError>
         ensures { IfOk result (λ other. object other ≡ object self.now) };
 }
@@ -52,31 +53,36 @@ pub trait MemoryDevice<M: MemoryObject> {
         flags: AllocationFlags,
     ) -> Result<M, OutOfMemory>
         requires { IsAskable (properties self.old) size memory_type (allocation_bits flags) }
-        ensures { step self.old (Allocated size memory_type (allocation_bits flags) (result_map_both M.object (λ e. e) result)) self.new };
+        ensures { step self.old
+            (Allocated size memory_type (allocation_bits flags) (result_map_both M.object (λ e. e) result)) self.new };
 
-    /// Takes an object back, mapped or not (Vulkan's `vkFreeMemory`). It cannot fail. The device has to hold an object of
-    /// the handle's name.
+    /// Takes an object back, mapped or not (Vulkan's `vkFreeMemory`). It cannot fail. The device has to hold an object
+    /// of the handle's name.
     fn deallocate_memory(&mut self, memory: &M)
         requires { IsHeld (objects self.old) (M.object memory.now) }
         ensures { step self.old (Deallocated (M.object memory.now)) self.new };
 
-    /// Maps `size` bytes of an object from `offset` on, so that the host sees them, or answers why not; then no object has
-    /// changed (Vulkan's `vkMapMemory`).
+    /// Maps `size` bytes of an object from `offset` on, so that the host sees them, or answers why not; then no object
+    /// has changed (Vulkan's `vkMapMemory`).
     ///
-    /// The object's mapped range is then that one, and all else of it as before. The device has to hold an object of the
-    /// handle's name, of a host-visible memory type and unmapped, and the range has to be at least 1 byte and inside the
-    /// object. A refusal names the device's memory, the host's, or `MapFailed` for a reason of the device's own.
+    /// The object's mapped range is then that one, and all else of it as before. The device has to hold an object of
+    /// the handle's name, of a host-visible memory type and unmapped, and the range has to be at least 1 byte and
+    /// inside the object. A refusal names the device's memory, the host's, or `MapFailed` for a reason of the device's
+    /// own.
     fn map_memory(&mut self, memory: &M, offset: u64, size: u64) -> Result<(), DeviceMapError>
         requires { HeldWith (objects self.old) (M.object memory.now) (IsMappable (properties self.old) offset size) }
-        ensures { step self.old (Mapped (record { object = M.object memory.now; offset = offset; size = size }) result) self.new };
+        ensures { step self.old (Mapped (record { object = M.object memory.now; offset = offset; size = size }) result)
+            self.new };
 
     /// A step does what its row says, and leaves all else as it was.
-    ghost row: { (old : Self) (e : Event) (new : Self) → step old e new → Row (properties old) (objects old) e (objects new) };
+    ghost row: { (old : Self) (e : Event) (new : Self) → step old e new → Row (properties old) (objects old) e
+        (objects new) };
 
     /// No call changes what the device offers.
-    ghost keeps_properties: { (old : Self) (e : Event) (new : Self) → step old e new → properties new ≡ properties old };
+    ghost keeps_properties: { (old : Self) (e : Event) (new : Self) → step old e new
+        → properties new ≡ properties old };
 
-    /// Each object has the bytes that its type and size ask for, equal lists of them where it is coherent, and its mapped
-    /// range lies inside it.
+    /// Each object has the bytes that its type and size ask for, equal lists of them where it is coherent, and its
+    /// mapped range lies inside it.
     ghost well_formed: { (device : Self) (name : ℕ) → IfSome (objects device name) (IsWellFormed (properties device)) };
 }

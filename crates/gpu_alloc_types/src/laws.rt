@@ -1,10 +1,11 @@
-//! Laws of the flag types by their numbers: their constants, what they derive, how generic code sees them. The functions do
-//! nothing.
+//! Laws of the flag types by their numbers: their constants, what they derive, how generic code sees them. The
+//! functions do nothing.
 
 ghost use Rattle.std.specs.Prelude.{◌≡◌, ◌<◌, ◌↔◌, [], ◌∷◌, IsTrue, Some};
 ghost use Rattle.std.specs.Ordering.{nat_cmp, partial_lt};
 ghost use Rattle.bitflags.specs.Sets.{known_bits};
-ghost use Rattle.gpu_alloc_types.specs.Flags.{usage_bits, property_bits, allocation_bits, named_usage_bits, named_property_bits, named_allocation_bits};
+ghost use Rattle.gpu_alloc_types.specs.Flags.{usage_bits, property_bits, allocation_bits, named_usage_bits};
+ghost use Rattle.gpu_alloc_types.specs.Flags.{named_property_bits, named_allocation_bits};
 
 use crate::{AllocationFlags, MemoryPropertyFlags, UsageFlags};
 use bitflags::Flags;
@@ -43,8 +44,10 @@ pub fn usage_equality()
 /// `cmp`, `partial_cmp` and `<` on [`UsageFlags`] go by the numbers.
 pub fn usage_order()
     ensures total { (a b : UsageFlags) → ⟦<UsageFlags as Ord>⟧.cmp a b ≡ nat_cmp (usage_bits a) (usage_bits b) }
-    ensures partial { (a b : UsageFlags) → ⟦<UsageFlags as PartialOrd>⟧.partial_cmp a b ≡ Some (nat_cmp (usage_bits a) (usage_bits b)) }
-    ensures less { (a b : UsageFlags) → IsTrue (partial_lt ⟦<UsageFlags as PartialOrd>⟧.partial_cmp a b) ↔ (usage_bits a < usage_bits b) }
+    ensures partial { (a b : UsageFlags)
+        → ⟦<UsageFlags as PartialOrd>⟧.partial_cmp a b ≡ Some (nat_cmp (usage_bits a) (usage_bits b)) }
+    ensures less { (a b : UsageFlags) → IsTrue (partial_lt ⟦<UsageFlags as PartialOrd>⟧.partial_cmp a b)
+        ↔ (usage_bits a < usage_bits b) }
 {}
 
 /// A clone of [`UsageFlags`] never fails and has the same number.
@@ -68,20 +71,26 @@ pub fn usage_as_flags()
 
 /// `==` on [`MemoryPropertyFlags`] holds exactly where the numbers are equal.
 pub fn property_equality()
-    ensures { (a b : MemoryPropertyFlags) → IsTrue (⟦<MemoryPropertyFlags as PartialEq>⟧.eq a b) ↔ (property_bits a ≡ property_bits b) }
+    ensures { (a b : MemoryPropertyFlags) → IsTrue (⟦<MemoryPropertyFlags as PartialEq>⟧.eq a b)
+        ↔ (property_bits a ≡ property_bits b) }
 {}
 
 /// `cmp`, `partial_cmp` and `<` on [`MemoryPropertyFlags`] go by the numbers.
 pub fn property_order()
-    ensures total { (a b : MemoryPropertyFlags) → ⟦<MemoryPropertyFlags as Ord>⟧.cmp a b ≡ nat_cmp (property_bits a) (property_bits b) }
-    ensures partial { (a b : MemoryPropertyFlags) → ⟦<MemoryPropertyFlags as PartialOrd>⟧.partial_cmp a b ≡ Some (nat_cmp (property_bits a) (property_bits b)) }
-    ensures less { (a b : MemoryPropertyFlags) → IsTrue (partial_lt ⟦<MemoryPropertyFlags as PartialOrd>⟧.partial_cmp a b) ↔ (property_bits a < property_bits b) }
+    ensures total { (a b : MemoryPropertyFlags)
+        → ⟦<MemoryPropertyFlags as Ord>⟧.cmp a b ≡ nat_cmp (property_bits a) (property_bits b) }
+    ensures partial { (a b : MemoryPropertyFlags)
+        → ⟦<MemoryPropertyFlags as PartialOrd>⟧.partial_cmp a b ≡ Some (nat_cmp (property_bits a) (property_bits b)) }
+    ensures less { (a b : MemoryPropertyFlags)
+        → IsTrue (partial_lt ⟦<MemoryPropertyFlags as PartialOrd>⟧.partial_cmp a b)
+        ↔ (property_bits a < property_bits b) }
 {}
 
 /// A clone of [`MemoryPropertyFlags`] never fails and has the same number.
 pub fn property_clone()
     ensures infallible { (a : MemoryPropertyFlags) → ⟦<MemoryPropertyFlags as Clone>⟧.is_infallible a }
-    ensures same { (a b : MemoryPropertyFlags) → ⟦<MemoryPropertyFlags as Clone>⟧.is_clone a b → property_bits b ≡ property_bits a }
+    ensures same { (a b : MemoryPropertyFlags) → ⟦<MemoryPropertyFlags as Clone>⟧.is_clone a b
+        → property_bits b ≡ property_bits a }
 {}
 
 /// A hasher is given the number of [`MemoryPropertyFlags`] as one byte, and no more.
@@ -99,20 +108,25 @@ pub fn property_as_flags()
 
 /// `==` on [`AllocationFlags`] holds exactly where the numbers are equal.
 pub fn allocation_equality()
-    ensures { (a b : AllocationFlags) → IsTrue (⟦<AllocationFlags as PartialEq>⟧.eq a b) ↔ (allocation_bits a ≡ allocation_bits b) }
+    ensures { (a b : AllocationFlags) → IsTrue (⟦<AllocationFlags as PartialEq>⟧.eq a b)
+        ↔ (allocation_bits a ≡ allocation_bits b) }
 {}
 
 /// `cmp`, `partial_cmp` and `<` on [`AllocationFlags`] go by the numbers.
 pub fn allocation_order()
-    ensures total { (a b : AllocationFlags) → ⟦<AllocationFlags as Ord>⟧.cmp a b ≡ nat_cmp (allocation_bits a) (allocation_bits b) }
-    ensures partial { (a b : AllocationFlags) → ⟦<AllocationFlags as PartialOrd>⟧.partial_cmp a b ≡ Some (nat_cmp (allocation_bits a) (allocation_bits b)) }
-    ensures less { (a b : AllocationFlags) → IsTrue (partial_lt ⟦<AllocationFlags as PartialOrd>⟧.partial_cmp a b) ↔ (allocation_bits a < allocation_bits b) }
+    ensures total { (a b : AllocationFlags)
+        → ⟦<AllocationFlags as Ord>⟧.cmp a b ≡ nat_cmp (allocation_bits a) (allocation_bits b) }
+    ensures partial { (a b : AllocationFlags)
+        → ⟦<AllocationFlags as PartialOrd>⟧.partial_cmp a b ≡ Some (nat_cmp (allocation_bits a) (allocation_bits b)) }
+    ensures less { (a b : AllocationFlags) → IsTrue (partial_lt ⟦<AllocationFlags as PartialOrd>⟧.partial_cmp a b)
+        ↔ (allocation_bits a < allocation_bits b) }
 {}
 
 /// A clone of [`AllocationFlags`] never fails and has the same number.
 pub fn allocation_clone()
     ensures infallible { (a : AllocationFlags) → ⟦<AllocationFlags as Clone>⟧.is_infallible a }
-    ensures same { (a b : AllocationFlags) → ⟦<AllocationFlags as Clone>⟧.is_clone a b → allocation_bits b ≡ allocation_bits a }
+    ensures same { (a b : AllocationFlags) → ⟦<AllocationFlags as Clone>⟧.is_clone a b
+        → allocation_bits b ≡ allocation_bits a }
 {}
 
 /// A hasher is given the number of [`AllocationFlags`] as one byte, and no more.

@@ -1,6 +1,7 @@
 //! The properties of memory types, as sets of flags.
 
-ghost use Rattle.std.specs.Prelude.{⊤, ◌≡◌, ◌↔◌, ◌==◌, [], ◌∷◌, codes, bit_and, bit_or, bit_xor, if◌then◌else◌, IsTrue, IsSome, IfSome};
+ghost use Rattle.std.specs.Prelude.{⊤, ◌≡◌, ◌↔◌, ◌==◌, [], ◌∷◌, codes, bit_and, bit_or, bit_xor, if◌then◌else◌, IsTrue};
+ghost use Rattle.std.specs.Prelude.{IsSome, IfSome};
 ghost use Rattle.gpu_alloc_types.specs.Flags.{property_bits, named_property_bits, has_bit, has_all_bits, bits_without};
 
 use bitflags::{Flag, Flags};
@@ -10,8 +11,8 @@ use std::ops::{
 
 /// The properties of a memory type (Vulkan's `VkMemoryPropertyFlagBits`, with its numbers).
 ///
-/// The calls and operators are those of the crate `bitflags`, on which the original crate's flags stand. A bit without a
-/// name is kept like any other, but [`from_bits`](Self::from_bits) refuses it, and
+/// The calls and operators are those of the crate `bitflags`, on which the original crate's flags stand. A bit without
+/// a name is kept like any other, but [`from_bits`](Self::from_bits) refuses it, and
 /// [`from_bits_truncate`](Self::from_bits_truncate) and [`complement`](Self::complement) drop it.
 #[derive(Clone, Copy, Debug, PartialEq, Eq, Hash, PartialOrd, Ord)]
 pub struct MemoryPropertyFlags {
@@ -299,7 +300,11 @@ impl Flags for MemoryPropertyFlags {
 
     ghost exact = { ⊤ };
 
-    ghost table = { (codes "DEVICE_LOCAL", 1) ∷ (codes "HOST_VISIBLE", 2) ∷ (codes "HOST_COHERENT", 4) ∷ (codes "HOST_CACHED", 8) ∷ (codes "LAZILY_ALLOCATED", 16) ∷ (codes "PROTECTED", 32) ∷ [] };
+    ghost table = { (codes "DEVICE_LOCAL", 1) ∷ (codes "HOST_VISIBLE", 2) ∷ (codes "HOST_COHERENT", 4) ∷ (
+      codes
+          "HOST_CACHED",
+      8,
+    ) ∷ (codes "LAZILY_ALLOCATED", 16) ∷ (codes "PROTECTED", 32) ∷ [] };
 
     ghost set_of = { property_bits };
 

@@ -1,6 +1,7 @@
 //! What memory is used for, as a set of flags.
 
-ghost use Rattle.std.specs.Prelude.{⊤, ◌≡◌, ◌↔◌, ◌==◌, [], ◌∷◌, codes, bit_and, bit_or, bit_xor, if◌then◌else◌, IsTrue, IsSome, IfSome};
+ghost use Rattle.std.specs.Prelude.{⊤, ◌≡◌, ◌↔◌, ◌==◌, [], ◌∷◌, codes, bit_and, bit_or, bit_xor, if◌then◌else◌, IsTrue};
+ghost use Rattle.std.specs.Prelude.{IsSome, IfSome};
 ghost use Rattle.gpu_alloc_types.specs.Flags.{usage_bits, named_usage_bits, has_bit, has_all_bits, bits_without};
 
 use bitflags::{Flag, Flags};
@@ -10,8 +11,8 @@ use std::ops::{
 
 /// What memory is used for (the original crate's `UsageFlags`).
 ///
-/// The calls and operators are those of the crate `bitflags`, on which the original crate's flags stand. A bit without a
-/// name is kept like any other, but [`from_bits`](Self::from_bits) refuses it, and
+/// The calls and operators are those of the crate `bitflags`, on which the original crate's flags stand. A bit without
+/// a name is kept like any other, but [`from_bits`](Self::from_bits) refuses it, and
 /// [`from_bits_truncate`](Self::from_bits_truncate) and [`complement`](Self::complement) drop it.
 #[derive(Clone, Copy, Debug, PartialEq, Eq, Hash, PartialOrd, Ord)]
 pub struct UsageFlags {
@@ -299,7 +300,11 @@ impl Flags for UsageFlags {
 
     ghost exact = { ⊤ };
 
-    ghost table = { (codes "FAST_DEVICE_ACCESS", 1) ∷ (codes "HOST_ACCESS", 2) ∷ (codes "DOWNLOAD", 4) ∷ (codes "UPLOAD", 8) ∷ (codes "TRANSIENT", 16) ∷ (codes "DEVICE_ADDRESS", 32) ∷ [] };
+    ghost table = { (codes "FAST_DEVICE_ACCESS", 1) ∷ (codes "HOST_ACCESS", 2) ∷ (codes "DOWNLOAD", 4) ∷ (
+      codes
+          "UPLOAD",
+      8,
+    ) ∷ (codes "TRANSIENT", 16) ∷ (codes "DEVICE_ADDRESS", 32) ∷ [] };
 
     ghost set_of = { usage_bits };
 

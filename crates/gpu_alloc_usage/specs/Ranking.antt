@@ -1,5 +1,7 @@
 -- Which memory types serve a usage, and the order in which they are tried. Usages and properties are numbers of flags.
-use Rattle.std.specs.Prelude.{ℕ, ◌+◌, ◌<◌, ◌≡◌, ◌==◌, Bool, true, false, not, ◌&&◌, ◌||◌, if◌then◌else◌, List, [], ◌∷◌, length, filter, nat_lt, slice_get, slice_index, slice_index_or, Contains, ◌⊎◌, ◌↔◌, bit_and, bit_or}
+use Rattle.std.specs.Prelude.{ℕ, ◌+◌, ◌<◌, ◌≡◌, ◌==◌, Bool, true, false, not, ◌&&◌, ◌||◌, if◌then◌else◌, List, [], ◌∷◌}
+use Rattle.std.specs.Prelude.{length, filter, nat_lt, slice_get, slice_index, slice_index_or, Contains, ◌⊎◌, ◌↔◌}
+use Rattle.std.specs.Prelude.{bit_and, bit_or}
 use Rattle.std.specs.Int.{bit_at}
 use Rattle.std.specs.List.{range_with_len}
 use Rattle.gpu_alloc_types.specs.Flags.{named_usage_bits, has_bit}

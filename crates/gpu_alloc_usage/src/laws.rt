@@ -8,13 +8,15 @@ ghost use Rattle.gpu_alloc_usage.specs.ThreeTypes.{three_types};
 /// A ranking has exactly the types that may serve the usage, by key and then by index, and nothing else has.
 pub fn ranking_is_exact_and_sorted()
     ensures is { (usage : ℕ) (types : List MemoryType) → IsRanking usage types (ranking usage types) }
-    ensures only { (usage : ℕ) (types : List MemoryType) (ranked : List ℕ) → IsRanking usage types ranked → ranked ≡ ranking usage types }
+    ensures only { (usage : ℕ) (types : List MemoryType) (ranked : List ℕ) → IsRanking usage types ranked
+        → ranked ≡ ranking usage types }
 {}
 
 /// The candidates of a request are exactly the types that may serve what its usage means and whose bit is set in its
 /// mask, by key and then by index.
 pub fn candidates_are_exact_and_sorted()
-    ensures { (types : List MemoryType) (usage mask : ℕ) → IsRankingWithin (implied usage) types mask (candidates types usage mask) }
+    ensures { (types : List MemoryType) (usage mask : ℕ)
+        → IsRankingWithin (implied usage) types mask (candidates types usage mask) }
 {}
 
 /// Rankings of three types: DEVICE_LOCAL; HOST_VISIBLE and HOST_COHERENT; and these with HOST_CACHED. A usage with

@@ -20,9 +20,10 @@ const NAMED: u8 = 0x3f;
 /// The memory types that serve each usage, ranked once.
 ///
 /// A type serves a usage unless it is `LAZILY_ALLOCATED` or `PROTECTED`; where the host reads or writes (`HOST_ACCESS`,
-/// `UPLOAD` or `DOWNLOAD`) it has to be `HOST_VISIBLE` too. The types that serve are ranked by how far they are from what
-/// the usage wants: 8 for a miss in `DEVICE_LOCAL`, 4 in `HOST_VISIBLE`, 2 in `HOST_CACHED`, 1 in `HOST_COHERENT`. The
-/// nearest comes first, and of those equally far the lowest index (the original crate's order, which leaves ties open).
+/// `UPLOAD` or `DOWNLOAD`) it has to be `HOST_VISIBLE` too. The types that serve are ranked by how far they are from
+/// what the usage wants: 8 for a miss in `DEVICE_LOCAL`, 4 in `HOST_VISIBLE`, 2 in `HOST_CACHED`, 1 in `HOST_COHERENT`.
+/// The nearest comes first, and of those equally far the lowest index (the original crate's order, which leaves ties
+/// open).
 #[derive(Drop)]
 pub struct MemoryForUsage {
     usages: [MemoryForOneUsage; 64],
@@ -66,8 +67,8 @@ impl MemoryForUsage {
         self.row(usage).types()
     }
 
-    /// The memory types to be tried for a request, the best first: those that serve what its usage means and whose bit is
-    /// set in `mask`. It is public for the allocator.
+    /// The memory types to be tried for a request, the best first: those that serve what its usage means and whose bit
+    /// is set in `mask`. It is public for the allocator.
     pub fn candidates(&self, usage: UsageFlags, mask: u32) -> MemoryForOneUsage
         ensures { ranked_types result ≡ filter (is_allowed mask) (row self.now (implied (usage_bits usage))) }
     {

@@ -58,8 +58,8 @@ pub struct Script<A: Allocator> {
     pub lines: u64,
 }
 
-/// The script that these bytes are: lines of fields, of which the setup lines come first. If not, `Stop::BadLine` tells the
-/// first bad line, and `Stop::Memory` that memory for the script was refused. Each command's hint is `Required`.
+/// The script that these bytes are: lines of fields, of which the setup lines come first. If not, `Stop::BadLine` tells
+/// the first bad line, and `Stop::Memory` that memory for the script was refused. Each command's hint is `Required`.
 pub fn parse<A: Allocator + Copy>(alloc: A, text: &[u8]) -> Result<Script<A>, Stop>
     ensures { IfOk result (λ script. All IsForRequired script.commands.items) }
 {

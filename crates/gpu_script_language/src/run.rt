@@ -19,10 +19,10 @@ pub type SimSession<A> = Session<SimMemory<A>, Sim<A>, A>;
 
 /// Runs the script that a reader gives, and writes what it answers to a writer.
 ///
-/// The whole script is read and parsed before anything runs, and the answer is written at once. The status is 0 where it
-/// ran; 1 where a read or a write failed, and then nothing is said of how much was written; 2 at a bad line, and then the
-/// output is `line N: ` and what is wrong with it; 3 where the host's memory was refused to the program itself, and then
-/// the output is `out of memory`.
+/// The whole script is read and parsed before anything runs, and the answer is written at once. The status is 0 where
+/// it ran; 1 where a read or a write failed, and then nothing is said of how much was written; 2 at a bad line, and
+/// then the output is `line N: ` and what is wrong with it; 3 where the host's memory was refused to the program
+/// itself, and then the output is `out of memory`.
 pub fn run_script<R: Read, W: Write, A: Allocator + Copy>(
     alloc: A,
     input: &mut R,
@@ -108,8 +108,8 @@ fn run_and_finish<A: Allocator + Copy>(
     (replies, session.finish())
 }
 
-/// A session over the device that the setup lines describe, with nothing live. It takes memory for the device's books and the
-/// session's; where that is refused, nothing is left.
+/// A session over the device that the setup lines describe, with nothing live. It takes memory for the device's books
+/// and the session's; where that is refused, nothing is left.
 pub fn open<A: Allocator + Copy>(alloc: A, setup: &Setup<A>) -> Result<SimSession<A>, AllocError>
     requires usable { IsUsable (offered setup.now) }
 {

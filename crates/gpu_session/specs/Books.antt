@@ -28,4 +28,6 @@ books_code =
     (λ b. (b.allocator, b.blocks)) (λ c. record { allocator = c.0; blocks = c.1 }) (λ _. refl)
 
 abbrev pub session_code : {D : Type 0} → Coded D → Coded (SessionState D)
-session_code {D} d = code_by (Books × D) (coded× books_code d) (λ s. (s.books, s.device)) (λ c. record { books = c.0; device = c.1 }) (λ _. refl)
+session_code {D} d =
+    code_by (Books × D) (coded× books_code d) (λ s. (s.books, s.device)) (λ c. record { books = c.0; device = c.1 })
+    (λ _. refl)

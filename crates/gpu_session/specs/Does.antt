@@ -12,11 +12,13 @@ use Rattle.gpu_session.specs.declared.command.Command.TheVariants.{Dedicated, Fr
 use Rattle.gpu_session.specs.declared.command.Fault.{Fault}
 use Rattle.gpu_session.specs.declared.command.Fault.TheVariants.{NoMemory}
 use Rattle.gpu_session.specs.declared.command.Reply.{Reply}
-use Rattle.gpu_session.specs.declared.command.Reply.TheVariants.{Granted, Refused, Done, Counts as Counted, Fault as Faulty}
+use Rattle.gpu_session.specs.declared.command.Reply.TheVariants.{Granted, Refused, Done, Counts as Counted}
+use Rattle.gpu_session.specs.declared.command.Reply.TheVariants.{Fault as Faulty}
 
 -- the block that a grant tells
 abbrev pub IsTold : Block → ℕ → ℕ → ℕ → ℕ → Type 0
-IsTold b memory_type object offset size = (b.memory_type ≡ memory_type) × (b.object ≡ object) × (b.offset ≡ offset) × (b.size ≡ size)
+IsTold b memory_type object offset size =
+    (b.memory_type ≡ memory_type) × (b.object ≡ object) × (b.offset ≡ offset) × (b.size ≡ size)
 
 -- one number for each heap: its ledger
 pub record IsEachLedger (s : State) (used : List ℕ) : Type 0 where
@@ -32,7 +34,8 @@ Serves old (Dedicated name request dedicated) es (Granted memory_type object off
 Serves old (Dedicated name request dedicated) es (Refused e) new =
     Allocates old.allocator request (Some dedicated) es (Err e) new.allocator × (new.blocks ≡ old.blocks)
 Serves old (Dedicated name request dedicated) es reply new = ⊥
-Serves old (Free name) es Done new = OfBlock old name (λ b. Frees old.allocator b es new.allocator × (new.blocks ≡ map.remove old.blocks name))
+Serves old (Free name) es Done new =
+    OfBlock old name (λ b. Frees old.allocator b es new.allocator × (new.blocks ≡ map.remove old.blocks name))
 Serves old (Free name) es reply new = ⊥
 Serves old Counts es (Counted remaining held used) new =
     (es ≡ []) × (new ≡ old)
@@ -52,7 +55,8 @@ abbrev pub Faults : {A : Type 0} → Books → Command A → List Event → Faul
 Faults old command es fault new =
     (new ≡ old)
     × (((first_fault old command ≡ Some fault) × (es ≡ []))
-    ⊎ ((fault ≡ NoMemory) × (first_fault old command ≡ None) × (may_want_memory command ≡ true) × IsGivenBack command es))
+    ⊎ ((fault ≡ NoMemory) × (first_fault old command ≡ None) × (may_want_memory command ≡ true) × IsGivenBack command
+    es))
 
 abbrev pub Does : {A : Type 0} → Books → Command A → List Event → Reply A → Books → Type 0
 Does old command es (Faulty fault) new = Faults old command es fault new

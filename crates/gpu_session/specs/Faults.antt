@@ -1,5 +1,6 @@
 -- The first condition that a command misses.
-use Rattle.std.specs.Prelude.{ℕ, ◌+◌, ◌^◌, ◌==◌, ◌&&◌, Bool, true, false, not, cond, Option, Some, None, is_some, nat_le}
+use Rattle.std.specs.Prelude.{ℕ, ◌+◌, ◌^◌, ◌==◌, ◌&&◌, Bool, true, false, not, cond, Option, Some, None, is_some}
+use Rattle.std.specs.Prelude.{nat_le}
 use Rattle.std.specs.Int.{is_power_of_two}
 use Rattle.std.specs.FinMap as map
 use Rattle.gpu_alloc_types.specs.Flags.{usage_bits, has_bit}
@@ -9,7 +10,8 @@ use Rattle.gpu_session.specs.Books.{Books}
 use Rattle.gpu_session.specs.declared.command.Command.{Command}
 use Rattle.gpu_session.specs.declared.command.Command.TheVariants.{Dedicated, Free, Counts, Never}
 use Rattle.gpu_session.specs.declared.command.Fault.{Fault}
-use Rattle.gpu_session.specs.declared.command.Fault.TheVariants.{NameInUse, UnknownName, BadSize, BadAlignment, NoDeviceAddress}
+use Rattle.gpu_session.specs.declared.command.Fault.TheVariants.{NameInUse, UnknownName, BadSize, BadAlignment}
+use Rattle.gpu_session.specs.declared.command.Fault.TheVariants.{NoDeviceAddress}
 
 -- a fault where a test holds, else what comes next
 abbrev pub where_true : Bool → Fault → Option Fault → Option Fault
@@ -32,7 +34,8 @@ fault_of_block (Some b) more = more b
 
 abbrev pub first_fault : {A : Type 0} → Books → Command A → Option Fault
 first_fault s (Dedicated name request dedicated) =
-    where_true (is_some (map.get s.blocks name)) NameInUse (fault_of_request (s.allocator.properties).buffer_device_address request)
+    where_true (is_some (map.get s.blocks name)) NameInUse
+    (fault_of_request (s.allocator.properties).buffer_device_address request)
 first_fault s (Free name) = fault_of_block (map.get s.blocks name) (λ b. None)
 first_fault s Counts = None
 first_fault s (Never never marker) = None

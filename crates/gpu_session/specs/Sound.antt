@@ -1,5 +1,6 @@
 -- What every state between two commands has.
-use Rattle.std.specs.Prelude.{◌≡◌, ◌≢◌, ◌⊎◌, ◌↔◌, ℕ, ◌+◌, ◌<◌, ◌≤◌, ◌^◌, Bool, List, length, map, Contains, Option, Some, IsSome, IfSome}
+use Rattle.std.specs.Prelude.{◌≡◌, ◌≢◌, ◌⊎◌, ◌↔◌, ℕ, ◌+◌, ◌<◌, ◌≤◌, ◌^◌, Bool, List, length, map, Contains, Option}
+use Rattle.std.specs.Prelude.{Some, IsSome, IfSome}
 use Rattle.std.specs.FinMap as finite
 use Rattle.gpu_alloc_types.specs.Properties.{Properties}
 use Rattle.gpu_alloc_types.specs.Device.{Event, Object, HeldWith}
@@ -27,15 +28,19 @@ IsChunkOfList h = (number : ℕ) × (h.kind ≡ FreeListChunk number)
 pub record IsSound (p : Properties) (objects : ℕ → Option Object) (s : Books) : Type 0 where
   pub agrees : Agrees s.allocator p objects
   pub blocks : (name : ℕ) → IfSome (finite.get s.blocks name) (IsBlock s.allocator objects)
-  pub apart : (n m : ℕ) (b c : Block) → n ≢ m → finite.get s.blocks n ≡ Some b → finite.get s.blocks m ≡ Some c → AreApart (span_of b) (span_of c)
+  pub apart : (n m : ℕ) (b c : Block) → n ≢ m → finite.get s.blocks n ≡ Some b → finite.get s.blocks m ≡ Some c
+      → AreApart (span_of b) (span_of c)
   pub named : (span : Span) → IsLive s.allocator span → (name : ℕ) × OfBlock s name (λ b. span_of b ≡ span)
-  pub used : (object : ℕ) → IfSome (finite.get (s.allocator).held object) (λ h. IsChunkOfList h ⊎ ((span : Span) × IsLive s.allocator span × (span.object ≡ object)))
+  pub used : (object : ℕ) → IfSome (finite.get (s.allocator).held object)
+      (λ h. IsChunkOfList h ⊎ ((span : Span) × IsLive s.allocator span × (span.object ≡ object)))
 
 -- Each live block is the whole of an object, and no two are of one object.
 pub record AreWholeObjects (objects : ℕ → Option Object) (s : Books) : Type 0 where
   pub kind : (name : ℕ) → IfSome (finite.get s.blocks name) (λ b. b.kind ≡ DedicatedObject)
-  pub whole : (name : ℕ) → IfSome (finite.get s.blocks name) (λ b. (b.offset ≡ 0) × HeldWith objects b.object (λ o. o.size ≡ b.size))
-  pub distinct : (n m : ℕ) (b c : Block) → n ≢ m → finite.get s.blocks n ≡ Some b → finite.get s.blocks m ≡ Some c → b.object ≢ c.object
+  pub whole : (name : ℕ)
+      → IfSome (finite.get s.blocks name) (λ b. (b.offset ≡ 0) × HeldWith objects b.object (λ o. o.size ≡ b.size))
+  pub distinct : (n m : ℕ) (b c : Block) → n ≢ m → finite.get s.blocks n ≡ Some b → finite.get s.blocks m ≡ Some c
+      → b.object ≢ c.object
 
 -- each object that is held, is held for one block
 abbrev pub HoldsWholeObjects : State → Type 0

@@ -11,8 +11,8 @@ use std::marker::PhantomData;
 pub enum Command<A: Allocator = Global> {
     /// Asks for a block by `GpuAllocator::alloc_with_dedicated`, and keeps it under a name.
     ///
-    /// Faults: `NameInUse`, `BadSize`, `BadAlignment`, `NoDeviceAddress`, `NoMemory`. Else it is answered by `Granted` or
-    /// `Refused`.
+    /// Faults: `NameInUse`, `BadSize`, `BadAlignment`, `NoDeviceAddress`, `NoMemory`. Else it is answered by `Granted`
+    /// or `Refused`.
     Dedicated {
         /// The name that the block is to have.
         name: u32,
@@ -38,8 +38,8 @@ pub enum Command<A: Allocator = Global> {
     Never(Infallible, PhantomData<A>),
 }
 
-/// Why a command was not run. It has then changed nothing. The numbers are those that scripts print; 6 to 11 are answered
-/// by no command yet.
+/// Why a command was not run. It has then changed nothing. The numbers are those that scripts print; 6 to 11 are
+/// answered by no command yet.
 #[derive(Clone, Copy, Debug, PartialEq, Eq)]
 pub enum Fault {
     /// The name has a live block.

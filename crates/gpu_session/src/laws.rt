@@ -14,7 +14,9 @@ use std::alloc::Allocator;
 
 /// Two runs, one after the other, are a run of the joined lists.
 pub fn runs_join<M: MemoryObject, D: MemoryDevice<M>, A: Allocator>()
-    ensures { (old mid new : SessionState D) (commands later : List (ACommand A)) (replies answers : List (AReply A)) → Run (Step D.step) old commands replies mid → Run (Step D.step) mid later answers new → Run (Step D.step) old (commands ++ later) (replies ++ answers) new }
+    ensures { (old mid new : SessionState D) (commands later : List (ACommand A)) (replies answers : List (AReply A))
+        → Run (Step D.step) old commands replies mid → Run (Step D.step) mid later answers new
+        → Run (Step D.step) old (commands ++ later) (replies ++ answers) new }
 {}
 
 /// A request has no fault exactly where an allocator can be asked for it.

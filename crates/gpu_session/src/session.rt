@@ -1,6 +1,7 @@
 //! A session: an allocator with its device, and live blocks by name.
 
-ghost use Rattle.std.specs.Prelude.{◌≡◌, ℕ, ◌+◌, ◌<◌, List, All, IfOk, IfErr, OnErr, Option, Some, None, IsSome, length, slice_get};
+ghost use Rattle.std.specs.Prelude.{◌≡◌, ℕ, ◌+◌, ◌<◌, List, All, IfOk, IfErr, OnErr, Option, Some, None, IsSome};
+ghost use Rattle.std.specs.Prelude.{length, slice_get};
 ghost use Rattle.std.specs.FinMap as map;
 ghost use Rattle.gpu_alloc_types.specs.Properties.{IsUsable, properties_of};
 ghost use Rattle.gpu_alloc_types.specs.Device.{Event, Chain};
@@ -55,7 +56,8 @@ impl<M: MemoryObject, D: MemoryDevice<M>, A: Allocator + Copy> Model for Session
       device = a.device;
     } };
 
-    ghost invariant = { λ a. IsKept (D.properties a.device) (D.objects a.device) (record { allocator = a.allocator; blocks = from_entries a.blocks.entries }) a.heaps a.buffer_device_address };
+    ghost invariant = { λ a. IsKept (D.properties a.device) (D.objects a.device)
+        (record { allocator = a.allocator; blocks = from_entries a.blocks.entries }) a.heaps a.buffer_device_address };
 }
 
 /// Why a request cannot be asked for: the first condition that it misses.
@@ -139,8 +141,10 @@ impl<M: MemoryObject, D: MemoryDevice<M>, A: Allocator + Copy> Session<M, D, A> 
     pub fn finish(self) -> D
         // Each held object goes back once, and nothing else is asked.
         ensures returned { (es : List Event) × Chain D.step self.device es result × ReturnsAll self.books es }
-        ensures gone { (object : ℕ) → IsSome (map.get ((self.books).allocator).held object) → D.objects result object ≡ None }
-        ensures others { (object : ℕ) → map.get ((self.books).allocator).held object ≡ None → D.objects result object ≡ D.objects self.device object }
+        ensures gone { (object : ℕ) → IsSome (map.get ((self.books).allocator).held object)
+            → D.objects result object ≡ None }
+        ensures others { (object : ℕ) → map.get ((self.books).allocator).held object ≡ None
+            → D.objects result object ≡ D.objects self.device object }
         ensures properties { D.properties result ≡ D.properties self.device }
     {
         let Session {

@@ -1,12 +1,14 @@
 -- The simulated device, and what its calls do.
-use Rattle.std.specs.Prelude.{◌≡◌, ℕ, ◌+◌, ◌-◌, ◌^◌, ◌<◌, min, cond, List, [], replicate, Option, Some, None, option_map, Result, Ok, Err}
+use Rattle.std.specs.Prelude.{◌≡◌, ℕ, ◌+◌, ◌-◌, ◌^◌, ◌<◌, min, cond, List, [], replicate, Option, Some, None}
+use Rattle.std.specs.Prelude.{option_map, Result, Ok, Err}
 use Rattle.std.specs.FinMap as map
 use Rattle.std.specs.FinMap.{FinMap}
 use Rattle.std.specs.Ordering.{nat_cmp}
 use Rattle.gpu_alloc_types.specs.Flags.{allocation_bits}
 use Rattle.gpu_alloc_types.specs.Properties.{Properties, is_host_visible, is_coherent}
 use Rattle.gpu_alloc_types.specs.Device.{Object, Event, Range}
-use Rattle.gpu_alloc_types.specs.Device.Event.{Allocated, Deallocated, Mapped, Unmapped, Flushed, Invalidated, BytesPut, BytesGot}
+use Rattle.gpu_alloc_types.specs.Device.Event.{Allocated, Deallocated, Mapped, Unmapped, Flushed, Invalidated, BytesPut}
+use Rattle.gpu_alloc_types.specs.Device.Event.{BytesGot}
 use Rattle.gpu_alloc_types.specs.declared.allocation_flags.AllocationFlags.{AllocationFlags}
 use Rattle.gpu_alloc_types.specs.declared.types.DeviceMapError.{DeviceMapError}
 use Rattle.gpu_alloc_types.specs.declared.types.OutOfMemory.{OutOfMemory}
@@ -58,7 +60,11 @@ counted n = min (n + 1) (2 ^ 64 - 1)
 -- the device, once it was asked to allocate and before it answers
 abbrev pub asked_to_allocate : SimState → ℕ → ℕ → ℕ → SimState
 asked_to_allocate s size memory_type flags =
-    record s { asked = with_at s.asked Allocate (counted s.asked.allocate); last_allocation = Some (size, (memory_type, flags)) }
+    record s {
+      asked = with_at s.asked Allocate (counted s.asked.allocate);
+      last_allocation = Some
+          (size, (memory_type, flags));
+    }
 
 -- the device, once it was asked to map and before it answers
 abbrev pub asked_to_map : SimState → SimState
@@ -83,7 +89,8 @@ IsRefusal None error = error ≡ OutOfHostMemory
 
 -- the answer to a question to allocate that was counted
 abbrev pub Answers : SimState → (size memory_type : ℕ) → Result ℕ OutOfMemory → SimState → Type 0
-Answers old size t (Ok name) new = (cause_now old Allocate ≡ None) × ((object : SimObject) × IsNew size t object × IsMade old name object new)
+Answers old size t (Ok name) new =
+    (cause_now old Allocate ≡ None) × ((object : SimObject) × IsNew size t object × IsMade old name object new)
 Answers old size t (Err error) new = IsRefusal (cause_now old Allocate) error × (new ≡ old)
 
 -- an object with this range mapped, and else as it was
@@ -96,7 +103,10 @@ pub record IsMappedOver (range : Range) (old new : SimObject) : Type 0 where
 abbrev pub Maps : SimState → Range → SimState → Type 0
 Maps old range new =
     (object : SimObject) × (map.get old.objects range.object ≡ Some object)
-    × ((mapped : SimObject) × IsMappedOver range object mapped × (new ≡ record old { objects = map.insert old.objects range.object mapped }))
+    × ((mapped : SimObject) × IsMappedOver range object mapped × (new ≡ record old {
+      objects =
+          map.insert old.objects range.object mapped;
+    }))
 
 -- the answer to a question to map that was counted: a refusal exactly where one was planned
 abbrev pub MapAnswers : SimState → Range → Result (Unit {0}) DeviceMapError → SimState → Type 0

@@ -22,8 +22,20 @@ by_kind_code {T} code =
 
 abbrev pub state_code : Coded SimState
 state_code =
-    code_by (Properties × ((ByKind (FinMap nat_cmp Cause) × ByKind ℕ) × (Option (ℕ × (ℕ × ℕ)) × (ℕ × FinMap nat_cmp SimObject))))
-    (coded× properties_code (coded× (coded× (by_kind_code (map.code coded_ℕ cause.the_row.coded)) (by_kind_code coded_ℕ)) (coded× (coded_option (coded× coded_ℕ (coded× coded_ℕ coded_ℕ))) (coded× coded_ℕ (map.code coded_ℕ object.the_row.coded)))))
+    code_by (Properties ×
+    ((ByKind (FinMap nat_cmp Cause) × ByKind ℕ) × (Option (ℕ × (ℕ × ℕ)) × (ℕ × FinMap nat_cmp SimObject))))
+    (coded× properties_code
+    (coded× (coded× (by_kind_code (map.code coded_ℕ cause.the_row.coded)) (by_kind_code coded_ℕ))
+    (coded× (coded_option (coded× coded_ℕ (coded× coded_ℕ coded_ℕ)))
+    (coded× coded_ℕ (map.code coded_ℕ object.the_row.coded)))))
     (λ s. (s.properties, ((s.plans, s.asked), (s.last_allocation, (s.last_name, s.objects)))))
-    (λ c. record { properties = c.0; plans = c.1.0.0; asked = c.1.0.1; last_allocation = c.1.1.0; last_name = c.1.1.1.0; objects = c.1.1.1.1 })
+    (λ c. record {
+      properties =
+          c.0;
+      plans = c.1.0.0;
+      asked = c.1.0.1;
+      last_allocation = c.1.1.0;
+      last_name = c.1.1.1.0;
+      objects = c.1.1.1.1;
+    })
     (λ _. refl)

@@ -24,7 +24,8 @@ pub use question::{Cause, Question};
 use std::alloc::{AllocError, Allocator, Global};
 use std::marker::Model;
 
-/// A device in the host's memory, which refuses what it was told to refuse and grants all else that there is memory for.
+/// A device in the host's memory, which refuses what it was told to refuse and grants all else that there is memory
+/// for.
 ///
 /// Its objects are named 1, 2, 3 and so on, and a name is never used again. Sizes are never compared with heaps.
 #[derive(Drop)]
@@ -87,8 +88,8 @@ impl<A: Allocator + Copy> Sim<A> {
         })
     }
 
-    /// Plans that the `nth` question of a kind, counted from 1 since [`new`](Sim::new), is refused with the cause. Of two
-    /// plans for one question the first counts.
+    /// Plans that the `nth` question of a kind, counted from 1 since [`new`](Sim::new), is refused with the cause. Of
+    /// two plans for one question the first counts.
     ///
     /// `Cause::Failed` is for `Question::Map` alone. Fails only for want of memory, and all is as before then.
     pub fn refuse(&mut self, kind: Question, nth: u64, cause: Cause) -> Result<(), AllocError>

@@ -3,7 +3,8 @@
 ghost use Rattle.std.specs.Prelude.{◌≡◌, ◌+◌, ◌^◌, ◌<◌, false};
 ghost use Rattle.std.specs.FinMap as map;
 ghost use Rattle.std.specs.FinSet as set;
-ghost use Rattle.gpu_alloc.specs.Inside.{span_of_leaf, place_of_leaf, leaf_at, with_chunk_of, span_of_slot, no_place, with_chunk_of_slot};
+ghost use Rattle.gpu_alloc.specs.Inside.{span_of_leaf, place_of_leaf, leaf_at, with_chunk_of, span_of_slot, no_place};
+ghost use Rattle.gpu_alloc.specs.Inside.{with_chunk_of_slot};
 ghost use Rattle.gpu_alloc.specs.Spans.{span_in, place_in};
 
 use crate::block::Kind;
@@ -20,7 +21,8 @@ pub(super) fn add_leaf<A: Allocator>(
 ) -> usize
     requires room { 0 < spans.old.room }
     requires free { set.contains spans.old.live (span_of_leaf leaf) ≡ false }
-    ensures held { spans.new.held ≡ with_chunk_of spans.old.held leaf (record { memory_type = memory_type; counted = chunk_size; kind = Kind.BuddyChunk }) }
+    ensures held { spans.new.held ≡ with_chunk_of spans.old.held leaf
+        (record { memory_type = memory_type; counted = chunk_size; kind = Kind.BuddyChunk }) }
     ensures live { spans.new.live ≡ set.insert spans.old.live (span_of_leaf leaf) }
     ensures places { spans.new.places ≡ map.insert spans.old.places (span_of_leaf leaf) (place_of_leaf leaf) }
 {
@@ -42,13 +44,17 @@ pub(super) fn add_leaf<A: Allocator>(
     spans.insert(span, chunk)
 }
 
-/// Adds the span of a free list's block, and its chunk where it was not held yet, into room that was made. A chunk that was
-/// not held ends where its first block does.
+/// Adds the span of a free list's block, and its chunk where it was not held yet, into room that was made. A chunk that
+/// was not held ends where its first block does.
 pub(super) fn add_slot<A: Allocator>(spans: &mut Spans<A>, slot: Slot, memory_type: u32) -> usize
     requires room { 0 < spans.old.room }
     requires free { set.contains spans.old.live (span_of_slot slot) ≡ false }
     requires fits { slot.offset + slot.size < 2 ^ 64 }
-    ensures held { spans.new.held ≡ with_chunk_of_slot spans.old.held slot (record { memory_type = memory_type; counted = slot.offset + slot.size; kind = Kind.FreeListChunk slot.chunk }) }
+    ensures held { spans.new.held ≡ with_chunk_of_slot spans.old.held slot (record {
+      memory_type = memory_type;
+      counted = slot.offset + slot.size;
+      kind = Kind.FreeListChunk slot.chunk;
+    }) }
     ensures live { spans.new.live ≡ set.insert spans.old.live (span_of_slot slot) }
     ensures places { spans.new.places ≡ map.insert spans.old.places (span_of_slot slot) no_place }
 {

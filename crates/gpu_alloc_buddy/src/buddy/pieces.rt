@@ -1,6 +1,7 @@
 //! Free pieces of chunks as a plain list: one is taken and split, and one that comes back is joined.
 
-ghost use Rattle.std.specs.Prelude.{◌≡◌, ◌≤◌, ◌<◌, ◌+◌, ◌-◌, ◌*◌, ◌^◌, ◌⊎◌, ℕ, length, slice_get, slice_index_or, Some, IfSome, IfNone, MatchOption, vec_len, vec_capacity};
+ghost use Rattle.std.specs.Prelude.{◌≡◌, ◌≤◌, ◌<◌, ◌+◌, ◌-◌, ◌*◌, ◌^◌, ◌⊎◌, ℕ, length, slice_get, slice_index_or, Some};
+ghost use Rattle.std.specs.Prelude.{IfSome, IfNone, MatchOption, vec_len, vec_capacity};
 ghost use Rattle.std.specs.List.{All, Contains};
 ghost use Rattle.gpu_alloc_base.specs.FreeSpace.{IsMultipleOf, IsPowerOfTwo};
 ghost use Rattle.gpu_alloc_base.specs.Pieces.{AreHalves, AreKept, AreKeptBeside, joined};
@@ -29,14 +30,18 @@ pub(super) fn order_of(size: u64) -> u32
 
 /// Where a piece stands in the list.
 fn place_of(pieces: &[Piece], piece: Piece) -> Option<usize>
-    ensures { MatchOption result (Contains pieces.now piece → ⊥) (λ i. (i < length pieces.now) × (slice_get pieces.now i ≡ Some piece)) }
+    ensures { MatchOption result (Contains pieces.now piece → ⊥)
+        (λ i. (i < length pieces.now) × (slice_get pieces.now i ≡ Some piece)) }
 {
     pieces.iter().position(|p| *p == piece)
 }
 
 /// Where a shortest piece of this order or more stands. None where every piece is shorter.
 pub(super) fn shortest(pieces: &[Piece], order: u32) -> Option<usize>
-    ensures some { IfSome result (λ i. (i < length pieces.now) × ((d : PieceRecord) → (order ≤ (slice_index_or pieces.now i d).order) × All (λ p. order ≤ p.order → (slice_index_or pieces.now i d).order ≤ p.order) pieces.now)) }
+    ensures some { IfSome result
+        (λ i. (i < length pieces.now)
+        × ((d : PieceRecord) → (order ≤ (slice_index_or pieces.now i d).order)
+        × All (λ p. order ≤ p.order → (slice_index_or pieces.now i d).order ≤ p.order) pieces.now)) }
     ensures none { IfNone result (All (λ p. p.order < order) pieces.now) }
 {
     let mut best: Option<usize> = None;
@@ -51,8 +56,8 @@ pub(super) fn shortest(pieces: &[Piece], order: u32) -> Option<usize>
     best
 }
 
-/// Takes a piece off the list and gives its front, of the order asked for; the rest goes back as right halves. So the list
-/// has as many pieces more as the piece's order was greater, less the piece itself.
+/// Takes a piece off the list and gives its front, of the order asked for; the rest goes back as right halves. So the
+/// list has as many pieces more as the piece's order was greater, less the piece itself.
 pub(super) fn take_front<A: Allocator>(
     pieces: &mut Vec<Piece, A>,
     index: usize,
@@ -63,10 +68,14 @@ pub(super) fn take_front<A: Allocator>(
     requires bounded { All (λ p. (p.order ≤ 63) × (p.start + 2 ^ p.order ≤ 2 ^ 63)) pieces.old.items }
     requires room { vec_len pieces.old + 63 ≤ vec_capacity pieces.old }
     ensures order { result.order ≡ order }
-    ensures front { (d : PieceRecord) → let p = slice_index_or pieces.old.items index d in (result.chunk ≡ p.chunk) × (result.start ≡ p.start) }
-    ensures kept { (b : Buddy) → AreKept pieces.old.items (IsFreeAt b) → AreKeptBeside pieces.new.items (IsFreeAt b) result }
-    ensures shorter { (d q : PieceRecord) → Contains pieces.new.items q → Contains pieces.old.items q ⊎ (q.chunk ≡ result.chunk) × (q.order < (slice_index_or pieces.old.items index d).order) }
-    ensures count { (d : PieceRecord) → vec_len pieces.new + 1 + order ≡ vec_len pieces.old + (slice_index_or pieces.old.items index d).order }
+    ensures front { (d : PieceRecord) → let p = slice_index_or pieces.old.items index d in (result.chunk ≡ p.chunk)
+        × (result.start ≡ p.start) }
+    ensures kept { (b : Buddy) → AreKept pieces.old.items (IsFreeAt b)
+        → AreKeptBeside pieces.new.items (IsFreeAt b) result }
+    ensures shorter { (d q : PieceRecord) → Contains pieces.new.items q → Contains pieces.old.items q
+        ⊎ (q.chunk ≡ result.chunk) × (q.order < (slice_index_or pieces.old.items index d).order) }
+    ensures count { (d : PieceRecord)
+        → vec_len pieces.new + 1 + order ≡ vec_len pieces.old + (slice_index_or pieces.old.items index d).order }
     ensures capacity { vec_capacity pieces.new ≡ vec_capacity pieces.old }
 {
     let piece = pieces.swap_remove(index);
@@ -81,8 +90,10 @@ pub(super) fn split<A: Allocator>(pieces: &mut Vec<Piece, A>, piece: Piece, orde
     requires room { vec_len pieces.old + (piece.order - order) ≤ vec_capacity pieces.old }
     ensures order { result.order ≡ order }
     ensures front { (result.chunk ≡ piece.chunk) × (result.start ≡ piece.start) }
-    ensures kept { (b : Buddy) → AreKeptBeside pieces.old.items (IsFreeAt b) piece → AreKeptBeside pieces.new.items (IsFreeAt b) result }
-    ensures shorter { (q : PieceRecord) → Contains pieces.new.items q → Contains pieces.old.items q ⊎ (q.chunk ≡ piece.chunk) × (q.order < piece.order) }
+    ensures kept { (b : Buddy) → AreKeptBeside pieces.old.items (IsFreeAt b) piece
+        → AreKeptBeside pieces.new.items (IsFreeAt b) result }
+    ensures shorter { (q : PieceRecord) → Contains pieces.new.items q → Contains pieces.old.items q
+        ⊎ (q.chunk ≡ piece.chunk) × (q.order < piece.order) }
     ensures count { vec_len pieces.new + order ≡ vec_len pieces.old + piece.order }
     ensures capacity { vec_capacity pieces.new ≡ vec_capacity pieces.old }
 {
@@ -150,9 +161,14 @@ pub(super) fn put_back<A: Allocator>(
     requires bounded { block.start + 2 ^ block.order ≤ 2 ^ 63 }
     requires aligned { IsMultipleOf (2 ^ block.order) block.start }
     requires room { vec_len pieces.old < vec_capacity pieces.old }
-    ensures joined { IfNone result ((b : Buddy) → AreKeptBeside pieces.old.items (IsFreeAt b) block → AreKept pieces.new.items (IsFreeAt b)) }
-    ensures whole { IfSome result (λ p. (p.chunk ≡ block.chunk) × (p.order ≡ limit) × ((b : Buddy) → AreKeptBeside pieces.old.items (IsFreeAt b) block → AreKeptBeside pieces.new.items (IsFreeAt b) p)) }
-    ensures shorter { (q : PieceRecord) → Contains pieces.new.items q → Contains pieces.old.items q ⊎ (q.chunk ≡ block.chunk) × (q.order < limit) }
+    ensures joined { IfNone result
+        ((b : Buddy) → AreKeptBeside pieces.old.items (IsFreeAt b) block → AreKept pieces.new.items (IsFreeAt b)) }
+    ensures whole { IfSome result
+        (λ p. (p.chunk ≡ block.chunk) × (p.order ≡ limit)
+        × ((b : Buddy) → AreKeptBeside pieces.old.items (IsFreeAt b) block
+        → AreKeptBeside pieces.new.items (IsFreeAt b) p)) }
+    ensures shorter { (q : PieceRecord) → Contains pieces.new.items q → Contains pieces.old.items q
+        ⊎ (q.chunk ≡ block.chunk) × (q.order < limit) }
     ensures one_more { vec_len pieces.new ≤ vec_len pieces.old + 1 }
     ensures capacity { vec_capacity pieces.new ≡ vec_capacity pieces.old }
 {

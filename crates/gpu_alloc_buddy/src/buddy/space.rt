@@ -31,7 +31,8 @@ pub(super) fn make_room<A: Allocator>(
 /// The block that a piece in hand becomes.
 pub(super) fn leaf_of(piece: Piece, object: u64) -> Leaf
     requires { piece.order < 64 }
-    ensures { result ≡ record { object = object; chunk = piece.chunk; offset = piece.start; size = 2 ^ piece.order; index = 0 } }
+    ensures { result ≡ record
+        { object = object; chunk = piece.chunk; offset = piece.start; size = 2 ^ piece.order; index = 0 } }
 {
     Leaf {
         object,

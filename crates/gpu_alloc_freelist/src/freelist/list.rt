@@ -1,6 +1,8 @@
 //! A free list: chunks of memory by number, their free runs, and the blocks that are live in them.
 
-ghost use Rattle.std.specs.Prelude.{◌≡◌, ◌≤◌, ◌<◌, ◌+◌, ◌↔◌, ℕ, List, length, slice_get, false, Some, None, IfSome, IfNone, IfOk, IfErr, OnOk, OnErr, IsOk, IsSome, IsTrue, MatchOption, vec_len, vec_capacity};
+ghost use Rattle.std.specs.Prelude.{◌≡◌, ◌≤◌, ◌<◌, ◌+◌, ◌↔◌, ℕ, List, length, slice_get, false, Some, None, IfSome};
+ghost use Rattle.std.specs.Prelude.{IfNone, IfOk, IfErr, OnOk, OnErr, IsOk, IsSome, IsTrue, MatchOption, vec_len};
+ghost use Rattle.std.specs.Prelude.{vec_capacity};
 ghost use Rattle.std.specs.FinMap as map;
 ghost use Rattle.std.specs.FinSet as set;
 ghost use Rattle.std.specs.List.{Contains, IsDistinct};
@@ -8,8 +10,10 @@ ghost use Rattle.std.specs.Result.{result_map_both};
 ghost use Rattle.gpu_alloc_types.specs.Flags.{allocation_bits};
 ghost use Rattle.gpu_alloc_types.specs.Properties.{is_host_visible};
 ghost use Rattle.gpu_alloc_types.specs.Device.{Event, Chain, IsAskable};
-ghost use Rattle.gpu_alloc_freelist.specs.FreeList.{TakesTail, IsFirstToGo, MayGo, HasNumber, HasPlace, with_slot, without_slot, with_chunk, without_chunk, first_tail, no_space};
-ghost use Rattle.gpu_alloc_freelist.specs.FreeListInside.{by_number, IsWholeRegion, MayBeTaken, IsFirstWhole, same_slot, slot_set};
+ghost use Rattle.gpu_alloc_freelist.specs.FreeList.{TakesTail, IsFirstToGo, MayGo, HasNumber, HasPlace, with_slot};
+ghost use Rattle.gpu_alloc_freelist.specs.FreeList.{without_slot, with_chunk, without_chunk, first_tail, no_space};
+ghost use Rattle.gpu_alloc_freelist.specs.FreeListInside.{by_number, IsWholeRegion, MayBeTaken, IsFirstWhole};
+ghost use Rattle.gpu_alloc_freelist.specs.FreeListInside.{same_slot, slot_set};
 ghost use Rattle.gpu_alloc_freelist.specs.FreeListSound.{IsSoundSpace};
 ghost use Rattle.gpu_alloc_freelist.specs.FreeListState.{IsLiveSlot, IsFreeIn};
 ghost use Rattle.gpu_alloc_base.specs.FreeRuns.{IsFreeRun, AreRising};
@@ -57,11 +61,18 @@ impl<M: MemoryObject, A: Allocator> Model for FreeList<M, A> {
     ghost coded = { store_code };
 
     ghost use Rattle.std.specs.Prelude.{◌+◌, ◌-◌, min, length, vec_capacity};
-    ghost use Rattle.gpu_alloc_freelist.specs.FreeListInside.{by_number, space_in, store_in, room_for, AreNumbered, IsListed};
+    ghost use Rattle.gpu_alloc_freelist.specs.FreeListInside.{by_number, space_in, store_in, room_for, AreNumbered};
+    ghost use Rattle.gpu_alloc_freelist.specs.FreeListInside.{IsListed};
 
-    ghost view = { λ l. store_in (space_in (by_number (λ c. c.number) (λ c. record { object = M.object c.memory; size = c.size }) l.chunks.items) l.live.items l.latest) (room_for (vec_capacity l.chunks - length l.chunks.items) (vec_capacity l.live - length l.live.items) (min (vec_capacity l.regions) (vec_capacity l.spare) - (length l.regions.items + length l.live.items))) };
+    ghost view = { λ l. store_in (space_in
+        (by_number (λ c. c.number) (λ c. record { object = M.object c.memory; size = c.size }) l.chunks.items)
+        l.live.items l.latest) (room_for (vec_capacity l.chunks - length l.chunks.items)
+        (vec_capacity l.live - length l.live.items)
+        (min (vec_capacity l.regions) (vec_capacity l.spare) - (length l.regions.items + length l.live.items))) };
 
-    ghost invariant = { λ l. AreNumbered (λ c. c.number) l.chunks.items × IsListed (space_in (by_number (λ c. c.number) (λ c. record { object = M.object c.memory; size = c.size }) l.chunks.items) l.live.items l.latest) l.regions.items l.live.items (min (vec_capacity l.regions) (vec_capacity l.spare)) };
+    ghost invariant = { λ l. AreNumbered (λ c. c.number) l.chunks.items × IsListed
+        (space_in (by_number (λ c. c.number) (λ c. record { object = M.object c.memory; size = c.size }) l.chunks.items)
+        l.live.items l.latest) l.regions.items l.live.items (min (vec_capacity l.regions) (vec_capacity l.spare)) };
 }
 
 impl<M: MemoryObject, A: Allocator + Copy> FreeList<M, A> {
@@ -81,8 +92,8 @@ impl<M: MemoryObject, A: Allocator + Copy> FreeList<M, A> {
 }
 
 impl<M: MemoryObject, A: Allocator> FreeList<M, A> {
-    /// Makes room for one more chunk with one more block: for their runs too, the front of the chunk now and the block when
-    /// it comes back. Whether there is room, contracts see as a number.
+    /// Makes room for one more chunk with one more block: for their runs too, the front of the chunk now and the block
+    /// when it comes back. Whether there is room, contracts see as a number.
     ///
     /// The only refusal is want of memory. Nothing but the room changes, after a refusal too.
     pub fn reserve(&mut self) -> Result<(), AllocError>
@@ -99,14 +110,15 @@ impl<M: MemoryObject, A: Allocator> FreeList<M, A> {
         self.spare.reserve(all)
     }
 
-    /// A block that is the tail of a new chunk: all from the last multiple of `align_mask + 1` on that leaves `size` bytes to
-    /// the chunk's end. The rest of the chunk is a free run. The chunk gets the next number.
+    /// A block that is the tail of a new chunk: all from the last multiple of `align_mask + 1` on that leaves `size`
+    /// bytes to the chunk's end. The rest of the chunk is a free run. The chunk gets the next number.
     ///
     /// `memory` is the chunk's object, of `memory_size` bytes. The size has to be at least 1 and at most that,
     /// `align_mask + 1` a power of two of at most 2^63, room has to be made (`reserve`), and the latest number below
     /// 2^64 - 1. The call takes one chunk's room at most.
     ///
-    /// Where there is no host memory for a second handle of the object, the first is handed back and nothing has changed.
+    /// Where there is no host memory for a second handle of the object, the first is handed back and nothing has
+    /// changed.
     pub fn get_block_from_new_memory(
         &mut self,
         memory: M,
@@ -119,8 +131,10 @@ impl<M: MemoryObject, A: Allocator> FreeList<M, A> {
         requires inside { size ≤ memory_size }
         requires alignment { IsAlignMask align_mask }
         requires number { HasNumber self.old.space }
-        ensures block { IfOk result (λ slot. slot ≡ first_tail self.old.space (M.object memory) memory_size size (align_mask + 1)) }
-        ensures chunk { IfOk result (λ slot. self.new.space ≡ with_slot (with_chunk self.old.space (M.object memory) memory_size) slot) }
+        ensures block { IfOk result
+            (λ slot. slot ≡ first_tail self.old.space (M.object memory) memory_size size (align_mask + 1)) }
+        ensures chunk { IfOk result
+            (λ slot. self.new.space ≡ with_slot (with_chunk self.old.space (M.object memory) memory_size) slot) }
         ensures refused { IfErr result (λ back. (M.object back ≡ M.object memory) × (self.new ≡ self.old)) }
         ensures room { OnOk result (self.old.room ≤ self.new.room + 1) }
         ensures sound { IsSoundSpace self.new.space }
@@ -153,9 +167,9 @@ impl<M: MemoryObject, A: Allocator> FreeList<M, A> {
         Ok(FreeListBlock::new(handle, slot))
     }
 
-    /// A block as [`get_block_from_new_memory`](FreeList::get_block_from_new_memory) gives it, in a chunk that the device is
-    /// asked for. Room is made before, so that after the question only the device refuses, or the host a second handle of
-    /// the chunk: then the chunk is given back, and nothing has changed.
+    /// A block as [`get_block_from_new_memory`](FreeList::get_block_from_new_memory) gives it, in a chunk that the
+    /// device is asked for. Room is made before, so that after the question only the device refuses, or the host a
+    /// second handle of the chunk: then the chunk is given back, and nothing has changed.
     pub(crate) fn get_block_from_new_chunk<D: MemoryDevice<M>>(
         &mut self,
         device: &mut D,
@@ -173,11 +187,16 @@ impl<M: MemoryObject, A: Allocator> FreeList<M, A> {
         requires number { HasNumber self.old.space }
         requires askable { IsAskable (D.properties device.old) chunk_size memory_type (allocation_bits flags) }
         requires visible { is_host_visible (D.properties device.old) memory_type ≡ visible }
-        ensures asks { (es : List Event) × Chain D.step device.old es device.new × AsksBlock (chunk_question chunk_size memory_type (allocation_bits flags) visible) es (result_map_both (λ slot. slot.object) (λ e. e) result) }
-        ensures objects { ChunkAfter (chunk_question chunk_size memory_type (allocation_bits flags) visible) (result_map_both (λ slot. slot.object) (λ e. e) result) (D.objects device.old) (D.objects device.new) }
+        ensures asks { (es : List Event) × Chain D.step device.old es device.new
+            × AsksBlock (chunk_question chunk_size memory_type (allocation_bits flags) visible) es
+            (result_map_both (λ slot. slot.object) (λ e. e) result) }
+        ensures objects { ChunkAfter (chunk_question chunk_size memory_type (allocation_bits flags) visible)
+            (result_map_both (λ slot. slot.object) (λ e. e) result) (D.objects device.old) (D.objects device.new) }
         ensures properties { D.properties device.new ≡ D.properties device.old }
-        ensures block { IfOk result (λ slot. slot ≡ first_tail self.old.space slot.object chunk_size size (align_mask + 1)) }
-        ensures chunk { IfOk result (λ slot. self.new.space ≡ with_slot (with_chunk self.old.space slot.object chunk_size) slot) }
+        ensures block { IfOk result
+            (λ slot. slot ≡ first_tail self.old.space slot.object chunk_size size (align_mask + 1)) }
+        ensures chunk { IfOk result
+            (λ slot. self.new.space ≡ with_slot (with_chunk self.old.space slot.object chunk_size) slot) }
         ensures refused { OnErr result (self.new ≡ self.old) }
     {
         let memory = new_chunk(device, chunk_size, memory_type, flags, visible)?;
@@ -190,12 +209,13 @@ impl<M: MemoryObject, A: Allocator> FreeList<M, A> {
         }
     }
 
-    /// A block that is the tail of the last free run with room for it: all from the last multiple of `align_mask + 1` on that
-    /// leaves `size` bytes to the run's end. None where no run has room. Runs are ordered by chunk number, then by start.
+    /// A block that is the tail of the last free run with room for it: all from the last multiple of `align_mask + 1`
+    /// on that leaves `size` bytes to the run's end. None where no run has room. Runs are ordered by chunk number, then
+    /// by start.
     ///
-    /// The size has to be at least 1, and `align_mask + 1` a power of two of at most 2^63. It takes the room of `reserve`
-    /// itself, only once a run has room. The only refusal is want of host memory, for that room or for a second handle of
-    /// the chunk's object, and then the list is as it was.
+    /// The size has to be at least 1, and `align_mask + 1` a power of two of at most 2^63. It takes the room of
+    /// `reserve` itself, only once a run has room. The only refusal is want of host memory, for that room or for a
+    /// second handle of the chunk's object, and then the list is as it was.
     pub fn get_block(
         &mut self,
         align_mask: u64,
@@ -236,11 +256,11 @@ impl<M: MemoryObject, A: Allocator> FreeList<M, A> {
         self.latest < u64::MAX
     }
 
-    /// Takes a block back, and joins it with the free runs beside it. It takes no memory and cannot fail, and room that was
-    /// made stays.
+    /// Takes a block back, and joins it with the free runs beside it. It takes no memory and cannot fail, and room that
+    /// was made stays.
     ///
-    /// The block has to be live here, by its object, chunk, offset and size. `steps` counts the comparisons of a run with
-    /// the block. A caller who counts nothing makes a counter in a ledger that nothing else uses:
+    /// The block has to be live here, by its object, chunk, offset and size. `steps` counts the comparisons of a run
+    /// with the block. A caller who counts nothing makes a counter in a ledger that nothing else uses:
     ///
     /// ```text
     /// put_back::<M, Brand>(&mut list, block, Blank::new(1));
@@ -265,13 +285,16 @@ impl<M: MemoryObject, A: Allocator> FreeList<M, A> {
         let _ = block.into_parts();
     }
 
-    /// Takes the wholly free chunk of the least number out of the list: its memory, its size in bytes and its number. Where
-    /// `keep_last` says so, the chunk in which the last run lies is passed over. None where there is no such chunk. It takes
-    /// no memory, and room that was made stays.
+    /// Takes the wholly free chunk of the least number out of the list: its memory, its size in bytes and its number.
+    /// Where `keep_last` says so, the chunk in which the last run lies is passed over. None where there is no such
+    /// chunk. It takes no memory, and room that was made stays.
     pub fn take_whole(&mut self, keep_last: bool) -> Option<(M, u64, u64)>
-        ensures none { IfNone result (((number : ℕ) → MayGo self.old.space keep_last number → ⊥) × (self.new.space ≡ self.old.space)) }
+        ensures none { IfNone result
+            (((number : ℕ) → MayGo self.old.space keep_last number → ⊥) × (self.new.space ≡ self.old.space)) }
         ensures first { IfSome result (λ taken. IsFirstToGo self.old.space keep_last taken.2) }
-        ensures chunk { IfSome result (λ taken. map.get (self.old.space).chunks taken.2 ≡ Some (record { object = M.object taken.0; size = taken.1 })) }
+        ensures chunk { IfSome result
+            (λ taken. map.get (self.old.space).chunks taken.2 ≡ Some
+            (record { object = M.object taken.0; size = taken.1 })) }
         ensures gone { IfSome result (λ taken. self.new.space ≡ without_chunk self.old.space taken.2) }
         ensures room { self.old.room ≤ self.new.room }
         ensures sound { IsSoundSpace self.new.space }
@@ -289,7 +312,8 @@ impl<M: MemoryObject, A: Allocator> FreeList<M, A> {
 
     /// The free runs, by chunk number, then by start.
     pub fn regions(&self) -> &[FreeListRegion]
-        ensures runs { (r : Region) → Contains result.now r ↔ IsFreeRun (IsFreeIn self.now.space) r.chunk r.start r.end }
+        ensures runs { (r : Region) → Contains result.now r
+            ↔ IsFreeRun (IsFreeIn self.now.space) r.chunk r.start r.end }
         ensures rising { AreRising result.now }
     {
         self.regions.as_slice()
@@ -331,7 +355,8 @@ fn chunk_at<M: MemoryObject>(chunks: &[ListChunk<M>], number: u64) -> usize
     requires { IsSome (map.get (by_number (λ c. c.number) (λ c. c.size) chunks.now) number) }
     ensures within { result < length chunks.now }
     ensures number { IfSome (slice_get chunks.now result) (λ c. c.number ≡ number) }
-    ensures size { IfSome (slice_get chunks.now result) (λ c. map.get (by_number (λ c. c.number) (λ c. c.size) chunks.now) number ≡ Some c.size) }
+    ensures size { IfSome (slice_get chunks.now result)
+        (λ c. map.get (by_number (λ c. c.number) (λ c. c.size) chunks.now) number ≡ Some c.size) }
 {
     match chunks.iter().position(|chunk| chunk.number == number) {
         Some(at) => at,
@@ -353,9 +378,14 @@ fn first_whole<M: MemoryObject>(
     chunks: &[ListChunk<M>],
     keep_last: bool,
 ) -> Option<usize>
-    requires { (r : Region) → Contains regions.now r → IsSome (map.get (by_number (λ c. c.number) (λ c. c.size) chunks.now) r.chunk) }
-    ensures some { IfSome result (λ i. (d : Region) → IsFirstWhole (by_number (λ c. c.number) (λ c. c.size) chunks.now) regions.now keep_last d i) }
-    ensures none { IfNone result ((i : ℕ) (d : Region) → MayBeTaken (by_number (λ c. c.number) (λ c. c.size) chunks.now) regions.now keep_last d i → ⊥) }
+    requires { (r : Region) → Contains regions.now r
+        → IsSome (map.get (by_number (λ c. c.number) (λ c. c.size) chunks.now) r.chunk) }
+    ensures some { IfSome result
+        (λ i. (d : Region)
+        → IsFirstWhole (by_number (λ c. c.number) (λ c. c.size) chunks.now) regions.now keep_last d i) }
+    ensures none { IfNone result
+        ((i : ℕ) (d : Region)
+        → MayBeTaken (by_number (λ c. c.number) (λ c. c.size) chunks.now) regions.now keep_last d i → ⊥) }
 {
     let kept = usize::from(keep_last);
     for index in 0..regions.len().saturating_sub(kept) {
@@ -375,7 +405,8 @@ fn is_before(slot: &Slot, other: &Slot) -> bool {
 fn keep<A: Allocator>(live: &mut Vec<Slot, A>, slot: Slot)
     requires room { vec_len live.old < vec_capacity live.old }
     ensures live { slot_set live.new.items ≡ set.insert (slot_set live.old.items) slot }
-    ensures once { IsDistinct same_slot live.old.items → set.contains (slot_set live.old.items) slot ≡ false → IsDistinct same_slot live.new.items }
+    ensures once { IsDistinct same_slot live.old.items → set.contains (slot_set live.old.items) slot ≡ false
+        → IsDistinct same_slot live.new.items }
     ensures len { vec_len live.new ≡ vec_len live.old + 1 }
     ensures capacity { vec_capacity live.old ≤ vec_capacity live.new }
 {

@@ -1,6 +1,8 @@
-//! The runs of a list as a sorted vector: the tail of one is taken, and a block that comes back is joined with its neighbours.
+//! The runs of a list as a sorted vector: the tail of one is taken, and a block that comes back is joined with its
+//! neighbours.
 
-ghost use Rattle.std.specs.Prelude.{◌≡◌, ◌≤◌, ◌<◌, ◌+◌, ◌-◌, ◌^◌, ◌++◌, ◌∷◌, ℕ, length, take, drop, slice_index_or, IfSome, IfNone, vec_len, vec_capacity, true, false};
+ghost use Rattle.std.specs.Prelude.{◌≡◌, ◌≤◌, ◌<◌, ◌+◌, ◌-◌, ◌^◌, ◌++◌, ◌∷◌, ℕ, length, take, drop, slice_index_or};
+ghost use Rattle.std.specs.Prelude.{IfSome, IfNone, vec_len, vec_capacity, true, false};
 ghost use Rattle.std.specs.List.{All};
 ghost use Rattle.gpu_alloc_base.specs.Slots.{region_cmp, region_of};
 ghost use Rattle.gpu_alloc_freelist.specs.FreeListInside.{IsBeforeBlock, IsJoint, IsLastFit};
@@ -42,7 +44,8 @@ pub(super) fn last_with_room(
     align_mask: u64,
 ) -> Option<usize>
     requires { IsAlignMask align_mask }
-    ensures some { IfSome result (λ i. (i < length regions.now) × ((d : Region) → IsLastFit regions.now size (align_mask + 1) i d)) }
+    ensures some { IfSome result
+        (λ i. (i < length regions.now) × ((d : Region) → IsLastFit regions.now size (align_mask + 1) i d)) }
     ensures none { IfNone result (All (λ r. HasRoom size (align_mask + 1) r.start r.end → ⊥) regions.now) }
 {
     let mut last = None;
@@ -58,7 +61,13 @@ pub(super) fn last_with_room(
 pub(super) fn tail_of(region: FreeListRegion, object: u64, size: u64, align_mask: u64) -> Slot
     requires alignment { IsAlignMask align_mask }
     requires enough { size ≤ region.end }
-    ensures { result ≡ record { object = object; chunk = region.chunk; offset = tail_start size (align_mask + 1) region.end; size = region.end - tail_start size (align_mask + 1) region.end } }
+    ensures { result ≡ record {
+      object = object;
+      chunk = region.chunk;
+      offset = tail_start size (align_mask + 1)
+          region.end;
+      size = region.end - tail_start size (align_mask + 1) region.end;
+    } }
 {
     let offset = tail_start(region.end, size, align_mask);
     Slot {
@@ -76,8 +85,11 @@ pub(super) fn take_tail<A: Allocator>(
     start: u64,
 )
     requires in_range { index < vec_len regions.old }
-    requires within { (d : Region) → ((slice_index_or regions.old.items index d).start ≤ start) × (start < (slice_index_or regions.old.items index d).end) }
-    ensures kept { (s : Space) (d : Region) → AreRuns regions.old.items (IsFreeIn s) → AreRunsBeside regions.new.items (IsFreeIn s) (record (slice_index_or regions.old.items index d) { start = start }) }
+    requires within { (d : Region) → ((slice_index_or regions.old.items index d).start ≤ start)
+        × (start < (slice_index_or regions.old.items index d).end) }
+    ensures kept { (s : Space) (d : Region) → AreRuns regions.old.items (IsFreeIn s)
+        → AreRunsBeside regions.new.items (IsFreeIn s)
+        (record (slice_index_or regions.old.items index d) { start = start }) }
     ensures len { vec_len regions.new ≤ vec_len regions.old }
     ensures capacity { vec_capacity regions.new ≡ vec_capacity regions.old }
 {
@@ -109,7 +121,8 @@ fn place_of<M: MemoryObject, L: Ledger>(
 ) -> usize
     ensures within { result ≤ length regions.now }
     ensures before { (k : ℕ) (d : Region) → k < result → IsBeforeBlock (slice_index_or regions.now k d) block.now }
-    ensures at { (d : Region) → result < length regions.now → IsBeforeBlock (slice_index_or regions.now result d) block.now → ⊥ }
+    ensures at { (d : Region) → result < length regions.now
+        → IsBeforeBlock (slice_index_or regions.now result d) block.now → ⊥ }
 {
     let mut place = 0;
     while place < regions.len() && compare(&regions[place], block, steps) == Ordering::Less {
@@ -195,7 +208,8 @@ pub(super) fn insert<M: MemoryObject, A: Allocator, L: Ledger>(
 )
     requires room { vec_len regions.old < vec_capacity spare.old }
     requires fits { (0 < block.now.size) × (block.now.offset + block.now.size < 2 ^ 64) }
-    ensures joined { (s : Space) → AreRunsBeside regions.old.items (IsFreeIn s) (region_of block.now) → AreRuns regions.new.items (IsFreeIn s) }
+    ensures joined { (s : Space) → AreRunsBeside regions.old.items (IsFreeIn s) (region_of block.now)
+        → AreRuns regions.new.items (IsFreeIn s) }
     ensures one_more { vec_len regions.new ≤ vec_len regions.old + 1 }
     ensures capacity { vec_capacity regions.new ≡ vec_capacity spare.old }
     ensures spare_capacity { vec_capacity spare.new ≡ vec_capacity regions.old }

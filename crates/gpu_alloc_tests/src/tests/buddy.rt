@@ -61,7 +61,9 @@ impl Model for Chunks {
 
     ghost view = { λ c. c.allocator };
 
-    ghost invariant = { λ c. Agrees c.allocator (c.device).properties (objects_of c.device) × (IsCounted (c.allocator).chunks c.heap c.remaining × (chunks_and_remaining (c.allocator).chunks c.remaining ≡ c.most)) };
+    ghost invariant = { λ c. Agrees c.allocator (c.device).properties (objects_of c.device) ×
+        (IsCounted (c.allocator).chunks c.heap c.remaining ×
+        (chunks_and_remaining (c.allocator).chunks c.remaining ≡ c.most)) };
 }
 
 impl Chunks {

@@ -187,7 +187,10 @@ impl Model for Chunks {
 
     ghost view = { λ c. c.allocator };
 
-    ghost invariant = { λ c. Agrees c.allocator (c.device).properties (objects_of c.device) × (IsCounted ((c.allocator).space).chunks c.heap c.remaining × ((chunks_and_remaining ((c.allocator).space).chunks c.remaining ≡ 4096) × (((c.allocator).atom ≡ 1) × ((c.allocator).final_chunk ≡ 32768)))) };
+    ghost invariant = { λ c. Agrees c.allocator (c.device).properties (objects_of c.device) ×
+        (IsCounted ((c.allocator).space).chunks c.heap c.remaining ×
+        ((chunks_and_remaining ((c.allocator).space).chunks c.remaining ≡ 4096) ×
+        (((c.allocator).atom ≡ 1) × ((c.allocator).final_chunk ≡ 32768)))) };
 }
 
 impl Chunks {
@@ -240,7 +243,8 @@ impl Chunks {
 
     fn give_back(&mut self, block: FreeListBlock<SimMemory>)
         requires live { IsLiveSlot (self.old).space block }
-        ensures others { (slot : Slot) → IsLiveSlot (self.old).space slot → slot ≢ block → IsLiveSlot (self.new).space slot }
+        ensures others { (slot : Slot) → IsLiveSlot (self.old).space slot → slot ≢ block
+            → IsLiveSlot (self.new).space slot }
     {
         self.allocator.dealloc(&mut self.device, block, &mut self.heap, &mut self.remaining);
     }
@@ -359,7 +363,8 @@ fn compare_run(rt: &impl Abort, list: &FreeList<Handle>, end: u64) {
     assert_eq!(rt; list.regions(), [run].as_slice());
 }
 
-/// Compares on which side of a block some runs lie: a run before it in its chunk, one behind it, and one in the next chunk.
+/// Compares on which side of a block some runs lie: a run before it in its chunk, one behind it, and one in the next
+/// chunk.
 fn compare_sides(rt: &impl Abort, block: &FreeListBlock<Handle>) {
     for (chunk, start, side) in [
         (1, 0, Ordering::Less),
@@ -400,8 +405,8 @@ fn end_with_chunk(rt: &impl Abort, mut list: FreeList<Handle>)
     list.close();
 }
 
-/// A block is the end of its chunk, what is before it is one run, and when it is back the run is the chunk again. If not, a
-/// list would give out bytes twice, or lose bytes that came back.
+/// A block is the end of its chunk, what is before it is one run, and when it is back the run is the chunk again. If
+/// not, a list would give out bytes twice, or lose bytes that came back.
 #[test]
 fn a_block_comes_back_to_its_list(rt: HostRuntime) {
     let (mut list, block) = open_with_block(&rt, rt.alloc());

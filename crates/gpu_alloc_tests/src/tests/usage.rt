@@ -19,8 +19,8 @@ fn three_types() -> [MemoryType; 3]
     [memory_type(1), memory_type(6), memory_type(14)]
 }
 
-/// Eight types as a graphics card of its own offers them: of none, DEVICE_LOCAL, one that is LAZILY_ALLOCATED, one that is
-/// PROTECTED, the two that the host sees, one that both see, and DEVICE_LOCAL again.
+/// Eight types as a graphics card of its own offers them: of none, DEVICE_LOCAL, one that is LAZILY_ALLOCATED, one that
+/// is PROTECTED, the two that the host sees, one that both see, and DEVICE_LOCAL again.
 fn card() -> [MemoryType; 8]
     ensures { length result ≡ 8 }
 {

@@ -4,15 +4,16 @@ ghost use Rattle.std.specs.Prelude.{◌≡◌, ◌<◌, ◌≤◌, ◌+◌, true
 ghost use Rattle.gpu_alloc_types.specs.Flags.{usage_bits, property_bits};
 ghost use Rattle.gpu_alloc_usage.specs.Masks.{with_bits};
 ghost use Rattle.gpu_alloc_usage.specs.KeyByKey.{has_key, of_key};
-ghost use Rattle.gpu_alloc_usage.specs.Ranking.{by_host, is_fast, compatible, where_differ, key, is_allowed, ranking, IsMaskOf};
+ghost use Rattle.gpu_alloc_usage.specs.Ranking.{by_host, is_fast, compatible, where_differ, key, is_allowed, ranking};
+ghost use Rattle.gpu_alloc_usage.specs.Ranking.{IsMaskOf};
 
 use gpu_alloc_types::{MemoryPropertyFlags, MemoryType, UsageFlags};
 
 /// More than any key of a type.
 const KEYS: u8 = 16;
 
-/// Memory types of one usage, by index, the best first, at most 32; and the mask that has exactly their bits. It is public for
-/// the allocator: users have the lists and masks of [`MemoryForUsage`](crate::MemoryForUsage).
+/// Memory types of one usage, by index, the best first, at most 32; and the mask that has exactly their bits. It is
+/// public for the allocator: users have the lists and masks of [`MemoryForUsage`](crate::MemoryForUsage).
 #[derive(Clone, Copy)]
 pub struct MemoryForOneUsage {
     types: [u32; 32],
@@ -65,7 +66,8 @@ impl MemoryForOneUsage {
     /// Adds the types that serve a usage and have a key, by rising index.
     fn add_key(&mut self, usage: UsageFlags, key: u8, memory_types: &[MemoryType])
         requires few { length memory_types.now ≤ 32 }
-        requires room { length (ranked_types self.old) + length (of_key (usage_bits usage) key 0 memory_types.now) ≤ 32 }
+        requires room { length (ranked_types self.old) + length (of_key (usage_bits usage) key 0 memory_types.now) ≤
+            32 }
         ensures { ranked_types self.new ≡ ranked_types self.old ++ of_key (usage_bits usage) key 0 memory_types.now }
     {
         for index in 0..memory_types.len() {

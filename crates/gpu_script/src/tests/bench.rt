@@ -122,7 +122,8 @@ impl<A: Allocator + Copy> Model for Bench<A> {
 
     ghost view = { λ b. vec_len b.blocks };
 
-    ghost invariant = { λ b. Agrees b.allocator (b.device).properties (objects_of b.device) × (0 < length ((b.allocator).properties).memory_heaps) };
+    ghost invariant = { λ b. Agrees b.allocator (b.device).properties (objects_of b.device) ×
+        (0 < length ((b.allocator).properties).memory_heaps) };
 }
 
 impl<A: Allocator + Copy> Bench<A> {

@@ -63,8 +63,8 @@ impl Trial {
     }
 }
 
-/// Compares the types that an allocator tries for a request with those that are wanted, in their order. Each request but
-/// the first has one more refusal of the device than the one before, until nothing is left to be tried.
+/// Compares the types that an allocator tries for a request with those that are wanted, in their order. Each request
+/// but the first has one more refusal of the device than the one before, until nothing is left to be tried.
 fn are_tried(
     rt: &impl Abort,
     alloc: Global,

@@ -1,7 +1,7 @@
 //! Host memory that is refused: to the program, and to each command in turn.
 //!
-//! A heap of the test's own gives out all that it has but one hole. The hole grows from nothing until the command fits, so
-//! each of its requests for memory is refused at some hole.
+//! A heap of the test's own gives out all that it has but one hole. The hole grows from nothing until the command fits,
+//! so each of its requests for memory is refused at some hole.
 
 ghost use Rattle.std.specs.Prelude.{All, IfOk};
 ghost use Rattle.gpu_session.specs.Sound.{IsForRequired};
@@ -188,8 +188,8 @@ fn outcome_at<'a>(
     Ok(outcome)
 }
 
-/// Runs the earlier commands with ample memory, and then one command with one hole of it left. At the end the device holds
-/// nothing.
+/// Runs the earlier commands with ample memory, and then one command with one hole of it left. At the end the device
+/// holds nothing.
 fn outcome_of_script(
     rt: &impl Abort,
     alloc: Global,

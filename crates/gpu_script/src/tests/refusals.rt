@@ -212,8 +212,8 @@ fn ask_in_hole<'a>(
     Ok(answer)
 }
 
-/// How far such a request came that was refused. Nothing is held, and the same request is granted with ample memory: its
-/// object's name tells whether there was one before.
+/// How far such a request came that was refused. Nothing is held, and the same request is granted with ample memory:
+/// its object's name tells whether there was one before.
 fn how_far(
     rt: &impl Abort,
     bench: &mut Bench<&LocalHeap>,
@@ -262,8 +262,9 @@ fn reached_in_hole(
     answer
 }
 
-/// Each request for host memory is refused in turn, as the hole grows by 8 bytes until the block is granted. Once there is an
-/// object only its second handle is wanted, which two holes are too small for: all room was made before the question.
+/// Each request for host memory is refused in turn, as the hole grows by 8 bytes until the block is granted. Once there
+/// is an object only its second handle is wanted, which two holes are too small for: all room was made before the
+/// question.
 fn compare_wants(rt: &impl Abort, alloc: Global, request: Request) -> Result<(), Fail> {
     let mut nothing = 0u32;
     let mut question = 0u32;

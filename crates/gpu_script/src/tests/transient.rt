@@ -44,7 +44,8 @@ fn beside(object: u64) -> [Step; 2] {
     ]
 }
 
-/// A block is the tail of the last run with room, and a chunk has twice as much as the one before it, or more where it has to.
+/// A block is the tail of the last run with room, and a chunk has twice as much as the one before it, or more where it
+/// has to.
 #[test]
 fn blocks_are_tails_of_the_last_run(rt: HostRuntime) -> Result<(), Fail> {
     let heaps = [MemoryHeap { size: 1 << 22 }];
@@ -127,7 +128,8 @@ fn the_last_runs_chunk_is_kept(rt: HostRuntime) -> Result<(), Fail> {
     )
 }
 
-/// A chunk has as many times the next one's size as it has to, by a power of two, and the one after it as much as may be.
+/// A chunk has as many times the next one's size as it has to, by a power of two, and the one after it as much as may
+/// be.
 #[test]
 fn a_large_request_makes_a_larger_chunk(rt: HostRuntime) -> Result<(), Fail> {
     play_on(

@@ -31,7 +31,8 @@ impl Model for OneType {
 
     ghost view = { λ d. length (d.sim).properties.memory_types };
 
-    ghost invariant = { λ d. (length (d.sim).properties.memory_types ≡ 1) × IsTrue (is_host_visible (d.sim).properties 0) };
+    ghost invariant = { λ d. (length (d.sim).properties.memory_types ≡ 1) × IsTrue
+        (is_host_visible (d.sim).properties 0) };
 }
 
 impl OneType {
