@@ -4,6 +4,7 @@ pub mod Buddies
 pub mod Closing
 pub mod Consistency
 pub mod FreeLists
+pub mod Decisions
 pub mod Grants
 pub mod HandedOn
 pub mod HeapLists

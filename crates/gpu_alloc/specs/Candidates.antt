@@ -2,7 +2,6 @@
 use Rattle.std.specs.Prelude.{◌≡◌, ℕ, ◌+◌, ◌-◌, true, false, None}
 use Rattle.std.specs.FinMap as map
 use Rattle.std.specs.FinSet as set
-use Rattle.gpu_alloc_types.specs.Properties.{props_at}
 use Rattle.gpu_alloc_base.specs.Case.{Case}
 use Rattle.gpu_alloc_base.specs.NewChunk.{ChunkQuestion, flags_of}
 use Rattle.gpu_alloc_buddy.specs.Buddy.{Fits}

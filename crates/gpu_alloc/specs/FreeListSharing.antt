@@ -1,7 +1,7 @@
 -- Blocks in the shared chunks of a memory type's free list, as the whole allocator's state tells of them.
 use Rattle.std.specs.Prelude.{◌≡◌, ℕ, zero, suc, ◌+◌, ◌-◌, ◌<◌, ◌^◌, List, [], ◌∷◌, Option, Some, None, max, slice_get}
 use Rattle.std.specs.FinMap as map
-use Rattle.gpu_alloc_types.specs.Properties.{heap_size, props_at, atom_of, is_host_visible}
+use Rattle.gpu_alloc_types.specs.Properties.{heap_size, atom_of, is_host_visible}
 use Rattle.gpu_alloc.specs.declared.block.Kind.TheVariants.{FreeListChunk}
 use Rattle.gpu_alloc_base.specs.declared.region.FreeListRegion.{FreeListRegion}
 use Rattle.gpu_alloc.specs.declared.request.Request.{Request}

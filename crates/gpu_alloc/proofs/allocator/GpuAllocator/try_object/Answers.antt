@@ -13,7 +13,7 @@ use Rattle.gpu_alloc_base.specs.Case.{Asks}
 use Rattle.gpu_alloc.specs.Inside.{state_in, properties_in, whole_span, IsLiveIn, IsOfObject}
 use Rattle.gpu_alloc_base.specs.NewChunk.{flags_of, made, HasOneChunkMore}
 use Rattle.gpu_alloc.specs.Spans.{Table, span_at}
-use Rattle.gpu_alloc.specs.State.{State, HeldObject, Span, Block, total}
+use Rattle.gpu_alloc.specs.State.{State, HeldObject, Span, Block}
 use Rattle.gpu_alloc_buddy.specs.BuddyState.{Buddy}
 use Rattle.gpu_alloc_freelist.specs.FreeListState.{Listing}
 use Rattle.gpu_alloc_base.specs.declared.heap.Heap.{Heap}
@@ -22,7 +22,7 @@ use Rattle.gpu_alloc_base.proofs.Maps.{own_inserted}
 use Rattle.gpu_alloc.proofs.Agreeing.{IsMade, agrees_granted, not_held}
 use Rattle.gpu_alloc.proofs.NewObjects.{counted_new}
 use Rattle.gpu_alloc.proofs.Consistency.{HoldsMore, heap_there, ledger-room}
-use Rattle.gpu_alloc.proofs.Grants.{own_object, state_held, decides_granted, granted, total_held}
+use Rattle.gpu_alloc.proofs.Grants.{own_object, state_held, decides_granted, granted}
 use Rattle.gpu_alloc.proofs.HeapLists.{properties_kept}
 use Rattle.gpu_alloc.proofs.OwnObjects.{consistent-room, consistent-held}
 use Rattle.gpu_alloc.proofs.allocator.GpuAllocator.try_object.Given.{Over}
@@ -157,10 +157,6 @@ returns-in-Ok-clause-granted g c =
     rw (← c.self.view_is, block_is g c, state_is g c)
     (granted (before g c) c.args.request c.args.memory_type c.object.result (free g c) (λ span live. let w = c.self.invariant.books.spans span live in (w.object, w.held)))
 
-pub returns-in-Ok-clause-total : goal.returns-in-Ok-clause-total
-returns-in-Ok-clause-total g c =
-    rw (← c.self.view_is) (ap total (state_is g c) ∙ total_held (before g c) _ (block g c) (positive c.self.inside.allocations_remains c.if-self-eq0.false) (free g c))
-
 pub returns-in-Err-OutOfHostMemory-clause-tries : goal.returns-in-Err-OutOfHostMemory-clause-tries
 returns-in-Err-OutOfHostMemory-clause-tries g c =
     let same = state_kept c.self.inside.limits c.self.inside.heaps.items c.self.inside.buddies.items c.self.inside.free_lists.items c.reserve.new.self c.self.inside.spans c.self.inside.allocations_remains c.reserve.ensures.kept in
@@ -198,9 +194,6 @@ returns-then-is_err-clause-agrees g c = subst (λ s. Agrees s (g.D.MemoryDevice.
 pub returns-then-is_err-clause-granted : goal.returns-then-is_err-clause-granted
 returns-then-is_err-clause-granted g c = kept-is_err g c
 
-pub returns-then-is_err-clause-total : goal.returns-then-is_err-clause-total
-returns-then-is_err-clause-total g c = ap total (kept-is_err g c)
-
 pub returns-in-Err-OutOfDeviceMemory-clause-tries : goal.returns-in-Err-OutOfDeviceMemory-clause-tries
 returns-in-Err-OutOfDeviceMemory-clause-tries g c =
     let same = state_kept c.self.inside.limits c.self.inside.heaps.items c.self.inside.buddies.items c.self.inside.free_lists.items c.reserve.new.self c.self.inside.spans c.self.inside.allocations_remains c.reserve.ensures.kept in
@@ -221,9 +214,6 @@ returns-in-Err-OutOfDeviceMemory-clause-agrees g c =
 pub returns-in-Err-OutOfDeviceMemory-clause-granted : goal.returns-in-Err-OutOfDeviceMemory-clause-granted
 returns-in-Err-OutOfDeviceMemory-clause-granted g c = kept-device g c
 
-pub returns-in-Err-OutOfDeviceMemory-clause-total : goal.returns-in-Err-OutOfDeviceMemory-clause-total
-returns-in-Err-OutOfDeviceMemory-clause-total g c = ap total (kept-device g c)
-
 pub returns-in-Err-OutOfHostMemory-clause-objects : goal.returns-in-Err-OutOfHostMemory-clause-objects
 returns-in-Err-OutOfHostMemory-clause-objects g c = g.met.D.MemoryDevice.row _ _ _ (rw c.in-Err-OutOfHostMemory.is at c.allocate_memory-answer.ensures)
 
@@ -234,9 +224,6 @@ returns-in-Err-OutOfHostMemory-clause-agrees g c =
 
 pub returns-in-Err-OutOfHostMemory-clause-granted : goal.returns-in-Err-OutOfHostMemory-clause-granted
 returns-in-Err-OutOfHostMemory-clause-granted g c = kept-host g c
-
-pub returns-in-Err-OutOfHostMemory-clause-total : goal.returns-in-Err-OutOfHostMemory-clause-total
-returns-in-Err-OutOfHostMemory-clause-total g c = ap total (kept-host g c)
 
 -- The new object's name is free in the table, and so is its span.
 

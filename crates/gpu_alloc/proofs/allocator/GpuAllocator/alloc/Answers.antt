@@ -1,0 +1,9 @@
+use Rattle.std.proofs.Common.{None}
+use Rattle.gpu_alloc.proofs.Decisions.{allocates_kept, allocates_total}
+use Rattle.gpu_alloc.proofs.allocator.GpuAllocator.alloc.Goals as goal
+
+pub returns-clause-refused : goal.returns-clause-refused
+returns-clause-refused g c = allocates_kept c.args.self.now c.args.request None _ _ _ c.allocate-answer.ensures.decided.2
+
+pub returns-clause-total : goal.returns-clause-total
+returns-clause-total g c = allocates_total c.args.self.now c.args.request None _ _ _ c.allocate-answer.ensures.decided.2
