@@ -50,8 +50,7 @@ span_code =
 abbrev pub mapping_code : Coded Mapping
 mapping_code =
     code_by (ℕ × ℕ) (coded× coded_ℕ coded_ℕ) (λ m. (m.start, m.len)) (λ c. record {
-      start =
-          c.0;
+      start = c.0;
       len = c.1;
     }) (λ _. refl)
 
@@ -86,8 +85,7 @@ state_code =
     (coded× (coded× coded_ℕ (coded_list type_state_code)) (coded× config_code properties_code))))
     (λ s. (s.held, (s.live, ((s.remaining, s.types), (s.config, s.properties)))))
     (λ c. record {
-      held =
-          c.0;
+      held = c.0;
       live = c.1.0;
       remaining = c.1.1.0.0;
       types = c.1.1.0.1;

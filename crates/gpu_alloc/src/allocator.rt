@@ -625,15 +625,13 @@ impl<M: MemoryObject, A: Allocator> GpuAllocator<M, A> {
         let memory = block.into_memory();
         let object = memory.object();
         let span = self.spans.find(key, object, offset, size).unwrap();
-        let remained = self.allocations_remains;
         let heap = self.limits.heap_index(memory_type);
-        self.buddies[memory_type as usize].dealloc(
+        let gone = self.buddies[memory_type as usize].give_back(
             device,
             BuddyBlock::new(memory, leaf_in(span)),
             &mut self.heaps[heap],
             &mut self.allocations_remains,
         );
-        let gone = self.allocations_remains != remained;
         self.spans.remove(key, object, offset, size, gone);
     }
 

@@ -122,10 +122,8 @@ without_leaf b leaf = record b { live = set.remove b.live leaf }
 -- A block comes back: its chunk goes with it where no other block of the chunk is live, and stays where one is.
 abbrev pub Frees : Account Buddy → Leaf → List Event → Account Buddy → Type 0
 Frees a leaf es new =
-    ((IsUnusedChunk (without_leaf a.allocator leaf) leaf.chunk → ⊥) × ((es ≡ []) × (new ≡ record a {
-      allocator =
-          without_leaf a.allocator leaf;
-    })))
+    ((IsUnusedChunk (without_leaf a.allocator leaf) leaf.chunk → ⊥)
+    × ((es ≡ []) × (new ≡ record a { allocator = without_leaf a.allocator leaf })))
     ⊎ (IsUnusedChunk (without_leaf a.allocator leaf) leaf.chunk
     × ((chunk : Chunk) × (map.get a.allocator.chunks leaf.chunk ≡ Some chunk)
     × ((es ≡ Deallocated leaf.object ∷ [])

@@ -10,7 +10,7 @@ ghost use Rattle.gpu_alloc_types.specs.Device.{Event, Chain, IsAskable};
 ghost use Rattle.gpu_alloc_types.specs.Properties.{is_host_visible};
 ghost use Rattle.std.specs.Int.{is_power_of_two};
 ghost use Rattle.std.specs.Result.{result_map_both};
-ghost use Rattle.gpu_alloc_buddy.specs.Buddy.{opened, rounded, buddy_case, case_of, Allocates, HasPlace, TakesPlace};
+ghost use Rattle.gpu_alloc_buddy.specs.Buddy.{IsUnusedChunk, without_leaf, opened, rounded, buddy_case, case_of, Allocates, HasPlace, TakesPlace};
 ghost use Rattle.gpu_alloc_buddy.specs.Buddy.{Frees, ObjectsFreed, IsGranted, with_leaf, with_chunk, Agrees};
 ghost use Rattle.gpu_alloc_buddy.specs.Buddy.{ObjectsAfter};
 ghost use Rattle.gpu_alloc_base.specs.Accounts.{account, IsCounted, chunks_and_remaining};
@@ -184,8 +184,8 @@ impl<M: MemoryObject, A: Allocator> BuddyAllocator<M, A> {
             ((self.new ≡ self.old) × ((heap.new ≡ heap.old) × (allocations_remains.new ≡ allocations_remains.old))) }
         ensures sound { IsSound self.new }
         ensures counted { IsCounted self.new.chunks heap.new allocations_remains.new }
-        ensures total { chunks_and_remaining self.new.chunks allocations_remains.new ≡ chunks_and_remaining
-            self.old.chunks allocations_remains.old }
+        ensures total { chunks_and_remaining self.new.chunks allocations_remains.new
+            ≡ chunks_and_remaining self.old.chunks allocations_remains.old }
     {
         let order = self.rounded_order(size, align_mask);
         self.alloc_rounded(device, order, flags, heap, allocations_remains)
@@ -246,8 +246,36 @@ impl<M: MemoryObject, A: Allocator> BuddyAllocator<M, A> {
         ensures properties { D.properties device.new ≡ D.properties device.old }
         ensures sound { IsSound self.new }
         ensures counted { IsCounted self.new.chunks heap.new allocations_remains.new }
-        ensures total { chunks_and_remaining self.new.chunks allocations_remains.new ≡ chunks_and_remaining
-            self.old.chunks allocations_remains.old }
+        ensures total { chunks_and_remaining self.new.chunks allocations_remains.new
+            ≡ chunks_and_remaining self.old.chunks allocations_remains.old }
+    {
+        self.give_back(device, block, heap, allocations_remains);
+    }
+
+    /// Takes a block back as [`dealloc`](BuddyAllocator::dealloc) does, and tells whether its chunk went back to the device.
+    /// It is public for `gpu_alloc`, which takes that object off its books then.
+    pub fn give_back<D: MemoryDevice<M>>(
+        &mut self,
+        device: &mut D,
+        block: BuddyBlock<M>,
+        heap: &mut Heap,
+        allocations_remains: &mut u32,
+    ) -> bool
+        requires live { IsLiveLeaf self.old block }
+        requires agrees { Agrees self.old (D.properties device.old) (D.objects device.old) }
+        requires counted { IsCounted self.old.chunks heap.old allocations_remains.old }
+
+        ensures frees { (es : List Event) × Chain D.step device.old es device.new
+            × Frees (account self.old heap.old allocations_remains.old) block es
+            (account self.new heap.new allocations_remains.new) }
+        ensures told { IsTrue result ↔ IsUnusedChunk (without_leaf self.old block) block.chunk }
+        ensures objects { ObjectsFreed self.old block (D.objects device.old) (D.objects device.new) }
+        ensures agrees { Agrees self.new (D.properties device.new) (D.objects device.new) }
+        ensures properties { D.properties device.new ≡ D.properties device.old }
+        ensures sound { IsSound self.new }
+        ensures counted { IsCounted self.new.chunks heap.new allocations_remains.new }
+        ensures total { chunks_and_remaining self.new.chunks allocations_remains.new
+            ≡ chunks_and_remaining self.old.chunks allocations_remains.old }
     {
         let (memory, leaf) = block.into_parts();
         forget(&mut self.live, leaf);
@@ -262,7 +290,9 @@ impl<M: MemoryObject, A: Allocator> BuddyAllocator<M, A> {
             device.deallocate_memory(&memory);
             heap.dealloc(bytes(limit));
             *allocations_remains += 1;
+            return true;
         }
+        false
     }
 
     /// The size of a held chunk, in bytes. It is public for `gpu_alloc`, which counts the chunk as an object.

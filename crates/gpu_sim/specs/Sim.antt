@@ -104,8 +104,7 @@ abbrev pub Maps : SimState → Range → SimState → Type 0
 Maps old range new =
     (object : SimObject) × (map.get old.objects range.object ≡ Some object)
     × ((mapped : SimObject) × IsMappedOver range object mapped × (new ≡ record old {
-      objects =
-          map.insert old.objects range.object mapped;
+      objects = map.insert old.objects range.object mapped;
     }))
 
 -- the answer to a question to map that was counted: a refusal exactly where one was planned

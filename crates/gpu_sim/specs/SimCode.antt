@@ -30,8 +30,7 @@ state_code =
     (coded× coded_ℕ (map.code coded_ℕ object.the_row.coded)))))
     (λ s. (s.properties, ((s.plans, s.asked), (s.last_allocation, (s.last_name, s.objects)))))
     (λ c. record {
-      properties =
-          c.0;
+      properties = c.0;
       plans = c.1.0.0;
       asked = c.1.0.1;
       last_allocation = c.1.1.0;

@@ -1,5 +1,6 @@
 -- What a block that comes back to a memory type's buddy allocator leaves in the allocator's fields.
-use Rattle.std.proofs.Common.{◌≡◌, ◌≢◌, inl, inr, ℕ, ◌+◌, ◌-◌, ◌<◌, ◌==◌, true, false, not, Bool, List, [], ◌∷◌, length, get_or, Option, Some, None, IfSome, IsTrue, refl, sym, ◌∙◌, ap, subst, arith}
+use Rattle.std.proofs.Common.{◌≡◌, ◌≢◌, ◌↔◌, inl, inr, ℕ, ◌+◌, ◌-◌, ◌<◌, ◌==◌, true, false, not, Bool, List, [], ◌∷◌, length, get_or, Option, Some, None, IfSome, IsTrue, refl, sym, ◌∙◌, ap, subst, arith}
+use Rattle.std.proofs.lemmas.Bool.{false_from_ne_true}
 use Rattle.std.proofs.Math.ListN.{set}
 use Rattle.std.specs.Ordering.{eq_by_cmp}
 use Rattle.std.specs.FinMap as finite
@@ -245,7 +246,7 @@ module _ {A : Type 0} {l : Limits A} {heaps : List Heap} {buddies : List Buddy} 
       pub sound : IsSound after.allocator
       pub agrees : agreement.Agrees before q old
       pub properties : r ≡ q
-      pub asked : with_chunk ≡ not (after.remaining == remaining)
+      pub told : IsTrue with_chunk ↔ IsUnusedChunk (without_leaf b leaf) leaf.chunk
       pub held : now.held ≡ without_old t.held block.object with_chunk
       pub live : now.live ≡ set_of.remove t.live (span_of block)
       pub places : now.places ≡ finite.remove t.places (span_of block)
@@ -266,7 +267,7 @@ module _ {A : Type 0} {l : Limits A} {heaps : List Heap} {buddies : List Buddy} 
       stays : (IsUnusedChunk (without_leaf b leaf) leaf.chunk → ⊥) → es ≡ [] → after ≡ account (without_leaf b leaf) heap remaining → new ≡ old → IsReturned after
       stays used none after_is same_objects =
           let sound = subst IsSound (ap (λ (a : Account Buddy). a.allocator) after_is) came.sound in
-          let asked : with_chunk ≡ false = came.asked ∙ ap not (eq-true after.remaining remaining (ap (λ (a : Account Buddy). a.remaining) after_is)) in
+          let asked : with_chunk ≡ false = false_from_ne_true with_chunk (λ is. used (came.told.0 is)) in
           let held = held_as false asked in
           let state = state_stays now came.live came.places sound held in
           let zero : remaining ≡ remaining + 0 = omega arith in
@@ -290,8 +291,7 @@ module _ {A : Type 0} {l : Limits A} {heaps : List Heap} {buddies : List Buddy} 
           let counts : ◌≡◌ {A = Heap} changed (record heap { used = heap.used - lies.chunk.size }) = λ k. record heap { used = heap.used - (one k).size } in
           let after_buddy : Buddy = record (without_leaf b leaf) { chunks = finite.remove b.chunks leaf.chunk } in
           let sound : IsSound after_buddy = subst IsSound (ap (λ (a : Account Buddy). a.allocator) after_is) came.sound in
-          let more = ap (λ (a : Account Buddy). a.remaining) after_is in
-          let asked : with_chunk ≡ true = came.asked ∙ ap not (eq-false after.remaining remaining (λ same. omega (arith, more, same))) in
+          let asked : with_chunk ≡ true = came.told.1 unused in
           let held = held_as true asked ∙ ap (finite.remove t.held) object_is in
           let state = state_goes now came.live came.places changed unused sound held counts in
           let with_it = chunk_goes block.kind (without_span before block) block.object given.shared (unused_now unused) in

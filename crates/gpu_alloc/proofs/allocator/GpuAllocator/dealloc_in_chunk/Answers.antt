@@ -12,12 +12,12 @@ use Rattle.gpu_alloc.proofs.allocator.GpuAllocator.dealloc_in_chunk.Goals as goa
 
 -- The block that comes back, before the buddy allocator is called.
 
-asked_span : (g : Over) (c : goal.After-dealloc-arg-2-1 g) → ◌≡◌ {A = Span} (span_at c.object-object.result c.offset-offset.result c.size-size.result) (span_of c.args.block)
+asked_span : (g : Over) (c : goal.After-give_back-arg-2-1 g) → ◌≡◌ {A = Span} (span_at c.object-object.result c.offset-offset.result c.size-size.result) (span_of c.args.block)
 asked_span g c =
     let name = c.object-object.ensures ∙ c.into_memory-memory.ensures in
     λ k. record { object = name k; offset = c.offset-offset.ensures k; size = c.size-size.ensures k }
 
-given : (g : Over) (c : goal.After-dealloc-arg-2-1 g)
+given : (g : Over) (c : goal.After-give_back-arg-2-1 g)
     → Given c.self.inside.limits c.self.inside.heaps.items c.self.inside.buddies.items c.self.inside.free_lists.items c.self.inside.spans c.self.inside.allocations_remains c.memory_type-memory_type.result c.heap_index-heap.result
     c.index_mut.result.now c.index_mut-2.result.now c.new.result c.args.block
 given g c =
@@ -27,14 +27,14 @@ given g c =
     given_back _ _ _ _ _ _ _ _ _ _ _ c.args.block c.unwrap-span.result c.self.invariant owned c.requires.shared c.memory_type-memory_type.ensures c.index_mut.ensures.value
     c.heap_index-heap.ensures c.index_mut-2.ensures.value (span ∙ asked_span g c) place (c.new.ensures ∙ c.leaf_in.ensures)
 
-pub dealloc-requires-clause-live : goal.dealloc-requires-clause-live
-dealloc-requires-clause-live g c = (given g c).live
+pub give_back-gone-requires-clause-live : goal.give_back-gone-requires-clause-live
+give_back-gone-requires-clause-live g c = (given g c).live
 
-pub dealloc-requires-clause-agrees : goal.dealloc-requires-clause-agrees
-dealloc-requires-clause-agrees g c = let agrees = rw (← c.self.view_is) at c.requires.agrees in agrees_before (given g c) _ _ agrees
+pub give_back-gone-requires-clause-agrees : goal.give_back-gone-requires-clause-agrees
+give_back-gone-requires-clause-agrees g c = let agrees = rw (← c.self.view_is) at c.requires.agrees in agrees_before (given g c) _ _ agrees
 
-pub dealloc-requires-clause-counted : goal.dealloc-requires-clause-counted
-dealloc-requires-clause-counted g c = counted_first (given g c)
+pub give_back-gone-requires-clause-counted : goal.give_back-gone-requires-clause-counted
+give_back-gone-requires-clause-counted g c = counted_first (given g c)
 
 -- What the calls did, and what it comes to.
 
@@ -53,20 +53,20 @@ given_after g c =
     given_back _ _ _ _ _ _ _ _ _ _ _ c.args.block c.unwrap-span.result c.self.invariant owned c.requires.shared c.memory_type-memory_type.ensures c.index_mut.ensures.value
     c.heap_index-heap.ensures c.index_mut-2.ensures.value (span ∙ removed_span g c) place (c.new.ensures ∙ c.leaf_in.ensures)
 
-returned_by : (g : Over) (c : goal.After-remove g) → IsReturned (given_after g c) (account c.dealloc.new.self c.dealloc.new.heap c.dealloc.new.allocations_remains) c.remove.new.self
-    (g.D.MemoryDevice.properties c.args.device.now) (g.D.MemoryDevice.properties c.dealloc.new.device) (g.D.MemoryDevice.objects c.args.device.now) (g.D.MemoryDevice.objects c.dealloc.new.device)
-    c.dealloc.ensures.frees.0 (not (c.dealloc.new.allocations_remains == c.self.inside.allocations_remains)) (account c.dealloc.new.self c.dealloc.new.heap c.dealloc.new.allocations_remains)
+returned_by : (g : Over) (c : goal.After-remove g) → IsReturned (given_after g c) (account c.give_back-gone.new.self c.give_back-gone.new.heap c.give_back-gone.new.allocations_remains) c.remove.new.self
+    (g.D.MemoryDevice.properties c.args.device.now) (g.D.MemoryDevice.properties c.give_back-gone.new.device) (g.D.MemoryDevice.objects c.args.device.now) (g.D.MemoryDevice.objects c.give_back-gone.new.device)
+    c.give_back-gone.ensures.frees.0 c.give_back-gone.result (account c.give_back-gone.new.self c.give_back-gone.new.heap c.give_back-gone.new.allocations_remains)
 returned_by g c =
     let name = c.object-object.ensures ∙ c.into_memory-memory.ensures in
     let agrees = rw (← c.self.view_is) at c.requires.agrees in
-    let asked = not (c.dealloc.new.allocations_remains == c.self.inside.allocations_remains) in
+    let asked = c.give_back-gone.result in
     back (given_after g c) _ _ _ _ _ _ _ _ (record {
-      frees = c.dealloc.ensures.frees.2;
-      objects = c.dealloc.ensures.objects;
-      sound = c.dealloc.ensures.sound;
+      frees = c.give_back-gone.ensures.frees.2;
+      objects = c.give_back-gone.ensures.objects;
+      sound = c.give_back-gone.ensures.sound;
       agrees = agrees;
-      properties = c.dealloc.ensures.properties;
-      asked = refl;
+      properties = c.give_back-gone.ensures.properties;
+      told = c.give_back-gone.ensures.told;
       held = c.remove.ensures.held ∙ ap (λ n. without_old c.self.inside.spans.held n asked) name;
       live = c.remove.ensures.live ∙ ap (set_of.remove c.self.inside.spans.live) (removed_span g c);
       places = c.remove.ensures.places ∙ ap (finite.remove c.self.inside.spans.places) (removed_span g c);
@@ -76,7 +76,7 @@ pub invariant_of-self : goal.invariant_of-self
 invariant_of-self g c = (returned_by g c).consistent
 
 pub returns-clause-freed : goal.returns-clause-freed
-returns-clause-freed g c = rw (← c.self.view_is) (c.dealloc.ensures.frees.0, c.dealloc.ensures.frees.1, (returned_by g c).frees)
+returns-clause-freed g c = rw (← c.self.view_is) (c.give_back-gone.ensures.frees.0, c.give_back-gone.ensures.frees.1, (returned_by g c).frees)
 
 pub returns-clause-objects : goal.returns-clause-objects
 returns-clause-objects g c = rw (← c.self.view_is) ((returned_by g c).freed)

@@ -6,8 +6,8 @@ use Rattle.gpu_alloc_base.specs.declared.buddy_block.Leaf.{Leaf}
 use Rattle.gpu_alloc_buddy.specs.declared.buddy.Chunk.{Chunk as ChunkRecord}
 use Rattle.gpu_alloc_buddy.proofs.BuddyReturns.{has_chunk, of_chunk, is_piece_of, is_put_back, is_counted, one_more_fits, total_kept, if_none, if_some, still_in_use, no_more_in_use, still_sound, invariant_left, invariant_without, frees_left, frees_without, frees_counted, agrees_freed}
 use Rattle.gpu_alloc_base.proofs.SlabViews.{by_key_removed}
-use Rattle.gpu_alloc_buddy.proofs.buddy.BuddyAllocator.dealloc.Given.{Over}
-use Rattle.gpu_alloc_buddy.proofs.buddy.BuddyAllocator.dealloc.Goals as goal
+use Rattle.gpu_alloc_buddy.proofs.buddy.BuddyAllocator.give_back.Given.{Over}
+use Rattle.gpu_alloc_buddy.proofs.buddy.BuddyAllocator.give_back.Goals as goal
 
 -- a chunk as a contract sees it
 abbrev read : (g : Over) → ChunkRecord g.row.M.Denot → Chunk
@@ -164,3 +164,23 @@ returns-clause-counted g c =
     let counted = rw (← c.self.view_is) at c.requires.counted in
     frees_counted _ _ _ _ counted
     (frees_left r of c.index.result.now.order refl c.self.invariant.1 c.put_back.new.pieces.items c.forget.new.live.items (vec_capacity c.put_back.new.pieces) c.forget.ensures.live joined c.put_back.ensures.shorter c.args.heap.now c.args.allocations_remains.now)
+
+-- What is told of the chunk.
+
+pub returns-then-is_some-clause-told : goal.returns-then-is_some-clause-told
+returns-then-is_some-clause-told g c =
+    let r = of_chunk (read g) c.self.inside.chunks c.self.invariant.0 c.self.view_is c.into_parts-memory.ensures.leaf refl c.requires.live c.index.ensures in
+    let of = is_piece_of c.into_parts-memory.result.1 c.order_of.result c.order_of.ensures.is in
+    let whole = if_some _ (sym c.is_some.ensures ∙ c.if-is_some.true) c.put_back.ensures.whole in
+    rw (← c.self.view_is, ← c.into_parts-memory.ensures.leaf) (
+      (λ _. no_more_in_use r of c.index.result.now.order refl c.self.invariant.1 c.put_back.new.pieces.items c.forget.new.live.items (vec_capacity c.put_back.new.pieces) c.forget.ensures.live whole.0 whole.1),
+      (λ _. refl),
+    )
+
+pub returns-clause-told : goal.returns-clause-told
+returns-clause-told g c =
+    let r = of_chunk (read g) c.self.inside.chunks c.self.invariant.0 c.self.view_is c.into_parts-memory.ensures.leaf refl c.requires.live c.index.ensures in
+    let of = is_piece_of c.into_parts-memory.result.1 c.order_of.result c.order_of.ensures.is in
+    let joined = if_none _ (sym c.is_some.ensures ∙ c.if-is_some.false) c.put_back.ensures.joined in
+    let used = still_in_use r of c.index.result.now.order refl c.self.invariant.1 c.put_back.new.pieces.items c.forget.new.live.items (vec_capacity c.put_back.new.pieces) c.forget.ensures.live joined c.put_back.ensures.shorter in
+    rw (← c.self.view_is, ← c.into_parts-memory.ensures.leaf) ((λ is. absurd (cc)), (λ unused. absurd (used unused)))
