@@ -12,6 +12,7 @@ pub mod Ledgers
 pub mod NewObjects
 pub mod Opened
 pub mod OwnObjects
+pub mod ReturnedTotals
 pub mod Returns
 pub mod Soundness
 pub mod Strategies

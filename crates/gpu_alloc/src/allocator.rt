@@ -536,7 +536,8 @@ impl<M: MemoryObject, A: Allocator> GpuAllocator<M, A> {
                 let props = self.limits.props(memory_type);
                 let atom = self.limits.atom(memory_type);
                 let (memory, slot) = block.into_parts();
-                let key = add_slot(&mut self.spans, slot, memory_type);
+                let chunk_size = self.free_lists[own].chunk_size(slot.chunk);
+                let key = add_slot(&mut self.spans, slot, memory_type, chunk_size);
                 Ok(Some(MemoryBlock::new(
                     memory,
                     slot.offset,

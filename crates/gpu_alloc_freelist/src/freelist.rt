@@ -324,6 +324,14 @@ impl<M: MemoryObject, A: Allocator> FreeListAllocator<M, A> {
         Some(memory.object())
     }
 
+    /// The size of a held chunk, in bytes. It is public for `gpu_alloc`, which counts the chunk as an object.
+    pub fn chunk_size(&self, number: u64) -> u64
+        requires { IsSome (map.get (self.now).space.chunks number) }
+        ensures { IfSome (map.get (self.now).space.chunks number) (λ c. c.size ≡ result) }
+    {
+        self.freelist.size_of(number)
+    }
+
     /// Ends an allocator that holds no chunk.
     pub fn close(self)
         requires { map.len ((self.space).chunks) ≡ 0 }

@@ -4,3 +4,4 @@ pub mod Grants
 pub mod Openings
 pub mod Returns
 pub mod Runs
+pub mod Totals

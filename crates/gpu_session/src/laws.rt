@@ -2,10 +2,12 @@
 
 ghost use Rattle.std.specs.Prelude.{◌≡◌, ◌++◌, ◌↔◌, Bool, List, None};
 ghost use Rattle.gpu_alloc.specs.Request.{IsAskable};
+ghost use Rattle.gpu_alloc.specs.State.{total};
 ghost use Rattle.gpu_alloc.specs.declared.request.Request.{Request};
 ghost use Rattle.gpu_session.specs.Books.{SessionState};
 ghost use Rattle.gpu_session.specs.Faults.{fault_of_request};
 ghost use Rattle.gpu_session.specs.Run.{Step, Run};
+ghost use Rattle.gpu_session.specs.Sound.{IsSound};
 ghost use Rattle.gpu_session.specs.declared.command.Command.{Command as ACommand};
 ghost use Rattle.gpu_session.specs.declared.command.Reply.{Reply as AReply};
 
@@ -22,4 +24,11 @@ pub fn runs_join<M: MemoryObject, D: MemoryDevice<M>, A: Allocator>()
 /// A request has no fault exactly where an allocator can be asked for it.
 pub fn askable_is_without_fault()
     ensures { (address : Bool) (r : Request) → (fault_of_request address r ≡ None) ↔ IsAskable address r }
+{}
+
+/// A step of a sound session keeps how many objects are held or may still be: no command that there is changes that number.
+pub fn steps_keep_the_total<M: MemoryObject, D: MemoryDevice<M>, A: Allocator>()
+    ensures { (old new : SessionState D) (command : ACommand A) (reply : AReply A)
+        → IsSound (D.properties old.device) (D.objects old.device) old.books → Step D.step old command reply new
+        → total (new.books).allocator ≡ total (old.books).allocator }
 {}

@@ -1,5 +1,5 @@
 -- What a block that comes back to a memory type's buddy allocator leaves in the allocator's fields.
-use Rattle.std.proofs.Common.{◌≡◌, ◌≢◌, ◌↔◌, inl, inr, ℕ, ◌+◌, ◌-◌, ◌<◌, ◌==◌, true, false, not, Bool, List, [], ◌∷◌, length, get_or, Option, Some, None, IfSome, IsTrue, refl, sym, ◌∙◌, ap, subst, arith}
+use Rattle.std.proofs.Common.{◌≡◌, ◌≢◌, ◌↔◌, inl, inr, ℕ, ◌+◌, ◌-◌, ◌<◌, true, false, Bool, List, [], ◌∷◌, length, get_or, Option, Some, None, IfSome, IsTrue, refl, sym, ◌∙◌, ap, subst, arith}
 use Rattle.std.proofs.lemmas.Bool.{false_from_ne_true}
 use Rattle.std.proofs.Math.ListN.{set}
 use Rattle.std.specs.Ordering.{eq_by_cmp}
@@ -32,7 +32,7 @@ use Rattle.gpu_alloc.proofs.Agreeing.{agrees_returned, agrees_without_span}
 use Rattle.gpu_alloc.proofs.Consistency.{HoldsFewer, known_object, booked-gone, booked-span_gone}
 use Rattle.gpu_alloc.proofs.Buddies.HasBuddies.{beside_fewer, buddies_set}
 use Rattle.gpu_alloc.proofs.FreeLists.HasLists.{lists_beside}
-use Rattle.gpu_alloc_base.proofs.Maps.{kept_other, gone, eq-true, eq-false, one_value}
+use Rattle.gpu_alloc_base.proofs.Maps.{kept_other, gone, one_value}
 use Rattle.gpu_alloc.proofs.HeapLists.{properties_kept, state_kept}
 use Rattle.gpu_alloc.proofs.Ledgers.{Held}
 use Rattle.gpu_alloc.proofs.Buddies.Links.{IsBeside, HasLeafLess, linked_without_leaf, linked_without_chunk}

@@ -1,5 +1,5 @@
 -- What a block that a memory type's free list gives comes to for the whole allocator.
-use Rattle.std.proofs.Common.{◌≡◌, ◌⊎◌, inl, inr, ℕ, ◌+◌, ◌-◌, ◌^◌, ◌<◌, true, false, cond, List, length, get_or, Option, Some, None, Ok, is_some, IsTrue, refl, sym, ◌∙◌, ap, subst, arith}
+use Rattle.std.proofs.Common.{IfSome, ◌≡◌, ◌⊎◌, inl, inr, ℕ, ◌+◌, ◌-◌, ◌^◌, ◌<◌, true, false, cond, List, length, get_or, Option, Some, None, Ok, is_some, IsTrue, refl, sym, ◌∙◌, ap, subst, arith}
 use Rattle.std.proofs.Math.ListN.{set}
 use Rattle.std.specs.FinMap as finite
 use Rattle.std.specs.FinSet as set_of
@@ -7,7 +7,7 @@ use Rattle.gpu_alloc_types.specs.Device.{Event, Object}
 use Rattle.gpu_alloc_types.specs.Properties.{Properties, heap_at}
 use Rattle.gpu_alloc.specs.Agreement as agreement
 use Rattle.gpu_alloc.specs.Allocation.{ObjectsWith, IsGranted}
-use Rattle.gpu_alloc_base.specs.Wanted.{Wanted, wanted}
+use Rattle.gpu_alloc_base.specs.Wanted.{wanted}
 use Rattle.gpu_alloc_buddy.specs.BuddyState.{Buddy}
 use Rattle.gpu_alloc_base.specs.Chunks.{Chunk, IsNew}
 use Rattle.gpu_alloc_freelist.specs.FreeList.{IsTail, with_slot, with_chunk, first_tail}
@@ -43,19 +43,12 @@ use Rattle.gpu_alloc.proofs.FreeLists.Serving.{ServesList, tail_is, question_is,
 use Rattle.gpu_alloc.proofs.Tables.LiveSpans.{live_new}
 use Rattle.gpu_alloc_base.proofs.Maps.{own_inserted}
 use Rattle.gpu_alloc.proofs.FreeLists.Types.{own_listing, serves_own}
-use Rattle.gpu_alloc_base.proofs.FreeRuns.{tail_ends}
 
 -- a span is not apart from itself
 apart_itself : (span : Span) → 0 < span.size → AreApart span span → ⊥
 apart_itself span some (inl other) = other refl
 apart_itself span some (inr (inl before)) = absurd (omega (arith, before, some))
 apart_itself span some (inr (inr after)) = absurd (omega (arith, after, some))
-
--- a granted block ends where 64 bits tell
-pub slot_fits : (l after : Listing) (w : Wanted) (slot : Slot) → IsSound after → list.IsGranted l w after slot → slot.offset + slot.size < 2 ^ 64
-slot_fits l after w slot sound granted =
-    let inside = granted.inside in
-    omega (arith, inside.2.1, (sound.space.sizes slot.chunk inside.0 inside.1).1)
 
 -- a request to a free list among the fields, and the block that it gave
 pub record Given {A : Type 0} (limits : Limits A) (heaps : List Heap) (buddies : List Buddy) (lists : List Listing) (t : Table) (remaining index i : ℕ) (l : Listing) (heap : Heap) (r : Request) (flags : ℕ) (slot : Slot) (q : Properties) (old : ℕ → Option Object) : Type 0 where
@@ -109,10 +102,11 @@ module _ {A : Type 0} {limits : Limits A} {heaps : List Heap} {buddies : List Bu
   block = list_block before index slot.chunk (span_of_slot slot)
 
   -- The table with the block's span, and its chunk where that is new.
-  module _ (now : Table) (sound : IsSound after.allocator) (held : now.held ≡ with_chunk_of_slot t.held slot (record { memory_type = index; counted = slot.offset + slot.size; kind = FreeListChunk slot.chunk }))
+  module _ (now : Table) (counted : ℕ) (sound : IsSound after.allocator) (size_is : IfSome (finite.get after.allocator.space.chunks slot.chunk) (λ c. c.size ≡ counted))
+      (held : now.held ≡ with_chunk_of_slot t.held slot (record { memory_type = index; counted = counted; kind = FreeListChunk slot.chunk }))
       (live : now.live ≡ set_of.insert t.live (span_of_slot slot)) (places : now.places ≡ finite.insert t.places (span_of_slot slot) no_place) where
     abbrev chunk_row : HeldObject
-    chunk_row = record { memory_type = index; counted = slot.offset + slot.size; kind = FreeListChunk slot.chunk }
+    chunk_row = record { memory_type = index; counted = counted; kind = FreeListChunk slot.chunk }
 
     more : HasSlotMore t now slot
     more = record { free = slot_is_free; live = live; places = places }
@@ -153,12 +147,12 @@ module _ {A : Type 0} {limits : Limits A} {heaps : List Heap} {buddies : List Bu
         })
 
     -- in a new chunk
-    in_new_run : slot.chunk ≡ l.space.latest + 1 → slot.offset + slot.size ≡ chunk_size l size → finite.get t.held slot.object ≡ None → 0 < remaining
+    in_new_run : slot.chunk ≡ l.space.latest + 1 → finite.get t.held slot.object ≡ None → 0 < remaining
         → after ≡ account (record l { space = with_slot (with_chunk l.space slot.object (chunk_size l size)) slot; next_chunk = next_size l (chunk_size l size) }) (record heap { used = heap.used + chunk_size l size }) (remaining - 1)
         → HasOneChunkMore (list_question before index size) slot.object old new
         → GivesInNewObject (list_candidate before size alignment index) es block (with_span (with_list_chunk before index slot.object (list_question before index size).size) (span_of_slot slot))
         → IsServed after
-    in_new_run number ends free some after_is new_chunk gives =
+    in_new_run number free some after_is new_chunk gives =
         let n : ℕ = chunk_size l size in
         let chunk : Chunk = record { object = slot.object; size = n } in
         let changed : Heap = record heap { used = heap.used + n } in
@@ -168,7 +162,8 @@ module _ {A : Type 0} {limits : Limits A} {heaps : List Heap} {buddies : List Bu
         ap (λ (x : Listing). finite.get x.space.chunks slot.chunk) after_list ∙ ap (finite.get (finite.insert l.space.chunks (l.space.latest + 1) chunk)) number
         ∙ own_inserted l.space.chunks (l.space.latest + 1) chunk in
         let row : HeldObject = record { memory_type = index; counted = n; kind = FreeListChunk slot.chunk } in
-        let row_is : chunk_row ≡ row = λ k. record chunk_row { counted = ends k } in
+        let is_counted : n ≡ counted = subst (λ (o : Option Chunk). IfSome o (λ c. c.size ≡ counted)) chunk_now size_is in
+        let row_is : chunk_row ≡ row = λ k. record chunk_row { counted = sym is_counted k } in
         let held_now = held ∙ ap (λ (o : Option HeldObject). cond (is_some o) t.held (finite.insert t.held slot.object chunk_row)) free ∙ ap (finite.insert t.held slot.object) row_is in
         let small : n < 2 ^ 64 = (sound.space.sizes slot.chunk chunk chunk_now).1 in
         let sound_now = subst IsSound after_list sound in
@@ -211,7 +206,6 @@ module _ {A : Type 0} {limits : Limits A} {heaps : List Heap} {buddies : List Bu
       | inr gives ↦
           let first = gives.place in
           let n : ℕ = chunk_size l size in
-          let ends : slot.offset + slot.size ≡ n = ap (λ (x : Slot). x.offset + x.size) first ∙ tail_ends size alignment n in
           let whole : n ≡ (list_question before index size).size = ap (λ (x : ChunkQuestion). x.size) asked_is in
           let span_is : span_of_slot slot ≡ tail_of slot.object (list_question before index size).size size alignment = ap span_of_slot first ∙ ap (λ m. tail_of slot.object m size alignment) whole in
           let chunk_number : slot.chunk ≡ l.space.latest + 1 = ap (λ (x : Slot). x.chunk) first in
@@ -224,7 +218,7 @@ module _ {A : Type 0} {limits : Limits A} {heaps : List Heap} {buddies : List Bu
           ap (λ (a : Account Listing). finite.get a.allocator.space.chunks slot.chunk) after_is ∙ ap (finite.get (finite.insert l.space.chunks (l.space.latest + 1) chunk)) chunk_number
           ∙ own_inserted l.space.chunks (l.space.latest + 1) chunk in
           let made_one = chunk_more l.memory_type l.props l.space.chunks after.allocator.space.chunks slot.chunk chunk (question l size flags) old new more chunk_now refl refl refl in
-          in_new_run chunk_number ends free gives.asks.remains.objects after_is (subst (λ x. HasOneChunkMore x slot.object old new) asked_is made_one) (record {
+          in_new_run chunk_number free gives.asks.remains.objects after_is (subst (λ x. HasOneChunkMore x slot.object old new) asked_is made_one) (record {
             asks = asks_is (told_with before t.places t.room index l serving heap size alignment flags given.flags_are) gives.asks;
             place = record { is = (λ k. list_block before index (number k) (span_is k)); was_free = free };
             asked = gives.asked ∙ ap (λ x. made x slot.object) asked_is;

@@ -44,15 +44,18 @@ pub(super) fn add_leaf<A: Allocator>(
     spans.insert(span, chunk)
 }
 
-/// Adds the span of a free list's block, and its chunk where it was not held yet, into room that was made. A chunk that
-/// was not held ends where its first block does.
-pub(super) fn add_slot<A: Allocator>(spans: &mut Spans<A>, slot: Slot, memory_type: u32) -> usize
+/// Adds the span of a free list's block, and its chunk where it was not held yet, into room that was made.
+pub(super) fn add_slot<A: Allocator>(
+    spans: &mut Spans<A>,
+    slot: Slot,
+    memory_type: u32,
+    chunk_size: u64,
+) -> usize
     requires room { 0 < spans.old.room }
     requires free { set.contains spans.old.live (span_of_slot slot) ≡ false }
-    requires fits { slot.offset + slot.size < 2 ^ 64 }
     ensures held { spans.new.held ≡ with_chunk_of_slot spans.old.held slot (record {
       memory_type = memory_type;
-      counted = slot.offset + slot.size;
+      counted = chunk_size;
       kind = Kind.FreeListChunk slot.chunk;
     }) }
     ensures live { spans.new.live ≡ set.insert spans.old.live (span_of_slot slot) }
@@ -62,7 +65,7 @@ pub(super) fn add_slot<A: Allocator>(spans: &mut Spans<A>, slot: Slot, memory_ty
         Some(_) => None,
         None => Some(HeldRow {
             memory_type,
-            counted: slot.offset + slot.size,
+            counted: chunk_size,
             kind: Kind::FreeListChunk(slot.chunk),
         }),
     };

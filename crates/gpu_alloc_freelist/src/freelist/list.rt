@@ -328,6 +328,15 @@ impl<M: MemoryObject, A: Allocator> FreeList<M, A> {
         self.chunks[chunk].memory.object()
     }
 
+    /// The size of a held chunk, in bytes.
+    pub(crate) fn size_of(&self, number: u64) -> u64
+        requires { IsSome (map.get (self.now.space).chunks number) }
+        ensures { IfSome (map.get (self.now.space).chunks number) (λ c. c.size ≡ result) }
+    {
+        let chunk = chunk_at(self.chunks.as_slice(), number);
+        self.chunks[chunk].size
+    }
+
     /// The allocator of its vectors.
     pub(crate) fn allocator(&self) -> A
     where

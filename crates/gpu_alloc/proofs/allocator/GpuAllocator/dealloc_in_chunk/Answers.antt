@@ -1,4 +1,4 @@
-use Rattle.std.proofs.Common.{◌≡◌, not, ◌==◌, IfSome, option_map, refl, sym, ap, ◌∙◌, subst}
+use Rattle.std.proofs.Common.{◌≡◌, IfSome, option_map, sym, ap, ◌∙◌, subst}
 use Rattle.std.specs.FinMap as finite
 use Rattle.std.specs.FinSet as set_of
 use Rattle.gpu_alloc_base.specs.Accounts.{account}

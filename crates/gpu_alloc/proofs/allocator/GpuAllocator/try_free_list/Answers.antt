@@ -1,4 +1,6 @@
-use Rattle.std.proofs.Common.{◌≡◌, ◌⊎◌, ℕ, ◌+◌, ◌^◌, ◌<◌, [], refl, sym, ap, ◌∙◌, subst}
+use Rattle.std.proofs.Common.{◌≡◌, ◌⊎◌, ℕ, [], IfSome, refl, sym, ap, ◌∙◌, subst}
+use Rattle.std.proofs.lemmas.List.{get_or-set_same}
+use Rattle.std.specs.Option.{IsSome, is_some}
 use Rattle.std.proofs.Math.ListN.{set}
 use Rattle.std.specs.FinMap as finite
 use Rattle.std.specs.FinSet as set_of
@@ -18,7 +20,7 @@ use Rattle.gpu_alloc.specs.declared.block.Kind.TheVariants.{FreeListChunk}
 use Rattle.gpu_alloc_base.specs.declared.free_list_block.Slot.{Slot}
 use Rattle.gpu_alloc_base.proofs.Outcomes.{when_ok}
 use Rattle.gpu_alloc.proofs.Consistency.{heap_there}
-use Rattle.gpu_alloc.proofs.FreeLists.Answers.{Given, slot_fits, slot_is_free, IsServed, list_served}
+use Rattle.gpu_alloc.proofs.FreeLists.Answers.{Given, slot_is_free, IsServed, list_served}
 use Rattle.gpu_alloc.proofs.FreeLists.Grants.{fits_list, counted_before, bounded_before, consistent_refused, state_refused}
 use Rattle.gpu_alloc_base.proofs.ToldTwice.{first_is, refused_is, wants_is}
 use Rattle.gpu_alloc.proofs.FreeLists.Served.{list_agrees}
@@ -108,11 +110,6 @@ add_slot-key-requires-clause-free g c =
     ∙ ap (λ slot. set_of.contains c.self.inside.spans.live (span_of_slot slot)) c.into_parts-memory.ensures.slot
     ∙ slot_is_free given _ _ _ told.0 _ told.2 c.in-Ok.ensures.objects c.in-Ok.ensures.granted
 
-pub add_slot-key-requires-clause-fits : goal.add_slot-key-requires-clause-fits
-add_slot-key-requires-clause-fits g c =
-    let fits = slot_fits _ _ _ c.in-Ok.block c.in-Ok.ensures.sound c.in-Ok.ensures.granted in
-    subst (λ (x : Slot). x.offset + x.size < 2 ^ 64) (sym c.into_parts-memory.ensures.slot) fits
-
 given : (g : Over) (c : goal.After-new g)
     → Given c.self.inside.limits c.self.inside.heaps.items c.self.inside.buddies.items c.self.inside.free_lists.items c.self.inside.spans c.self.inside.allocations_remains c.args.memory_type c.heap_index-heap.result
     c.index_mut.result.now c.index_mut-2.result.now c.args.request (allocation_bits c.flags-flags.result) c.in-Ok.block (g.D.MemoryDevice.properties c.args.device.now) (g.D.MemoryDevice.objects c.args.device.now)
@@ -129,8 +126,16 @@ given g c = record {
 
 -- The table with the block's span, as `list_served` asks for it.
 
+size_is : (g : Over) (c : goal.After-new g) → IfSome (finite.get c.alloc-answer.new.self.space.chunks c.in-Ok.block.chunk) (λ chunk. chunk.size ≡ c.chunk_size-chunk_size.result)
+size_is g c =
+    let known = rw (← c.self.view_is) at c.requires.known in
+    let own : c.index-in-Ok.result.now ≡ c.alloc-answer.new.self =
+    c.index-in-Ok.ensures ∙ get_or-set_same c.self.inside.free_lists.items c.args.memory_type c.alloc-answer.new.self c.index-in-Ok.result.now (below refl c.self.invariant.listed.count known) in
+    subst (λ l. IfSome (finite.get l.space.chunks c.in-Ok.block.chunk) (λ chunk. chunk.size ≡ c.chunk_size-chunk_size.result)) own
+    (subst (λ slot. IfSome (finite.get c.index-in-Ok.result.now.space.chunks slot.chunk) (λ chunk. chunk.size ≡ c.chunk_size-chunk_size.result)) c.into_parts-memory.ensures.slot c.chunk_size-chunk_size.ensures)
+
 abbrev row : (g : Over) → goal.After-new g → Slot → HeldObject
-row g c slot = record { memory_type = c.args.memory_type; counted = slot.offset + slot.size; kind = FreeListChunk slot.chunk }
+row g c slot = record { memory_type = c.args.memory_type; counted = c.chunk_size-chunk_size.result; kind = FreeListChunk slot.chunk }
 
 held_is : (g : Over) (c : goal.After-new g) → c.add_slot-key.new.spans.held ≡ with_chunk_of_slot c.self.inside.spans.held c.in-Ok.block (row g c c.in-Ok.block)
 held_is g c =
@@ -168,10 +173,10 @@ after g c =
     c.add_slot-key.new.spans c.alloc-answer.new.allocations_remains
 
 is : (g : Over) (c : goal.After-new g)
-    → IsServed (given g c) _ _ _ c.in-Ok.ensures.allocates.0 _ c.in-Ok.ensures.allocates.2 c.in-Ok.ensures.objects c.in-Ok.ensures.granted c.add_slot-key.new.spans c.in-Ok.ensures.sound (held_is g c) (live_is g c)
+    → IsServed (given g c) _ _ _ c.in-Ok.ensures.allocates.0 _ c.in-Ok.ensures.allocates.2 c.in-Ok.ensures.objects c.in-Ok.ensures.granted c.add_slot-key.new.spans c.chunk_size-chunk_size.result c.in-Ok.ensures.sound (size_is g c) (held_is g c) (live_is g c)
     (places_are g c) (account c.alloc-answer.new.self c.alloc-answer.new.heap c.alloc-answer.new.allocations_remains)
 is g c =
-    list_served (given g c) _ _ _ c.in-Ok.ensures.allocates.0 _ c.in-Ok.ensures.allocates.2 c.in-Ok.ensures.objects c.in-Ok.ensures.granted c.add_slot-key.new.spans c.in-Ok.ensures.sound (held_is g c) (live_is g c)
+    list_served (given g c) _ _ _ c.in-Ok.ensures.allocates.0 _ c.in-Ok.ensures.allocates.2 c.in-Ok.ensures.objects c.in-Ok.ensures.granted c.add_slot-key.new.spans c.chunk_size-chunk_size.result c.in-Ok.ensures.sound (size_is g c) (held_is g c) (live_is g c)
     (places_are g c)
 
 pub invariant_of-self-in-Ok : goal.invariant_of-self-in-Ok
@@ -275,3 +280,14 @@ props-props-requires g c = rw (← c.self.view_is) at c.requires.known
 
 pub add_slot-key-requires-clause-room : goal.add_slot-key-requires-clause-room
 add_slot-key-requires-clause-room g c = when_ok c.reserve.result (sym c.if-is_err.ensures.value) c.reserve.ensures.room
+
+pub index-requires-in-Ok : goal.index-requires-in-Ok
+index-requires-in-Ok g c = below refl (c.self.inside.free_lists.ok.0 ∙ c.self.invariant.listed.count) (rw (← c.self.view_is) at c.requires.known)
+
+pub chunk_size-chunk_size-requires : goal.chunk_size-chunk_size-requires
+chunk_size-chunk_size-requires g c =
+    let known = rw (← c.self.view_is) at c.requires.known in
+    let own : c.index-in-Ok.result.now ≡ c.alloc-answer.new.self =
+    c.index-in-Ok.ensures ∙ get_or-set_same c.self.inside.free_lists.items c.args.memory_type c.alloc-answer.new.self c.index-in-Ok.result.now (below refl c.self.invariant.listed.count known) in
+    subst (λ l. IsSome (finite.get l.space.chunks c.into_parts-memory.result.1.chunk)) (sym own)
+    (subst (λ slot. IsSome (finite.get c.alloc-answer.new.self.space.chunks slot.chunk)) (sym c.into_parts-memory.ensures.slot) (ap is_some c.in-Ok.ensures.granted.inside.1))
