@@ -1,14 +1,13 @@
 -- What a return leaves of the total: for each object that goes, one more may be held.
-use Rattle.std.proofs.Common.{◌≡◌, ◌≢◌, inl, inr, ℕ, zero, suc, ◌+◌, ◌<◌, true, List, [], ◌∷◌, length, get_or, Some, sym, ◌∙◌, ap, subst, arith}
+use Rattle.std.proofs.Common.{◌≡◌, ◌≢◌, inl, inr, ℕ, suc, ◌+◌, ◌<◌, Bool, true, List, [], ◌∷◌, length, get_or, Some, sym, ◌∙◌, ap, subst, arith}
+use Rattle.std.proofs.lemmas.List.Elements.{Contains-get_or}
 use Rattle.std.specs.FinMap as map
 use Rattle.gpu_alloc_types.specs.Device.{Event}
-use Rattle.gpu_alloc_freelist.specs.FreeListAllocator.{AreRisingNumbers}
 use Rattle.gpu_alloc.specs.FreeListSharing.{IsListChunk}
-use Rattle.gpu_alloc.specs.Release.{AreObjectsOf, Frees, GoesWith, LetsGo, without_all, without_span}
+use Rattle.gpu_alloc.specs.Release.{AreChunksGone, Frees, GoesWith, MayGo, without_all, without_span}
 use Rattle.gpu_alloc.specs.State.{Block, HeldObject, IsOwned, State, total}
 use Rattle.gpu_alloc.specs.declared.block.Kind.{Kind}
 use Rattle.gpu_alloc.specs.declared.block.Kind.TheVariants.{Dedicated, Imported, BuddyChunk, FreeListChunk}
-use Rattle.gpu_alloc_base.proofs.Maps.{one_value}
 use Rattle.gpu_alloc_base.proofs.Names.{get_removed-other, len_removed}
 use Rattle.gpu_alloc.proofs.Ledgers.{Held}
 
@@ -39,35 +38,25 @@ count_gone held (object ∷ gone) are once =
 
 -- Chunks of a free list.
 
-abbrev number_in : Kind → ℕ
-number_in Dedicated = 0
-number_in Imported = 0
-number_in BuddyChunk = 0
-number_in (FreeListChunk number) = number
+-- objects that stand later are others
+others_later : (object : ℕ) (gone : List ℕ) → ((j d : ℕ) → j < length gone → get_or gone j d ≢ object) → IsOther object gone
+others_later object [] other = tt
+others_later object (name ∷ gone) other = (other 0 0 (omega arith), others_later object gone (λ j d lt. other (suc j) d (omega (arith, lt))))
 
--- a held chunk has one number
-one_number : (s : State) (t m n object : ℕ) → IsListChunk s t m object → IsListChunk s t n object → m ≡ n
-one_number s t m n object x y = sym (ap number_in x.of_kind) ∙ ap (λ (h : HeldObject). number_in h.kind) (one_value _ x.chunk y.chunk x.held y.held) ∙ ap number_in y.of_kind
+held_once : (held : Held) (gone : List ℕ) → ((i d : ℕ) → i < length gone → (h : HeldObject) × (map.get held (get_or gone i d) ≡ Some h)) → ((i j d : ℕ) → i < j → j < length gone → get_or gone j d ≢ get_or gone i d)
+    → AreHeld held gone × AreOnce gone
+held_once held [] is other = (tt, tt)
+held_once held (object ∷ gone) is other =
+    let rest = held_once held gone (λ i d lt. is (suc i) d (omega (arith, lt))) (λ i j d before within. other (suc i) (suc j) d (omega (arith, before)) (omega (arith, within))) in
+    ((is 0 0 (omega arith), rest.0), (others_later object gone (λ j d lt. other 0 (suc j) d (omega arith) (omega (arith, lt))), rest.1))
 
--- those of greater numbers are others
-others_later : (s : State) (t m object : ℕ) → IsListChunk s t m object → (numbers gone : List ℕ) → AreObjectsOf s t numbers gone → ((j d : ℕ) → j < length numbers → m < get_or numbers j d) → IsOther object gone
-others_later s t m object is [] [] are less = tt
-others_later s t m object is [] (other ∷ gone) are less = absurd are
-others_later s t m object is (n ∷ numbers) [] are less = absurd are
-others_later s t m object is (n ∷ numbers) (other ∷ gone) are less = (
-  (λ same. let e = one_number s t n m object (subst (IsListChunk s t n) same are.0) is in let lt = less 0 0 (omega arith) in omega (arith, lt, e)),
-  others_later s t m object is numbers gone are.1 (λ j d lt. less (suc j) d (omega (arith, lt))),
-)
-
-held_once : (s : State) (t : ℕ) (numbers gone : List ℕ) → AreRisingNumbers numbers → AreObjectsOf s t numbers gone → AreHeld s.held gone × AreOnce gone
-held_once s t [] [] rising are = (tt, tt)
-held_once s t [] (object ∷ gone) rising are = absurd are
-held_once s t (n ∷ numbers) [] rising are = absurd are
-held_once s t (n ∷ numbers) (object ∷ gone) rising are =
-    let rest = held_once s t numbers gone (λ i j d before within. rising (suc i) (suc j) d (omega (arith, before)) (omega (arith, within))) are.1 in (
-      ((are.0.chunk, are.0.held), rest.0),
-      (others_later s t n object are.0 numbers gone are.1 (λ j d lt. rising 0 (suc j) d (omega arith) (omega (arith, lt))), rest.1),
-    )
+chunks_once : (s : State) (t : ℕ) (keep_last : Bool) (gone : List ℕ) → AreChunksGone s t keep_last gone → AreHeld s.held gone × AreOnce gone
+chunks_once s t keep_last gone chunks =
+    let may : (i d : ℕ) → i < length gone → (number : ℕ) × MayGo s t keep_last number (get_or gone i d) = λ i d lt. (chunks.all (get_or gone i d)).0 (Contains-get_or gone i d lt) in
+    held_once s.held gone (λ i d lt. let chunk = (may i d lt).1.chunk in (chunk.chunk, chunk.held)) (λ i j d before within same.
+    let first = may i d (omega (arith, before, within)) in
+    let less = chunks.rising i j d first.0 first.0 before within first.1.chunk (subst (IsListChunk s t first.0) (sym same) first.1.chunk) in
+    omega (arith, less))
 
 -- What goes with a block.
 
@@ -76,7 +65,7 @@ goes_once Dedicated s object gone there goes = subst (λ names. AreHeld s.held n
 goes_once Imported s object gone there goes = subst (λ names. AreHeld s.held names × AreOnce names) (sym goes) ((there, tt), (tt, tt))
 goes_once BuddyChunk s object gone there (inl went) = subst (λ names. AreHeld s.held names × AreOnce names) (sym went.1) ((there, tt), (tt, tt))
 goes_once BuddyChunk s object gone there (inr stays) = subst (λ names. AreHeld s.held names × AreOnce names) (sym stays.1) (tt, tt)
-goes_once (FreeListChunk number) s object gone there goes = held_once s goes.0.memory_type goes.2.0 gone goes.2.1.0 goes.2.1.1.1
+goes_once (FreeListChunk number) s object gone there goes = chunks_once s goes.0.memory_type true gone goes.2
 
 pub frees_total : (s : State) (b : Block) (es : List Event) (new : State) → IsOwned s b → Frees s b es new → total new ≡ total s
 frees_total s b es new owned frees =

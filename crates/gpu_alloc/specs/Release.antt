@@ -1,5 +1,5 @@
 -- How a block comes back.
-use Rattle.std.specs.Prelude.{◌≡◌, ◌≢◌, ◌⊎◌, ◌↔◌, ℕ, zero, suc, ◌+◌, Bool, true, false, List, [], ◌∷◌, ◌++◌, length}
+use Rattle.std.specs.Prelude.{◌≡◌, ◌≢◌, ◌⊎◌, ◌↔◌, ℕ, zero, suc, ◌+◌, ◌<◌, Bool, true, false, List, [], ◌∷◌, ◌++◌, length, get_or}
 use Rattle.std.specs.Prelude.{map, Option, Some, None}
 use Rattle.std.specs.List.{Contains}
 use Rattle.std.specs.FinMap as finite
@@ -10,7 +10,6 @@ use Rattle.gpu_alloc_types.specs.Device.Event.{Deallocated}
 use Rattle.gpu_alloc.specs.declared.block.Kind.{Kind}
 use Rattle.gpu_alloc.specs.declared.block.Kind.TheVariants.{Dedicated, Imported, BuddyChunk, FreeListChunk}
 use Rattle.gpu_alloc_base.specs.declared.region.FreeListRegion.{FreeListRegion}
-use Rattle.gpu_alloc_freelist.specs.FreeListAllocator.{AreRisingNumbers}
 use Rattle.gpu_alloc_base.specs.FreeRuns.{IsLastRun}
 use Rattle.gpu_alloc.specs.FreeListSharing.{IsListChunk, IsFreeInChunk}
 use Rattle.gpu_alloc.specs.Sound.{is_list_chunk}
@@ -41,31 +40,22 @@ LetsGo s gone es new =
 
 -- Free-list chunks of a memory type.
 
--- the chunk of this number is held, and no block in it is live
-abbrev pub IsUnusedChunk : State → ℕ → ℕ → Type 0
-IsUnusedChunk s t number = (object : ℕ) × (IsListChunk s t number object × IsUnused s object)
-
 -- the last run lies in this chunk
 abbrev pub HasLastRun : State → ℕ → ℕ → Type 0
 HasLastRun s t number = (r : FreeListRegion) × (IsLastRun (IsFreeInChunk s t) r × (r.chunk ≡ number))
 
--- the chunk may go: it is wholly free, and not that of the last run where this one is kept
-abbrev pub MayGo : State → ℕ → Bool → ℕ → Type 0
-MayGo s t keep_last number = IsUnusedChunk s t number × (keep_last ≡ true → HasLastRun s t number → ⊥)
+-- the object is the chunk of this number, and may go: nothing in it is live, and it is not that of the last run where
+-- this one is kept
+pub record MayGo (s : State) (t : ℕ) (keep_last : Bool) (number object : ℕ) : Type 0 where
+  pub chunk : IsListChunk s t number object
+  pub unused : IsUnused s object
+  pub not_last : keep_last ≡ true → HasLastRun s t number → ⊥
 
--- these are the objects of the chunks of these numbers
-abbrev pub AreObjectsOf : State → ℕ → List ℕ → List ℕ → Type 0
-AreObjectsOf s t [] [] = Unit {0}
-AreObjectsOf s t (number ∷ numbers) (object ∷ objects) =
-    IsListChunk s t number object × AreObjectsOf s t numbers objects
-AreObjectsOf s t [] (object ∷ objects) = ⊥
-AreObjectsOf s t (number ∷ numbers) [] = ⊥
-
--- the objects of all chunks that may go, in rising number
-abbrev pub AreChunksGone : State → ℕ → Bool → List ℕ → Type 0
-AreChunksGone s t keep_last gone =
-    (numbers : List ℕ) × (AreRisingNumbers numbers ×
-    (((number : ℕ) → Contains numbers number ↔ MayGo s t keep_last number) × AreObjectsOf s t numbers gone))
+-- These are all the objects that may go, in rising number.
+pub record AreChunksGone (s : State) (t : ℕ) (keep_last : Bool) (gone : List ℕ) : Type 0 where
+  pub rising : (i j d m n : ℕ) → i < j → j < length gone
+      → IsListChunk s t m (get_or gone i d) → IsListChunk s t n (get_or gone j d) → m < n
+  pub all : (object : ℕ) → Contains gone object ↔ ((number : ℕ) × MayGo s t keep_last number object)
 
 -- What goes with a block whose span was taken off, by what its object is held for: an object of its own, or a buddy
 -- chunk without a live block.

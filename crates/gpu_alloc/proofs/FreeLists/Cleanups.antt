@@ -15,7 +15,7 @@ use Rattle.gpu_alloc_buddy.specs.BuddyState.{Buddy}
 use Rattle.gpu_alloc_freelist.specs.FreeListState.{Listing}
 use Rattle.gpu_alloc.specs.Inside.{state_in, properties_in, IsConsistent}
 use Rattle.gpu_alloc.specs.FreeListSharing.{IsListChunk}
-use Rattle.gpu_alloc.specs.Release.{AreObjectsOf, AreChunksGone, AreAllGone, LetsGo, IsCleanedUp, IsUnused, without_all, without_objects}
+use Rattle.gpu_alloc.specs.Release.{AreChunksGone, AreAllGone, LetsGo, IsCleanedUp, without_all, without_objects}
 use Rattle.gpu_alloc.specs.Sound.{is_list_chunk, HasLiveSpan, IsSound}
 use Rattle.gpu_alloc.specs.Spans.{Table}
 use Rattle.gpu_alloc.specs.State.{HeldObject, Span, State, IsLive, share, ledger, total}
@@ -27,7 +27,7 @@ use Rattle.gpu_alloc.proofs.Consistency.{known_object}
 use Rattle.gpu_alloc.proofs.Ledgers.{Held}
 use Rattle.gpu_alloc.proofs.FreeLists.Going.{objects_more, lets_more}
 use Rattle.gpu_alloc.proofs.FreeLists.Gone.{AgreeOnType, agree_back, agree_after, gone_agrees, kept_was, kept_is}
-use Rattle.gpu_alloc_base.proofs.Lists.{contains_head, contains_later, contains_cases, contains_none}
+use Rattle.gpu_alloc_base.proofs.Lists.{contains_none}
 use Rattle.gpu_alloc_base.proofs.Maps.{one_value}
 use Rattle.gpu_alloc.proofs.Soundness.{sound_is}
 
@@ -66,25 +66,6 @@ among_all s (suc n) t gone lt (earlier, own, both, all, chunks) = elim (cases_eq
       (rest.0, rest.1, λ name has. subst (λ xs. Contains xs name) (sym both) (Contains-append_left earlier own name (rest.2 name has)))
 ]
 
--- each number that goes has its object among those that go
-object_at : (s : State) (t : ℕ) (numbers own : List ℕ) → AreObjectsOf s t numbers own → (number : ℕ) → Contains numbers number → (object : ℕ) × Contains own object × IsListChunk s t number object
-object_at s t [] own are number has = absurd (contains_none number has)
-object_at s t (n ∷ numbers) [] are number has = absurd are
-object_at s t (n ∷ numbers) (name ∷ own) are number has = elim (contains_cases n number numbers has) [
-  | inl same ↦ (name, contains_head name own, subst (λ k. IsListChunk s t k name) (sym same) are.0)
-  | inr rest ↦ let later = object_at s t numbers own are.1 number rest in (later.0, contains_later name later.0 own later.1, later.2)
-]
-
--- and each object that goes has a number
-number_at : (s : State) (t : ℕ) (numbers own : List ℕ) → AreObjectsOf s t numbers own → (object : ℕ) → Contains own object → (number : ℕ) × Contains numbers number × IsListChunk s t number object
-number_at s t [] [] are object has = absurd (contains_none object has)
-number_at s t [] (name ∷ own) are object has = absurd are
-number_at s t (n ∷ numbers) [] are object has = absurd are
-number_at s t (n ∷ numbers) (name ∷ own) are object has = elim (contains_cases name object own has) [
-  | inl same ↦ (n, contains_head n numbers, subst (IsListChunk s t n) (sym same) are.0)
-  | inr rest ↦ let later = number_at s t numbers own are.1 object rest in (later.0, contains_later n later.0 numbers later.1, later.2)
-]
-
 -- an object that is held without a live span is a chunk of a free list
 list_kind : (kind : Kind) → (is_list_chunk kind ≡ false → ⊥) → (number : ℕ) × (kind ≡ FreeListChunk number)
 list_kind Dedicated none = absurd (none refl)
@@ -112,9 +93,7 @@ module _ {A : Type 0} (l : Limits A) (heaps : List Heap) (buddies : List Buddy) 
         let kind = list_kind h.kind (λ no_list. let both = cleaned.0 in cc) in
         let chunk : IsListChunk s h.memory_type kind.0 name = record { chunk = h; held = found; of_type = refl; of_kind = kind.1 } in
         let own = among_all s (length (properties_in l heaps).memory_types) h.memory_type gone known.of_type all in
-        let has = (own.1.1.1.0 kind.0).1 ((name, (chunk, cleaned.1)), λ kept. absurd (cc)) in
-        let object = object_at s h.memory_type own.1.0 own.0 own.1.1.1.1 kind.0 has in
-        own.2 name (subst (Contains own.0) (sound.numbers h.memory_type kind.0 object.0 name object.2 chunk) object.1)
+        own.2 name ((own.1.all name).1 (kind.0, record { chunk = chunk; unused = cleaned.1; not_last = λ kept. absurd (cc) }))
 
     -- and nothing else
     is_cleaned : (n : ℕ) (some : List ℕ) → AreAllGone s n some → (name : ℕ) (h : HeldObject) → finite.get t.held name ≡ Some h → Contains some name → IsCleanedUp s name h
@@ -123,11 +102,9 @@ module _ {A : Type 0} (l : Limits A) (heaps : List Heap) (buddies : List Buddy) 
         elim (Contains-append_cases earlier own name (subst (λ names. Contains names name) both has)) [
           | inl first ↦ is_cleaned n earlier before name h found first
           | inr now ↦
-              let at = number_at s n chunks.0 own chunks.1.1.1 name now in
-              let of = at.2 in
-              let may = ((chunks.1.1.0 at.0).0 at.1).0 in
-              let same : h ≡ of.chunk = one_value _ h of.chunk found of.held in
-              (ap (λ (x : HeldObject). is_list_chunk x.kind) same ∙ ap is_list_chunk of.of_kind, subst (IsUnused s) (sound.numbers n at.0 may.0 name may.1.0 of) may.1.1)
+              let may = ((chunks.all name).0 now).1 in
+              let same : h ≡ may.chunk.chunk = one_value _ h may.chunk.chunk found may.chunk.held in
+              (ap (λ (x : HeldObject). is_list_chunk x.kind) same ∙ ap is_list_chunk may.chunk.of_kind, may.unused)
         ]
 
     -- what stays is what was held and is not cleaned up

@@ -1,6 +1,7 @@
 -- Which chunks of a memory type's free list may go, as the free list and as the whole allocator's state tell.
-use Rattle.std.proofs.Common.{◌≡◌, ◌≢◌, inl, inr, ℕ, zero, suc, ◌<◌, Bool, List, [], ◌∷◌, map, Some, IsSome, IsTrue, Contains, refl, sym, ◌∙◌, ap, subst, arith}
-use Rattle.std.proofs.lemmas.List.Elements.{Contains-append_cases}
+use Rattle.std.proofs.Common.{◌≡◌, ◌≢◌, inl, inr, ℕ, zero, suc, ◌<◌, Bool, List, [], ◌∷◌, length, get_or, map, Some, IsSome, IsTrue, Contains, refl, sym, ◌∙◌, ap, subst, arith}
+use Rattle.std.proofs.lemmas.List.{get_or-map, length-map}
+use Rattle.std.proofs.lemmas.List.Elements.{Contains-append_cases, Contains-get_or}
 use Rattle.std.specs.FinMap as finite
 use Rattle.std.specs.FinSet as set
 use Rattle.gpu_alloc_base.specs.Chunks.{Chunk}
@@ -9,15 +10,40 @@ use Rattle.gpu_alloc_freelist.specs.FreeListAllocator.{AreGone, object_in, objec
 use Rattle.gpu_alloc_freelist.specs.FreeListState.{Listing}
 use Rattle.gpu_alloc.specs.Inside.{IsNumberedChunk, list_object, span_of_slot, slot_at}
 use Rattle.gpu_alloc.specs.FreeListSharing.{IsListChunk, IsFreeInChunk}
-use Rattle.gpu_alloc.specs.Release.{IsUnusedChunk, HasLastRun, MayGo, AreObjectsOf, AreChunksGone, AreAllGone, without_all}
+use Rattle.gpu_alloc.specs.Release.{IsUnused, HasLastRun, MayGo, AreChunksGone, AreAllGone, without_all}
 use Rattle.gpu_alloc.specs.Spans.{Place}
 use Rattle.gpu_alloc.specs.State.{HeldObject, Span, span_cmp, State, IsLive}
+use Rattle.gpu_alloc.specs.declared.block.Kind.{Kind}
+use Rattle.gpu_alloc.specs.declared.block.Kind.TheVariants.{Dedicated, Imported, BuddyChunk, FreeListChunk}
 use Rattle.gpu_alloc.proofs.Ledgers.{Held}
 use Rattle.gpu_alloc_base.proofs.Lists.{contains_head, contains_later, contains_cases, contains_none}
 use Rattle.gpu_alloc.proofs.FreeLists.Serving.{ServesList, numbered_held, list_chunk_is, list_chunk_was, same_bytes}
 use Rattle.gpu_alloc_base.proofs.Maps.{one_value, kept_other, kept_key, found_value}
 use Rattle.gpu_alloc_base.proofs.SameRuns.{AreSameBytes, same_back, last_run_same}
 use Rattle.gpu_alloc.proofs.Buddies.Serving.{table_of}
+
+-- the chunk of this number is held, and no block in it is live
+abbrev IsUnusedChunk : State → ℕ → ℕ → Type 0
+IsUnusedChunk s t number = (object : ℕ) × (IsListChunk s t number object × IsUnused s object)
+
+abbrev number_in : Kind → ℕ
+number_in Dedicated = 0
+number_in Imported = 0
+number_in BuddyChunk = 0
+number_in (FreeListChunk number) = number
+
+-- a held chunk has one number
+pub one_number : (s : State) (t m n object : ℕ) → IsListChunk s t m object → IsListChunk s t n object → m ≡ n
+one_number s t m n object x y = sym (ap number_in x.of_kind) ∙ ap (λ (h : HeldObject). number_in h.kind) (one_value _ x.chunk y.chunk x.held y.held) ∙ ap number_in y.of_kind
+
+-- what a list has, and what its image has
+contains_map : (f : ℕ → ℕ) (xs : List ℕ) (x : ℕ) → Contains xs x → Contains (map f xs) (f x)
+contains_map f xs x has = (has.0, omega (arith, has.1, length-map xs f), get_or-map f xs has.0 x (f x) has.1 ∙ ap f has.2)
+
+map_contains : (f : ℕ → ℕ) (xs : List ℕ) (y : ℕ) → Contains (map f xs) y → (x : ℕ) × (Contains xs x × (f x ≡ y))
+map_contains f xs y has =
+    let within : has.0 < length xs = omega (arith, has.1, length-map xs f) in
+    (get_or xs has.0 0, (Contains-get_or xs has.0 0 within, sym (get_or-map f xs has.0 0 y within) ∙ has.2))
 
 module _ (s : State) (places : finite.FinMap span_cmp Place) (room index : ℕ) (l : Listing) (serves : ServesList s places room index l) where
   -- Chunks that are wholly free.
@@ -56,33 +82,49 @@ module _ (s : State) (places : finite.FinMap span_cmp Place) (room index : ℕ) 
 
   -- Chunks that may go.
 
-  pub goes_is : (keep_last : Bool) (number : ℕ) → list.MayGo l.space keep_last number → MayGo s index keep_last number
-  goes_is keep_last number (free, beside) = (unused_is number free, λ kept last. beside kept (last_was number last))
+  pub goes_is : (keep_last : Bool) (number : ℕ) → list.MayGo l.space keep_last number → (object : ℕ) × MayGo s index keep_last number object
+  goes_is keep_last number (free, beside) =
+      let chunk = unused_is number free in
+      (chunk.0, record { chunk = chunk.1.0; unused = chunk.1.1; not_last = λ kept last. beside kept (last_was number last) })
 
-  pub goes_was : (keep_last : Bool) (number : ℕ) → MayGo s index keep_last number → list.MayGo l.space keep_last number
-  goes_was keep_last number (unused, beside) = (unused_was number unused, λ kept last. beside kept (last_is number last))
+  pub goes_was : (keep_last : Bool) (number object : ℕ) → MayGo s index keep_last number object → list.MayGo l.space keep_last number
+  goes_was keep_last number object may = (unused_was number (object, (may.chunk, may.unused)), λ kept last. may.not_last kept (last_is number last))
 
-  -- the numbers of held chunks have those chunks' objects
-  objects_are : (numbers : List ℕ) → ((number : ℕ) → Contains numbers number → IsSome (finite.get l.space.chunks number)) → AreObjectsOf s index numbers (map (object_of l.space) numbers)
-  objects_are [] held = tt
-  objects_are (number ∷ numbers) held =
-      let there = found_value _ (held number (contains_head number numbers)) in (
-        subst (IsListChunk s index number) (sym (ap object_in there.1)) (list_chunk_is s places room index l serves number there.0 there.1),
-        objects_are numbers (λ n has. held n (contains_later number n numbers has)),
-      )
+  -- the object that a number tells
+  object_is : (number object : ℕ) → IsListChunk s index number object → object_of l.space number ≡ object
+  object_is number object is = ap object_in (list_chunk_was s places room index l serves number object is)
 
-  -- what goes is what goes
-  pub gone_is : (keep_last : Bool) (numbers : List ℕ) → AreGone l.space keep_last numbers → AreChunksGone s index keep_last (map (object_of l.space) numbers)
-  gone_is keep_last numbers gone = (
-    numbers,
-    (
-      gone.rising,
-      (
-        λ number. ((λ has. goes_is keep_last number ((gone.all number).0 has)), (λ goes. (gone.all number).1 (goes_was keep_last number goes))),
-        objects_are numbers (λ number has. ((gone.all number).0 has).0.held),
-      ),
-    ),
-  )
+  module _ (keep_last : Bool) (numbers : List ℕ) (gone : AreGone l.space keep_last numbers) where
+    abbrev objects : List ℕ
+    objects = map (object_of l.space) numbers
+
+    -- where a number stands, its chunk's object does
+    number_at : (i d number : ℕ) → i < length objects → IsListChunk s index number (get_or objects i d) → (i < length numbers) × (number ≡ get_or numbers i 0)
+    number_at i d number within is =
+        let inside : i < length numbers = omega (arith, within, length-map numbers (object_of l.space)) in
+        let at : ℕ = get_or numbers i 0 in
+        let goes = goes_is keep_last at ((gone.all at).0 (Contains-get_or numbers i 0 inside)) in
+        let here : get_or objects i d ≡ goes.0 = get_or-map (object_of l.space) numbers i 0 d inside ∙ object_is at goes.0 goes.1.chunk in
+        (inside, one_number s index number at goes.0 (subst (IsListChunk s index number) here is) goes.1.chunk)
+
+    -- what goes is what goes
+    pub gone_is : AreChunksGone s index keep_last objects
+    gone_is = record {
+      rising = λ i j d m n before within first second.
+          let at_i = number_at i d m (omega (arith, before, within)) first in
+          let at_j = number_at j d n within second in
+          omega (arith, gone.rising i j 0 before at_j.0, at_i.1, at_j.1);
+      all = λ object. (
+        (λ has.
+            let from = map_contains (object_of l.space) numbers object has in
+            let goes = goes_is keep_last from.0 ((gone.all from.0).0 from.1.0) in
+            let same : goes.0 ≡ object = sym (object_is from.0 goes.0 goes.1.chunk) ∙ from.1.1 in
+            (from.0, subst (MayGo s index keep_last from.0) same goes.1)),
+        (λ (number, may).
+            let has = (gone.all number).1 (goes_was keep_last number object may) in
+            subst (Contains objects) (object_is number object may.chunk) (contains_map (object_of l.space) numbers number has)),
+      );
+    }
 
 -- Two states that hold the same of one memory type.
 
@@ -115,40 +157,28 @@ module _ (s s' : State) (t : ℕ) (agree : AgreeOnType s s' t) where
     },
   )
 
-  pub unused_agrees : (number : ℕ) → IsUnusedChunk s t number → IsUnusedChunk s' t number
-  unused_agrees number (object, (chunk, unused)) = (object, (chunk_agrees number object chunk, λ span live. unused span (was_live span live)))
-
-  objects_agree : (numbers gone : List ℕ) → AreObjectsOf s t numbers gone → AreObjectsOf s' t numbers gone
-  objects_agree [] [] are = tt
-  objects_agree [] (object ∷ gone) are = absurd are
-  objects_agree (number ∷ numbers) [] are = absurd are
-  objects_agree (number ∷ numbers) (object ∷ gone) are = (chunk_agrees number object are.0, objects_agree numbers gone are.1)
-
 -- both tell of the same free bytes
 pub bytes_agree : (s s' : State) (t : ℕ) → AgreeOnType s s' t → AreSameBytes (IsFreeInChunk s t) (IsFreeInChunk s' t)
 bytes_agree s s' t agree = record { to = free_agrees s s' t agree; from = free_agrees s' s t (agree_back s s' t agree) }
 
-pub goes_agrees : (s s' : State) (t : ℕ) → AgreeOnType s s' t → (keep_last : Bool) (number : ℕ) → MayGo s t keep_last number → MayGo s' t keep_last number
-goes_agrees s s' t agree keep_last number (unused, beside) = (
-  unused_agrees s s' t agree number unused,
-  λ kept last. beside kept (last.0, (last_run_same (bytes_agree s' s t (agree_back s s' t agree)) last.0 last.1.0, last.1.1)),
-)
+goes_agrees : (s s' : State) (t : ℕ) → AgreeOnType s s' t → (keep_last : Bool) (number object : ℕ) → MayGo s t keep_last number object → MayGo s' t keep_last number object
+goes_agrees s s' t agree keep_last number object may = record {
+  chunk = chunk_agrees s s' t agree number object may.chunk;
+  unused = λ span live. may.unused span (was_live s s' t agree span live);
+  not_last = λ kept last. may.not_last kept (last.0, (last_run_same (bytes_agree s' s t (agree_back s s' t agree)) last.0 last.1.0, last.1.1));
+}
 
 -- what goes of one goes of the other
 pub gone_agrees : (s s' : State) (t : ℕ) → AgreeOnType s s' t → (keep_last : Bool) (gone : List ℕ) → AreChunksGone s t keep_last gone → AreChunksGone s' t keep_last gone
-gone_agrees s s' t agree keep_last gone (numbers, (rising, (all, objects))) = (
-  numbers,
-  (
-    rising,
-    (
-      λ number. (
-        (λ has. goes_agrees s s' t agree keep_last number ((all number).0 has)),
-        (λ goes. (all number).1 (goes_agrees s' s t (agree_back s s' t agree) keep_last number goes)),
-      ),
-      objects_agree s s' t agree numbers gone objects,
-    ),
-  ),
-)
+gone_agrees s s' t agree keep_last gone chunks =
+    let back = agree_back s s' t agree in
+    record {
+      rising = λ i j d m n before within first second. chunks.rising i j d m n before within (chunk_agrees s' s t back m (get_or gone i d) first) (chunk_agrees s' s t back n (get_or gone j d) second);
+      all = λ object. (
+        (λ has. let may = (chunks.all object).0 has in (may.0, goes_agrees s s' t agree keep_last may.0 object may.1)),
+        (λ (number, may). (chunks.all object).1 (number, goes_agrees s' s t back keep_last number object may)),
+      );
+    }
 
 -- Some objects of another memory type fewer.
 
@@ -177,16 +207,6 @@ agree_without s s' t gone held live other = record {
 
 -- What went of each memory type before one.
 
--- each object that goes is a held chunk
-pub objects_held : (s : State) (t : ℕ) (numbers gone : List ℕ) → AreObjectsOf s t numbers gone → (object : ℕ) → Contains gone object → (number : ℕ) × IsListChunk s t number object
-objects_held s t [] [] are object has = absurd (contains_none object has)
-objects_held s t [] (name ∷ gone) are object has = absurd are
-objects_held s t (number ∷ numbers) [] are object has = absurd are
-objects_held s t (number ∷ numbers) (name ∷ gone) are object has = elim (contains_cases name object gone has) [
-  | inl same ↦ (number, subst (IsListChunk s t number) (sym same) are.0)
-  | inr rest ↦ objects_held s t numbers gone are.1 object rest
-]
-
 -- each is of an earlier memory type
 pub earlier_type : (s : State) (t : ℕ) (gone : List ℕ) → AreAllGone s t gone → (object : ℕ) (h : HeldObject) → Contains gone object → finite.get s.held object ≡ Some h → h.memory_type < t
 earlier_type s zero gone none object h has is = absurd (contains_none object (subst (λ names. Contains names object) none has))
@@ -194,7 +214,7 @@ earlier_type s (suc t) gone (earlier, own, both, all, chunks) object h has is =
     elim (Contains-append_cases earlier own object (subst (λ names. Contains names object) both has)) [
       | inl before ↦ omega (arith, earlier_type s t earlier all object h before is)
       | inr now ↦
-          let of = (objects_held s t chunks.0 own chunks.1.1.1 object now).1 in
+          let of = ((chunks.all object).0 now).1.chunk in
           omega (arith, ap (λ (x : HeldObject). x.memory_type) (one_value _ h of.chunk is of.held), of.of_type)
     ]
 
