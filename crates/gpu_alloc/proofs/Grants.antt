@@ -15,13 +15,12 @@ use Rattle.gpu_alloc_buddy.specs.BuddyState.{Buddy}
 use Rattle.gpu_alloc_freelist.specs.FreeListState.{Listing}
 use Rattle.gpu_alloc.specs.Inside.{state_in}
 use Rattle.gpu_alloc.specs.Spans.{Table}
-use Rattle.gpu_alloc.specs.State.{State, HeldObject, Span, Block, IsLive, span_of, total}
+use Rattle.gpu_alloc.specs.State.{State, HeldObject, Span, Block, IsLive, span_of}
 use Rattle.gpu_alloc.specs.declared.limits.Limits.{Limits}
 use Rattle.gpu_alloc.specs.declared.block.Kind.TheVariants.{Dedicated as DedicatedObject}
 use Rattle.gpu_alloc_base.specs.declared.heap.Heap.{Heap}
 use Rattle.gpu_alloc.specs.declared.request.Request.{Request}
 use Rattle.gpu_alloc.proofs.HeapLists.{state_kept}
-use Rattle.gpu_alloc_base.proofs.Sums.{len_more}
 use Rattle.gpu_alloc.proofs.Tables.LiveSpans.{live_new}
 
 -- the object of a block that is an object of its own
@@ -69,7 +68,3 @@ granted s r memory_type object free live = record {
       where
         itself : (a : ℕ) → eq_by_cmp nat_cmp a a ≡ true
         itself a = grind (arith, nat_tests)
-
--- as many are held or may be as before
-pub total_held : (s : State) (h : HeldObject) (b : Block) → 0 < s.remaining → finite.get s.held b.object ≡ None → total (holding s h b) ≡ total s
-total_held s h b some free = omega (arith, len_more s.held b.object h free)

@@ -1,9 +1,9 @@
 -- What the return of a block leaves.
-use Rattle.std.proofs.Common.{◌≡◌, inl, inr, false, ℕ, ◌+◌, List, [], ◌∷◌, length, get_or, Some, refl, sym, ◌∙◌, ap, subst, arith}
+use Rattle.std.proofs.Common.{◌≡◌, inl, inr, false, ℕ, ◌+◌, List, [], ◌∷◌, length, get_or, Some, refl, sym, ◌∙◌, ap, subst}
 use Rattle.std.proofs.Math.ListN.{set}
 use Rattle.std.specs.FinMap as finite
 use Rattle.std.specs.FinSet as set_of
-use Rattle.gpu_alloc.specs.State.{State, HeldObject, Span, Block, IsOwned, is_shared, span_of, total}
+use Rattle.gpu_alloc.specs.State.{State, HeldObject, Span, Block, IsOwned, is_shared, span_of}
 use Rattle.gpu_alloc.specs.Spans.{Table, held_of, span_at}
 use Rattle.gpu_alloc_buddy.specs.BuddyState.{Buddy}
 use Rattle.gpu_alloc_freelist.specs.FreeListState.{Listing}
@@ -16,7 +16,6 @@ use Rattle.gpu_alloc_base.specs.declared.heap.Heap.{Heap}
 use Rattle.gpu_alloc.specs.declared.spans.HeldRow.{HeldRow}
 use Rattle.gpu_alloc.proofs.Consistency.{HoldsFewer, known_object, whole_last}
 use Rattle.gpu_alloc.proofs.HeapLists.{state_kept}
-use Rattle.gpu_alloc_base.proofs.Sums.{len_less}
 
 -- the state without a block that was an object of its own
 abbrev pub returned : State → Block → State
@@ -79,7 +78,3 @@ pub state_returned : {A : Type 0} (l : Limits A) (heaps : List Heap) (buddies : 
 state_returned l heaps buddies lists i h old t now remaining b at same held live =
     state_kept l heaps buddies lists i h old now (remaining + 1) at same
     ∙ (λ k. record (state_in l heaps buddies lists t remaining) { held = held k; live = live k; remaining = remaining + 1 })
-
--- as many are held or may be as before
-pub total_returned : (s : State) (b : Block) (h : HeldObject) → finite.get s.held b.object ≡ Some h → total (returned s b) ≡ total s
-total_returned s b h is = omega (arith, len_less s.held b.object h is)

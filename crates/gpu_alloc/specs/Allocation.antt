@@ -84,8 +84,8 @@ abbrev pub TriesAll : State → Request → Option Dedicated → List ℕ → Li
     → Type 0
 TriesAll s r hint [] es answer new = (es ≡ []) × (answer ≡ Err OutOfDeviceMemory) × (new ≡ s)
 TriesAll s r hint (t ∷ ts) es answer new =
-    ((first rest : List Event) × (es ≡ first ++ rest) × IsPassed s r hint t first × TriesAll s r hint ts rest answer
-    new)
+    ((first rest : List Event) × (es ≡ first ++ rest) × IsPassed s r hint t first
+    × TriesAll s r hint ts rest answer new)
     ⊎ Decides s r hint t es answer new
 
 -- nothing is asked, and nothing changes

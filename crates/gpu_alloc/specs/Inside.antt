@@ -72,7 +72,7 @@ pub record IsKnown (t : Table) (p : Properties) (object : ℕ) (h : HeldObject) 
   pub of_type : h.memory_type < length p.memory_types
   pub of_kind : ((h.kind ≡ Dedicated) × IsLiveIn t (whole_span object h)) ⊎ (is_shared h.kind ≡ true)
 
--- a live span is not empty and of a held object, and the whole of one that is held for it alone
+-- a live span is not empty and of a held object, and the whole of one that was made for it alone
 pub record IsOfObject (t : Table) (span : Span) : Type 0 where
   pub nonempty : 0 < span.size
   pub object : HeldObject

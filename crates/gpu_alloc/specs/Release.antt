@@ -1,5 +1,6 @@
 -- How a block comes back.
-use Rattle.std.specs.Prelude.{◌≡◌, ◌≢◌, ◌⊎◌, ◌↔◌, ℕ, zero, suc, ◌+◌, ◌<◌, Bool, true, false, List, [], ◌∷◌, ◌++◌, length, get_or}
+use Rattle.std.specs.Prelude.{◌≡◌, ◌≢◌, ◌⊎◌, ◌↔◌, ℕ, zero, suc, ◌+◌, ◌<◌, Bool, true, false, List, [], ◌∷◌, ◌++◌}
+use Rattle.std.specs.Prelude.{length, get_or}
 use Rattle.std.specs.Prelude.{map, Option, Some, None}
 use Rattle.std.specs.List.{Contains}
 use Rattle.std.specs.FinMap as finite
@@ -44,8 +45,8 @@ LetsGo s gone es new =
 abbrev pub HasLastRun : State → ℕ → ℕ → Type 0
 HasLastRun s t number = (r : FreeListRegion) × (IsLastRun (IsFreeInChunk s t) r × (r.chunk ≡ number))
 
--- the object is the chunk of this number, and may go: nothing in it is live, and it is not that of the last run where
--- this one is kept
+-- the object is the chunk of this number, and may go: nothing in it is live, and where the last run's chunk is kept it
+-- is another one
 pub record MayGo (s : State) (t : ℕ) (keep_last : Bool) (number object : ℕ) : Type 0 where
   pub chunk : IsListChunk s t number object
   pub unused : IsUnused s object

@@ -5,4 +5,5 @@ pub use Rattle.gpu_alloc_base.specs.declared.error.AllocationError
 pub use Rattle.gpu_alloc_base.specs.declared.error.MapError
 pub use Rattle.gpu_alloc_base.specs.declared.free_list_block.Slot
 pub use Rattle.gpu_alloc_base.specs.declared.heap.Heap
+pub use Rattle.gpu_alloc_base.specs.declared.piece.Piece
 pub use Rattle.gpu_alloc_base.specs.declared.region.FreeListRegion

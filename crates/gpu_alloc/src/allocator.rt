@@ -595,7 +595,6 @@ impl<M: MemoryObject, A: Allocator> GpuAllocator<M, A> {
         ensures freed { (es : List Event) × Chain D.step device.old es device.new × Frees self.old block es self.new }
         ensures objects { ObjectsFreed self.old block (D.objects device.old) (D.objects device.new) }
         ensures agrees { Agrees self.new (D.properties device.new) (D.objects device.new) }
-        ensures total { total self.new ≡ total self.old }
         ensures sound { Sound.IsSound self.new }
     {
         let (key, offset, size) = (block.key(), block.offset(), block.size());
@@ -618,7 +617,6 @@ impl<M: MemoryObject, A: Allocator> GpuAllocator<M, A> {
         ensures freed { (es : List Event) × Chain D.step device.old es device.new × Frees self.old block es self.new }
         ensures objects { ObjectsFreed self.old block (D.objects device.old) (D.objects device.new) }
         ensures agrees { Agrees self.new (D.properties device.new) (D.objects device.new) }
-        ensures total { total self.new ≡ total self.old }
         ensures sound { Sound.IsSound self.new }
     {
         let (key, memory_type) = (block.key(), block.memory_type());
@@ -650,7 +648,6 @@ impl<M: MemoryObject, A: Allocator> GpuAllocator<M, A> {
         ensures freed { (es : List Event) × Chain D.step device.old es device.new × Frees self.old block es self.new }
         ensures objects { ObjectsFreed self.old block (D.objects device.old) (D.objects device.new) }
         ensures agrees { Agrees self.new (D.properties device.new) (D.objects device.new) }
-        ensures total { total self.new ≡ total self.old }
         ensures sound { Sound.IsSound self.new }
     {
         let memory_type = block.memory_type();
@@ -736,8 +733,9 @@ impl<M: MemoryObject, A: Allocator> GpuAllocator<M, A> {
 
     /// Whether a block is live here: its object, span, memory type and kind are. Which allocator made it is not asked.
     ///
-    /// Its contract also tells, of every allocator, that live blocks are apart and lie in their objects, that an object
-    /// of one block has no other, and that no object but a chunk of a free list is held without one.
+    /// Its contract also tells what holds of every allocator between calls (`sound`): live spans are not empty and
+    /// share no byte, each lies in its object as the object's kind says, an object of one block has no other, no object
+    /// but a chunk of a free list is held without one, and the chunks of a free list have numbers of their own.
     pub fn owns(&self, block: &MemoryBlock<M>) -> bool
         ensures owned { IsTrue result ↔ IsOwned self.now block.now }
         ensures sound { Sound.IsSound self.now }

@@ -130,22 +130,22 @@ pub fn shared_chunks_of_samples()
 /// First chunk sizes: of both defaults, of a small heap with an atom, and of a minimum above the initial size.
 #[tactic(auto, unfolding(gpu_alloc_base::specs::Sizes::doubled_up))]
 pub fn first_sizes_of_samples()
-    ensures potato { first_types potato (one_type 1048576 1 1) ≡ record
-        { next_chunk = 8192; list_chunk = 8192; number = 0 } ∷ [] }
+    ensures potato { first_types potato (one_type 1048576 1 1)
+        ≡ record { next_chunk = 8192; list_chunk = 8192; number = 0 } ∷ [] }
     ensures potato_final { final_size potato 1048576 1 ≡ 32768 }
     ensures potato_minimal { minimal_size potato 1048576 ≡ 1 }
-    ensures prototyping { first_types prototyping (one_type 4294967296 1 1) ≡ record
-        { next_chunk = 8388608; list_chunk = 8388608; number = 0 } ∷ [] }
+    ensures prototyping { first_types prototyping (one_type 4294967296 1 1)
+        ≡ record { next_chunk = 8388608; list_chunk = 8388608; number = 0 } ∷ [] }
     ensures prototyping_final { final_size prototyping 4294967296 1 ≡ 134217728 }
-    ensures atoms { first_types potato (one_type 3200 2 64) ≡ record { next_chunk = 128; list_chunk = 64; number = 0 } ∷
-        [] }
-    ensures one_atom { first_types potato (one_type 1024 2 64) ≡ record { next_chunk = 32; list_chunk = 64; number = 0 }
-        ∷ [] }
+    ensures atoms { first_types potato (one_type 3200 2 64)
+        ≡ record { next_chunk = 128; list_chunk = 64; number = 0 } ∷ [] }
+    ensures one_atom { first_types potato (one_type 1024 2 64)
+        ≡ record { next_chunk = 32; list_chunk = 64; number = 0 } ∷ [] }
     ensures one_atom_at_most { final_size potato 1024 64 ≡ 64 }
-    ensures empty_heap { first_types potato (one_type 0 1 1) ≡ record { next_chunk = 1; list_chunk = 1; number = 0 } ∷
-        [] }
-    ensures minimum_wins { first_types (buddy_config 1024 1) (one_type 1048576 1 1) ≡ record
-        { next_chunk = 1024; list_chunk = 1; number = 0 } ∷ [] }
+    ensures empty_heap { first_types potato (one_type 0 1 1)
+        ≡ record { next_chunk = 1; list_chunk = 1; number = 0 } ∷ [] }
+    ensures minimum_wins { first_types (buddy_config 1024 1) (one_type 1048576 1 1)
+        ≡ record { next_chunk = 1024; list_chunk = 1; number = 0 } ∷ [] }
 {}
 
 /// The strategy at its thresholds: exactly at one a request has an object of its own.

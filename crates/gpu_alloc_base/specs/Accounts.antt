@@ -39,8 +39,8 @@ pub record IsCounted (chunks : HeldChunks) (heap : Heap) (remaining : ℕ) : Typ
 
 -- Device and allocator: the device has the memory type with its properties, and holds each chunk, mapped whole where
 -- the host sees it.
-pub record Agrees (memory_type props : ℕ) (chunks : HeldChunks) (p : Properties) (objects : ℕ → Option Object) : Type
-    0 where
+pub record Agrees (memory_type props : ℕ) (chunks : HeldChunks) (p : Properties)
+    (objects : ℕ → Option Object) : Type 0 where
   pub known : memory_type < length p.memory_types
   pub same : props_at p memory_type ≡ props
   pub holds : (key : ℕ) → IfSome (map.get chunks key)

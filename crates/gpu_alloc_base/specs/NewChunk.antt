@@ -17,8 +17,7 @@ use Rattle.gpu_alloc_base.specs.declared.error.AllocationError.TheVariants.{NoCo
 abbrev pub flags_of : Properties → ℕ
 flags_of p = cond p.buffer_device_address 1 0
 
--- what is asked for: so many bytes of a memory type with these flags, and whether the object is then mapped whole, as
--- it is where the host sees that type
+-- what is asked for: so many bytes of a memory type with these flags, and whether the object is then mapped whole
 pub record ChunkQuestion : Type 0 where
   pub size : ℕ
   pub memory_type : ℕ
@@ -33,7 +32,7 @@ chunk_question size memory_type flags mapped =
 abbrev pub whole_of : ChunkQuestion → ℕ → Range
 whole_of q object = record { object = object; offset = 0; size = q.size }
 
--- the object was granted, and mapped whole where the host sees it
+-- the object was granted, and mapped whole where the question says so
 abbrev pub made : ChunkQuestion → ℕ → List Event
 made q object =
     Allocated q.size q.memory_type q.flags (Ok object) ∷ cond q.mapped (Mapped (whole_of q object) (Ok tt) ∷ []) []
@@ -41,8 +40,8 @@ made q object =
 -- the object was granted, its mapping refused, and the object given back
 abbrev pub unmapped : ChunkQuestion → ℕ → DeviceMapError → List Event
 unmapped q object cause =
-    Allocated q.size q.memory_type q.flags (Ok object) ∷ Mapped (whole_of q object) (Err cause) ∷ Deallocated
-    object ∷ []
+    Allocated q.size q.memory_type q.flags (Ok object)
+    ∷ Mapped (whole_of q object) (Err cause) ∷ Deallocated object ∷ []
 
 -- the device answered that it has no memory of its own for the object, or none for its mapping
 abbrev pub LacksDeviceMemory : ChunkQuestion → List Event → Type 0
@@ -91,7 +90,7 @@ AsksBlock q es (Err OutOfHostMemory) = LacksHostMemory q es ⊎ IsGivenBack q es
 AsksBlock q es (Err NoCompatibleMemoryTypes) = ⊥
 AsksBlock q es (Err TooManyObjects) = ⊥
 
--- a new object, and what is mapped of it: all where the host sees it
+-- a new object, and what is mapped of it: all where the question says so
 pub record IsChunkObject (q : ChunkQuestion) (o : Object) : Type 0 where
   pub of_type : o.memory_type ≡ q.memory_type
   pub of_size : o.size ≡ q.size

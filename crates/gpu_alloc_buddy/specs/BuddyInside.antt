@@ -14,7 +14,7 @@ use Rattle.gpu_alloc_base.specs.Leaves.{leaf_cmp}
 use Rattle.gpu_alloc_base.specs.Chunks.{Chunk}
 use Rattle.gpu_alloc_base.specs.declared.buddy_block.Leaf.{Leaf}
 use Rattle.gpu_alloc_base.specs.declared.piece.Piece.{Piece}
-use Rattle.gpu_alloc_buddy.specs.declared.buddy.NewChunk.{NewChunk}
+use Rattle.gpu_alloc_buddy.specs.declared.buddy.AskedChunk.{AskedChunk}
 
 -- a list of live blocks as a set
 abbrev pub leaf_set : List Leaf → set.FinSet leaf_cmp
@@ -25,7 +25,7 @@ abbrev pub chunks_in : {T : Type 0} → (T → ℕ) → (T → ℕ) → Slab T �
 chunks_in object order chunks = by_key (λ c. record { object = object c; size = 2 ^ order c }) chunks
 
 -- what the device is asked for a chunk
-abbrev pub question_of : NewChunk → ChunkQuestion
+abbrev pub question_of : AskedChunk → ChunkQuestion
 question_of asked =
     record {
       size = 2 ^ asked.order;

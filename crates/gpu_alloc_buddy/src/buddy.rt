@@ -10,7 +10,8 @@ ghost use Rattle.gpu_alloc_types.specs.Device.{Event, Chain, IsAskable};
 ghost use Rattle.gpu_alloc_types.specs.Properties.{is_host_visible};
 ghost use Rattle.std.specs.Int.{is_power_of_two};
 ghost use Rattle.std.specs.Result.{result_map_both};
-ghost use Rattle.gpu_alloc_buddy.specs.Buddy.{IsUnusedChunk, without_leaf, opened, rounded, buddy_case, case_of, Allocates, HasPlace, TakesPlace};
+ghost use Rattle.gpu_alloc_buddy.specs.Buddy.{IsUnusedChunk, without_leaf, opened, rounded, buddy_case, case_of};
+ghost use Rattle.gpu_alloc_buddy.specs.Buddy.{Allocates, HasPlace, TakesPlace};
 ghost use Rattle.gpu_alloc_buddy.specs.Buddy.{Frees, ObjectsFreed, IsGranted, with_leaf, with_chunk, Agrees};
 ghost use Rattle.gpu_alloc_buddy.specs.Buddy.{ObjectsAfter};
 ghost use Rattle.gpu_alloc_base.specs.Accounts.{account, IsCounted, chunks_and_remaining};
@@ -47,7 +48,7 @@ struct Chunk<M: MemoryObject> {
 
 /// What is asked for a chunk: its size as a power of two, its memory type, the flags, and whether the host sees it.
 #[derive(Clone, Copy)]
-struct NewChunk {
+struct AskedChunk {
     order: u32,
     memory_type: u32,
     flags: AllocationFlags,
@@ -252,8 +253,8 @@ impl<M: MemoryObject, A: Allocator> BuddyAllocator<M, A> {
         self.give_back(device, block, heap, allocations_remains);
     }
 
-    /// Takes a block back as [`dealloc`](BuddyAllocator::dealloc) does, and tells whether its chunk went back to the device.
-    /// It is public for `gpu_alloc`, which takes that object off its books then.
+    /// Takes a block back as [`dealloc`](BuddyAllocator::dealloc) does, and tells whether its chunk went back to the
+    /// device. It is public for `gpu_alloc`, which takes that object off its books then.
     pub fn give_back<D: MemoryDevice<M>>(
         &mut self,
         device: &mut D,
@@ -428,7 +429,7 @@ impl<M: MemoryObject, A: Allocator> BuddyAllocator<M, A> {
         let chunk_order = self.next_order.max(order + 1);
         let size = bytes(chunk_order);
         let visible = self.props.intersects(MemoryPropertyFlags::HOST_VISIBLE);
-        let asked = NewChunk {
+        let asked = AskedChunk {
             order: chunk_order,
             memory_type: self.memory_type,
             flags,
@@ -460,7 +461,7 @@ fn ask_chunk<M: MemoryObject, A: Allocator, D: MemoryDevice<M>>(
     pieces: &mut Vec<Piece, A>,
     live: &mut Vec<Leaf, A>,
     device: &mut D,
-    asked: NewChunk,
+    asked: AskedChunk,
     order: u32,
 ) -> Result<BuddyBlock<M>, AllocationError>
     requires order { order < asked.order }

@@ -300,11 +300,8 @@ impl Flags for MemoryPropertyFlags {
 
     ghost exact = { ⊤ };
 
-    ghost table = { (codes "DEVICE_LOCAL", 1) ∷ (codes "HOST_VISIBLE", 2) ∷ (codes "HOST_COHERENT", 4) ∷ (
-      codes
-          "HOST_CACHED",
-      8,
-    ) ∷ (codes "LAZILY_ALLOCATED", 16) ∷ (codes "PROTECTED", 32) ∷ [] };
+    ghost table = { (codes "DEVICE_LOCAL", 1) ∷ (codes "HOST_VISIBLE", 2) ∷ (codes "HOST_COHERENT", 4)
+        ∷ (codes "HOST_CACHED", 8) ∷ (codes "LAZILY_ALLOCATED", 16) ∷ (codes "PROTECTED", 32) ∷ [] };
 
     ghost set_of = { property_bits };
 

@@ -300,11 +300,8 @@ impl Flags for UsageFlags {
 
     ghost exact = { ⊤ };
 
-    ghost table = { (codes "FAST_DEVICE_ACCESS", 1) ∷ (codes "HOST_ACCESS", 2) ∷ (codes "DOWNLOAD", 4) ∷ (
-      codes
-          "UPLOAD",
-      8,
-    ) ∷ (codes "TRANSIENT", 16) ∷ (codes "DEVICE_ADDRESS", 32) ∷ [] };
+    ghost table = { (codes "FAST_DEVICE_ACCESS", 1) ∷ (codes "HOST_ACCESS", 2) ∷ (codes "DOWNLOAD", 4)
+        ∷ (codes "UPLOAD", 8) ∷ (codes "TRANSIENT", 16) ∷ (codes "DEVICE_ADDRESS", 32) ∷ [] };
 
     ghost set_of = { usage_bits };
 

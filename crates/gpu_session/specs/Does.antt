@@ -44,19 +44,19 @@ Serves old Counts es reply new = ⊥
 Serves old (Never never marker) es reply new = ⊥
 
 -- what the device is asked by a command that then finds no host memory: nothing
-abbrev pub IsGivenBack : {A : Type 0} → Command A → List Event → Type 0
-IsGivenBack (Dedicated name request dedicated) es = es ≡ []
-IsGivenBack (Free name) es = es ≡ []
-IsGivenBack Counts es = es ≡ []
-IsGivenBack (Never never marker) es = es ≡ []
+abbrev pub AsksNothing : {A : Type 0} → Command A → List Event → Type 0
+AsksNothing (Dedicated name request dedicated) es = es ≡ []
+AsksNothing (Free name) es = es ≡ []
+AsksNothing Counts es = es ≡ []
+AsksNothing (Never never marker) es = es ≡ []
 
 -- A fault changes nothing: it is the first missed condition, or want of host memory where none is missed.
 abbrev pub Faults : {A : Type 0} → Books → Command A → List Event → Fault → Books → Type 0
 Faults old command es fault new =
     (new ≡ old)
     × (((first_fault old command ≡ Some fault) × (es ≡ []))
-    ⊎ ((fault ≡ NoMemory) × (first_fault old command ≡ None) × (may_want_memory command ≡ true) × IsGivenBack command
-    es))
+    ⊎ ((fault ≡ NoMemory) × (first_fault old command ≡ None) × (may_want_memory command ≡ true)
+    × AsksNothing command es))
 
 abbrev pub Does : {A : Type 0} → Books → Command A → List Event → Reply A → Books → Type 0
 Does old command es (Faulty fault) new = Faults old command es fault new

@@ -26,7 +26,7 @@ pub fn askable_is_without_fault()
     ensures { (address : Bool) (r : Request) → (fault_of_request address r ≡ None) ↔ IsAskable address r }
 {}
 
-/// A step of a sound session keeps how many objects are held or may still be: no command that there is changes that number.
+/// A step of a sound session keeps how many objects are held or may still be: none of today's commands changes that.
 pub fn steps_keep_the_total<M: MemoryObject, D: MemoryDevice<M>, A: Allocator>()
     ensures { (old new : SessionState D) (command : ACommand A) (reply : AReply A)
         → IsSound (D.properties old.device) (D.objects old.device) old.books → Step D.step old command reply new

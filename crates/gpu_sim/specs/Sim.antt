@@ -62,8 +62,7 @@ abbrev pub asked_to_allocate : SimState → ℕ → ℕ → ℕ → SimState
 asked_to_allocate s size memory_type flags =
     record s {
       asked = with_at s.asked Allocate (counted s.asked.allocate);
-      last_allocation = Some
-          (size, (memory_type, flags));
+      last_allocation = Some (size, (memory_type, flags));
     }
 
 -- the device, once it was asked to map and before it answers

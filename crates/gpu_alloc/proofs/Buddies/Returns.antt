@@ -21,7 +21,7 @@ use Rattle.gpu_alloc.specs.Release.{Frees, ObjectsFreed, GoesWith, IsUnused, wit
 use Rattle.gpu_alloc.specs.FirstTypes.{first_types}
 use Rattle.gpu_alloc.specs.Sound.{is_list_chunk}
 use Rattle.gpu_alloc.specs.Spans.{Table, span_in, place_in, without_old}
-use Rattle.gpu_alloc.specs.State.{HeldObject, Span, span_cmp, span_of, Block, IsOwned, State, total}
+use Rattle.gpu_alloc.specs.State.{HeldObject, Span, span_cmp, span_of, Block, IsOwned, State}
 use Rattle.gpu_alloc.specs.declared.block.Kind.{Kind}
 use Rattle.gpu_alloc.specs.declared.block.Kind.TheVariants.{BuddyChunk}
 use Rattle.gpu_alloc_base.specs.declared.buddy_block.Leaf.{Leaf}
@@ -37,7 +37,7 @@ use Rattle.gpu_alloc.proofs.HeapLists.{properties_kept, state_kept}
 use Rattle.gpu_alloc.proofs.Ledgers.{Held}
 use Rattle.gpu_alloc.proofs.Buddies.Links.{IsBeside, HasLeafLess, linked_without_leaf, linked_without_chunk}
 use Rattle.gpu_alloc.proofs.Tables.LiveSpans.{span_test, live_kept, live_other}
-use Rattle.gpu_alloc.proofs.Returns.{returned, total_returned}
+use Rattle.gpu_alloc.proofs.Returns.{returned}
 use Rattle.gpu_alloc.proofs.Buddies.Served.{buddy_agrees, unused_is, unused_was}
 use Rattle.gpu_alloc.proofs.Buddies.Serving.{Serves}
 use Rattle.gpu_alloc.proofs.Buddies.Grants.{same_set, serves, buddy_of, same_for, counted_before}
@@ -257,7 +257,6 @@ module _ {A : Type 0} {l : Limits A} {heaps : List Heap} {buddies : List Buddy} 
       pub frees : Frees before block es (state_of a)
       pub freed : ObjectsFreed before block old new
       pub agreed : agreement.Agrees (state_of a) r new
-      pub whole : total (state_of a) ≡ total before
 
     module _ (came : Came) where
       held_as : (asked : Bool) → with_chunk ≡ asked → now.held ≡ without_old t.held block.object asked
@@ -279,7 +278,6 @@ module _ {A : Type 0} {l : Limits A} {heaps : List Heap} {buddies : List Buddy} 
             freed = ([], with_it, same_objects);
             agreed = subst (λ o. agreement.Agrees (state_of (account (without_leaf b leaf) heap remaining)) r o) (sym same_objects)
                 (subst (λ x. agreement.Agrees x r old) (sym state) (agrees_without_span before q r old block came.agrees came.properties));
-            whole = ap total state;
           })
 
       -- its chunk goes with it
@@ -302,7 +300,6 @@ module _ {A : Type 0} {l : Limits A} {heaps : List Heap} {buddies : List Buddy} 
             freed = (block.object ∷ [], with_it, object_gone);
             agreed = subst (λ x. agreement.Agrees x r new) (sym state)
                 (agrees_returned before (returned before block) q r old new block came.agrees came.properties object_gone refl refl (λ span is. (live_other t.live (span_of block) span is).1));
-            whole = ap total state ∙ total_returned before block chunk_row (ap (finite.get t.held) object_is ∙ found);
           })
 
       pub back : IsReturned after

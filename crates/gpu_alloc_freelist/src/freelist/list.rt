@@ -1,6 +1,7 @@
 //! A free list: chunks of memory by number, their free runs, and the blocks that are live in them.
 
-ghost use Rattle.std.specs.Prelude.{◌≡◌, ◌≤◌, ◌<◌, ◌+◌, ◌↔◌, ℕ, List, length, slice_get, false, Some, None, IfSome};
+ghost use Rattle.std.specs.Prelude.{◌≡◌, ◌⊎◌, ◌≤◌, ◌<◌, ◌+◌, ◌↔◌, ℕ, List, length, slice_get, false, Some, None};
+ghost use Rattle.std.specs.Prelude.{IfSome};
 ghost use Rattle.std.specs.Prelude.{IfNone, IfOk, IfErr, OnOk, OnErr, IsOk, IsSome, IsTrue, MatchOption, vec_len};
 ghost use Rattle.std.specs.Prelude.{vec_capacity};
 ghost use Rattle.std.specs.FinMap as map;
@@ -406,7 +407,10 @@ fn first_whole<M: MemoryObject>(
 }
 
 /// Whether a block comes before another one: by chunk number, then by where each starts.
-fn is_before(slot: &Slot, other: &Slot) -> bool {
+fn is_before(slot: &Slot, other: &Slot) -> bool
+    ensures { IsTrue result ↔ (slot.now.chunk < other.now.chunk)
+        ⊎ ((slot.now.chunk ≡ other.now.chunk) × (slot.now.offset < other.now.offset)) }
+{
     (slot.chunk, slot.offset) < (other.chunk, other.offset)
 }
 

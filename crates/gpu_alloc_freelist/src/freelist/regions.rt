@@ -64,8 +64,7 @@ pub(super) fn tail_of(region: FreeListRegion, object: u64, size: u64, align_mask
     ensures { result ≡ record {
       object = object;
       chunk = region.chunk;
-      offset = tail_start size (align_mask + 1)
-          region.end;
+      offset = tail_start size (align_mask + 1) region.end;
       size = region.end - tail_start size (align_mask + 1) region.end;
     } }
 {

@@ -263,8 +263,8 @@ fn reached_in_hole(
 }
 
 /// Each request for host memory is refused in turn, as the hole grows by 8 bytes until the block is granted. Once there
-/// is an object only its second handle is wanted, which two holes are too small for: all room was made before the
-/// question.
+/// is an object only its second handle is wanted, so two sizes of the hole at most come that far: all room was made
+/// before the question.
 fn compare_wants(rt: &impl Abort, alloc: Global, request: Request) -> Result<(), Fail> {
     let mut nothing = 0u32;
     let mut question = 0u32;

@@ -278,7 +278,7 @@ const HIDDEN: [MemoryType; 1] = [MemoryType {
 }];
 
 #[test]
-fn a_device_local_object_may_be_of_any_size(rt: HostRuntime) -> Result<(), Fail> {
+fn a_device_local_object_may_be_of_2_to_the_63_bytes(rt: HostRuntime) -> Result<(), Fail> {
     let props = DeviceProperties {
         memory_types: &HIDDEN,
         memory_heaps: &HEAPS,

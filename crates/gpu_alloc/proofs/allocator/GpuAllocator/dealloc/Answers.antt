@@ -1,3 +1,4 @@
+use Rattle.gpu_alloc.proofs.ReturnedTotals.{frees_total}
 use Rattle.gpu_alloc.proofs.allocator.GpuAllocator.dealloc.Goals as goal
 
 pub returns-in-Dedicated-clause-freed : goal.returns-in-Dedicated-clause-freed
@@ -10,7 +11,7 @@ pub returns-in-Dedicated-clause-agrees : goal.returns-in-Dedicated-clause-agrees
 returns-in-Dedicated-clause-agrees g c = c.dealloc_object.ensures.agrees
 
 pub returns-in-Dedicated-clause-total : goal.returns-in-Dedicated-clause-total
-returns-in-Dedicated-clause-total g c = c.dealloc_object.ensures.total
+returns-in-Dedicated-clause-total g c = frees_total c.args.self.now c.args.block _ _ c.requires.owned c.dealloc_object.ensures.freed.2
 
 pub returns-in-BuddyChunk-clause-freed : goal.returns-in-BuddyChunk-clause-freed
 returns-in-BuddyChunk-clause-freed g c = c.dealloc_in_chunk.ensures.freed
@@ -22,7 +23,7 @@ pub returns-in-BuddyChunk-clause-agrees : goal.returns-in-BuddyChunk-clause-agre
 returns-in-BuddyChunk-clause-agrees g c = c.dealloc_in_chunk.ensures.agrees
 
 pub returns-in-BuddyChunk-clause-total : goal.returns-in-BuddyChunk-clause-total
-returns-in-BuddyChunk-clause-total g c = c.dealloc_in_chunk.ensures.total
+returns-in-BuddyChunk-clause-total g c = frees_total c.args.self.now c.args.block _ _ c.requires.owned c.dealloc_in_chunk.ensures.freed.2
 
 pub returns-in-FreeListChunk-clause-freed : goal.returns-in-FreeListChunk-clause-freed
 returns-in-FreeListChunk-clause-freed g c = c.dealloc_in_list.ensures.freed
@@ -34,4 +35,4 @@ pub returns-in-FreeListChunk-clause-agrees : goal.returns-in-FreeListChunk-claus
 returns-in-FreeListChunk-clause-agrees g c = c.dealloc_in_list.ensures.agrees
 
 pub returns-in-FreeListChunk-clause-total : goal.returns-in-FreeListChunk-clause-total
-returns-in-FreeListChunk-clause-total g c = c.dealloc_in_list.ensures.total
+returns-in-FreeListChunk-clause-total g c = frees_total c.args.self.now c.args.block _ _ c.requires.owned c.dealloc_in_list.ensures.freed.2

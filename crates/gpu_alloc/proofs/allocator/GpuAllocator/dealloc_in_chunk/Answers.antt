@@ -84,8 +84,5 @@ returns-clause-objects g c = rw (← c.self.view_is) ((returned_by g c).freed)
 pub returns-clause-agrees : goal.returns-clause-agrees
 returns-clause-agrees g c = (returned_by g c).agreed
 
-pub returns-clause-total : goal.returns-clause-total
-returns-clause-total g c = rw (← c.self.view_is) ((returned_by g c).whole)
-
 pub returns-clause-sound : goal.returns-clause-sound
 returns-clause-sound g c = sound_is c.self.inside.limits _ _ _ _ _ (returned_by g c).consistent

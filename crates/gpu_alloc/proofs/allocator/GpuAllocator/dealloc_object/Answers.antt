@@ -6,14 +6,14 @@ use Rattle.gpu_alloc_types.specs.Device.Event.{Deallocated}
 use Rattle.gpu_alloc.specs.Agreement.{Agrees}
 use Rattle.gpu_alloc.specs.Inside.{state_in}
 use Rattle.gpu_alloc.specs.Spans.{held_of, span_at}
-use Rattle.gpu_alloc.specs.State.{State, HeldObject, Span, IsOwned, span_of, total}
+use Rattle.gpu_alloc.specs.State.{State, HeldObject, Span, IsOwned, span_of}
 use Rattle.gpu_alloc_base.specs.declared.heap.Heap.{Heap}
 use Rattle.gpu_alloc.proofs.Agreeing.{agrees_returned}
 use Rattle.gpu_alloc.proofs.Consistency.{covers, fits_again}
 use Rattle.gpu_alloc.proofs.HeapLists.{properties_kept}
 use Rattle.gpu_alloc.proofs.Tables.LiveSpans.{live_other}
 use Rattle.gpu_alloc.proofs.OwnObjects.{consistent-gone}
-use Rattle.gpu_alloc.proofs.Returns.{IsWholeBlock, returned, goes_with, owned_whole, let_go, state_returned, total_returned}
+use Rattle.gpu_alloc.proofs.Returns.{IsWholeBlock, returned, goes_with, owned_whole, let_go, state_returned}
 use Rattle.gpu_alloc.proofs.allocator.GpuAllocator.dealloc_object.Given.{Over}
 use Rattle.gpu_alloc.proofs.allocator.GpuAllocator.dealloc_object.Goals as goal
 
@@ -82,6 +82,3 @@ returns-clause-agrees g c =
     let same = g.met.D.MemoryDevice.keeps_properties _ _ _ c.deallocate_memory.ensures in
     subst (λ s. Agrees s (g.D.MemoryDevice.properties c.deallocate_memory.new.self) (g.D.MemoryDevice.objects c.deallocate_memory.new.self)) (sym (left g c))
     (agrees_returned _ _ _ _ _ _ c.args.block agreed same gone refl refl (λ span live. (live_other _ _ span live).1))
-
-pub returns-clause-total : goal.returns-clause-total
-returns-clause-total g c = rw (← c.self.view_is) (ap total (left g c) ∙ total_returned (before g c) c.args.block _ (whole g c).1.found)

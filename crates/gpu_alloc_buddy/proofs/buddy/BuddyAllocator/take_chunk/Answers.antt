@@ -16,7 +16,7 @@ use Rattle.gpu_alloc_base.specs.NewChunk.{made, HasOneChunkMore}
 use Rattle.gpu_alloc_base.specs.Pieces.{AreKept}
 use Rattle.gpu_alloc_base.specs.SlabViews.{by_key}
 use Rattle.gpu_alloc_buddy.specs.declared.buddy.Chunk.{Chunk as HeldChunk}
-use Rattle.gpu_alloc_buddy.specs.declared.buddy.NewChunk.{NewChunk}
+use Rattle.gpu_alloc_buddy.specs.declared.buddy.AskedChunk.{AskedChunk}
 use Rattle.gpu_alloc_base.specs.declared.buddy_block.Leaf.{Leaf}
 use Rattle.gpu_alloc_base.specs.declared.piece.Piece.{Piece}
 use Rattle.gpu_alloc_buddy.proofs.BuddyGrants.{power_order, question_is, chunk_size_is, in_new_chunk_is, other_objects, no_leaf_at, with_chunk_in, stored_with_chunk}
@@ -76,7 +76,7 @@ returns-in-Err-clause-answers g c =
 -- The new chunk, and the block in it.
 
 -- what is asked for, the state before, and the question
-abbrev wanted_chunk : (g : Over) → In-Ok g → NewChunk
+abbrev wanted_chunk : (g : Over) → In-Ok g → AskedChunk
 wanted_chunk g c = record { order = c.max-chunk_order.result; memory_type = c.self.inside.memory_type; flags = c.args.flags; visible = c.intersects-visible.result }
 
 abbrev before : (g : Over) → In-Ok g → Buddy
