@@ -236,12 +236,10 @@ impl<M: MemoryObject, A: Allocator> GpuAllocator<M, A> {
     ) -> Result<MemoryBlock<M>, AllocationError>
         requires askable { IsAskable (self.old.properties).buffer_device_address request }
         requires agrees { Agrees self.old (D.properties device.old) (D.objects device.old) }
-
         ensures decided { (es : List Event) × Chain D.step device.old es device.new
             × Allocates self.old request hint es result self.new }
         ensures objects { ObjectsAfter self.old result self.new (D.objects device.old) (D.objects device.new) }
         ensures agrees { Agrees self.new (D.properties device.new) (D.objects device.new) }
-
         ensures granted { IfOk result (IsGranted self.old request self.new) }
     {
         if request.size > self.max_allocation_size() {
@@ -269,12 +267,10 @@ impl<M: MemoryObject, A: Allocator> GpuAllocator<M, A> {
         requires askable { IsAskable (self.old.properties).buffer_device_address request }
         requires known { All (λ t. t < length (self.old.properties).memory_types) candidates.now }
         requires agrees { Agrees self.old (D.properties device.old) (D.objects device.old) }
-
         ensures tries { (es : List Event) × Chain D.step device.old es device.new
             × TriesAll self.old request hint candidates.now es result self.new }
         ensures objects { ObjectsAfter self.old result self.new (D.objects device.old) (D.objects device.new) }
         ensures agrees { Agrees self.new (D.properties device.new) (D.objects device.new) }
-
         ensures granted { IfOk result (IsGranted self.old request self.new) }
     {
         for &memory_type in candidates {
@@ -297,12 +293,10 @@ impl<M: MemoryObject, A: Allocator> GpuAllocator<M, A> {
         requires askable { IsAskable (self.old.properties).buffer_device_address request }
         requires known { memory_type < length (self.old.properties).memory_types }
         requires agrees { Agrees self.old (D.properties device.old) (D.objects device.old) }
-
         ensures tries { (es : List Event) × Chain D.step device.old es device.new
             × Tries self.old request hint memory_type es result self.new }
         ensures objects { ObjectsTried self.old result self.new (D.objects device.old) (D.objects device.new) }
         ensures agrees { Agrees self.new (D.properties device.new) (D.objects device.new) }
-
         ensures granted { GrantsTried self.old request result self.new }
     {
         if self.heap_size(memory_type) < request.size {
@@ -374,12 +368,10 @@ impl<M: MemoryObject, A: Allocator> GpuAllocator<M, A> {
         requires askable { IsAskable (self.old.properties).buffer_device_address request }
         requires known { memory_type < length (self.old.properties).memory_types }
         requires agrees { Agrees self.old (D.properties device.old) (D.objects device.old) }
-
         ensures tries { (es : List Event) × Chain D.step device.old es device.new
             × TriesBy OwnObject self.old request memory_type es result self.new }
         ensures objects { ObjectsTried self.old result self.new (D.objects device.old) (D.objects device.new) }
         ensures agrees { Agrees self.new (D.properties device.new) (D.objects device.new) }
-
         ensures granted { GrantsTried self.old request result self.new }
     {
         if self.allocations_remains == 0 {
@@ -436,12 +428,10 @@ impl<M: MemoryObject, A: Allocator> GpuAllocator<M, A> {
         requires askable { IsAskable (self.old.properties).buffer_device_address request }
         requires known { memory_type < length (self.old.properties).memory_types }
         requires agrees { Agrees self.old (D.properties device.old) (D.objects device.old) }
-
         ensures tries { (es : List Event) × Chain D.step device.old es device.new
             × TriesBy InBuddyChunk self.old request memory_type es result self.new }
         ensures objects { ObjectsTried self.old result self.new (D.objects device.old) (D.objects device.new) }
         ensures agrees { Agrees self.new (D.properties device.new) (D.objects device.new) }
-
         ensures granted { GrantsTried self.old request result self.new }
     {
         let own = memory_type as usize;
@@ -500,12 +490,10 @@ impl<M: MemoryObject, A: Allocator> GpuAllocator<M, A> {
         requires known { memory_type < length (self.old.properties).memory_types }
         requires fits { fits_a_chunk self.old request memory_type ≡ true }
         requires agrees { Agrees self.old (D.properties device.old) (D.objects device.old) }
-
         ensures tries { (es : List Event) × Chain D.step device.old es device.new
             × TriesBy InFreeList self.old request memory_type es result self.new }
         ensures objects { ObjectsTried self.old result self.new (D.objects device.old) (D.objects device.new) }
         ensures agrees { Agrees self.new (D.properties device.new) (D.objects device.new) }
-
         ensures granted { GrantsTried self.old request result self.new }
     {
         let own = memory_type as usize;
@@ -591,7 +579,6 @@ impl<M: MemoryObject, A: Allocator> GpuAllocator<M, A> {
         requires own { is_shared block.kind ≡ false }
         requires owned { IsOwned self.old block }
         requires agrees { Agrees self.old (D.properties device.old) (D.objects device.old) }
-
         ensures freed { (es : List Event) × Chain D.step device.old es device.new × Frees self.old block es self.new }
         ensures objects { ObjectsFreed self.old block (D.objects device.old) (D.objects device.new) }
         ensures agrees { Agrees self.new (D.properties device.new) (D.objects device.new) }
@@ -613,7 +600,6 @@ impl<M: MemoryObject, A: Allocator> GpuAllocator<M, A> {
         requires shared { block.kind ≡ Kind.BuddyChunk }
         requires owned { IsOwned self.old block }
         requires agrees { Agrees self.old (D.properties device.old) (D.objects device.old) }
-
         ensures freed { (es : List Event) × Chain D.step device.old es device.new × Frees self.old block es self.new }
         ensures objects { ObjectsFreed self.old block (D.objects device.old) (D.objects device.new) }
         ensures agrees { Agrees self.new (D.properties device.new) (D.objects device.new) }
@@ -644,7 +630,6 @@ impl<M: MemoryObject, A: Allocator> GpuAllocator<M, A> {
         requires listed { block.kind ≡ Kind.FreeListChunk number }
         requires owned { IsOwned self.old block }
         requires agrees { Agrees self.old (D.properties device.old) (D.objects device.old) }
-
         ensures freed { (es : List Event) × Chain D.step device.old es device.new × Frees self.old block es self.new }
         ensures objects { ObjectsFreed self.old block (D.objects device.old) (D.objects device.new) }
         ensures agrees { Agrees self.new (D.properties device.new) (D.objects device.new) }
@@ -681,7 +666,6 @@ impl<M: MemoryObject, A: Allocator> GpuAllocator<M, A> {
     fn give_back<D: MemoryDevice<M>>(&mut self, device: &mut D, memory_type: u32, keep_last: bool)
         requires known { memory_type < length (self.old.properties).memory_types }
         requires agrees { Agrees self.old (D.properties device.old) (D.objects device.old) }
-
         ensures gives { (gone : List ℕ) × (es : List Event) × Chain D.step device.old es device.new
             × AreChunksGone self.old memory_type keep_last gone × LetsGo self.old gone es self.new
             × (D.objects device.new ≡ without_objects (D.objects device.old) gone) }
