@@ -1,6 +1,7 @@
 pub mod Agreeing
 pub mod Atoms
 pub mod Buddies
+pub mod Changes
 pub mod Closing
 pub mod Consistency
 pub mod FreeLists

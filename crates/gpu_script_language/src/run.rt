@@ -1,8 +1,7 @@
 //! A script's run: what a reader gives is parsed, run by a session over the simulated device, and answered to a writer.
 
-ghost use Rattle.std.specs.Prelude.{◌≡◌, ◌≤◌, All, IfOk};
+ghost use Rattle.std.specs.Prelude.{◌≡◌, ◌≤◌, IfOk};
 ghost use Rattle.gpu_alloc_types.specs.Properties.{IsUsable};
-ghost use Rattle.gpu_session.specs.Sound.{IsForRequired};
 ghost use Rattle.gpu_script_language.specs.Setup.{offered};
 
 use crate::line::LineError;
@@ -54,7 +53,6 @@ fn answer<R: Read, A: Allocator + Copy>(alloc: A, input: &mut R) -> Result<Strin
 
 /// What a script answers whose lines are good.
 fn answer_to<A: Allocator + Copy>(alloc: A, script: &Script<A>) -> Result<String<A>, Stop>
-    requires required { All IsForRequired script.now.commands.items }
 {
     if !script.setup.properties().is_usable() {
         let after = script.lines.saturating_add(1);
@@ -85,7 +83,6 @@ fn read_all<R: Read, A: Allocator + Copy>(alloc: A, input: &mut R) -> Result<Vec
 /// Runs a script's commands as one list over the device that it describes, and finishes the session.
 fn run<A: Allocator + Copy>(alloc: A, script: &Script<A>) -> Result<String<A>, AllocError>
     requires usable { IsUsable (offered script.now.setup) }
-    requires required { All IsForRequired script.now.commands.items }
 {
     let session = open(alloc, &script.setup)?;
     let (replies, device) = run_and_finish(session, script.commands.as_slice());
@@ -102,7 +99,6 @@ fn run_and_finish<A: Allocator + Copy>(
     mut session: SimSession<A>,
     commands: &[Command<A>],
 ) -> (Result<Vec<Reply<A>, A>, AllocError>, Sim<A>)
-    requires required { All IsForRequired commands.now }
 {
     let replies = session.run(commands);
     (replies, session.finish())

@@ -1,3 +1,4 @@
+pub mod Blocks
 pub mod Conditions
 pub mod Finished
 pub mod Grants
@@ -5,3 +6,4 @@ pub mod Openings
 pub mod Returns
 pub mod Runs
 pub mod Totals
+pub mod WholeObjects

@@ -7,6 +7,7 @@ use Rattle.std.specs.FinSet as set
 use Rattle.gpu_alloc_types.specs.Properties.{Properties}
 use Rattle.gpu_alloc_types.specs.Device.{Object}
 use Rattle.gpu_alloc.specs.Opening.{opened}
+use Rattle.gpu_alloc.specs.Sound as allocator
 use Rattle.gpu_alloc.specs.State.{Span, span_cmp, Block}
 use Rattle.gpu_alloc.specs.Types.Config.{Config}
 use Rattle.gpu_session.specs.Sound.{IsKept}
@@ -18,22 +19,16 @@ none_at {X} P q = wherever (finite.get (finite.empty {X = X} {R = nat_cmp}) q) (
 none_live : (span : Span) → set.contains (set.empty {R = span_cmp}) span ≢ true
 none_live span live = let none = set.contains-empty span_cmp span in let differ : false ≡ true = sym none ∙ live in cc
 
-module _ (c : Config) (p : Properties) (objects : ℕ → Option Object) (few : length p.memory_heaps < 2 ^ 32) where
+module _ (c : Config) (p : Properties) (objects : ℕ → Option Object) (few : length p.memory_heaps < 2 ^ 32) (sound : allocator.IsSound (opened c p)) where
   pub opening_is_kept : IsKept p objects (record { allocator = opened c p; blocks = finite.empty }) (length p.memory_heaps) p.buffer_device_address
   opening_is_kept = record {
     sound = record {
       agrees = record { properties = refl; holds = none_at _ };
+      allocator = sound;
       blocks = none_at _;
       apart = λ n m b d ne at_n at_m. absurd (let none = finite.get-empty {X = Block} nat_cmp n in cc);
       named = λ span live. absurd (none_live span live);
-      used = none_at _;
     };
-    whole = record {
-      kind = none_at _;
-      whole = none_at _;
-      distinct = λ n m b d ne at_n at_m. absurd (let none = finite.get-empty {X = Block} nat_cmp n in cc);
-    };
-    held = none_at _;
     heap_count = refl;
     few_heaps = few;
     feature = refl;

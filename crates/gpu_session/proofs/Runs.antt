@@ -26,3 +26,11 @@ module _ {S A : Type 0} (Steps : S → Command A → Reply A → S → Type 0) w
   run_append old mid new [] later (r ∷ replies) answers run rest = absurd run
   run_append old mid new (c ∷ commands) later [] answers run rest = absurd run
   run_append old mid new (c ∷ commands) later (r ∷ replies) answers run rest = (run.0, run.1, run_append run.0 mid new commands later replies answers run.2 rest)
+
+-- a run of finer steps is a run
+pub run_coarser : {S A : Type 0} (Fine Steps : S → Command A → Reply A → S → Type 0) → ((old : S) (command : Command A) (reply : Reply A) (new : S) → Fine old command reply new → Steps old command reply new)
+    → (old new : S) (commands : List (Command A)) (replies : List (Reply A)) → Run Fine old commands replies new → Run Steps old commands replies new
+run_coarser Fine Steps is old new [] [] run = run
+run_coarser Fine Steps is old new [] (r ∷ replies) run = absurd run
+run_coarser Fine Steps is old new (c ∷ commands) [] run = absurd run
+run_coarser Fine Steps is old new (c ∷ commands) (r ∷ replies) run = (run.0, is old c r run.0 run.1, run_coarser Fine Steps is run.0 new commands replies run.2)

@@ -1,5 +1,5 @@
--- What a step leaves of the total.
-use Rattle.std.proofs.Common.{◌≡◌, ℕ, List, Option, Some, ap}
+-- What a step, and a run, leave of the total.
+use Rattle.std.proofs.Common.{◌≡◌, ℕ, List, [], ◌∷◌, Option, Some, ◌∙◌, ap}
 use Rattle.std.specs.FinMap as map
 use Rattle.gpu_alloc_types.specs.Device.{Event, Object}
 use Rattle.gpu_alloc_types.specs.Properties.{Properties}
@@ -7,9 +7,10 @@ use Rattle.gpu_alloc.specs.State.{Block, total}
 use Rattle.gpu_alloc.proofs.Decisions.{allocates_total}
 use Rattle.gpu_alloc.proofs.ReturnedTotals.{frees_total}
 use Rattle.gpu_alloc_base.proofs.Names.{here}
-use Rattle.gpu_session.specs.Books.{Books}
+use Rattle.gpu_session.specs.Books.{Books, SessionState}
 use Rattle.gpu_session.specs.Does.{Does, Serves}
-use Rattle.gpu_session.specs.Sound.{IsBlock, IsSound}
+use Rattle.gpu_session.specs.Run.{Run}
+use Rattle.gpu_session.specs.Sound.{IsBlock, IsSound, SoundStep}
 use Rattle.gpu_session.specs.declared.command.Command.{Command}
 use Rattle.gpu_session.specs.declared.command.Command.TheVariants.{Dedicated, Free, Counts, Never}
 use Rattle.gpu_session.specs.declared.command.Reply.{Reply}
@@ -46,3 +47,11 @@ module _ {A : Type 0} {p : Properties} {objects : ℕ → Option Object} (old : 
   does_total command (Refused e) new does = serves_total command (Refused e) new does.1
   does_total command Done new does = serves_total command Done new does.1
   does_total command (Counted remaining held used) new does = serves_total command (Counted remaining held used) new does.1
+
+module _ {D A : Type 0} (step : D → Event → D → Type 0) (properties : D → Properties) (objects : D → ℕ → Option Object) where
+  pub run_total : (old new : SessionState D) (commands : List (Command A)) (replies : List (Reply A)) → Run (SoundStep step properties objects) old commands replies new → IsKept old.books new.books
+  run_total old new [] [] run = ap (λ (s : SessionState D). total (s.books).allocator) run
+  run_total old new [] (r ∷ replies) run = absurd run
+  run_total old new (c ∷ commands) [] run = absurd run
+  run_total old new (c ∷ commands) (r ∷ replies) (mid, first, rest) =
+      run_total mid new commands replies rest ∙ does_total old.books first.before first.taken.0 c r mid.books first.taken.2

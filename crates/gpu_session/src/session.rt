@@ -1,17 +1,17 @@
 //! A session: an allocator with its device, and live blocks by name.
 
-ghost use Rattle.std.specs.Prelude.{◌≡◌, ℕ, ◌+◌, ◌<◌, List, All, IfOk, IfErr, OnErr, Option, Some, None, IsSome};
+ghost use Rattle.std.specs.Prelude.{◌≡◌, ℕ, ◌+◌, ◌<◌, List, IfOk, IfErr, OnErr, Option, Some, None, IsSome};
 ghost use Rattle.std.specs.Prelude.{length, slice_get};
 ghost use Rattle.std.specs.FinMap as map;
 ghost use Rattle.gpu_alloc_types.specs.Properties.{IsUsable, properties_of};
 ghost use Rattle.gpu_alloc_types.specs.Device.{Event, Chain};
 ghost use Rattle.gpu_alloc.specs.Opening.{opened};
-ghost use Rattle.gpu_alloc.specs.State.{total, ledger};
+ghost use Rattle.gpu_alloc.specs.State.{ledger};
 ghost use Rattle.gpu_session.specs.Books.{Books, SessionState};
 ghost use Rattle.gpu_session.specs.Does.{IsEachLedger};
 ghost use Rattle.gpu_session.specs.Faults.{fault_of_request};
 ghost use Rattle.gpu_session.specs.Run.{Step, Run};
-ghost use Rattle.gpu_session.specs.Sound.{IsSound, AreWholeObjects, ReturnsAll, IsForRequired};
+ghost use Rattle.gpu_session.specs.Sound.{IsSound, SoundStep, ReturnsAll};
 
 use crate::{Command, Fault, Ledgers, Reply};
 use gpu_alloc::{Config, Dedicated, DeviceProperties, GpuAllocator, MemoryBlock, Request};
@@ -111,33 +111,29 @@ impl<M: MemoryObject, D: MemoryDevice<M>, A: Allocator + Copy> Session<M, D, A> 
         }
     }
 
-    /// Answers the commands in order, one reply for each. The replies and the state after them are a run.
+    /// Answers the commands in order, one reply for each. The replies and the state after them are a run, in which every
+    /// state between two commands is sound: live blocks are memory of their own.
     ///
-    /// Places for all replies are taken first: an error means that there was no memory for them, and nothing ran.
-    /// For now the hint of each `Dedicated` has to be `Required`.
+    /// Places for all replies are taken first: an error means that there was no memory for them, and nothing ran. What
+    /// a run keeps, [`laws`](crate::laws) tell.
     pub fn run(&mut self, commands: &[Command<A>]) -> Result<Vec<Reply<A>, A>, AllocError>
-        requires required { All IsForRequired commands.now }
-
-        ensures run { IfOk result (λ replies. Run (Step D.step) self.old commands.now replies.items self.new) }
+        ensures run { IfOk result (λ replies.
+            Run (SoundStep D.step D.properties D.objects) self.old commands.now replies.items self.new) }
         ensures err { OnErr result (self.new ≡ self.old) }
-
-        // Whatever came of it, live blocks are memory of their own, and no object is lost.
         ensures sound { IsSound (D.properties self.new.device) (D.objects self.new.device) self.new.books }
-        ensures whole { AreWholeObjects (D.objects self.new.device) self.new.books }
-        ensures total { total (self.new.books).allocator ≡ total (self.old.books).allocator }
     {
+        self.keeps_sound();
         let mut replies = Vec::with_capacity(self.alloc, commands.len())?;
         for command in commands {
             let reply = self.serve(command);
+            self.keeps_sound();
             replies.push(reply).unwrap();
         }
-
-        // The proof learns from the fields what every session keeps.
-        let _ = &self.alloc;
         Ok(replies)
     }
 
-    /// Returns every live block, closes the allocator and gives the device back. It takes no memory and cannot fail.
+    /// Returns every live block, cleans up, closes the allocator and gives the device back. It takes no memory and
+    /// cannot fail.
     pub fn finish(self) -> D
         // Each held object goes back once, and nothing else is asked.
         ensures returned { (es : List Event) × Chain D.step self.device es result × ReturnsAll self.books es }
@@ -159,15 +155,21 @@ impl<M: MemoryObject, D: MemoryDevice<M>, A: Allocator + Copy> Session<M, D, A> 
             allocator.dealloc(&mut device, block);
         }
         blocks.destroy_empty();
+        allocator.cleanup(&mut device);
         allocator.close();
         device
     }
 
+    /// Nothing is done: its contract tells what every session keeps.
+    fn keeps_sound(&self)
+        ensures { IsSound (D.properties self.now.device) (D.objects self.now.device) self.now.books }
+    {
+        let _ = &self.alloc;
+    }
+
     /// Answers one command.
     fn serve(&mut self, command: &Command<A>) -> Reply<A>
-        requires required { IsForRequired command.now }
-        ensures step { Step D.step self.old command.now result self.new }
-        ensures total { total (self.new.books).allocator ≡ total (self.old.books).allocator }
+        ensures { Step D.step self.old command.now result self.new }
     {
         match command {
             Command::Dedicated {
@@ -183,9 +185,7 @@ impl<M: MemoryObject, D: MemoryDevice<M>, A: Allocator + Copy> Session<M, D, A> 
 
     /// Answers `Dedicated`. Room for the block's entry is made before the device is asked.
     fn dedicated(&mut self, name: u32, request: Request, dedicated: Dedicated) -> Reply<A>
-        requires required { dedicated ≡ Dedicated.Required }
-        ensures step { Step D.step self.old (Command.Dedicated name request dedicated) result self.new }
-        ensures total { total (self.new.books).allocator ≡ total (self.old.books).allocator }
+        ensures { Step D.step self.old (Command.Dedicated name request dedicated) result self.new }
     {
         if self.blocks.contains_key(&name) {
             return Reply::Fault(Fault::NameInUse);
@@ -219,8 +219,7 @@ impl<M: MemoryObject, D: MemoryDevice<M>, A: Allocator + Copy> Session<M, D, A> 
 
     /// Answers `Free`.
     fn free(&mut self, name: u32) -> Reply<A>
-        ensures step { Step D.step self.old (Command.Free name) result self.new }
-        ensures total { total (self.new.books).allocator ≡ total (self.old.books).allocator }
+        ensures { Step D.step self.old (Command.Free name) result self.new }
     {
         match self.blocks.swap_remove(&name) {
             Some(block) => {

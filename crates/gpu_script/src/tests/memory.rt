@@ -3,9 +3,6 @@
 //! A heap of the test's own gives out all that it has but one hole. The hole grows from nothing until the command fits,
 //! so each of its requests for memory is refused at some hole.
 
-ghost use Rattle.std.specs.Prelude.{All, IfOk};
-ghost use Rattle.gpu_session.specs.Sound.{IsForRequired};
-
 use crate::run_script;
 use gpu_alloc::AllocationError;
 use gpu_script_language::{Script, SimSession, open, parse, print_reply};
@@ -85,7 +82,6 @@ impl<'a> LocalSession<'a> {
         &mut self,
         script: &Script<&'a LocalHeap>,
     ) -> Result<Vec<Reply<&'a LocalHeap>, &'a LocalHeap>, AllocError>
-        requires { All IsForRequired script.now.commands.items }
     {
         self.session.run(script.commands.as_slice())
     }
@@ -114,7 +110,6 @@ fn outcome_of(replies: Result<Vec<Reply<&LocalHeap>, &LocalHeap>, AllocError>) -
 
 /// A script whose lines are good.
 fn good_script<'a>(heap: &'a LocalHeap, text: &str) -> Result<Script<&'a LocalHeap>, Fail>
-    ensures { IfOk result (λ script. All IsForRequired script.commands.items) }
 {
     match parse(heap, text.as_bytes()) {
         Ok(script) => Ok(script),
@@ -128,7 +123,6 @@ fn counted<'a>(
     session: &mut LocalSession<'a>,
     counts: &Script<&'a LocalHeap>,
 ) -> Result<String<&'a LocalHeap>, AllocError>
-    requires { All IsForRequired counts.now.commands.items }
 {
     let replies = session.run(counts)?;
     let mut text = String::new(heap);
@@ -144,7 +138,6 @@ fn session_after<'a>(
     heap: &'a LocalHeap,
     script: &Script<&'a LocalHeap>,
 ) -> Result<LocalSession<'a>, Fail>
-    requires { All IsForRequired script.now.commands.items }
 {
     let mut session = LocalSession::new(rt, heap, script)?;
     let ran = session.run(script).is_ok();
@@ -160,7 +153,6 @@ fn run_in_hole<'a>(
     script: &Script<&'a LocalHeap>,
     hole: usize,
 ) -> Result<Outcome, AllocError>
-    requires { All IsForRequired script.now.commands.items }
 {
     let plugs = plug(alloc, heap, hole)?;
     let replies = session.run(script);
@@ -176,7 +168,6 @@ fn outcome_at<'a>(
     command: &Script<&'a LocalHeap>,
     hole: usize,
 ) -> Result<Outcome, Fail>
-    requires { All IsForRequired command.now.commands.items }
 {
     let counts = good_script(heap, "counts")?;
     let before = counted(heap, session, &counts)?;

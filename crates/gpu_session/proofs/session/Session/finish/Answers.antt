@@ -1,14 +1,12 @@
-use Rattle.std.proofs.Common.{◌≡◌, ◌∷◌, [], false, true, refl, ◌∙◌, ap, map as map_list}
+use Rattle.std.proofs.Common.{◌≡◌, false, true, refl, ◌∙◌, ap, map as map_list}
 use Rattle.std.specs.Ordering.{nat_cmp}
 use Rattle.std.specs.FinMap as map
-use Rattle.gpu_alloc.specs.declared.block.Kind.TheVariants.{Dedicated}
 use Rattle.gpu_alloc.specs.State.{HeldObject}
-use Rattle.gpu_alloc_types.specs.Device.{Chain}
 use Rattle.gpu_alloc_types.specs.Device.Event.{Deallocated}
 use Rattle.gpu_session.specs.Sound.{IsBlock}
-use Rattle.gpu_session.proofs.Finished.{none_returned, one_more, nothing_held, all_returned, all_absent}
+use Rattle.gpu_session.proofs.Finished.{none_returned, frees_back, cleans_back, more_returned, nothing_live, all_returned, all_absent}
 use Rattle.gpu_alloc_base.proofs.Names.{here, get_last, removed_by_name, none_to_take}
-use Rattle.gpu_session.proofs.Returns.{Returns, from_frees, return_is_sound, return_is_whole, return_holds_whole, properties_kept, from_objects}
+use Rattle.gpu_session.proofs.Returns.{Returns, return_is_sound, return_keeps_properties}
 use Rattle.gpu_session.proofs.session.Session.finish.Goals as goal
 
 pub loop-block-init : goal.loop-block-init
@@ -16,8 +14,6 @@ loop-block-init g c =
     rw (← c.self.view_is)
     (record {
       sound = c.self.invariant.sound;
-      whole = c.self.invariant.whole;
-      held = c.self.invariant.held;
       returned = none_returned g.D.MemoryDevice.step g.D.MemoryDevice.objects c.self.inside.allocator c.self.inside.device;
       properties = refl;
     })
@@ -26,20 +22,16 @@ pub loop-block-preserved : goal.loop-block-preserved
 loop-block-preserved g c =
     let i = c.loop-block.invariant in
     let at = get_last _ _ c.in-Some.field-0-0 c.in-Some.block c.in-Some.ensures.entries c.in-Some.ensures.updates.1 in
-    let kind : c.in-Some.block.kind ≡ Dedicated = here _ (λ b. b.kind ≡ Dedicated) (i.whole.kind c.in-Some.field-0-0) c.in-Some.block at in
     let freed = c.dealloc.ensures.freed in
-    let back = from_frees c.loop-block.allocator c.in-Some.block freed.0 c.dealloc.new.self kind freed.2 in
-    let r : Returns c.loop-block.allocator (map.from_entries {R = nat_cmp} c.loop-block.blocks.entries) c.in-Some.field-0-0 c.in-Some.block c.dealloc.new.self
-    (g.D.MemoryDevice.properties c.dealloc.new.device) (g.D.MemoryDevice.objects c.loop-block.device) (g.D.MemoryDevice.objects c.dealloc.new.device) =
-    record { named = at; state = back.state; objects = from_objects _ c.in-Some.block _ _ kind c.dealloc.ensures.objects; agrees = c.dealloc.ensures.agrees } in
-    let asked : Chain g.D.MemoryDevice.step c.loop-block.device (Deallocated c.in-Some.block.object ∷ []) c.dealloc.new.device = rw back.asked at freed.1 in
+    let owned = (here _ (IsBlock c.loop-block.allocator (g.D.MemoryDevice.objects c.loop-block.device)) (i.sound.blocks c.in-Some.field-0-0) c.in-Some.block at).owned in
+    let r : Returns c.loop-block.allocator (map.from_entries {R = nat_cmp} c.loop-block.blocks.entries) c.in-Some.field-0-0 c.in-Some.block freed.0 c.dealloc.new.self
+    (g.D.MemoryDevice.properties c.dealloc.new.device) (g.D.MemoryDevice.objects c.dealloc.new.device) =
+    record { named = at; frees = freed.2; sound = c.dealloc.ensures.sound; agrees = c.dealloc.ensures.agrees } in
     rw (removed_by_name c.loop-block.blocks.entries c.pop.new.self.entries c.in-Some.field-0-0 c.in-Some.ensures.updates.0)
     (record {
-      sound = return_is_sound r i.sound i.whole;
-      whole = return_is_whole r i.sound i.whole;
-      held = return_holds_whole r i.sound i.whole i.held;
-      returned = one_more i.returned r i.sound i.whole asked;
-      properties = properties_kept r i.sound i.whole ∙ i.properties;
+      sound = return_is_sound r i.sound;
+      returned = more_returned i.returned (frees_back freed.1 c.dealloc.ensures.total c.in-Some.block owned freed.2 c.dealloc.ensures.objects);
+      properties = return_keeps_properties r i.sound ∙ i.properties;
     })
 
 pub dealloc-requires-clause-owned : goal.dealloc-requires-clause-owned
@@ -54,21 +46,25 @@ destroy_empty-requires g c =
 pub close-requires : goal.close-requires
 close-requires g c =
     let none = (none_to_take _ _ (λ some. let n : false ≡ true = c.in_default.ensures.found.1 some in cc) c.in_default.ensures.entries).0 in
-    let empty = nothing_held (rw none at c.loop-block.invariant.sound) c.loop-block.invariant.held in
+    let empty = (c.cleanup.ensures.ends (nothing_live (rw none at c.loop-block.invariant.sound))).0 in
     ap map.len empty ∙ map.len-empty nat_cmp HeldObject
 
 pub returns-clause-returned : goal.returns-clause-returned
 returns-clause-returned g c =
     let none = (none_to_take _ _ (λ some. let n : false ≡ true = c.in_default.ensures.found.1 some in cc) c.in_default.ensures.entries).0 in
-    let empty = nothing_held (rw none at c.loop-block.invariant.sound) c.loop-block.invariant.held in
-    let done = c.loop-block.invariant.returned in
+    let empty = (c.cleanup.ensures.ends (nothing_live (rw none at c.loop-block.invariant.sound))).0 in
+    let cleaned = c.cleanup.ensures.cleaned in
+    let done = more_returned c.loop-block.invariant.returned (cleans_back cleaned.1 c.cleanup.ensures.total cleaned.2 c.cleanup.ensures.objects) in
     (map_list Deallocated done.gone, done.chain, all_returned done empty)
 
 pub returns-clause-gone : goal.returns-clause-gone
 returns-clause-gone g c =
     let none = (none_to_take _ _ (λ some. let n : false ≡ true = c.in_default.ensures.found.1 some in cc) c.in_default.ensures.entries).0 in
-    let empty = nothing_held (rw none at c.loop-block.invariant.sound) c.loop-block.invariant.held in
-    all_absent c.loop-block.invariant.returned empty
+    let empty = (c.cleanup.ensures.ends (nothing_live (rw none at c.loop-block.invariant.sound))).0 in
+    let cleaned = c.cleanup.ensures.cleaned in
+    all_absent (more_returned c.loop-block.invariant.returned (cleans_back cleaned.1 c.cleanup.ensures.total cleaned.2 c.cleanup.ensures.objects)) empty
 
 pub returns-clause-others : goal.returns-clause-others
-returns-clause-others g c = c.loop-block.invariant.returned.others
+returns-clause-others g c =
+    let cleaned = c.cleanup.ensures.cleaned in
+    (more_returned c.loop-block.invariant.returned (cleans_back cleaned.1 c.cleanup.ensures.total cleaned.2 c.cleanup.ensures.objects)).others

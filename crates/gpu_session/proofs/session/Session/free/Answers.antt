@@ -1,11 +1,10 @@
 use Rattle.std.proofs.Common.{◌≡◌, [], None, Some, refl, sym, ◌∙◌, ap, inl}
 use Rattle.std.specs.Ordering.{nat_cmp}
 use Rattle.std.specs.FinMap as map
-use Rattle.gpu_alloc.specs.declared.block.Kind.TheVariants.{Dedicated}
 use Rattle.gpu_session.specs.Faults.{fault_of_block}
 use Rattle.gpu_session.specs.Sound.{IsBlock}
 use Rattle.gpu_alloc_base.proofs.Names.{here, get_entries, removed_by_name}
-use Rattle.gpu_session.proofs.Returns.{from_frees, return_is_kept, from_objects}
+use Rattle.gpu_session.proofs.Returns.{return_is_kept}
 use Rattle.gpu_session.proofs.session.Session.free.Goals as goal
 
 pub dealloc-requires-clause-owned : goal.dealloc-requires-clause-owned
@@ -16,18 +15,16 @@ dealloc-requires-clause-owned g c =
 pub invariant_of-self : goal.invariant_of-self
 invariant_of-self g c =
     let at : map.get (map.from_entries {R = nat_cmp} c.self.inside.blocks.entries) c.args.name ≡ Some c.in-Some.block = get_entries _ _ ∙ sym c.swap_remove.ensures.value ∙ c.in-Some.is in
-    let freed = c.dealloc.ensures.freed in
-    let kind : c.in-Some.block.kind ≡ Dedicated = here _ (λ b. b.kind ≡ Dedicated) (c.self.invariant.whole.kind c.args.name) c.in-Some.block at in
     rw (removed_by_name c.self.inside.blocks.entries c.swap_remove.new.self.entries c.args.name c.swap_remove.ensures.updates.0)
     (return_is_kept c.self.invariant (record {
       named = at;
-      state = (from_frees c.self.inside.allocator c.in-Some.block freed.0 c.dealloc.new.self kind freed.2).state;
-      objects = from_objects _ c.in-Some.block _ _ kind c.dealloc.ensures.objects;
+      frees = c.dealloc.ensures.freed.2;
+      sound = c.dealloc.ensures.sound;
       agrees = c.dealloc.ensures.agrees;
     }))
 
-pub returns-in-Some-clause-step : goal.returns-in-Some-clause-step
-returns-in-Some-clause-step g c =
+pub returns-in-Some : goal.returns-in-Some
+returns-in-Some g c =
     let at : map.get (map.from_entries {R = nat_cmp} c.self.inside.blocks.entries) c.args.name ≡ Some c.in-Some.block = get_entries _ _ ∙ sym c.swap_remove.ensures.value ∙ c.in-Some.is in
     let freed = c.dealloc.ensures.freed in
     rw (← c.self.view_is) (
@@ -39,8 +36,8 @@ returns-in-Some-clause-step g c =
       ),
     )
 
-pub returns-in-None-clause-step : goal.returns-in-None-clause-step
-returns-in-None-clause-step g c =
+pub returns-in-None : goal.returns-in-None
+returns-in-None g c =
     let at : map.get (map.from_entries {R = nat_cmp} c.self.inside.blocks.entries) c.args.name ≡ None = get_entries _ _ ∙ sym c.swap_remove.ensures.value ∙ c.in-None.is in
     rw (← c.self.view_is) (
       [],

@@ -1,5 +1,5 @@
 use Rattle.std.proofs.Common.{◌+◌, ◌∙◌, ap, arith}
-use Rattle.gpu_session.specs.Run.{Step}
+use Rattle.gpu_session.specs.Sound.{SoundStep}
 use Rattle.gpu_session.proofs.Runs.{run_next}
 use Rattle.gpu_session.proofs.session.Session.run.Goals as goal
 
@@ -9,8 +9,8 @@ loop-command-preserved g c =
     let pushed = rw c.unwrap.ensures at c.push.ensures.items in
     let longer = rw c.unwrap.ensures at c.push.ensures.len in
     record {
-      so_far = rw pushed (run_next (Step g.D.MemoryDevice.step) _ c.loop-command.self _ c.args.commands.now c.loop-command.command-index _ c.loop-command.replies.items c.serve-reply.result c.loop-command-test.true before.so_far c.serve-reply.ensures.step);
+      so_far = rw pushed (run_next (SoundStep g.D.MemoryDevice.step g.D.MemoryDevice.properties g.D.MemoryDevice.objects) _ c.loop-command.self _ c.args.commands.now c.loop-command.command-index _ c.loop-command.replies.items c.serve-reply.result c.loop-command-test.true before.so_far (record { before = before.sound; taken = c.serve-reply.ensures; after = c.keeps_sound-in-loop-command.ensures }));
+      sound = c.keeps_sound-in-loop-command.ensures;
       told = longer ∙ ap (λ n. n + 1) before.told;
       room = omega (arith, before.room, c.push.ensures.capacity);
-      same_total = c.serve-reply.ensures.total ∙ before.same_total;
     }
