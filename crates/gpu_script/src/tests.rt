@@ -11,4 +11,5 @@ mod grants;
 mod memory;
 mod refusals;
 mod scripts;
+mod sessions;
 mod transient;

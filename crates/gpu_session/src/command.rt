@@ -20,7 +20,7 @@ pub enum Command<A: Allocator = Global> {
         /// What is asked for.
         request: Request,
 
-        /// The hint; for now `Required`.
+        /// The hint.
         dedicated: Dedicated,
     },
 
