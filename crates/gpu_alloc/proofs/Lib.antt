@@ -6,6 +6,7 @@ pub mod Closing
 pub mod Consistency
 pub mod FreeLists
 pub mod Decisions
+pub mod Granted
 pub mod Grants
 pub mod HandedOn
 pub mod HeapLists

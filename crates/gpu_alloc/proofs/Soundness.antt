@@ -3,16 +3,18 @@ use Rattle.std.proofs.Common.{◌≡◌, ◌≢◌, ◌⊎◌, inl, inr, ℕ, ze
 use Rattle.std.proofs.lemmas.Bool.{cases_eq}
 use Rattle.std.proofs.lemmas.Nat.{pow_pos}
 use Rattle.std.specs.FinMap as map
-use Rattle.gpu_alloc_types.specs.Properties.{Properties}
+use Rattle.gpu_alloc_types.specs.Properties.{Properties, atom_of, is_non_coherent}
 use Rattle.gpu_alloc_buddy.specs.BuddyState.{Buddy, IsLiveLeaf}
 use Rattle.gpu_alloc_base.specs.Chunks.{Chunk}
 use Rattle.gpu_alloc_freelist.specs.FreeListState.{Listing, IsLiveSlot}
-use Rattle.gpu_alloc.specs.FreeListSharing.{IsListChunk, latest_number}
+use Rattle.gpu_alloc_base.specs.FreeSpace.{IsMultipleOf}
+use Rattle.gpu_alloc.specs.Atoms.{KeepsAtoms, IsNextListChunk}
+use Rattle.gpu_alloc.specs.FreeListSharing.{IsListChunk, latest_number, next_list_chunk}
 use Rattle.gpu_alloc.specs.FirstTypes.{first_types, first_type_state}
 use Rattle.gpu_alloc.specs.Inside.{state_in, properties_in, types_in, span_of_leaf, leaf_at, span_of_slot, slot_at, whole_span, IsLiveIn, IsChunkOf, IsNumberedChunk, IsKnown, IsBuddyOf, IsListOf, IsConsistent}
 use Rattle.gpu_alloc.specs.Sound.{IsSound, LiesIn, is_list_chunk}
 use Rattle.gpu_alloc.specs.Spans.{Place, Table}
-use Rattle.gpu_alloc.specs.State.{HeldObject, Span, State, AreApart, is_shared}
+use Rattle.gpu_alloc.specs.State.{HeldObject, Span, State, TypeState, AreApart, is_shared}
 use Rattle.gpu_alloc.specs.declared.block.Kind.TheVariants.{Dedicated, BuddyChunk, FreeListChunk}
 use Rattle.gpu_alloc_base.specs.declared.config.Config.{Config}
 use Rattle.gpu_alloc_base.specs.declared.heap.Heap.{Heap}
@@ -20,8 +22,10 @@ use Rattle.gpu_alloc.specs.declared.limits.Limits.{Limits}
 use Rattle.gpu_alloc.proofs.Consistency.{chunk_kinds}
 use Rattle.gpu_alloc.proofs.Buddies.Served.{ranges_apart}
 use Rattle.std.proofs.lemmas.List.{length-map}
-use Rattle.gpu_alloc.proofs.FreeLists.States.{list_latest_at, types_within}
+use Rattle.gpu_alloc.proofs.FreeLists.States.{list_latest_at, list_next_at, types_within}
+use Rattle.gpu_alloc.proofs.Atoms.{atom_power}
 use Rattle.gpu_alloc_base.proofs.Maps.{one_value}
+use Rattle.gpu_alloc_base.proofs.PowersOfTwo.{power_of_bit}
 
 -- what holds of each element that is there holds of one
 element : {X : Type 0} (P : X → Type 0) (xs : List X) (i : ℕ) → i < length xs → IfSome (slice_get xs i) P → (x : X) × P x
@@ -205,35 +209,77 @@ module _ {A : Type 0} (l : Limits A) (heaps : List Heap) (buddies : List Buddy) 
   abbrev s : State
   s = state_in l heaps buddies lists t remaining
 
+  -- The free list of a memory type that is known.
+
+  module _ (known : index < length (properties_in l heaps).memory_types) where
+    own_list : (fl : Listing) × (slice_get lists index ≡ Some fl)
+    own_list = there_is lists index (omega (arith, known, is.listed.count))
+
+    list_own : IsListOf l.config (properties_in l heaps) t index own_list.0
+    list_own = subst (λ (o : Option Listing). IfSome o (IsListOf l.config (properties_in l heaps) t index)) own_list.1 (is.listed.each index)
+
+    abbrev types : List TypeState
+    types = types_in (first_types l.config (properties_in l heaps)) buddies
+
+    typed : index < length types
+    typed = types_within (first_types l.config (properties_in l heaps)) buddies index (omega (arith, known, length-map (properties_in l heaps).memory_types (first_type_state l.config (properties_in l heaps)))) (omega (arith, known, is.shared.count))
+
+    latest_is : latest_number s index ≡ own_list.0.space.latest
+    latest_is = list_latest_at types lists index own_list.0 own_list.1 typed
+
+    next_is : next_list_chunk s index ≡ own_list.0.next_chunk
+    next_is = list_next_at types lists index own_list.0 own_list.1 typed
+
+    next_whole : IsNextListChunk s index
+    next_whole =
+        let sound = list_own.sound in
+        let given = list_own.for_type in
+        record {
+          some = omega (arith, next_is, sound.next_chunk.0.1);
+          whole = subst (λ n. IsMultipleOf n (next_list_chunk s index)) given.atom (subst (IsMultipleOf own_list.0.atom) (sym next_is) sound.next_chunk.0.0);
+          most = omega (arith, next_is, given.final_chunk, sound.next_chunk.1);
+          bound = omega (arith, given.final_chunk, sound.final_chunk.1);
+        }
+
+  -- Its chunks.
+
   type_known : (object : ℕ) → IsListChunk s index number object → index < length (properties_in l heaps).memory_types
   type_known object of = subst (λ n. n < length (properties_in l heaps).memory_types) of.of_type (known_at is object of.chunk of.held).of_type
 
   module _ (fl : Listing) (own : IsListOf l.config (properties_in l heaps) t index fl) where
+    numbered_in : (object : ℕ) (of : IsListChunk s index number object) → IsNumberedChunk t fl.memory_type number object of.chunk
+    numbered_in object of = record { held = of.held; of_kind = of.of_kind; of_type = of.of_type ∙ sym own.for_type.memory_type }
+
     -- a chunk's object is held under its number
     under_number : (object : ℕ) (of : IsListChunk s index number object) → map.get fl.space.chunks number ≡ Some (chunk_at object of.chunk)
-    under_number object of = own.linked.objects number object of.chunk (record { held = of.held; of_kind = of.of_kind; of_type = of.of_type ∙ sym own.for_type.memory_type })
-
-  list_there : (object : ℕ) → IsListChunk s index number object → (fl : Listing) × (slice_get lists index ≡ Some fl)
-  list_there object of = there_is lists index (omega (arith, type_known object of, is.listed.count))
-
-  list_own : (object : ℕ) (of : IsListChunk s index number object) → IsListOf l.config (properties_in l heaps) t index (list_there object of).0
-  list_own object of = subst (λ (o : Option Listing). IfSome o (IsListOf l.config (properties_in l heaps) t index)) (list_there object of).1 (is.listed.each index)
+    under_number object of = own.linked.objects number object of.chunk (numbered_in object of)
 
   one_object : (a b : ℕ) → IsListChunk s index number a → IsListChunk s index number b → a ≡ b
   one_object a b of also =
-      let fl = (list_there a of).0 in
-      let own = list_own a of in
+      let known = type_known a of in
+      let fl = (own_list known).0 in
+      let own = list_own known in
       ap (λ (c : Chunk). c.object) (one_value _ (chunk_at a of.chunk) (chunk_at b also.chunk) (under_number fl own a of) (under_number fl own b also))
 
   within : (object : ℕ) → IsListChunk s index number object → (0 < number) × (number ≤ latest_number s index)
   within object of =
-      let fl = list_there object of in
-      let own = list_own object of in
-      let types = first_types l.config (properties_in l heaps) in
-      let typed = types_within types buddies index (omega (arith, type_known object of, length-map (properties_in l heaps).memory_types (first_type_state l.config (properties_in l heaps)))) (omega (arith, type_known object of, is.shared.count)) in
-      let latest : latest_number s index ≡ fl.0.space.latest = list_latest_at (types_in types buddies) lists index fl.0 fl.1 typed in
-      let is_number = own.sound.space.numbers number (chunk_at object of.chunk) (under_number fl.0 own object of) in
-      (is_number.0, omega (arith, is_number.1, latest))
+      let known = type_known object of in
+      let own = list_own known in
+      let is_number = own.sound.space.numbers number (chunk_at object of.chunk) (under_number (own_list known).0 own object of) in
+      (is_number.0, omega (arith, is_number.1, latest_is known))
+
+  -- it ends, and a live span in it begins, at a whole atom
+  chunk_ends : (object : ℕ) (of : IsListChunk s index number object) → IsMultipleOf (atom_of s.properties index) of.chunk.counted
+  chunk_ends object of =
+      let known = type_known object of in
+      let own = list_own known in
+      subst (λ n. IsMultipleOf n of.chunk.counted) own.for_type.atom (own.sound.chunks number (chunk_at object of.chunk) (under_number (own_list known).0 own object of)).0
+
+  span_begins : (span : Span) → IsListChunk s index number span.object → IsLiveIn t span → IsMultipleOf (atom_of s.properties index) span.offset
+  span_begins span of live =
+      let known = type_known span.object of in
+      let own = list_own known in
+      subst (λ n. IsMultipleOf n span.offset) own.for_type.atom (own.sound.slots (slot_at span number) (own.linked.spans span number of.chunk live (numbered_in (own_list known).0 own span.object of))).0
 
 pub sound_is : {A : Type 0} (l : Limits A) (heaps : List Heap) (buddies : List Buddy) (lists : List Listing) (t : Table) (remaining : ℕ) → IsConsistent l.config (properties_in l heaps) heaps buddies lists t remaining
     → IsSound (state_in l heaps buddies lists t remaining)
@@ -245,4 +291,15 @@ sound_is l heaps buddies lists t remaining is = record {
   used = λ object. each_used is object (map.get t.held object) refl;
   numbers = λ index number a b. one_object l heaps buddies lists t remaining is index number a b;
   numbered = λ index number object. within l heaps buddies lists t remaining is index number object;
+}
+
+pub atoms_kept : {A : Type 0} (l : Limits A) (heaps : List Heap) (buddies : List Buddy) (lists : List Listing) (t : Table) (remaining : ℕ) → IsConsistent l.config (properties_in l heaps) heaps buddies lists t remaining
+    → KeepsAtoms (state_in l heaps buddies lists t remaining)
+atoms_kept l heaps buddies lists t remaining is = record {
+  atom = λ index.
+      let p = properties_in l heaps in
+      power_of_bit (atom_of p index) (atom_power p.non_coherent_atom_size (atom_of p index) (is_non_coherent p index) is.books.usable.atom refl);
+  ends = λ index number object. chunk_ends l heaps buddies lists t remaining is index number object;
+  begins = λ index number span. span_begins l heaps buddies lists t remaining is index number span;
+  next = λ index. next_whole l heaps buddies lists t remaining is index 0;
 }

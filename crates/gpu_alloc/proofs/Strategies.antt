@@ -1,13 +1,16 @@
--- Which way a request is served that has no hint.
-use Rattle.std.proofs.Common.{◌≡◌, ℕ, ◌/◌, ◌<◌, ◌≤◌, true, false, refl, sym, ◌∙◌, arith}
+-- Which way a request is served, and what a free list serves.
+use Rattle.std.proofs.Common.{◌≡◌, ℕ, ◌/◌, ◌<◌, ◌≤◌, Bool, true, false, ◌&&◌, cond, nat_le, Option, Some, None, refl, sym, ◌∙◌, arith}
 use Rattle.std.proofs.lemmas.Bool.Decides.{nat_tests}
 use Rattle.std.specs.Prelude.{min}
 use Rattle.gpu_alloc_types.specs.Flags.{usage_bits, has_bit, has_all_bits}
 use Rattle.gpu_alloc_types.specs.Properties.{heap_size}
-use Rattle.gpu_alloc.specs.Allocation.{unhinted, is_small, fits_a_chunk}
-use Rattle.gpu_alloc_base.specs.Sizes.{transient_threshold}
+use Rattle.gpu_alloc.specs.Allocation.{strategy, unhinted, is_small, fits_a_chunk}
+use Rattle.gpu_alloc_base.specs.Sizes.{preferred_threshold, transient_threshold}
 use Rattle.gpu_alloc.specs.State.{State}
+use Rattle.gpu_alloc.specs.declared.allocator.Strategy.{Strategy}
 use Rattle.gpu_alloc.specs.declared.allocator.Strategy.TheVariants.{OwnObject, InBuddyChunk, InFreeList}
+use Rattle.gpu_alloc.specs.declared.request.Dedicated.{Dedicated}
+use Rattle.gpu_alloc.specs.declared.request.Dedicated.TheVariants.{Required, Preferred}
 use Rattle.gpu_alloc.specs.declared.request.Request.{Request}
 use Rattle.gpu_alloc.proofs.Atoms.{one_bit-all}
 
@@ -48,3 +51,24 @@ module _ (s : State) (r : Request) (t bound : ℕ) (brief : has_all_bits (usage_
   large_transient above =
       let large : is_small s r (transient_threshold s.config) t ≡ false = grind (arith, nat_tests, is) in
       rw (is_transient, large) refl
+
+-- A request that a free list serves fits a largest chunk.
+
+of_transient : (transient small fits small_lasting : Bool) → InFreeList ≡ cond transient (cond (small && fits) InFreeList OwnObject) (cond small_lasting InBuddyChunk OwnObject) → fits ≡ true
+of_transient true true true small_lasting is = refl
+of_transient true true false small_lasting is = absurd (cc)
+of_transient true false fits small_lasting is = absurd (cc)
+of_transient false small fits true is = absurd (cc)
+of_transient false small fits false is = absurd (cc)
+
+of_unhinted : (s : State) (r : Request) (t : ℕ) → InFreeList ≡ unhinted s r t → fits_a_chunk s r t ≡ true
+of_unhinted s r t is = of_transient (has_bit (usage_bits r.usage) 16) (is_small s r (transient_threshold s.config) t) (fits_a_chunk s r t) (is_small s r s.config.dedicated_threshold t) is
+
+not_preferred : (large : Bool) (w : Strategy) → InFreeList ≡ cond large OwnObject w → InFreeList ≡ w
+not_preferred true w is = absurd (cc)
+not_preferred false w is = is
+
+pub fits_its_list : (s : State) (r : Request) (hint : Option Dedicated) (t : ℕ) → InFreeList ≡ strategy s r hint t → fits_a_chunk s r t ≡ true
+fits_its_list s r (Some Required) t is = absurd (cc)
+fits_its_list s r (Some Preferred) t is = of_unhinted s r t (not_preferred (nat_le (preferred_threshold s.config) r.size) (unhinted s r t) is)
+fits_its_list s r None t is = of_unhinted s r t is

@@ -1,5 +1,6 @@
 pub mod Agreement
 pub mod Allocation
+pub mod Atoms
 pub mod BuddySharing
 pub mod Candidates
 pub mod Codes

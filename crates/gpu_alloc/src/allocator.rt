@@ -11,6 +11,7 @@ ghost use Rattle.gpu_alloc.specs.Agreement.{Agrees};
 ghost use Rattle.gpu_alloc.specs.Allocation.{passing, strategy, unhinted, fits_a_chunk, Tries, TriesBy, TriesAll};
 ghost use Rattle.gpu_alloc.specs.Allocation.{Allocates, ObjectsAfter, ObjectsTried, IsGranted, GrantsTried};
 ghost use Rattle.gpu_alloc.specs.declared.allocator.Strategy.TheVariants.{OwnObject, InBuddyChunk, InFreeList};
+ghost use Rattle.gpu_alloc.specs.Atoms.{KeepsAtoms};
 ghost use Rattle.gpu_alloc.specs.Opening.{opened};
 ghost use Rattle.gpu_alloc.specs.Release.{Frees, ObjectsFreed, LetsGo, Cleans, ObjectsCleaned, AreChunksGone};
 ghost use Rattle.gpu_alloc.specs.Release.{IsCleanedUp, without_span, without_objects};
@@ -189,6 +190,7 @@ impl<M: MemoryObject, A: Allocator> GpuAllocator<M, A> {
         ensures total { total self.new ≡ total self.old }
         ensures sound { Sound.IsSound self.new }
     {
+        self.keeps_sound();
         let answer = self.allocate(device, request, None);
         self.keeps_sound();
         answer
@@ -222,6 +224,7 @@ impl<M: MemoryObject, A: Allocator> GpuAllocator<M, A> {
         ensures total { total self.new ≡ total self.old }
         ensures sound { Sound.IsSound self.new }
     {
+        self.keeps_sound();
         let answer = self.allocate(device, request, Some(dedicated));
         self.keeps_sound();
         answer
@@ -710,7 +713,8 @@ impl<M: MemoryObject, A: Allocator> GpuAllocator<M, A> {
 
     /// Nothing is done: its contract tells what every allocator keeps.
     fn keeps_sound(&self)
-        ensures { Sound.IsSound self.now }
+        ensures sound { Sound.IsSound self.now }
+        ensures atoms { KeepsAtoms self.now }
     {
         let _ = &self.limits;
     }

@@ -1,5 +1,6 @@
 use Rattle.std.proofs.Common.{None}
 use Rattle.gpu_alloc.proofs.Decisions.{allocates_kept, allocates_total}
+use Rattle.gpu_alloc.proofs.Granted.{allocates_granted}
 use Rattle.gpu_alloc.proofs.allocator.GpuAllocator.alloc.Goals as goal
 
 pub returns-clause-refused : goal.returns-clause-refused
@@ -7,3 +8,6 @@ returns-clause-refused g c = allocates_kept c.args.self.now c.args.request None 
 
 pub returns-clause-total : goal.returns-clause-total
 returns-clause-total g c = allocates_total c.args.self.now c.args.request None _ _ _ c.allocate-answer.ensures.decided.2
+
+pub returns-clause-granted : goal.returns-clause-granted
+returns-clause-granted g c = allocates_granted c.args.self.now c.args.request c.keeps_sound.ensures.sound c.keeps_sound.ensures.atoms c.requires.askable None _ _ _ c.allocate-answer.ensures.decided.2

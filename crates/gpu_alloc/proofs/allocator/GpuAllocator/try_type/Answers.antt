@@ -1,18 +1,16 @@
-use Rattle.std.proofs.Common.{◌≡◌, ◌<◌, ◌≤◌, ℕ, Bool, true, false, ◌&&◌, cond, List, [], Option, Some, None, Result, Ok, Err, refl, ◌∙◌, arith, subst, inl, inr, nat_le}
+use Rattle.std.proofs.Common.{◌≡◌, ◌<◌, ◌≤◌, ℕ, List, [], Option, Some, None, Result, Ok, Err, refl, ◌∙◌, arith, subst, inl, inr}
 use Rattle.gpu_alloc_types.specs.Device.{Event}
-use Rattle.gpu_alloc_types.specs.Flags.{usage_bits, has_bit}
 use Rattle.gpu_alloc_types.specs.Properties.{heap_size}
 use Rattle.gpu_alloc_base.specs.Case as case
-use Rattle.gpu_alloc.specs.Allocation.{strategy, unhinted, is_small, fits_a_chunk, TriesBy, Tries}
+use Rattle.gpu_alloc.specs.Allocation.{strategy, TriesBy, Tries}
 use Rattle.gpu_alloc.specs.Candidates.{candidate}
-use Rattle.gpu_alloc_base.specs.Sizes.{preferred_threshold, transient_threshold}
 use Rattle.gpu_alloc.specs.State.{State, Block}
 use Rattle.gpu_alloc.specs.declared.allocator.Strategy.{Strategy}
 use Rattle.gpu_alloc.specs.declared.allocator.Strategy.TheVariants.{OwnObject, InBuddyChunk, InFreeList}
 use Rattle.gpu_alloc_base.specs.declared.error.AllocationError.{AllocationError}
 use Rattle.gpu_alloc.specs.declared.request.Dedicated.{Dedicated}
-use Rattle.gpu_alloc.specs.declared.request.Dedicated.TheVariants.{Required, Preferred}
 use Rattle.gpu_alloc.specs.declared.request.Request.{Request}
+use Rattle.gpu_alloc.proofs.Strategies.{fits_its_list}
 use Rattle.gpu_alloc.proofs.allocator.GpuAllocator.try_type.Goals as goal
 
 small : (size heap n : ℕ) → n < size → n ≡ heap → heap < size
@@ -48,26 +46,5 @@ returns-in-InFreeList-clause-tries g c =
     let tried = c.try_free_list.ensures.tries in
     (tried.0, tried.1, tries_by InFreeList c.args.self.now c.args.request c.args.hint c.args.memory_type _ tried.0 c.try_free_list.result c.try_free_list.new.self c.if-heap_size-request.false c.heap_size.ensures c.in-InFreeList.ensures tried.2)
 
--- A request that a free list serves fits a largest chunk.
-
-of_transient : (transient small fits small_lasting : Bool) → InFreeList ≡ cond transient (cond (small && fits) InFreeList OwnObject) (cond small_lasting InBuddyChunk OwnObject) → fits ≡ true
-of_transient true true true small_lasting is = refl
-of_transient true true false small_lasting is = absurd (cc)
-of_transient true false fits small_lasting is = absurd (cc)
-of_transient false small fits true is = absurd (cc)
-of_transient false small fits false is = absurd (cc)
-
-of_unhinted : (s : State) (r : Request) (t : ℕ) → InFreeList ≡ unhinted s r t → fits_a_chunk s r t ≡ true
-of_unhinted s r t is = of_transient (has_bit (usage_bits r.usage) 16) (is_small s r (transient_threshold s.config) t) (fits_a_chunk s r t) (is_small s r s.config.dedicated_threshold t) is
-
-not_preferred : (large : Bool) (w : Strategy) → InFreeList ≡ cond large OwnObject w → InFreeList ≡ w
-not_preferred true w is = absurd (cc)
-not_preferred false w is = is
-
-fits : (s : State) (r : Request) (hint : Option Dedicated) (t : ℕ) → InFreeList ≡ strategy s r hint t → fits_a_chunk s r t ≡ true
-fits s r (Some Required) t is = absurd (cc)
-fits s r (Some Preferred) t is = of_unhinted s r t (not_preferred (nat_le (preferred_threshold s.config) r.size) (unhinted s r t) is)
-fits s r None t is = of_unhinted s r t is
-
 pub try_free_list-requires-clause-fits : goal.try_free_list-requires-clause-fits
-try_free_list-requires-clause-fits g c = fits c.args.self.now c.args.request c.args.hint c.args.memory_type c.in-InFreeList.ensures
+try_free_list-requires-clause-fits g c = fits_its_list c.args.self.now c.args.request c.args.hint c.args.memory_type c.in-InFreeList.ensures

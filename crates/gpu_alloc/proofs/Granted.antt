@@ -1,0 +1,271 @@
+-- What a caller may know of a granted block follows from the decision, by the way in which its candidate is served.
+use Rattle.std.proofs.Common.{◌≡◌, inl, inr, ℕ, zero, suc, ◌+◌, ◌*◌, ◌-◌, ◌%◌, ◌^◌, ◌<◌, ◌≤◌, true, false, cond, nat_le, List, [], ◌∷◌, length, Option, Some, None, Result, Ok, Err, IsTrue, refl, sym, ◌∙◌, ap, subst, arith}
+use Rattle.std.specs.Prelude.{IfOk, max, All}
+use Rattle.std.proofs.lemmas.Bool.{cases_eq, cases_lt}
+use Rattle.std.proofs.lemmas.Bool.Decides.{nat_tests}
+use Rattle.std.proofs.lemmas.List.Elements.{All-head, All-tail}
+use Rattle.std.proofs.lemmas.Nat.{pow_pos}
+use Rattle.std.proofs.Math.Nat.{mul_comm, zero-mod, zero-mul, one-mul}
+use Rattle.std.specs.FinMap as map
+use Rattle.std.specs.FinSet as set
+use Rattle.gpu_alloc_types.specs.Device.{Event}
+use Rattle.gpu_alloc_types.specs.Flags.{usage_bits}
+use Rattle.gpu_alloc_types.specs.Properties.{atom_of, heap_size}
+use Rattle.gpu_alloc_usage.proofs.Ranking.Candidates.{candidates-within}
+use Rattle.gpu_alloc_base.specs.Case as case
+use Rattle.gpu_alloc_base.specs.FreeRuns.{IsFreeRun, tail_start}
+use Rattle.gpu_alloc_base.specs.FreeSpace.{IsIn, IsMultipleOf, IsPowerOfTwo}
+use Rattle.gpu_alloc_base.specs.Sizes.{doubled_up, minimal_size, next_power_of_two}
+use Rattle.gpu_alloc_base.specs.declared.error.AllocationError.{AllocationError}
+use Rattle.gpu_alloc_base.proofs.ChunkSizes.{cut_whole, grown_is_least, up_enough}
+use Rattle.gpu_alloc_base.proofs.FreeRuns.{tail_below, tail_ends}
+use Rattle.gpu_alloc_base.proofs.Maps.{own_inserted}
+use Rattle.gpu_alloc_base.proofs.Multiples.{mod_from_multiple, multiple_down, multiple_from_mod, multiple_min, multiple_of_lower, multiple_rest, multiple_times}
+use Rattle.gpu_alloc_base.proofs.PowersOfTwo.{greater_power, power_of_bit}
+use Rattle.gpu_alloc_buddy.specs.Buddy.{Fits}
+use Rattle.gpu_alloc.specs.Allocation.{Allocates, IsGranted, TriesAll, candidates_of, fits_a_chunk, strategy}
+use Rattle.gpu_alloc.specs.Atoms.{KeepsAtoms, IsNextListChunk}
+use Rattle.gpu_alloc.specs.BuddySharing.{IsPieceFront, buddy_question, buddy_size, front_of, with_span}
+use Rattle.gpu_alloc.specs.Candidates.{candidate}
+use Rattle.gpu_alloc.specs.FreeBytes.{IsFreeByte}
+use Rattle.gpu_alloc.specs.FreeListSharing.{IsFreeInChunk, IsListChunk, IsRunTail, largest_list_chunk, latest_number, list_alignment, list_question, list_size, next_list_chunk, tail_of}
+use Rattle.gpu_alloc.specs.Request.{IsAskable}
+use Rattle.gpu_alloc.specs.Sound.{IsSound}
+use Rattle.gpu_alloc.specs.State.{Block, HeldObject, Span, State, granted_block, is_shared, span_of}
+use Rattle.gpu_alloc.specs.declared.allocator.Strategy.{Strategy}
+use Rattle.gpu_alloc.specs.declared.allocator.Strategy.TheVariants.{OwnObject, InBuddyChunk, InFreeList}
+use Rattle.gpu_alloc.specs.declared.block.Kind.{Kind}
+use Rattle.gpu_alloc.specs.declared.block.Kind.TheVariants.{Dedicated as DedicatedObject, BuddyChunk, FreeListChunk}
+use Rattle.gpu_alloc.specs.declared.request.Dedicated.{Dedicated}
+use Rattle.gpu_alloc.specs.declared.request.Request.{Request}
+use Rattle.gpu_alloc.proofs.Buddies.Served.{ranges_apart}
+use Rattle.gpu_alloc.proofs.Decisions.{of_allocation}
+use Rattle.gpu_alloc.proofs.Strategies.{fits_its_list}
+use Rattle.gpu_alloc.proofs.Tables.LiveSpans.{live_new}
+
+-- A next power of two that is less than 2^64 is enough, whatever it is of.
+
+doubled_enough : (n j x : ℕ) → doubled_up n (2 ^ j) x < 2 ^ (j + n) → IsPowerOfTwo (doubled_up n (2 ^ j) x) × (x ≤ doubled_up n (2 ^ j) x)
+unfolding doubled_up
+doubled_enough zero j x lt = let same : j + 0 ≡ j = omega arith in absurd (omega (arith, lt, ap (λ k. 2 ^ k) same))
+doubled_enough (suc n) j x lt =
+    elim (nat_le x (2 ^ j)) as (λ b. nat_le x (2 ^ j) ≡ b → cond b (2 ^ j) (doubled_up n (2 * 2 ^ j) x) < 2 ^ (j + suc n) → IsPowerOfTwo (cond b (2 ^ j) (doubled_up n (2 * 2 ^ j) x)) × (x ≤ cond b (2 ^ j) (doubled_up n (2 * 2 ^ j) x))) [
+      | true ↦ λ e _. ((j, refl), grind (arith, nat_tests))
+      | false ↦ λ e less.
+          let double : 2 ^ suc j ≡ 2 * 2 ^ j = omega arith in
+          let same : j + suc n ≡ suc j + n = omega arith in
+          let below : doubled_up n (2 * 2 ^ j) x < 2 ^ (suc j + n) = subst (λ k. doubled_up n (2 * 2 ^ j) x < 2 ^ k) same less in
+          subst (λ p. IsPowerOfTwo (doubled_up n p x) × (x ≤ doubled_up n p x)) double (doubled_enough n (suc j) x (subst (λ p. doubled_up n p x < 2 ^ (suc j + n)) (sym double) below))
+    ] refl lt
+
+next_enough : (x : ℕ) → next_power_of_two x < 2 ^ 64 → IsPowerOfTwo (next_power_of_two x) × (x ≤ next_power_of_two x)
+next_enough x lt = doubled_enough 64 0 x lt
+
+module _ (s : State) (r : Request) (sound : IsSound s) where
+  -- A block of a kind, in an object of a memory type.
+
+  module _ (t : ℕ) (kind : Kind) (span : Span) where
+    -- what its size and offset have to be
+    pub record IsSized : Type 0 where
+      pub enough : r.size ≤ span.size
+      pub aligned : span.offset % (r.align_mask + 1) ≡ 0
+      pub whole_atoms : is_shared kind ≡ true → (span.offset % atom_of s.properties t ≡ 0) × (span.size % atom_of s.properties t ≡ 0)
+      pub buddy : kind ≡ BuddyChunk → IsPowerOfTwo span.size × IsMultipleOf span.size span.offset
+
+    -- its bytes were free
+    in_place : IsSized → 0 < span.size → ((at : ℕ) → IsIn span.offset span.size at → IsFreeByte s t kind span.object at) → IsGranted s r (with_span s span) (granted_block s t kind span)
+    in_place sized some free =
+        let last = free (span.offset + span.size - 1) (record { from = omega (arith, some); to = omega (arith, some) }) in
+        record {
+          enough = sized.enough;
+          aligned = sized.aligned;
+          whole_atoms = sized.whole_atoms;
+          buddy = sized.buddy;
+          inside = (last.chunk, last.held, omega (arith, some, last.inside));
+          unmapped = refl;
+          owned = record { live = live_new s.live span; held = (last.chunk, last.held, last.of_type, last.of_kind) };
+          was_free = λ other live. elim (cases_eq other.object span.object) [
+            | inl same ↦ inr (ranges_apart other.offset other.size span.offset span.size (sound.nonempty other live) some (λ at also inside. (free at inside).unused other live same also))
+            | inr apart ↦ inl apart
+          ];
+        }
+
+    -- its object is new
+    in_new_object : (new : State) (counted : ℕ) → IsSized → span.offset + span.size ≤ counted → map.get s.held span.object ≡ None
+        → new.held ≡ map.insert s.held span.object (record { memory_type = t; counted = counted; kind = kind }) → new.live ≡ set.insert s.live span → IsGranted s r new (granted_block s t kind span)
+    in_new_object new counted sized fits free held live =
+        let h : HeldObject = record { memory_type = t; counted = counted; kind = kind } in
+        let found : map.get new.held span.object ≡ Some h = ap (λ m. map.get m span.object) held ∙ own_inserted s.held span.object h in
+        record {
+          enough = sized.enough;
+          aligned = sized.aligned;
+          whole_atoms = sized.whole_atoms;
+          buddy = sized.buddy;
+          inside = (h, found, fits);
+          unmapped = refl;
+          owned = record { live = subst (λ x. IsTrue (set.contains x span)) (sym live) (live_new s.live span); held = (h, found, refl, refl) };
+          was_free = λ other there. inl (λ same. let was = (sound.inside other there).1 in let none = ap (map.get s.held) same ∙ free in absurd (cc));
+        }
+
+  module _ (atoms : KeepsAtoms s) (asked : IsAskable s.properties.buffer_device_address r) (t : ℕ) where
+    abbrev atom : ℕ
+    atom = atom_of s.properties t
+
+    align : IsPowerOfTwo (r.align_mask + 1)
+    align = power_of_bit (r.align_mask + 1) asked.alignment.power
+
+    some_atom : 0 < atom
+    some_atom = let power = atoms.atom t in omega (arith, power.1, pow_pos power.0)
+
+    -- An object of its own.
+
+    own_sized : (object : ℕ) → IsSized t DedicatedObject (front_of object r.size)
+    own_sized object = record {
+      enough = omega arith;
+      aligned = zero-mod (r.align_mask + 1);
+      whole_atoms = λ shared. absurd (cc);
+      buddy = λ chunk. absurd (cc);
+    }
+
+    -- A block of a buddy chunk.
+
+    module _ (fits : Fits (buddy_size s r t)) where
+      rounded : IsPowerOfTwo (buddy_size s r t) × (max (max r.size (r.align_mask + 1)) atom ≤ buddy_size s r t)
+      rounded = let next = next_enough (max (max r.size (r.align_mask + 1)) (max atom (minimal_size s.config (heap_size s.properties t)))) (omega (arith, fits)) in (next.0, omega (arith, next.1))
+
+      buddy_some : 0 < buddy_size s r t
+      buddy_some = omega (arith, rounded.0.1, pow_pos rounded.0.0)
+
+      buddy_sized : (span : Span) → span.size ≡ buddy_size s r t → IsMultipleOf (buddy_size s r t) span.offset → IsSized t BuddyChunk span
+      buddy_sized span of_size multiple = record {
+        enough = omega (arith, rounded.1, of_size);
+        aligned = mod_from_multiple (r.align_mask + 1) span.offset (multiple_of_lower (r.align_mask + 1) (buddy_size s r t) span.offset align rounded.0 (omega (arith, rounded.1)) multiple);
+        whole_atoms = λ _. (
+          mod_from_multiple atom span.offset (multiple_of_lower atom (buddy_size s r t) span.offset (atoms.atom t) rounded.0 (omega (arith, rounded.1)) multiple),
+          mod_from_multiple atom span.size (multiple_of_lower atom (buddy_size s r t) span.size (atoms.atom t) rounded.0 (omega (arith, rounded.1)) (1, of_size ∙ sym (one-mul (buddy_size s r t)))),
+        );
+        buddy = λ _. subst (λ n. IsPowerOfTwo n × IsMultipleOf n span.offset) (sym of_size) (rounded.0, multiple);
+      }
+
+      front_granted : (span : Span) → IsPieceFront s t (buddy_size s r t) span → IsGranted s r (with_span s span) (granted_block s t BuddyChunk span)
+      front_granted span front =
+          let place = front.piece.place in
+          in_place t BuddyChunk span (buddy_sized span front.of_size (multiple_of_lower (buddy_size s r t) front.length span.offset rounded.0 place.power front.enough place.aligned)) (omega (arith, front.of_size, buddy_some))
+          (λ at inside. place.free at (record { from = inside.from; to = omega (arith, inside.to, front.of_size, front.enough) }))
+
+    -- A block of a free list's chunk.
+
+    abbrev size : ℕ
+    size = list_size s r t
+
+    abbrev alignment : ℕ
+    alignment = list_alignment s r t
+
+    tail_sized : (number : ℕ) (span : Span) (end : ℕ) → size ≤ end → IsMultipleOf atom end → span.offset ≡ tail_start size alignment end → span.offset + span.size ≡ end → IsSized t (FreeListChunk number) span
+    tail_sized number span end enough whole start ends =
+        let greater = greater_power (r.align_mask + 1) atom align (atoms.atom t) in
+        let starts : IsMultipleOf alignment span.offset = subst (IsMultipleOf alignment) (sym start) (multiple_down (end - size) alignment) in
+        let first = multiple_of_lower atom alignment span.offset (atoms.atom t) greater (omega arith) starts in
+        record {
+          enough = omega (arith, up_enough r.size atom asked.nonempty some_atom, enough, start, ends, tail_below size alignment end);
+          aligned = mod_from_multiple (r.align_mask + 1) span.offset (multiple_of_lower (r.align_mask + 1) alignment span.offset align greater (omega arith) starts);
+          whole_atoms = λ _. (mod_from_multiple atom span.offset first, mod_from_multiple atom span.size (multiple_rest atom span.offset span.size first (subst (IsMultipleOf atom) (sym ends) whole)));
+          buddy = λ chunk. absurd (cc);
+        }
+
+    -- a free run ends at whole atoms: where its chunk does, or where a live span begins
+    run_ends : (number start end : ℕ) → IsFreeRun (IsFreeInChunk s t) number start end → IsMultipleOf atom end
+    run_ends number start end run =
+        let last = run.free (end - 1) (omega (arith, run.nonempty)) (omega (arith, run.nonempty)) in
+        let object : ℕ = last.0 in
+        let byte = last.1 in
+        let chunk : IsListChunk s t number object = record { chunk = byte.chunk; held = byte.held; of_type = byte.of_type; of_kind = byte.of_kind } in
+        let never : (end % atom ≡ 0 → ⊥) → ⊥ = λ odd.
+        let short : end < byte.chunk.counted = elim (cases_lt end byte.chunk.counted) [
+          | inl lt ↦ lt
+          | inr ge ↦
+              let same : end ≡ byte.chunk.counted = omega (arith, ge, byte.inside) in
+              absurd (odd (ap (λ x. x % atom) same ∙ mod_from_multiple atom byte.chunk.counted (atoms.ends t number object chunk)))
+        ] in
+        let next : IsFreeByte s t (FreeListChunk number) object end = record {
+          chunk = byte.chunk;
+          held = byte.held;
+          of_type = byte.of_type;
+          of_kind = byte.of_kind;
+          inside = short;
+          unused = λ span live same inside. elim (cases_lt span.offset end) [
+            | inl before ↦ byte.unused span live same (record { from = omega (arith, before); to = omega (arith, inside.to) })
+            | inr not_before ↦
+                let here : end ≡ span.offset = omega (arith, not_before, inside.from) in
+                odd (ap (λ x. x % atom) here ∙ mod_from_multiple atom span.offset (atoms.begins t number span (subst (IsListChunk s t number) (sym same) chunk) live))
+          ];
+        } in
+        let longer = run.longest start (end + 1) (λ at from to. elim (cases_lt at end) [
+          | inl lt ↦ run.free at from lt
+          | inr ge ↦ let here : end ≡ at = omega (arith, ge, to) in subst (IsFreeInChunk s t number) here (object, next)
+        ]) (omega arith) (omega arith) in
+        omega (arith, longer.1) in
+        elim (cases_eq (end % atom) 0) [
+          | inl none ↦ multiple_from_mod atom end none
+          | inr some ↦ absurd (never some)
+        ]
+
+    tail_granted : (number : ℕ) (span : Span) → IsRunTail s t size alignment number span → IsGranted s r (with_span s span) (granted_block s t (FreeListChunk number) span)
+    tail_granted number span tail =
+        let run = tail.run in
+        let sized = tail_sized number span run.end tail.last.room.enough (run_ends run.chunk run.start run.end tail.last.run) tail.start tail.end in
+        in_place t (FreeListChunk number) span sized (omega (arith, sized.enough, asked.nonempty)) (λ at inside.
+        let free = tail.last.run.free at (omega (arith, inside.from, tail.start, tail.last.room.from)) (omega (arith, inside.to, tail.end)) in
+        let byte = subst (λ n. IsFreeByte s t (FreeListChunk n) free.0 at) tail.in_chunk free.1 in
+        let same : free.0 ≡ span.object = sound.numbers t number free.0 span.object (record { chunk = byte.chunk; held = byte.held; of_type = byte.of_type; of_kind = byte.of_kind }) tail.chunk in
+        subst (λ o. IsFreeByte s t (FreeListChunk number) o at) same byte)
+
+    -- what is asked for a new chunk is enough, and of whole atoms
+    asked_whole : IsNextListChunk s t → size ≤ largest_list_chunk s t → (size ≤ (list_question s t size).size) × IsMultipleOf atom (list_question s t size).size
+    asked_whole next fits =
+        let least = grown_is_least (next_list_chunk s t) (largest_list_chunk s t) size next.some next.most next.bound fits in
+        let k : ℕ = least.product.0 in
+        let times : IsMultipleOf atom (next_list_chunk s t * 2 ^ k) = subst (IsMultipleOf atom) (mul_comm (2 ^ k) (next_list_chunk s t)) (multiple_times atom (next_list_chunk s t) (2 ^ k) next.whole) in
+        (least.enough, subst (IsMultipleOf atom) (sym least.product.1) (multiple_min atom (next_list_chunk s t * 2 ^ k) (largest_list_chunk s t) times (cut_whole (heap_size s.properties t) atom _)))
+
+    -- The candidate.
+
+    granted_by : (w : Strategy) (es : List Event) (b : Block) (new : State) → t < length s.properties.memory_types → (InFreeList ≡ w → fits_a_chunk s r t ≡ true) → case.Decides (candidate w s r t) es (Ok b) new → IsGranted s r new b
+    granted_by OwnObject es b new known fits (inl gives) = absurd gives.place
+    granted_by OwnObject es b new known fits (inr gives) =
+        let span = front_of b.object r.size in
+        let c = candidate OwnObject s r t in
+        rw gives.state (subst (λ x. IsGranted s r (c.with_object x) x) (sym gives.place.is) (in_new_object t DedicatedObject span (c.with_object (granted_block s t DedicatedObject span)) r.size (own_sized b.object) (omega arith) gives.place.was_free refl refl))
+    granted_by InBuddyChunk es b new known fits (inl gives) = rw gives.state (subst (IsGranted s r (with_span s (span_of b))) (sym gives.place.is) (front_granted gives.fits (span_of b) gives.place.front))
+    granted_by InBuddyChunk es b new known fits (inr gives) =
+        let size = buddy_size s r t in
+        let span = front_of b.object size in
+        let c = candidate InBuddyChunk s r t in
+        rw gives.state (subst (λ x. IsGranted s r (c.with_object x) x) (sym gives.place.is) (in_new_object t BuddyChunk span (c.with_object (granted_block s t BuddyChunk span)) (buddy_question s t size).size
+        (buddy_sized gives.asks.fits span refl (0, sym (zero-mul size))) (omega arith) gives.place.was_free refl refl))
+    granted_by InFreeList es b new known fits (inl gives) = rw gives.state (subst (IsGranted s r (with_span s (span_of b))) (sym gives.place.is) (tail_granted gives.place.number (span_of b) gives.place.tail))
+    granted_by InFreeList es b new known fits (inr gives) =
+        let whole = (list_question s t size).size in
+        let span = tail_of b.object whole size alignment in
+        let number = latest_number s t + 1 in
+        let c = candidate InFreeList s r t in
+        let fit : fits_a_chunk s r t ≡ true = fits refl in
+        let enough = asked_whole (atoms.next t known) (grind (arith, nat_tests)) in
+        let ends = tail_ends size alignment whole in
+        rw gives.state (subst (λ x. IsGranted s r (c.with_object x) x) (sym gives.place.is) (in_new_object t (FreeListChunk number) span (c.with_object (granted_block s t (FreeListChunk number) span)) whole
+        (tail_sized number span whole enough.0 enough.1 refl ends) (omega (arith, ends)) gives.place.was_free refl refl))
+
+  -- The whole allocation.
+
+  module _ (atoms : KeepsAtoms s) (asked : IsAskable s.properties.buffer_device_address r) (hint : Option Dedicated) where
+    all_granted : (ts : List ℕ) (es : List Event) (b : Block) (new : State) → All (λ t. t < length s.properties.memory_types) ts → TriesAll s r hint ts es (Ok b) new → IsGranted s r new b
+    all_granted [] es b new known tried = absurd (cc)
+    all_granted (t ∷ ts) es b new known (inl passed) = all_granted ts passed.1 b new (All-tail (λ t. t < length s.properties.memory_types) t ts known) passed.4
+    all_granted (t ∷ ts) es b new known (inr decides) =
+        granted_by atoms asked t (strategy s r hint t) es b new (All-head (λ t. t < length s.properties.memory_types) t ts known) (fits_its_list s r hint t) decides.1
+
+    pub allocates_granted : (es : List Event) (answer : Result Block AllocationError) (new : State) → Allocates s r hint es answer new → IfOk answer (IsGranted s r new)
+    allocates_granted es (Err e) new h = tt
+    allocates_granted es (Ok b) new h =
+        of_allocation s r hint es (Ok b) new (λ e refused. absurd (let never = refused.1 in cc))
+        (λ tried. all_granted (candidates_of s r) es b new (candidates-within s.properties.memory_types (usage_bits r.usage) r.memory_types) tried) h
