@@ -1,27 +1,22 @@
 -- What a granted object of its own leaves.
-use Rattle.std.proofs.Common.{◌≡◌, ℕ, ◌+◌, ◌-◌, ◌<◌, List, get_or, true, cond, Some, None, Ok, refl, sym, ◌∙◌, ap, subst, arith, inl, inr}
+use Rattle.std.proofs.Common.{◌≡◌, ℕ, ◌-◌, ◌<◌, List, get_or, Some, None, Ok, refl, sym, ◌∙◌, subst, inr}
 use Rattle.std.proofs.Math.ListN.{set}
-use Rattle.std.proofs.Math.Nat.{zero-mod}
-use Rattle.std.proofs.lemmas.Bool.Decides.{nat_tests}
-use Rattle.std.specs.Cmp.{nat_cmp_total}
-use Rattle.std.specs.Ordering.{nat_cmp, eq_by_cmp}
 use Rattle.std.specs.FinMap as finite
 use Rattle.std.specs.FinSet as set_of
 use Rattle.gpu_alloc_base.specs.NewChunk.{made}
-use Rattle.gpu_alloc.specs.Allocation.{TriesBy, IsGranted}
+use Rattle.gpu_alloc.specs.Allocation.{TriesBy}
 use Rattle.gpu_alloc.specs.Candidates.{own_question, holding, whole_block}
 use Rattle.gpu_alloc.specs.declared.allocator.Strategy.TheVariants.{OwnObject}
 use Rattle.gpu_alloc_buddy.specs.BuddyState.{Buddy}
 use Rattle.gpu_alloc_freelist.specs.FreeListState.{Listing}
 use Rattle.gpu_alloc.specs.Inside.{state_in}
 use Rattle.gpu_alloc.specs.Spans.{Table}
-use Rattle.gpu_alloc.specs.State.{State, HeldObject, Span, Block, IsLive, span_of}
+use Rattle.gpu_alloc.specs.State.{State, HeldObject, Block}
 use Rattle.gpu_alloc.specs.declared.limits.Limits.{Limits}
 use Rattle.gpu_alloc.specs.declared.block.Kind.TheVariants.{Dedicated as DedicatedObject}
 use Rattle.gpu_alloc_base.specs.declared.heap.Heap.{Heap}
 use Rattle.gpu_alloc.specs.declared.request.Request.{Request}
 use Rattle.gpu_alloc.proofs.HeapLists.{state_kept}
-use Rattle.gpu_alloc.proofs.Tables.LiveSpans.{live_new}
 
 -- the object of a block that is an object of its own
 abbrev pub own_object : ℕ → ℕ → HeldObject
@@ -45,26 +40,3 @@ decides_granted s now r memory_type object b is some free held =
       asked = refl;
       state = held;
     }))
-
--- a live span is in a held object, and so apart from one that is not held
-pub granted : (s : State) (r : Request) (memory_type object : ℕ) → finite.get s.held object ≡ None → ((span : Span) → IsLive s span → (h : HeldObject) × (finite.get s.held span.object ≡ Some h))
-    → IsGranted s r (holding s (own_object r.size memory_type) (whole_block s object r.size memory_type)) (whole_block s object r.size memory_type)
-granted s r memory_type object free live = record {
-  enough = omega arith;
-  aligned = zero-mod (r.align_mask + 1);
-  whole_atoms = λ shared. absurd (cc);
-  buddy = λ chunk. absurd (cc);
-  inside = (own_object r.size memory_type, found, omega arith);
-  unmapped = refl;
-  owned = record {
-    live = live_new s.live (span_of (whole_block s object r.size memory_type));
-    held = (own_object r.size memory_type, found, refl, refl);
-  };
-  was_free = λ span was. inl (λ same. let there = ap (finite.get s.held) (sym same) ∙ (live span was).1 in absurd (cc));
-}
-  where
-    found : finite.get (finite.insert s.held object (own_object r.size memory_type)) object ≡ Some (own_object r.size memory_type)
-    found = finite.get-insert nat_cmp_total s.held object (own_object r.size memory_type) object ∙ ap (λ b. cond b (Some (own_object r.size memory_type)) (finite.get s.held object)) (itself object)
-      where
-        itself : (a : ℕ) → eq_by_cmp nat_cmp a a ≡ true
-        itself a = grind (arith, nat_tests)

@@ -5,7 +5,7 @@ use Rattle.gpu_alloc_types.specs.Device.{Event, Object}
 use Rattle.gpu_alloc.specs.State.{State, Block}
 use Rattle.gpu_alloc_base.specs.Case as case
 use Rattle.gpu_alloc_base.specs.Case.{Case}
-use Rattle.gpu_alloc.specs.Allocation.{passing, IsPassed, Decides, TriesAll, ObjectsTried, GrantsTried}
+use Rattle.gpu_alloc.specs.Allocation.{passing, IsPassed, Decides, TriesAll, ObjectsTried}
 use Rattle.gpu_alloc_base.specs.declared.error.AllocationError.{AllocationError}
 use Rattle.gpu_alloc_base.specs.declared.error.AllocationError.TheVariants.{OutOfDeviceMemory, OutOfHostMemory, NoCompatibleMemoryTypes, TooManyObjects}
 use Rattle.gpu_alloc.specs.declared.request.Request.{Request}
@@ -45,9 +45,3 @@ nothing_made s OutOfDeviceMemory after old new same = same
 nothing_made s OutOfHostMemory after old new same = same
 nothing_made s NoCompatibleMemoryTypes after old new same = same
 nothing_made s TooManyObjects after old new same = same
-
-pub nothing_granted : (s : State) (r : Request) (e : AllocationError) (new : State) → new ≡ s → GrantsTried s r (passing e) new
-nothing_granted s r OutOfDeviceMemory new same = same
-nothing_granted s r OutOfHostMemory new same = same
-nothing_granted s r NoCompatibleMemoryTypes new same = same
-nothing_granted s r TooManyObjects new same = same

@@ -143,9 +143,3 @@ pub record IsGranted (s : State) (r : Request) (new : State) (b : Block) : Type 
   pub unmapped : b.mapping ≡ None
   pub owned : IsOwned new b
   pub was_free : (span : Span) → IsLive s span → AreApart span (span_of b)
-
--- the same of one candidate that was tried
-abbrev pub GrantsTried : State → Request → Result (Option Block) AllocationError → State → Type 0
-GrantsTried s r (Ok None) new = new ≡ s
-GrantsTried s r (Ok (Some b)) new = IsGranted s r new b
-GrantsTried s r (Err e) new = new ≡ s

@@ -9,7 +9,7 @@ ghost use Rattle.gpu_alloc_types.specs.Flags.{has_bit, usage_bits};
 ghost use Rattle.gpu_alloc_types.specs.Device.{Event, Chain};
 ghost use Rattle.gpu_alloc.specs.Agreement.{Agrees};
 ghost use Rattle.gpu_alloc.specs.Allocation.{passing, strategy, unhinted, fits_a_chunk, Tries, TriesBy, TriesAll};
-ghost use Rattle.gpu_alloc.specs.Allocation.{Allocates, ObjectsAfter, ObjectsTried, IsGranted, GrantsTried};
+ghost use Rattle.gpu_alloc.specs.Allocation.{Allocates, ObjectsAfter, ObjectsTried, IsGranted};
 ghost use Rattle.gpu_alloc.specs.declared.allocator.Strategy.TheVariants.{OwnObject, InBuddyChunk, InFreeList};
 ghost use Rattle.gpu_alloc.specs.Atoms.{KeepsAtoms};
 ghost use Rattle.gpu_alloc.specs.Opening.{opened};
@@ -243,7 +243,6 @@ impl<M: MemoryObject, A: Allocator> GpuAllocator<M, A> {
             × Allocates self.old request hint es result self.new }
         ensures objects { ObjectsAfter self.old result self.new (D.objects device.old) (D.objects device.new) }
         ensures agrees { Agrees self.new (D.properties device.new) (D.objects device.new) }
-        ensures granted { IfOk result (IsGranted self.old request self.new) }
     {
         if request.size > self.max_allocation_size() {
             return Err(AllocationError::OutOfDeviceMemory);
@@ -274,7 +273,6 @@ impl<M: MemoryObject, A: Allocator> GpuAllocator<M, A> {
             × TriesAll self.old request hint candidates.now es result self.new }
         ensures objects { ObjectsAfter self.old result self.new (D.objects device.old) (D.objects device.new) }
         ensures agrees { Agrees self.new (D.properties device.new) (D.objects device.new) }
-        ensures granted { IfOk result (IsGranted self.old request self.new) }
     {
         for &memory_type in candidates {
             match self.try_type(device, request, hint, memory_type)? {
@@ -300,7 +298,6 @@ impl<M: MemoryObject, A: Allocator> GpuAllocator<M, A> {
             × Tries self.old request hint memory_type es result self.new }
         ensures objects { ObjectsTried self.old result self.new (D.objects device.old) (D.objects device.new) }
         ensures agrees { Agrees self.new (D.properties device.new) (D.objects device.new) }
-        ensures granted { GrantsTried self.old request result self.new }
     {
         if self.heap_size(memory_type) < request.size {
             return Ok(None);
@@ -375,7 +372,6 @@ impl<M: MemoryObject, A: Allocator> GpuAllocator<M, A> {
             × TriesBy OwnObject self.old request memory_type es result self.new }
         ensures objects { ObjectsTried self.old result self.new (D.objects device.old) (D.objects device.new) }
         ensures agrees { Agrees self.new (D.properties device.new) (D.objects device.new) }
-        ensures granted { GrantsTried self.old request result self.new }
     {
         if self.allocations_remains == 0 {
             return Err(AllocationError::TooManyObjects);
@@ -435,7 +431,6 @@ impl<M: MemoryObject, A: Allocator> GpuAllocator<M, A> {
             × TriesBy InBuddyChunk self.old request memory_type es result self.new }
         ensures objects { ObjectsTried self.old result self.new (D.objects device.old) (D.objects device.new) }
         ensures agrees { Agrees self.new (D.properties device.new) (D.objects device.new) }
-        ensures granted { GrantsTried self.old request result self.new }
     {
         let own = memory_type as usize;
         let heap = self.limits.heap_index(memory_type);
@@ -497,7 +492,6 @@ impl<M: MemoryObject, A: Allocator> GpuAllocator<M, A> {
             × TriesBy InFreeList self.old request memory_type es result self.new }
         ensures objects { ObjectsTried self.old result self.new (D.objects device.old) (D.objects device.new) }
         ensures agrees { Agrees self.new (D.properties device.new) (D.objects device.new) }
-        ensures granted { GrantsTried self.old request result self.new }
     {
         let own = memory_type as usize;
         let heap = self.limits.heap_index(memory_type);

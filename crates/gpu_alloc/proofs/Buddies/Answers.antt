@@ -1,5 +1,5 @@
 -- What a block that a memory type's buddy allocator gives comes to for the whole allocator.
-use Rattle.std.proofs.Common.{◌≡◌, ◌⊎◌, inl, inr, ℕ, ◌+◌, ◌-◌, ◌^◌, ◌<◌, true, false, cond, List, length, get_or, Option, Some, None, Ok, is_some, IfSome, IsTrue, refl, sym, ◌∙◌, ap, subst, arith}
+use Rattle.std.proofs.Common.{◌≡◌, ◌⊎◌, inl, inr, ℕ, ◌+◌, ◌-◌, ◌^◌, ◌<◌, true, false, cond, List, length, get_or, Option, Some, None, Ok, is_some, IfSome, refl, sym, ◌∙◌, ap, subst, arith}
 use Rattle.std.proofs.Math.ListN.{set}
 use Rattle.gpu_alloc_base.proofs.AlignedPowers.{pow-le}
 use Rattle.std.proofs.lemmas.Nat.{pow_pos}
@@ -11,7 +11,7 @@ use Rattle.gpu_alloc.specs.Agreement as agreement
 use Rattle.gpu_alloc_base.specs.Accounts.{Account, account}
 use Rattle.gpu_alloc_base.specs.Case.{Answers, GivesInPlace, GivesInNewObject}
 use Rattle.gpu_alloc_base.specs.NewObject.{HasOneMore}
-use Rattle.gpu_alloc.specs.Allocation.{ObjectsWith, IsGranted}
+use Rattle.gpu_alloc.specs.Allocation.{ObjectsWith}
 use Rattle.gpu_alloc.specs.Candidates.{buddy_candidate}
 use Rattle.gpu_alloc_buddy.specs.Buddy.{buddy_case, question, BeginsChunk, IsFront, ObjectsAfter, with_leaf, with_chunk, chunk_size, sees_chunks}
 use Rattle.gpu_alloc_base.specs.Wanted.{wanted}
@@ -34,11 +34,10 @@ use Rattle.gpu_alloc.proofs.Agreeing.{not_held}
 use Rattle.gpu_alloc.proofs.Ledgers.{Held}
 use Rattle.gpu_alloc_base.proofs.Maps.{own_inserted}
 use Rattle.gpu_alloc.proofs.Buddies.Links.{HasLeafMore}
-use Rattle.gpu_alloc.proofs.Tables.LiveSpans.{live_new}
 use Rattle.gpu_alloc_base.proofs.Books.{made_new, chunk_more}
 use Rattle.gpu_alloc_base.proofs.ToldTwice.{asks_is}
 use Rattle.gpu_alloc.proofs.NewObjects.{counted_new}
-use Rattle.gpu_alloc.proofs.Buddies.Served.{apart_is, agrees_with_span, agrees_with_chunk, granted_is}
+use Rattle.gpu_alloc.proofs.Buddies.Served.{apart_is, agrees_with_span, agrees_with_chunk}
 use Rattle.gpu_alloc.proofs.Buddies.Serving.{Serves, front_is, told_with}
 use Rattle.gpu_alloc.proofs.Buddies.Grants.{serves, buddy_of, consistent_with_leaf, state_with_leaf, consistent_with_chunk, state_with_chunk, asked_size}
 
@@ -117,7 +116,6 @@ module _ {A : Type 0} {l : Limits A} {heaps : List Heap} {buddies : List Buddy} 
       pub gives : GivesInPlace (buddy_candidate before size index) es block (state_of a) ⊎ GivesInNewObject (buddy_candidate before size index) es block (state_of a)
       pub objects_are : ObjectsWith before block (state_of a) old new
       pub agreed : agreement.Agrees (state_of a) q new
-      pub told : IsGranted before r (state_of a) (buddy_block before index (span_of_leaf leaf))
 
     -- in a chunk that was held
     in_chunk : (front : IsFront b size leaf) → new ≡ old → after ≡ account (with_leaf b leaf) heap remaining
@@ -128,17 +126,12 @@ module _ {A : Type 0} {l : Limits A} {heaps : List Heap} {buddies : List Buddy} 
         let same_held : now.held ≡ t.held = held ∙ ap (λ (o : Option HeldObject). cond (is_some o) t.held (finite.insert t.held leaf.object chunk_row)) there in
         let sound_now = subst IsSound (ap (λ (a : Account Buddy). a.allocator) after_is) sound in
         let state = state_with_leaf l heaps buddies lists t remaining index b given.is given.known given.at i heap given.here given.at_heap leaf front.chunk now front.held front.object sound_now same_held more in
-        let found_now = ap (λ (x : Held). finite.get x leaf.object) same_held ∙ there in
-        let chunk_now : finite.get after.allocator.chunks leaf.chunk ≡ Some front.chunk = ap (λ (a : Account Buddy). finite.get a.allocator.chunks leaf.chunk) after_is ∙ front.held in
         subst IsServed (sym after_is) (record {
           consistent = consistent_with_leaf l heaps buddies lists t remaining index b given.is given.known given.at i heap given.here given.at_heap leaf front.chunk now front.held front.object sound_now same_held more;
           gives = inl (subst (GivesInPlace (buddy_candidate before size index) es block) (sym state) gives);
           objects_are = rw there same_objects;
           agreed = subst (λ o. agreement.Agrees (state_of (account (with_leaf b leaf) heap remaining)) q o) (sym same_objects)
               (subst (λ x. agreement.Agrees x q old) (sym state) (agrees_with_span before t.places t.room index b serving q old leaf front.chunk front.held front.object given.agrees));
-          told = granted_is before t.places t.room index b serving r flags after.allocator (state_of (account (with_leaf b leaf) heap remaining)) leaf front.chunk _ granted chunk_now found_now refl
-              (record { live = subst (λ x. IsTrue (set_of.contains x (span_of_leaf leaf))) (sym live) (live_new t.live (span_of_leaf leaf)); held = (_, found_now, chunk_found.for_type.memory_type, refl) })
-              apart;
         })
 
     -- in a new chunk
@@ -168,9 +161,6 @@ module _ {A : Type 0} {l : Limits A} {heaps : List Heap} {buddies : List Buddy} 
           gives = inr (subst (GivesInNewObject (buddy_candidate before size index) es block) (sym state_asked) gives);
           objects_are = rw free (counted_new before (record { memory_type = index; counted = n; kind = BuddyChunk }) (buddy_question before index size) leaf.object _ old new found_now refl asked refl new_chunk);
           agreed = subst (λ x. agreement.Agrees x q new) (sym state_asked) (agrees_with_chunk before t.places t.room index b serving q old new size leaf given.agrees new_chunk);
-          told = granted_is before t.places t.room index b serving r flags after.allocator (state_of (account (with_leaf (with_chunk b leaf n) leaf) changed (remaining - 1))) leaf chunk _ granted chunk_now found_now refl
-              (record { live = subst (λ x. IsTrue (set_of.contains x (span_of_leaf leaf))) (sym live) (live_new t.live (span_of_leaf leaf)); held = (_, found_now, refl, refl) })
-              apart;
         })
 
     pub served : IsServed after

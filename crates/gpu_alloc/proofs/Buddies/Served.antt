@@ -1,5 +1,5 @@
 -- The blocks of a memory type's buddy allocator in the whole allocator's state, and on the device.
-use Rattle.std.proofs.Common.{◌≡◌, ◌≢◌, ◌⊎◌, inl, inr, ℕ, ◌+◌, ◌%◌, ◌<◌, ◌≤◌, ◌^◌, cond, List, length, get_or, Option, Some, None, IfSome, IsTrue, refl, sym, ◌∙◌, ap, subst, arith}
+use Rattle.std.proofs.Common.{◌≡◌, ◌≢◌, ◌⊎◌, inl, inr, ℕ, ◌+◌, ◌<◌, ◌≤◌, ◌^◌, cond, List, length, get_or, Option, Some, None, IfSome, IsTrue, refl, sym, ◌∙◌, ap, subst, arith}
 use Rattle.std.proofs.lemmas.Bool.{cases_eq, cases_lt}
 use Rattle.std.proofs.lemmas.Nat.{pow_pos}
 use Rattle.std.specs.Prelude.{sum_by}
@@ -9,10 +9,8 @@ use Rattle.gpu_alloc_types.specs.Device.{Object, HeldWith}
 use Rattle.gpu_alloc_types.specs.Flags.{has_bit}
 use Rattle.gpu_alloc_types.specs.Properties.{Properties, heap_at, props_at, is_host_visible}
 use Rattle.gpu_alloc.specs.Agreement as agreement
-use Rattle.gpu_alloc.specs.Allocation.{IsGranted}
 use Rattle.gpu_alloc_base.specs.Accounts.{IsCounted, chunk_bytes}
 use Rattle.gpu_alloc_buddy.specs.Buddy.{IsFront, BeginsChunk, IsUnusedChunk, without_leaf, sees_chunks}
-use Rattle.gpu_alloc_base.specs.Wanted.{wanted}
 use Rattle.gpu_alloc_buddy.specs.Buddy as buddy
 use Rattle.gpu_alloc_base.specs.Chunks as chunks
 use Rattle.gpu_alloc_buddy.specs.BuddyState.{Buddy, IsLiveLeaf}
@@ -21,13 +19,12 @@ use Rattle.gpu_alloc_base.specs.FreeSpace.{IsIn}
 use Rattle.gpu_alloc.specs.Inside.{IsOfObject, IsChunkOf, IsBooked, chunk_object, span_of_leaf, place_of_leaf, leaf_at}
 use Rattle.gpu_alloc_base.specs.NewChunk.{HasOneChunkMore}
 use Rattle.gpu_alloc.specs.Release.{IsUnused, without_span}
-use Rattle.gpu_alloc.specs.BuddySharing.{buddy_question, buddy_block, with_span, with_buddy_chunk}
+use Rattle.gpu_alloc.specs.BuddySharing.{buddy_question, with_span, with_buddy_chunk}
 use Rattle.gpu_alloc.specs.Spans.{Place}
-use Rattle.gpu_alloc.specs.State.{HeldObject, Span, span_cmp, span_of, Block, State, IsLive, IsOwned, AreApart, share}
+use Rattle.gpu_alloc.specs.State.{HeldObject, Span, span_cmp, span_of, Block, State, IsLive, AreApart, share}
 use Rattle.gpu_alloc.specs.declared.block.Kind.TheVariants.{BuddyChunk}
 use Rattle.gpu_alloc_base.specs.declared.buddy_block.Leaf.{Leaf}
 use Rattle.gpu_alloc_base.specs.declared.heap.Heap.{Heap}
-use Rattle.gpu_alloc.specs.declared.request.Request.{Request}
 use Rattle.gpu_alloc.proofs.Agreeing.{there_kept, agrees_more}
 use Rattle.gpu_alloc_base.proofs.Leaves.{leaf_removed}
 use Rattle.gpu_alloc.proofs.Ledgers.{sum_by-small}
@@ -224,20 +221,3 @@ module _ (s : State) (places : map.FinMap span_cmp Place) (room index : ℕ) (b 
   pub ledger_bounded : (heaps : List Heap) (i : ℕ) (heap : Heap) → IsBooked s.properties heaps (table_of s places room) s.remaining → i < length heaps → heap ≡ get_or heaps i heap → heap.used ≤ 2 ^ 127
   ledger_bounded heaps i heap booked inside at =
       omega (arith, ledger_at s.properties heaps i heap (map.entries s.held) booked.ledgers inside at, sum_by-small s.properties i (map.entries s.held) booked.small, map.len-entries s.held, booked.count)
-
-  -- What is told of a granted block.
-
-  -- the held object of the block's chunk counts the chunk's size
-  pub granted_is : (r : Request) (flags : ℕ) (after : Buddy) (new : State) (leaf : Leaf) (chunk : Chunk) (h : HeldObject) → buddy.IsGranted b (wanted r.size r.align_mask flags) after leaf
-      → map.get after.chunks leaf.chunk ≡ Some chunk → map.get new.held leaf.object ≡ Some h → h.counted ≡ chunk.size
-      → IsOwned new (buddy_block s index (span_of_leaf leaf)) → ((span : Span) → IsLive s span → AreApart span (span_of_leaf leaf)) → IsGranted s r new (buddy_block s index (span_of_leaf leaf))
-  granted_is r flags after new leaf chunk h granted chunk_is held counted owned apart = record {
-    enough = granted.enough;
-    aligned = granted.aligned;
-    whole_atoms = λ _. subst (λ atom. (leaf.offset % atom ≡ 0) × (leaf.size % atom ≡ 0)) serves.of.for_type.atom granted.whole_atoms;
-    buddy = λ _. (granted.power, granted.front);
-    inside = (h, held, omega (arith, granted.inside.2.1, ap (λ (c : Chunk). c.size) (one_value _ granted.inside.0 chunk granted.inside.1 chunk_is), counted));
-    unmapped = refl;
-    owned = owned;
-    was_free = apart;
-  }

@@ -1,12 +1,12 @@
 -- What a block that a memory type's free list gives comes to for the whole allocator.
-use Rattle.std.proofs.Common.{IfSome, ◌≡◌, ◌⊎◌, inl, inr, ℕ, ◌+◌, ◌-◌, ◌^◌, ◌<◌, true, false, cond, List, length, get_or, Option, Some, None, Ok, is_some, IsTrue, refl, sym, ◌∙◌, ap, subst, arith}
+use Rattle.std.proofs.Common.{IfSome, ◌≡◌, ◌⊎◌, inl, inr, ℕ, ◌+◌, ◌-◌, ◌^◌, ◌<◌, true, false, cond, List, length, get_or, Option, Some, None, Ok, is_some, refl, sym, ◌∙◌, ap, subst, arith}
 use Rattle.std.proofs.Math.ListN.{set}
 use Rattle.std.specs.FinMap as finite
 use Rattle.std.specs.FinSet as set_of
 use Rattle.gpu_alloc_types.specs.Device.{Event, Object}
 use Rattle.gpu_alloc_types.specs.Properties.{Properties, heap_at}
 use Rattle.gpu_alloc.specs.Agreement as agreement
-use Rattle.gpu_alloc.specs.Allocation.{ObjectsWith, IsGranted}
+use Rattle.gpu_alloc.specs.Allocation.{ObjectsWith}
 use Rattle.gpu_alloc_base.specs.Wanted.{wanted}
 use Rattle.gpu_alloc_buddy.specs.BuddyState.{Buddy}
 use Rattle.gpu_alloc_base.specs.Chunks.{Chunk, IsNew}
@@ -38,9 +38,8 @@ use Rattle.gpu_alloc.proofs.Agreeing.{not_held}
 use Rattle.gpu_alloc.proofs.Ledgers.{Held}
 use Rattle.gpu_alloc.proofs.FreeLists.Grants.{consistent_with_slot, state_with_slot, consistent_with_list_chunk, state_with_list_chunk, asked_size}
 use Rattle.gpu_alloc.proofs.FreeLists.Links.{HasSlotMore}
-use Rattle.gpu_alloc.proofs.FreeLists.Served.{list_apart, agrees_with_slot, agrees_with_list_chunk, list_granted_is}
+use Rattle.gpu_alloc.proofs.FreeLists.Served.{list_apart, agrees_with_slot, agrees_with_list_chunk}
 use Rattle.gpu_alloc.proofs.FreeLists.Serving.{ServesList, tail_is, question_is, told_with}
-use Rattle.gpu_alloc.proofs.Tables.LiveSpans.{live_new}
 use Rattle.gpu_alloc_base.proofs.Maps.{own_inserted}
 use Rattle.gpu_alloc.proofs.FreeLists.Types.{own_listing, serves_own}
 
@@ -120,7 +119,6 @@ module _ {A : Type 0} {limits : Limits A} {heaps : List Heap} {buddies : List Bu
       pub gives : GivesInPlace (list_candidate before size alignment index) es block (state_of a) ⊎ GivesInNewObject (list_candidate before size alignment index) es block (state_of a)
       pub objects_are : ObjectsWith before block (state_of a) old new
       pub agreed : agreement.Agrees (state_of a) q new
-      pub told : IsGranted before r (state_of a) (list_block before index slot.chunk (span_of_slot slot))
 
     -- in a chunk that was held
     in_run : (tail : IsTail l.space size alignment slot) → new ≡ old → after ≡ account (listing_with_slot l slot) heap remaining
@@ -133,17 +131,12 @@ module _ {A : Type 0} {limits : Limits A} {heaps : List Heap} {buddies : List Bu
         let same_held : now.held ≡ t.held = held ∙ ap (λ (o : Option HeldObject). cond (is_some o) t.held (finite.insert t.held slot.object chunk_row)) there in
         let sound_now = subst IsSound (ap (λ (a : Account Listing). a.allocator) after_is) sound in
         let state = state_with_slot limits heaps buddies lists t remaining index l given.is given.known given.at i heap given.here given.at_heap slot chunk now found tail.object.2 sound_now same_held more in
-        let found_now = ap (λ (x : Held). finite.get x slot.object) same_held ∙ there in
-        let chunk_now : finite.get after.allocator.space.chunks slot.chunk ≡ Some chunk = ap (λ (a : Account Listing). finite.get a.allocator.space.chunks slot.chunk) after_is ∙ found in
         subst IsServed (sym after_is) (record {
           consistent = consistent_with_slot limits heaps buddies lists t remaining index l given.is given.known given.at i heap given.here given.at_heap slot chunk now found tail.object.2 sound_now same_held more;
           gives = inl (subst (GivesInPlace (list_candidate before size alignment index) es block) (sym state) gives);
           objects_are = rw there same_objects;
           agreed = subst (λ o. agreement.Agrees (state_of (account (listing_with_slot l slot) heap remaining)) q o) (sym same_objects)
               (subst (λ x. agreement.Agrees x q old) (sym state) (agrees_with_slot before t.places t.room index l serving q old slot chunk found tail.object.2 given.agrees));
-          told = list_granted_is before t.places t.room index l serving r flags after.allocator (state_of (account (listing_with_slot l slot) heap remaining)) slot chunk _ granted chunk_now found_now refl
-              (record { live = subst (λ x. IsTrue (set_of.contains x (span_of_slot slot))) (sym live) (live_new t.live (span_of_slot slot)); held = (_, found_now, own.for_type.memory_type, refl) })
-              apart;
         })
 
     -- in a new chunk
@@ -176,9 +169,6 @@ module _ {A : Type 0} {limits : Limits A} {heaps : List Heap} {buddies : List Bu
           gives = inr (subst (GivesInNewObject (list_candidate before size alignment index) es block) (sym state_asked) gives);
           objects_are = rw free (counted_new before row (list_question before index size) slot.object _ old new found_now refl asked refl new_chunk);
           agreed = subst (λ x. agreement.Agrees x q new) (sym state_asked) (agrees_with_list_chunk before t.places t.room index l serving q old new size slot given.agrees new_chunk);
-          told = list_granted_is before t.places t.room index l serving r flags after.allocator (state_of (account list_now changed (remaining - 1))) slot chunk _ granted chunk_now found_now refl
-              (record { live = subst (λ x. IsTrue (set_of.contains x (span_of_slot slot))) (sym live) (live_new t.live (span_of_slot slot)); held = (_, found_now, refl, refl) })
-              apart;
         })
 
     -- what is asked for a new chunk

@@ -1,5 +1,5 @@
 -- The blocks of a memory type's free list in the whole allocator's state, and on the device.
-use Rattle.std.proofs.Common.{◌≡◌, ◌≢◌, ◌⊎◌, inl, inr, ℕ, ◌+◌, ◌%◌, ◌<◌, ◌≤◌, ◌^◌, cond, List, length, get_or, Option, Some, None, IfSome, IsTrue, refl, sym, ◌∙◌, ap, subst, arith}
+use Rattle.std.proofs.Common.{◌≡◌, ◌≢◌, ◌⊎◌, inl, inr, ℕ, ◌+◌, ◌<◌, ◌≤◌, ◌^◌, cond, List, length, get_or, Option, Some, None, IfSome, IsTrue, refl, sym, ◌∙◌, ap, subst, arith}
 use Rattle.std.proofs.lemmas.Bool.{cases_eq}
 use Rattle.std.specs.Prelude.{sum_by}
 use Rattle.std.specs.FinMap as map
@@ -8,8 +8,6 @@ use Rattle.gpu_alloc_types.specs.Device.{Object, HeldWith, put}
 use Rattle.gpu_alloc_types.specs.Flags.{has_bit}
 use Rattle.gpu_alloc_types.specs.Properties.{Properties, heap_at, props_at, is_host_visible}
 use Rattle.gpu_alloc.specs.Agreement as agreement
-use Rattle.gpu_alloc.specs.Allocation.{IsGranted}
-use Rattle.gpu_alloc_base.specs.Wanted.{wanted}
 use Rattle.gpu_alloc_base.specs.Chunks.{IsThere, Chunk}
 use Rattle.gpu_alloc_freelist.specs.FreeList.{IsTail}
 use Rattle.gpu_alloc_base.specs.Accounts.{IsCounted, chunk_bytes}
@@ -21,11 +19,10 @@ use Rattle.gpu_alloc.specs.FreeListSharing.{list_question, list_block, latest_nu
 use Rattle.gpu_alloc_base.specs.NewChunk.{HasOneChunkMore}
 use Rattle.gpu_alloc.specs.BuddySharing.{with_span}
 use Rattle.gpu_alloc.specs.Spans.{Place}
-use Rattle.gpu_alloc.specs.State.{HeldObject, Span, span_cmp, State, IsLive, IsOwned, AreApart, share}
+use Rattle.gpu_alloc.specs.State.{HeldObject, Span, span_cmp, State, IsLive, AreApart, share}
 use Rattle.gpu_alloc.specs.declared.block.Kind.TheVariants.{FreeListChunk}
 use Rattle.gpu_alloc_base.specs.declared.free_list_block.Slot.{Slot}
 use Rattle.gpu_alloc_base.specs.declared.heap.Heap.{Heap}
-use Rattle.gpu_alloc.specs.declared.request.Request.{Request}
 use Rattle.gpu_alloc.proofs.Agreeing.{there_kept, agrees_more, agrees_returned}
 use Rattle.gpu_alloc.proofs.HeapLists.{ledger_at}
 use Rattle.gpu_alloc.proofs.Ledgers.{sum_by-small}
@@ -181,21 +178,3 @@ module _ (s : State) (places : map.FinMap span_cmp Place) (room index : ℕ) (l 
   pub list_ledger_bounded : (heaps : List Heap) (i : ℕ) (heap : Heap) → IsBooked s.properties heaps (table_of s places room) s.remaining → i < length heaps → heap ≡ get_or heaps i heap → heap.used ≤ 2 ^ 127
   list_ledger_bounded heaps i heap booked inside at =
       omega (arith, ledger_at s.properties heaps i heap (map.entries s.held) booked.ledgers inside at, sum_by-small s.properties i (map.entries s.held) booked.small, map.len-entries s.held, booked.count)
-
-  -- What is told of a granted block.
-
-  -- the held object of the block's chunk counts the chunk's size
-  pub list_granted_is : (r : Request) (flags : ℕ) (after : Listing) (new : State) (slot : Slot) (chunk : Chunk) (h : HeldObject) → list.IsGranted l (wanted r.size r.align_mask flags) after slot
-      → map.get after.space.chunks slot.chunk ≡ Some chunk → map.get new.held slot.object ≡ Some h → h.counted ≡ chunk.size
-      → IsOwned new (list_block s index slot.chunk (span_of_slot slot)) → ((span : Span) → IsLive s span → AreApart span (span_of_slot slot))
-      → IsGranted s r new (list_block s index slot.chunk (span_of_slot slot))
-  list_granted_is r flags after new slot chunk h granted chunk_is held counted owned apart = record {
-    enough = granted.enough;
-    aligned = granted.aligned;
-    whole_atoms = λ _. subst (λ atom. (slot.offset % atom ≡ 0) × (slot.size % atom ≡ 0)) serves.of.for_type.atom granted.whole_atoms;
-    buddy = λ other. absurd (cc);
-    inside = (h, held, omega (arith, granted.inside.2.1, ap (λ (c : Chunk). c.size) (one_value _ granted.inside.0 chunk granted.inside.1 chunk_is), counted));
-    unmapped = refl;
-    owned = owned;
-    was_free = apart;
-  }

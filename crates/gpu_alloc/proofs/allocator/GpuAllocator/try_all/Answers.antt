@@ -38,10 +38,5 @@ returns-in_err-block-clause-objects g c =
     let p = err_from_is_err_and c.from_residual.result c.from_residual.ensures.1 in
     rw p.1 (c.in_err-block.ensures.objects ∙ c.loop-memory_type.invariant.objects)
 
-pub returns-in_err-block-clause-granted : goal.returns-in_err-block-clause-granted
-returns-in_err-block-clause-granted g c =
-    let p = err_from_is_err_and c.from_residual.result c.from_residual.ensures.1 in
-    rw p.1 tt
-
 pub returns-in_err-block-clause-agrees : goal.returns-in_err-block-clause-agrees
 returns-in_err-block-clause-agrees g c = c.in_err-block.ensures.agrees

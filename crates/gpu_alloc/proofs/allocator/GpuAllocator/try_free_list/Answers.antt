@@ -26,7 +26,7 @@ use Rattle.gpu_alloc_base.proofs.ToldTwice.{first_is, refused_is, wants_is}
 use Rattle.gpu_alloc.proofs.FreeLists.Served.{list_agrees}
 use Rattle.gpu_alloc.proofs.FreeLists.Serving.{ServesList, told_of, rounded_is, alignment_is}
 use Rattle.gpu_alloc.proofs.OwnObjects.{consistent-room}
-use Rattle.gpu_alloc.proofs.Trials.{refused_tries, nothing_made, nothing_granted}
+use Rattle.gpu_alloc.proofs.Trials.{refused_tries, nothing_made}
 use Rattle.gpu_alloc.proofs.allocator.GpuAllocator.try_free_list.Given.{Over}
 use Rattle.gpu_alloc.proofs.HandedOn.{below, address_there}
 use Rattle.gpu_alloc.proofs.allocator.GpuAllocator.try_free_list.Goals as goal
@@ -46,7 +46,6 @@ returns-in-Some g c =
       tries = ([], refl, refused_tries _ [] c.in-Some.refusal _ (first_is told c.in-Some.refusal first));
       objects = nothing_made s c.in-Some.refusal s _ _ refl;
       agrees = rw (← c.self.view_is) at c.requires.agrees;
-      granted = nothing_granted _ c.args.request c.in-Some.refusal _ refl;
     })
 
 pub invariant_of-self : goal.invariant_of-self
@@ -199,10 +198,6 @@ pub returns-in-Ok-clause-agrees : goal.returns-in-Ok-clause-agrees
 returns-in-Ok-clause-agrees g c =
     rw c.in-Ok.ensures.properties (is g c).agreed
 
-pub returns-in-Ok-clause-granted : goal.returns-in-Ok-clause-granted
-returns-in-Ok-clause-granted g c =
-    rw (← c.self.view_is, block_is g c) (is g c).told
-
 -- A refusal.
 
 pub invariant_of-self-in-Err : goal.invariant_of-self-in-Err
@@ -230,7 +225,6 @@ returns-in-Err g c =
       );
       objects = nothing_made s c.in-Err.refusal s _ _ c.in-Err.ensures.objects;
       agrees = rw (c.in-Err.ensures.properties, c.in-Err.ensures.objects) agrees;
-      granted = nothing_granted _ c.args.request c.in-Err.refusal _ refl;
     })
 
 pub heap_index-heap-requires : goal.heap_index-heap-requires
@@ -259,9 +253,6 @@ returns-then-is_err-clause-objects g c = refl
 
 pub returns-then-is_err-clause-agrees : goal.returns-then-is_err-clause-agrees
 returns-then-is_err-clause-agrees g c = rw (ap (λ (t : Table). t.held) c.reserve.ensures.kept, ap (λ (t : Table). t.live) c.reserve.ensures.kept, c.self.view_is) c.requires.agrees
-
-pub returns-then-is_err-clause-granted : goal.returns-then-is_err-clause-granted
-returns-then-is_err-clause-granted g c = rw (ap (λ (t : Table). t.held) c.reserve.ensures.kept, ap (λ (t : Table). t.live) c.reserve.ensures.kept) c.self.view_is
 
 pub index_mut-requires : goal.index_mut-requires
 index_mut-requires g c = below refl (c.self.inside.free_lists.ok.0 ∙ c.self.invariant.listed.count) (rw (← c.self.view_is) at c.requires.known)

@@ -22,7 +22,7 @@ use Rattle.gpu_alloc_base.proofs.Maps.{own_inserted}
 use Rattle.gpu_alloc.proofs.Agreeing.{IsMade, agrees_granted, not_held}
 use Rattle.gpu_alloc.proofs.NewObjects.{counted_new}
 use Rattle.gpu_alloc.proofs.Consistency.{HoldsMore, heap_there, ledger-room}
-use Rattle.gpu_alloc.proofs.Grants.{own_object, state_held, decides_granted, granted}
+use Rattle.gpu_alloc.proofs.Grants.{own_object, state_held, decides_granted}
 use Rattle.gpu_alloc.proofs.HeapLists.{properties_kept}
 use Rattle.gpu_alloc.proofs.OwnObjects.{consistent-room, consistent-held}
 use Rattle.gpu_alloc.proofs.allocator.GpuAllocator.try_object.Given.{Over}
@@ -152,11 +152,6 @@ returns-in-Ok-clause-agrees g c =
     subst (λ s. Agrees s (g.D.MemoryDevice.properties c.allocate_memory-answer.new.self) (g.D.MemoryDevice.objects c.allocate_memory-answer.new.self)) (sym (state_is g c))
     (agrees_granted (before g c) _ _ _ _ (block g c) agreed same (one_more g c))
 
-pub returns-in-Ok-clause-granted : goal.returns-in-Ok-clause-granted
-returns-in-Ok-clause-granted g c =
-    rw (← c.self.view_is, block_is g c, state_is g c)
-    (granted (before g c) c.args.request c.args.memory_type c.object.result (free g c) (λ span live. let w = c.self.invariant.books.spans span live in (w.object, w.held)))
-
 pub returns-in-Err-OutOfHostMemory-clause-tries : goal.returns-in-Err-OutOfHostMemory-clause-tries
 returns-in-Err-OutOfHostMemory-clause-tries g c =
     let same = state_kept c.self.inside.limits c.self.inside.heaps.items c.self.inside.buddies.items c.self.inside.free_lists.items c.reserve.new.self c.self.inside.spans c.self.inside.allocations_remains c.reserve.ensures.kept in
@@ -191,9 +186,6 @@ returns-then-is_err-clause-tries g c =
 pub returns-then-is_err-clause-agrees : goal.returns-then-is_err-clause-agrees
 returns-then-is_err-clause-agrees g c = subst (λ s. Agrees s (g.D.MemoryDevice.properties c.args.device.now) (g.D.MemoryDevice.objects c.args.device.now)) (sym (kept-is_err g c)) c.requires.agrees
 
-pub returns-then-is_err-clause-granted : goal.returns-then-is_err-clause-granted
-returns-then-is_err-clause-granted g c = kept-is_err g c
-
 pub returns-in-Err-OutOfDeviceMemory-clause-tries : goal.returns-in-Err-OutOfDeviceMemory-clause-tries
 returns-in-Err-OutOfDeviceMemory-clause-tries g c =
     let same = state_kept c.self.inside.limits c.self.inside.heaps.items c.self.inside.buddies.items c.self.inside.free_lists.items c.reserve.new.self c.self.inside.spans c.self.inside.allocations_remains c.reserve.ensures.kept in
@@ -211,9 +203,6 @@ returns-in-Err-OutOfDeviceMemory-clause-agrees g c =
     let step = rw c.in-Err-OutOfDeviceMemory.is at c.allocate_memory-answer.ensures in
     agrees_kept _ _ _ _ _ _ (kept-device g c) (g.met.D.MemoryDevice.keeps_properties _ _ _ step) (g.met.D.MemoryDevice.row _ _ _ step) c.requires.agrees
 
-pub returns-in-Err-OutOfDeviceMemory-clause-granted : goal.returns-in-Err-OutOfDeviceMemory-clause-granted
-returns-in-Err-OutOfDeviceMemory-clause-granted g c = kept-device g c
-
 pub returns-in-Err-OutOfHostMemory-clause-objects : goal.returns-in-Err-OutOfHostMemory-clause-objects
 returns-in-Err-OutOfHostMemory-clause-objects g c = g.met.D.MemoryDevice.row _ _ _ (rw c.in-Err-OutOfHostMemory.is at c.allocate_memory-answer.ensures)
 
@@ -221,9 +210,6 @@ pub returns-in-Err-OutOfHostMemory-clause-agrees : goal.returns-in-Err-OutOfHost
 returns-in-Err-OutOfHostMemory-clause-agrees g c =
     let step = rw c.in-Err-OutOfHostMemory.is at c.allocate_memory-answer.ensures in
     agrees_kept _ _ _ _ _ _ (kept-host g c) (g.met.D.MemoryDevice.keeps_properties _ _ _ step) (g.met.D.MemoryDevice.row _ _ _ step) c.requires.agrees
-
-pub returns-in-Err-OutOfHostMemory-clause-granted : goal.returns-in-Err-OutOfHostMemory-clause-granted
-returns-in-Err-OutOfHostMemory-clause-granted g c = kept-host g c
 
 -- The new object's name is free in the table, and so is its span.
 
