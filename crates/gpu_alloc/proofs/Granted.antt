@@ -38,8 +38,8 @@ use Rattle.gpu_alloc.specs.declared.block.Kind.{Kind}
 use Rattle.gpu_alloc.specs.declared.block.Kind.TheVariants.{Dedicated as DedicatedObject, BuddyChunk, FreeListChunk}
 use Rattle.gpu_alloc.specs.declared.request.Dedicated.{Dedicated}
 use Rattle.gpu_alloc.specs.declared.request.Request.{Request}
-use Rattle.gpu_alloc.proofs.Buddies.Served.{ranges_apart}
 use Rattle.gpu_alloc.proofs.Decisions.{of_allocation}
+use Rattle.gpu_alloc.proofs.Soundness.{ranges_apart}
 use Rattle.gpu_alloc.proofs.Strategies.{fits_its_list}
 use Rattle.gpu_alloc.proofs.Tables.LiveSpans.{live_new}
 

@@ -1,13 +1,13 @@
 -- What the allocator's fields keep, as its state tells it.
 use Rattle.std.proofs.Common.{◌≡◌, ◌≢◌, ◌⊎◌, inl, inr, ℕ, zero, suc, ◌+◌, ◌<◌, ◌≤◌, true, false, List, [], ◌∷◌, length, Option, Some, None, IfSome, slice_get, refl, sym, ◌∙◌, ap, subst, arith}
-use Rattle.std.proofs.lemmas.Bool.{cases_eq}
+use Rattle.std.proofs.lemmas.Bool.{cases_eq, cases_lt}
 use Rattle.std.proofs.lemmas.Nat.{pow_pos}
 use Rattle.std.specs.FinMap as map
 use Rattle.gpu_alloc_types.specs.Properties.{Properties, atom_of, is_non_coherent}
 use Rattle.gpu_alloc_buddy.specs.BuddyState.{Buddy, IsLiveLeaf}
 use Rattle.gpu_alloc_base.specs.Chunks.{Chunk}
 use Rattle.gpu_alloc_freelist.specs.FreeListState.{Listing, IsLiveSlot}
-use Rattle.gpu_alloc_base.specs.FreeSpace.{IsMultipleOf}
+use Rattle.gpu_alloc_base.specs.FreeSpace.{IsIn, IsMultipleOf}
 use Rattle.gpu_alloc.specs.Atoms.{KeepsAtoms, IsNextListChunk}
 use Rattle.gpu_alloc.specs.FreeListSharing.{IsListChunk, latest_number, next_list_chunk}
 use Rattle.gpu_alloc.specs.FirstTypes.{first_types, first_type_state}
@@ -20,12 +20,24 @@ use Rattle.gpu_alloc_base.specs.declared.config.Config.{Config}
 use Rattle.gpu_alloc_base.specs.declared.heap.Heap.{Heap}
 use Rattle.gpu_alloc.specs.declared.limits.Limits.{Limits}
 use Rattle.gpu_alloc.proofs.Consistency.{chunk_kinds}
-use Rattle.gpu_alloc.proofs.Buddies.Served.{ranges_apart}
 use Rattle.std.proofs.lemmas.List.{length-map}
 use Rattle.gpu_alloc.proofs.FreeLists.States.{list_latest_at, list_next_at, types_within}
 use Rattle.gpu_alloc.proofs.Atoms.{atom_power}
 use Rattle.gpu_alloc_base.proofs.Maps.{one_value}
 use Rattle.gpu_alloc_base.proofs.PowersOfTwo.{power_of_bit}
+
+-- two ranges with no byte in both are apart
+pub ranges_apart : (a m b n : ℕ) → 0 < m → 0 < n → ((at : ℕ) → IsIn a m at → IsIn b n at → ⊥) → (a + m ≤ b) ⊎ (b + n ≤ a)
+ranges_apart a m b n some also clash = elim (cases_lt a (b + n)) [
+  | inl before ↦ elim (cases_lt b (a + m)) [
+    | inl after ↦ elim (cases_lt a b) [
+      | inl later ↦ absurd (clash b (record { from = omega (arith, later); to = after }) (record { from = omega arith; to = omega (arith, also) }))
+      | inr earlier ↦ absurd (clash a (record { from = omega arith; to = omega (arith, some) }) (record { from = earlier; to = before }))
+    ]
+    | inr past ↦ inl past
+  ]
+  | inr past ↦ inr past
+]
 
 -- what holds of each element that is there holds of one
 element : {X : Type 0} (P : X → Type 0) (xs : List X) (i : ℕ) → i < length xs → IfSome (slice_get xs i) P → (x : X) × P x

@@ -1,8 +1,7 @@
 -- What a block that a memory type's buddy allocator gives comes to for the whole allocator.
-use Rattle.std.proofs.Common.{◌≡◌, ◌⊎◌, inl, inr, ℕ, ◌+◌, ◌-◌, ◌^◌, ◌<◌, true, false, cond, List, length, get_or, Option, Some, None, Ok, is_some, IfSome, refl, sym, ◌∙◌, ap, subst, arith}
+use Rattle.std.proofs.Common.{◌≡◌, ◌⊎◌, inl, inr, ℕ, ◌+◌, ◌-◌, ◌^◌, ◌<◌, false, cond, List, length, get_or, Option, Some, None, Ok, is_some, IfSome, refl, sym, ◌∙◌, ap, subst, arith}
 use Rattle.std.proofs.Math.ListN.{set}
 use Rattle.gpu_alloc_base.proofs.AlignedPowers.{pow-le}
-use Rattle.std.proofs.lemmas.Nat.{pow_pos}
 use Rattle.std.specs.FinMap as finite
 use Rattle.std.specs.FinSet as set_of
 use Rattle.gpu_alloc_types.specs.Device.{Event, Object}
@@ -14,8 +13,6 @@ use Rattle.gpu_alloc_base.specs.NewObject.{HasOneMore}
 use Rattle.gpu_alloc.specs.Allocation.{ObjectsWith}
 use Rattle.gpu_alloc.specs.Candidates.{buddy_candidate}
 use Rattle.gpu_alloc_buddy.specs.Buddy.{buddy_case, question, BeginsChunk, IsFront, ObjectsAfter, with_leaf, with_chunk, chunk_size, sees_chunks}
-use Rattle.gpu_alloc_base.specs.Wanted.{wanted}
-use Rattle.gpu_alloc_buddy.specs.Buddy as buddy
 use Rattle.gpu_alloc_buddy.specs.BuddySound.{IsSound}
 use Rattle.gpu_alloc_buddy.specs.BuddyState.{Buddy}
 use Rattle.gpu_alloc_base.specs.Chunks.{Chunk, IsNew}
@@ -24,31 +21,25 @@ use Rattle.gpu_alloc.specs.Inside.{state_in, properties_in, with_chunk_of, span_
 use Rattle.gpu_alloc_base.specs.NewChunk.{flags_of, made, HasOneChunkMore}
 use Rattle.gpu_alloc.specs.BuddySharing.{buddy_question, buddy_block, with_span, with_buddy_chunk}
 use Rattle.gpu_alloc.specs.Spans.{Table}
-use Rattle.gpu_alloc.specs.State.{HeldObject, Span, Block, State, IsLive, AreApart}
+use Rattle.gpu_alloc.specs.State.{HeldObject, Block, State}
 use Rattle.gpu_alloc.specs.declared.block.Kind.TheVariants.{BuddyChunk}
 use Rattle.gpu_alloc_base.specs.declared.buddy_block.Leaf.{Leaf}
 use Rattle.gpu_alloc_base.specs.declared.heap.Heap.{Heap}
 use Rattle.gpu_alloc.specs.declared.limits.Limits.{Limits}
-use Rattle.gpu_alloc.specs.declared.request.Request.{Request}
 use Rattle.gpu_alloc.proofs.Agreeing.{not_held}
 use Rattle.gpu_alloc.proofs.Ledgers.{Held}
 use Rattle.gpu_alloc_base.proofs.Maps.{own_inserted}
 use Rattle.gpu_alloc.proofs.Buddies.Links.{HasLeafMore}
+use Rattle.gpu_alloc.proofs.Tables.LiveSpans.{not_live, not_live_new}
 use Rattle.gpu_alloc_base.proofs.Books.{made_new, chunk_more}
 use Rattle.gpu_alloc_base.proofs.ToldTwice.{asks_is}
 use Rattle.gpu_alloc.proofs.NewObjects.{counted_new}
-use Rattle.gpu_alloc.proofs.Buddies.Served.{apart_is, agrees_with_span, agrees_with_chunk}
+use Rattle.gpu_alloc.proofs.Buddies.Served.{agrees_with_span, agrees_with_chunk}
 use Rattle.gpu_alloc.proofs.Buddies.Serving.{Serves, front_is, told_with}
 use Rattle.gpu_alloc.proofs.Buddies.Grants.{serves, buddy_of, consistent_with_leaf, state_with_leaf, consistent_with_chunk, state_with_chunk, asked_size}
 
--- a span is not apart from itself
-apart_itself : (span : Span) → 0 < span.size → AreApart span span → ⊥
-apart_itself span some (inl other) = other refl
-apart_itself span some (inr (inl before)) = absurd (omega (arith, before, some))
-apart_itself span some (inr (inr after)) = absurd (omega (arith, after, some))
-
 -- a request to a buddy allocator among the fields, and the block that it gave
-pub record Given {A : Type 0} (l : Limits A) (heaps : List Heap) (buddies : List Buddy) (lists : List Listing) (t : Table) (remaining index i : ℕ) (b : Buddy) (heap : Heap) (r : Request) (flags : ℕ) (leaf : Leaf) (q : Properties) (old : ℕ → Option Object) : Type 0 where
+pub record Given {A : Type 0} (l : Limits A) (heaps : List Heap) (buddies : List Buddy) (lists : List Listing) (t : Table) (remaining index i : ℕ) (b : Buddy) (heap : Heap) (flags : ℕ) (leaf : Leaf) (q : Properties) (old : ℕ → Option Object) : Type 0 where
   pub is : IsConsistent l.config (properties_in l heaps) heaps buddies lists t remaining
   pub known : index < length (properties_in l heaps).memory_types
   pub at : b ≡ get_or buddies index b
@@ -57,9 +48,9 @@ pub record Given {A : Type 0} (l : Limits A) (heaps : List Heap) (buddies : List
   pub flags_are : flags ≡ flags_of (properties_in l heaps)
   pub agrees : agreement.Agrees (state_in l heaps buddies lists t remaining) q old
 
-module _ {A : Type 0} {l : Limits A} {heaps : List Heap} {buddies : List Buddy} {lists : List Listing} {t : Table} {remaining index i : ℕ} {b : Buddy} {heap : Heap} {r : Request} {flags : ℕ} {leaf : Leaf} {q : Properties} {old : ℕ → Option Object}
-    (given : Given l heaps buddies lists t remaining index i b heap r flags leaf q old) (new : ℕ → Option Object) (size : ℕ) (es : List Event) (after : Account Buddy)
-    (answers : Answers (buddy_case (account b heap remaining) size flags) es (Ok leaf) after) (objects : ObjectsAfter b (Ok leaf) after.allocator old new) (granted : buddy.IsGranted b (wanted r.size r.align_mask flags) after.allocator leaf) where
+module _ {A : Type 0} {l : Limits A} {heaps : List Heap} {buddies : List Buddy} {lists : List Listing} {t : Table} {remaining index i : ℕ} {b : Buddy} {heap : Heap} {flags : ℕ} {leaf : Leaf} {q : Properties} {old : ℕ → Option Object}
+    (given : Given l heaps buddies lists t remaining index i b heap flags leaf q old) (new : ℕ → Option Object) (size : ℕ) (es : List Event) (after : Account Buddy)
+    (answers : Answers (buddy_case (account b heap remaining) size flags) es (Ok leaf) after) (objects : ObjectsAfter b (Ok leaf) after.allocator old new) (nonempty : 0 < leaf.size) where
   abbrev before : State
   before = state_in l heaps buddies lists t remaining
 
@@ -74,24 +65,15 @@ module _ {A : Type 0} {l : Limits A} {heaps : List Heap} {buddies : List Buddy} 
   more_in : finite.get b.chunks leaf.chunk ≡ None → HasOneMore (IsNew b.memory_type (sees_chunks b)) (finite.get after.allocator.chunks leaf.chunk) leaf.object old new
   more_in none = made_new (λ (x : Leaf). x.chunk) (λ (x : Leaf). x.object) b.memory_type b.props b.chunks after.allocator.chunks leaf old new objects none
 
-  comes : (BeginsChunk b leaf.size leaf × (finite.get t.held leaf.object ≡ None)) ⊎ IsFront b leaf.size leaf
-  comes = elim (answers) [
-    | inl gives ↦ inr (subst (λ n. IsFront b n leaf) (sym gives.place.of_size) gives.place)
-    | inr gives ↦ inl (record { of_size = refl; start = gives.place.start; free_key = gives.place.free_key }, not_held_yet (more_in gives.place.free_key).was_free)
-  ]
-
-  positive : 0 < leaf.size
-  positive = omega (arith, granted.power.1, pow_pos granted.power.0)
-
-  apart : (span : Span) → IsLive before span → AreApart span (span_of_leaf leaf)
-  apart = apart_is before t.places t.room index b serving leaf given.is.books.spans positive comes
-
   -- no live span is the block's
   pub span_is_free : set_of.contains t.live (span_of_leaf leaf) ≡ false
-  span_is_free = elim (set_of.contains t.live (span_of_leaf leaf)) as (λ x. set_of.contains t.live (span_of_leaf leaf) ≡ x → x ≡ false) [
-    | true ↦ λ is_live. absurd (apart_itself (span_of_leaf leaf) positive (apart (span_of_leaf leaf) is_live))
-    | false ↦ λ free. refl
-  ] refl
+  span_is_free = elim (answers) [
+    | inl gives ↦
+        let front = front_is before t.places t.room index b serving size leaf gives.place in
+        let byte = front.piece.place.free leaf.offset (record { from = omega arith; to = omega (arith, nonempty, front.of_size, front.enough) }) in
+        not_live t.live (span_of_leaf leaf) (λ live. byte.unused (span_of_leaf leaf) live refl (record { from = omega arith; to = omega (arith, nonempty) }))
+    | inr gives ↦ not_live_new t (span_of_leaf leaf) given.is.books.spans (not_held_yet (more_in gives.place.free_key).was_free)
+  ]
 
   -- the block, and the request for it
   abbrev block : Block

@@ -1,7 +1,6 @@
 -- The blocks of a memory type's buddy allocator in the whole allocator's state, and on the device.
-use Rattle.std.proofs.Common.{◌≡◌, ◌≢◌, ◌⊎◌, inl, inr, ℕ, ◌+◌, ◌<◌, ◌≤◌, ◌^◌, cond, List, length, get_or, Option, Some, None, IfSome, IsTrue, refl, sym, ◌∙◌, ap, subst, arith}
-use Rattle.std.proofs.lemmas.Bool.{cases_eq, cases_lt}
-use Rattle.std.proofs.lemmas.Nat.{pow_pos}
+use Rattle.std.proofs.Common.{◌≡◌, ◌≢◌, inl, inr, ℕ, ◌<◌, ◌≤◌, ◌^◌, cond, List, length, get_or, Option, Some, None, IfSome, IsTrue, refl, sym, ◌∙◌, ap, subst, arith}
+use Rattle.std.proofs.lemmas.Bool.{cases_eq}
 use Rattle.std.specs.Prelude.{sum_by}
 use Rattle.std.specs.FinMap as map
 use Rattle.std.specs.FinSet as set
@@ -15,13 +14,12 @@ use Rattle.gpu_alloc_buddy.specs.Buddy as buddy
 use Rattle.gpu_alloc_base.specs.Chunks as chunks
 use Rattle.gpu_alloc_buddy.specs.BuddyState.{Buddy, IsLiveLeaf}
 use Rattle.gpu_alloc_base.specs.Chunks.{Chunk}
-use Rattle.gpu_alloc_base.specs.FreeSpace.{IsIn}
-use Rattle.gpu_alloc.specs.Inside.{IsOfObject, IsChunkOf, IsBooked, chunk_object, span_of_leaf, place_of_leaf, leaf_at}
+use Rattle.gpu_alloc.specs.Inside.{IsChunkOf, IsBooked, chunk_object, span_of_leaf, place_of_leaf, leaf_at}
 use Rattle.gpu_alloc_base.specs.NewChunk.{HasOneChunkMore}
 use Rattle.gpu_alloc.specs.Release.{IsUnused, without_span}
 use Rattle.gpu_alloc.specs.BuddySharing.{buddy_question, with_span, with_buddy_chunk}
 use Rattle.gpu_alloc.specs.Spans.{Place}
-use Rattle.gpu_alloc.specs.State.{HeldObject, Span, span_cmp, span_of, Block, State, IsLive, AreApart, share}
+use Rattle.gpu_alloc.specs.State.{HeldObject, Span, span_cmp, span_of, Block, State, IsLive, share}
 use Rattle.gpu_alloc.specs.declared.block.Kind.TheVariants.{BuddyChunk}
 use Rattle.gpu_alloc_base.specs.declared.buddy_block.Leaf.{Leaf}
 use Rattle.gpu_alloc_base.specs.declared.heap.Heap.{Heap}
@@ -33,19 +31,6 @@ use Rattle.gpu_alloc_base.proofs.Maps.{eq-true, one_value}
 use Rattle.gpu_alloc.proofs.Tables.LiveSpans.{live_before, live_kept, live_other}
 use Rattle.gpu_alloc.proofs.Buddies.Serving.{table_of, Serves}
 use Rattle.gpu_alloc.proofs.HeapLists.{ledger_at}
-
--- two ranges with no byte in both are apart
-pub ranges_apart : (a m b n : ℕ) → 0 < m → 0 < n → ((at : ℕ) → IsIn a m at → IsIn b n at → ⊥) → (a + m ≤ b) ⊎ (b + n ≤ a)
-ranges_apart a m b n some also clash = elim (cases_lt a (b + n)) [
-  | inl before ↦ elim (cases_lt b (a + m)) [
-    | inl after ↦ elim (cases_lt a b) [
-      | inl later ↦ absurd (clash b (record { from = omega (arith, later); to = after }) (record { from = omega arith; to = omega (arith, also) }))
-      | inr earlier ↦ absurd (clash a (record { from = omega arith; to = omega (arith, some) }) (record { from = earlier; to = before }))
-    ]
-    | inr past ↦ inl past
-  ]
-  | inr past ↦ inr past
-]
 
 module _ (s : State) (places : map.FinMap span_cmp Place) (room index : ℕ) (b : Buddy) (serves : Serves s places room index b) where
   -- What both tell.
@@ -90,37 +75,6 @@ module _ (s : State) (places : map.FinMap span_cmp Place) (room index : ℕ) (b 
       let chunk : lies.chunk ≡ own.chunk = one_value _ lies.chunk own.chunk lies.held (ap (λ k. map.get b.chunks k) named ∙ own.held) in
       unused (span_of_leaf other) (live_kept s.live (span_of block) (span_of_leaf other) (λ same. was.0 (one_place other leaf was.1 live (same ∙ is))) of.0)
       (lies.object ∙ ap (λ (c : Chunk). c.object) chunk ∙ sym own.object)
-
-  -- Blocks.
-
-  -- the front of a free piece is apart from each live span of its object
-  front_apart : (leaf : Leaf) (span : Span) → 0 < leaf.size → IsFront b leaf.size leaf → span.object ≡ leaf.object → IsLive s span
-      → (span.offset + span.size ≤ leaf.offset) ⊎ (leaf.offset + leaf.size ≤ span.offset)
-  front_apart leaf span nonempty front same live =
-      let of = span_is_leaf leaf.chunk front.chunk span front.held (same ∙ front.object) live in
-      let power = (serves.of.sound.inside of.0 of.2).power in
-      let size : of.0.size ≡ span.size = ap (λ (x : Span). x.size) of.1 in
-      let offset : of.0.offset ≡ span.offset = ap (λ (x : Span). x.offset) of.1 in
-      let some : 0 < span.size = omega (arith, size, power.1, pow_pos power.0) in
-      ranges_apart span.offset span.size leaf.offset leaf.size some nonempty
-      (λ at also inside. (front.piece.place.free at (record { from = inside.from; to = omega (arith, inside.to, front.enough) })).unused of.0 of.2 of.3
-      (record { from = omega (arith, offset, also.from); to = omega (arith, offset, size, also.to) }))
-
-  -- bytes of live blocks of the same object that are not shared are spans that are apart
-  pub apart_is : (leaf : Leaf) → ((span : Span) → IsLive s span → IsOfObject (table_of s places room) span) → 0 < leaf.size
-      → (BeginsChunk b leaf.size leaf × (map.get s.held leaf.object ≡ None)) ⊎ IsFront b leaf.size leaf
-      → (span : Span) → IsLive s span → AreApart span (span_of_leaf leaf)
-  apart_is leaf spans nonempty comes span live = elim (cases_eq span.object leaf.object) [
-    | inl same ↦ elim (comes) [
-      | inl new ↦
-          let of = spans span live in
-          let none : map.get s.held span.object ≡ None = ap (λ n. map.get s.held n) same ∙ new.1 in
-          let some : map.get s.held span.object ≡ Some of.object = of.held in
-          absurd (cc)
-      | inr front ↦ inr (front_apart leaf span nonempty front same live)
-    ]
-    | inr other ↦ inl other
-  ]
 
   -- The device.
 

@@ -1,5 +1,5 @@
 -- What a block that a memory type's free list gives comes to for the whole allocator.
-use Rattle.std.proofs.Common.{IfSome, ◌≡◌, ◌⊎◌, inl, inr, ℕ, ◌+◌, ◌-◌, ◌^◌, ◌<◌, true, false, cond, List, length, get_or, Option, Some, None, Ok, is_some, refl, sym, ◌∙◌, ap, subst, arith}
+use Rattle.std.proofs.Common.{IfSome, ◌≡◌, ◌⊎◌, inl, inr, ℕ, ◌+◌, ◌-◌, ◌^◌, ◌<◌, false, cond, List, length, get_or, Option, Some, None, Ok, is_some, refl, sym, ◌∙◌, ap, subst, arith}
 use Rattle.std.proofs.Math.ListN.{set}
 use Rattle.std.specs.FinMap as finite
 use Rattle.std.specs.FinSet as set_of
@@ -7,7 +7,6 @@ use Rattle.gpu_alloc_types.specs.Device.{Event, Object}
 use Rattle.gpu_alloc_types.specs.Properties.{Properties, heap_at}
 use Rattle.gpu_alloc.specs.Agreement as agreement
 use Rattle.gpu_alloc.specs.Allocation.{ObjectsWith}
-use Rattle.gpu_alloc_base.specs.Wanted.{wanted}
 use Rattle.gpu_alloc_buddy.specs.BuddyState.{Buddy}
 use Rattle.gpu_alloc_base.specs.Chunks.{Chunk, IsNew}
 use Rattle.gpu_alloc_freelist.specs.FreeList.{IsTail, with_slot, with_chunk, first_tail}
@@ -16,41 +15,34 @@ use Rattle.gpu_alloc_base.specs.Case.{Answers, GivesInPlace, GivesInNewObject}
 use Rattle.gpu_alloc_base.specs.NewObject.{HasOneMore}
 use Rattle.gpu_alloc.specs.Candidates.{list_candidate}
 use Rattle.gpu_alloc_freelist.specs.FreeListAllocator.{question, ObjectsAfter, chunk_size, next_size, list_case, listing_with_slot, in_new_chunk, sees_chunks}
+use Rattle.gpu_alloc.proofs.Tables.LiveSpans.{not_live, not_live_new}
 use Rattle.gpu_alloc_base.proofs.Books.{made_new, chunk_more}
 use Rattle.gpu_alloc_base.proofs.ToldTwice.{asks_is}
 use Rattle.gpu_alloc_freelist.proofs.Spaces.{next_is_new}
 use Rattle.gpu_alloc.proofs.NewObjects.{counted_new}
-use Rattle.gpu_alloc_freelist.specs.FreeListAllocator as list
 use Rattle.gpu_alloc_freelist.specs.FreeListSound.{IsSound}
 use Rattle.gpu_alloc_freelist.specs.FreeListState.{Listing}
-use Rattle.gpu_alloc.specs.Inside.{state_in, properties_in, with_chunk_of_slot, span_of_slot, no_place, IsConsistent}
+use Rattle.gpu_alloc.specs.Inside.{state_in, properties_in, with_chunk_of_slot, span_of_slot, slot_at, no_place, IsConsistent}
 use Rattle.gpu_alloc.specs.FreeListSharing.{list_question, list_block, latest_number, tail_of, with_list_chunk}
 use Rattle.gpu_alloc_base.specs.NewChunk.{ChunkQuestion, flags_of, made, HasOneChunkMore}
 use Rattle.gpu_alloc.specs.BuddySharing.{with_span}
 use Rattle.gpu_alloc.specs.Spans.{Table}
-use Rattle.gpu_alloc.specs.State.{HeldObject, Span, Block, State, IsLive, AreApart}
+use Rattle.gpu_alloc.specs.State.{HeldObject, Block, State}
 use Rattle.gpu_alloc.specs.declared.block.Kind.TheVariants.{FreeListChunk}
 use Rattle.gpu_alloc_base.specs.declared.free_list_block.Slot.{Slot}
 use Rattle.gpu_alloc_base.specs.declared.heap.Heap.{Heap}
 use Rattle.gpu_alloc.specs.declared.limits.Limits.{Limits}
-use Rattle.gpu_alloc.specs.declared.request.Request.{Request}
 use Rattle.gpu_alloc.proofs.Agreeing.{not_held}
 use Rattle.gpu_alloc.proofs.Ledgers.{Held}
 use Rattle.gpu_alloc.proofs.FreeLists.Grants.{consistent_with_slot, state_with_slot, consistent_with_list_chunk, state_with_list_chunk, asked_size}
 use Rattle.gpu_alloc.proofs.FreeLists.Links.{HasSlotMore}
-use Rattle.gpu_alloc.proofs.FreeLists.Served.{list_apart, agrees_with_slot, agrees_with_list_chunk}
+use Rattle.gpu_alloc.proofs.FreeLists.Served.{span_is_slot, agrees_with_slot, agrees_with_list_chunk}
 use Rattle.gpu_alloc.proofs.FreeLists.Serving.{ServesList, tail_is, question_is, told_with}
 use Rattle.gpu_alloc_base.proofs.Maps.{own_inserted}
 use Rattle.gpu_alloc.proofs.FreeLists.Types.{own_listing, serves_own}
 
--- a span is not apart from itself
-apart_itself : (span : Span) → 0 < span.size → AreApart span span → ⊥
-apart_itself span some (inl other) = other refl
-apart_itself span some (inr (inl before)) = absurd (omega (arith, before, some))
-apart_itself span some (inr (inr after)) = absurd (omega (arith, after, some))
-
 -- a request to a free list among the fields, and the block that it gave
-pub record Given {A : Type 0} (limits : Limits A) (heaps : List Heap) (buddies : List Buddy) (lists : List Listing) (t : Table) (remaining index i : ℕ) (l : Listing) (heap : Heap) (r : Request) (flags : ℕ) (slot : Slot) (q : Properties) (old : ℕ → Option Object) : Type 0 where
+pub record Given {A : Type 0} (limits : Limits A) (heaps : List Heap) (buddies : List Buddy) (lists : List Listing) (t : Table) (remaining index i : ℕ) (l : Listing) (heap : Heap) (flags : ℕ) (slot : Slot) (q : Properties) (old : ℕ → Option Object) : Type 0 where
   pub is : IsConsistent limits.config (properties_in limits heaps) heaps buddies lists t remaining
   pub known : index < length (properties_in limits heaps).memory_types
   pub at : l ≡ get_or lists index l
@@ -58,11 +50,10 @@ pub record Given {A : Type 0} (limits : Limits A) (heaps : List Heap) (buddies :
   pub at_heap : heap ≡ get_or heaps i heap
   pub flags_are : flags ≡ flags_of (properties_in limits heaps)
   pub agrees : agreement.Agrees (state_in limits heaps buddies lists t remaining) q old
-  pub nonempty : 0 < r.size
 
-module _ {A : Type 0} {limits : Limits A} {heaps : List Heap} {buddies : List Buddy} {lists : List Listing} {t : Table} {remaining index i : ℕ} {l : Listing} {heap : Heap} {r : Request} {flags : ℕ} {slot : Slot} {q : Properties} {old : ℕ → Option Object}
-    (given : Given limits heaps buddies lists t remaining index i l heap r flags slot q old) (new : ℕ → Option Object) (size alignment : ℕ) (es : List Event) (after : Account Listing)
-    (answers : Answers (list_case (account l heap remaining) size alignment flags) es (Ok slot) after) (objects : ObjectsAfter l (Ok slot) after.allocator old new) (granted : list.IsGranted l (wanted r.size r.align_mask flags) after.allocator slot) where
+module _ {A : Type 0} {limits : Limits A} {heaps : List Heap} {buddies : List Buddy} {lists : List Listing} {t : Table} {remaining index i : ℕ} {l : Listing} {heap : Heap} {flags : ℕ} {slot : Slot} {q : Properties} {old : ℕ → Option Object}
+    (given : Given limits heaps buddies lists t remaining index i l heap flags slot q old) (new : ℕ → Option Object) (size alignment : ℕ) (es : List Event) (after : Account Listing)
+    (answers : Answers (list_case (account l heap remaining) size alignment flags) es (Ok slot) after) (objects : ObjectsAfter l (Ok slot) after.allocator old new) (nonempty : 0 < slot.size) where
   abbrev before : State
   before = state_in limits heaps buddies lists t remaining
 
@@ -80,21 +71,17 @@ module _ {A : Type 0} {limits : Limits A} {heaps : List Heap} {buddies : List Bu
   more_in : slot ≡ first_tail l.space slot.object (chunk_size l size) size alignment → HasOneMore (IsNew l.memory_type (sees_chunks l)) (finite.get after.allocator.space.chunks slot.chunk) slot.object old new
   more_in first = made_new (λ (x : Slot). x.chunk) (λ (x : Slot). x.object) l.memory_type l.props l.space.chunks after.allocator.space.chunks slot old new objects (none_in first)
 
-  comes : (finite.get t.held slot.object ≡ None) ⊎ IsTail l.space size alignment slot
-  comes = elim (answers) [ inl gives ↦ inr gives.place | inr gives ↦ inl (not_held_yet (more_in gives.place).was_free) ]
-
-  positive : 0 < slot.size
-  positive = omega (arith, granted.enough, given.nonempty)
-
-  apart : (span : Span) → IsLive before span → AreApart span (span_of_slot slot)
-  apart = list_apart before t.places t.room index l serving size alignment slot given.is.books.spans positive comes
-
   -- no live span is the block's
   pub slot_is_free : set_of.contains t.live (span_of_slot slot) ≡ false
-  slot_is_free = elim (set_of.contains t.live (span_of_slot slot)) as (λ x. set_of.contains t.live (span_of_slot slot) ≡ x → x ≡ false) [
-    | true ↦ λ is_live. absurd (apart_itself (span_of_slot slot) positive (apart (span_of_slot slot) is_live))
-    | false ↦ λ free. refl
-  ] refl
+  slot_is_free = elim (answers) [
+    | inl gives ↦
+        let tail = gives.place in
+        let byte = tail.last.run.free slot.offset (omega (arith, tail.start, tail.last.room.from)) (omega (arith, nonempty, tail.end)) in
+        let own : Slot = slot_at (span_of_slot slot) slot.chunk in
+        not_live t.live (span_of_slot slot) (λ live.
+        byte.unused own (span_is_slot before t.places t.room index l serving slot.chunk tail.object.0 (span_of_slot slot) tail.object.1 tail.object.2 live) tail.chunk (record { from = omega arith; to = omega (arith, nonempty) }))
+    | inr gives ↦ not_live_new t (span_of_slot slot) given.is.books.spans (not_held_yet (more_in gives.place).was_free)
+  ]
 
   -- the block
   abbrev block : Block

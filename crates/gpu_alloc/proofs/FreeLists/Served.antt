@@ -1,5 +1,5 @@
 -- The blocks of a memory type's free list in the whole allocator's state, and on the device.
-use Rattle.std.proofs.Common.{◌≡◌, ◌≢◌, ◌⊎◌, inl, inr, ℕ, ◌+◌, ◌<◌, ◌≤◌, ◌^◌, cond, List, length, get_or, Option, Some, None, IfSome, IsTrue, refl, sym, ◌∙◌, ap, subst, arith}
+use Rattle.std.proofs.Common.{◌≡◌, ◌≢◌, inl, inr, ℕ, ◌+◌, ◌<◌, ◌≤◌, ◌^◌, cond, List, length, get_or, Option, Some, None, IfSome, IsTrue, refl, sym, ◌∙◌, ap, subst, arith}
 use Rattle.std.proofs.lemmas.Bool.{cases_eq}
 use Rattle.std.specs.Prelude.{sum_by}
 use Rattle.std.specs.FinMap as map
@@ -9,17 +9,16 @@ use Rattle.gpu_alloc_types.specs.Flags.{has_bit}
 use Rattle.gpu_alloc_types.specs.Properties.{Properties, heap_at, props_at, is_host_visible}
 use Rattle.gpu_alloc.specs.Agreement as agreement
 use Rattle.gpu_alloc_base.specs.Chunks.{IsThere, Chunk}
-use Rattle.gpu_alloc_freelist.specs.FreeList.{IsTail}
 use Rattle.gpu_alloc_base.specs.Accounts.{IsCounted, chunk_bytes}
 use Rattle.gpu_alloc_freelist.specs.FreeListAllocator.{sees_chunks}
 use Rattle.gpu_alloc_freelist.specs.FreeListAllocator as list
 use Rattle.gpu_alloc_freelist.specs.FreeListState.{Listing, IsLiveSlot}
-use Rattle.gpu_alloc.specs.Inside.{IsOfObject, IsNumberedChunk, IsBooked, list_object, span_of_slot, slot_at}
+use Rattle.gpu_alloc.specs.Inside.{IsNumberedChunk, IsBooked, list_object, span_of_slot, slot_at}
 use Rattle.gpu_alloc.specs.FreeListSharing.{list_question, list_block, latest_number, with_list_chunk}
 use Rattle.gpu_alloc_base.specs.NewChunk.{HasOneChunkMore}
 use Rattle.gpu_alloc.specs.BuddySharing.{with_span}
 use Rattle.gpu_alloc.specs.Spans.{Place}
-use Rattle.gpu_alloc.specs.State.{HeldObject, Span, span_cmp, State, IsLive, AreApart, share}
+use Rattle.gpu_alloc.specs.State.{HeldObject, Span, span_cmp, State, IsLive, share}
 use Rattle.gpu_alloc.specs.declared.block.Kind.TheVariants.{FreeListChunk}
 use Rattle.gpu_alloc_base.specs.declared.free_list_block.Slot.{Slot}
 use Rattle.gpu_alloc_base.specs.declared.heap.Heap.{Heap}
@@ -30,7 +29,6 @@ use Rattle.gpu_alloc_base.proofs.Sums.{sum_by-within, len-within}
 use Rattle.gpu_alloc.proofs.FreeLists.Serving.{ServesList, numbered_held}
 use Rattle.gpu_alloc.proofs.Tables.LiveSpans.{live_before}
 use Rattle.gpu_alloc_base.proofs.Maps.{eq-true, one_value}
-use Rattle.gpu_alloc.proofs.Buddies.Served.{ranges_apart}
 use Rattle.gpu_alloc.proofs.Buddies.Serving.{table_of}
 
 -- With less to hold the two agree as before.
@@ -49,32 +47,6 @@ module _ (s : State) (places : map.FinMap span_cmp Place) (room index : ℕ) (l 
   pub span_is_slot : (number : ℕ) (c : Chunk) (span : Span) → map.get l.space.chunks number ≡ Some c → span.object ≡ c.object → IsLive s span → IsLiveSlot l.space (slot_at span number)
   span_is_slot number c span is named live =
       serves.of.linked.spans span number (list_object l number c) live (subst (λ o. IsNumberedChunk (table_of s places room) l.memory_type number o (list_object l number c)) (sym named) (numbered_held s places room index l serves number c is))
-
-  -- Blocks.
-
-  -- the tail of a free run is apart from each live span of its object
-  tail_apart : (size alignment : ℕ) (slot : Slot) (span : Span) → 0 < slot.size → IsTail l.space size alignment slot → span.object ≡ slot.object → IsLive s span
-      → (span.offset + span.size ≤ slot.offset) ⊎ (slot.offset + slot.size ≤ span.offset)
-  tail_apart size alignment slot span nonempty tail same live =
-      let of = span_is_slot slot.chunk tail.object.0 span tail.object.1 (same ∙ tail.object.2) live in
-      ranges_apart span.offset span.size slot.offset slot.size (serves.of.sound.space.inside (slot_at span slot.chunk) of).nonempty nonempty
-      (λ at also inside. (tail.last.run.free at (omega (arith, inside.from, tail.start, tail.last.room.from)) (omega (arith, inside.to, tail.end))).unused (slot_at span slot.chunk) of tail.chunk also)
-
-  -- a block of a new object or of a free run is apart from each live span
-  pub list_apart : (size alignment : ℕ) (slot : Slot) → ((span : Span) → IsLive s span → IsOfObject (table_of s places room) span) → 0 < slot.size
-      → (map.get s.held slot.object ≡ None) ⊎ IsTail l.space size alignment slot
-      → (span : Span) → IsLive s span → AreApart span (span_of_slot slot)
-  list_apart size alignment slot spans nonempty comes span live = elim (cases_eq span.object slot.object) [
-    | inl same ↦ elim (comes) [
-      | inl new ↦
-          let of = spans span live in
-          let none : map.get s.held span.object ≡ None = ap (λ n. map.get s.held n) same ∙ new in
-          let some : map.get s.held span.object ≡ Some of.object = of.held in
-          absurd (cc)
-      | inr tail ↦ inr (tail_apart size alignment slot span nonempty tail same live)
-    ]
-    | inr other ↦ inl other
-  ]
 
   -- The device.
 

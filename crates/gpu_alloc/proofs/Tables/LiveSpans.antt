@@ -1,11 +1,14 @@
 -- Live spans, as one comes or goes.
-use Rattle.std.proofs.Common.{◌≡◌, ◌≢◌, ◌⊎◌, inl, inr, Bool, true, false, not, ◌&&◌, ◌||◌, IsTrue, refl, sym, subst, Equal}
+use Rattle.std.proofs.Common.{◌≡◌, ◌≢◌, ◌⊎◌, inl, inr, Bool, true, false, not, ◌&&◌, ◌||◌, None, IsTrue, refl, sym, subst, Equal}
 use Rattle.std.specs.Bool.{Decides}
 use Rattle.std.specs.Cmp.{IsTotalOrder}
 use Rattle.std.specs.Cmp.Lexicographic.{on_texts}
 use Rattle.std.specs.FinMap.{nat_cmp-IsAntisymmetric, slice_cmp-IsAntisymmetric}
 use Rattle.std.specs.Ordering.{eq_by_cmp}
+use Rattle.std.specs.FinMap as map
 use Rattle.std.specs.FinSet.{FinSet, contains, insert, remove, contains-insert, contains-remove}
+use Rattle.gpu_alloc.specs.Inside.{IsLiveIn, IsOfObject}
+use Rattle.gpu_alloc.specs.Spans.{Table}
 use Rattle.gpu_alloc.specs.State.{Span, span_cmp, span_numbers}
 use Rattle.gpu_alloc_base.proofs.ListSets.{key_test}
 
@@ -72,3 +75,15 @@ live_other live own span now = split _ refl (subst IsTrue (live_less live own sp
     split : (b : Bool) → eq_by_cmp span_cmp span own ≡ b → IsTrue (not b && contains live span) → (span ≢ own) × IsTrue (contains live span)
     split true e h = absurd (cc)
     split false e h = ((λ same. let yes = (span_test span own).1 same in absurd (cc)), h)
+
+-- A span that is not live.
+
+pub not_live : (live : FinSet span_cmp) (span : Span) → (IsTrue (contains live span) → ⊥) → contains live span ≡ false
+not_live live span never = elim (contains live span) as (λ x. contains live span ≡ x → x ≡ false) [
+  | true ↦ λ is_live. absurd (never is_live)
+  | false ↦ λ free. refl
+] refl
+
+-- the object of one that is live is held
+pub not_live_new : (t : Table) (span : Span) → ((other : Span) → IsLiveIn t other → IsOfObject t other) → map.get t.held span.object ≡ None → contains t.live span ≡ false
+not_live_new t span of_objects free = not_live t.live span (λ live. let held = (of_objects span live).held in absurd (cc))

@@ -1,4 +1,6 @@
-use Rattle.std.proofs.Common.{◌≡◌, ◌⊎◌, ℕ, [], IfSome, refl, sym, ap, ◌∙◌, subst}
+use Rattle.std.proofs.Common.{◌≡◌, ◌⊎◌, ℕ, ◌<◌, [], IfSome, refl, sym, ap, ◌∙◌, subst, arith}
+use Rattle.std.proofs.lemmas.Nat.{pow_pos}
+use Rattle.gpu_alloc_base.specs.FreeSpace.{IsPowerOfTwo}
 use Rattle.std.proofs.lemmas.List.{get_or-set_same}
 use Rattle.std.proofs.Math.ListN.{set}
 use Rattle.std.specs.FinMap as finite
@@ -27,6 +29,10 @@ use Rattle.gpu_alloc.proofs.Trials.{refused_tries, nothing_made}
 use Rattle.gpu_alloc.proofs.allocator.GpuAllocator.try_buddy.Given.{Over}
 use Rattle.gpu_alloc.proofs.HandedOn.{below, address_there}
 use Rattle.gpu_alloc.proofs.allocator.GpuAllocator.try_buddy.Goals as goal
+
+-- a power of two is not 0
+some_power : {n : ℕ} → IsPowerOfTwo n → 0 < n
+some_power power = omega (arith, power.1, pow_pos power.0)
 
 -- Before anything is asked of the device.
 
@@ -84,7 +90,7 @@ pub add_leaf-key-requires-clause-free : goal.add_leaf-key-requires-clause-free
 add_leaf-key-requires-clause-free g c =
     let told = c.in-Ok.ensures.allocates in
     let given : Given c.self.inside.limits c.self.inside.heaps.items c.self.inside.buddies.items c.self.inside.free_lists.items c.self.inside.spans c.self.inside.allocations_remains c.args.memory_type c.heap_index-heap.result
-    c.index_mut.result.now c.index_mut-2.result.now c.args.request (allocation_bits c.flags-flags.result) c.in-Ok.block (g.D.MemoryDevice.properties c.args.device.now) (g.D.MemoryDevice.objects c.args.device.now) =
+    c.index_mut.result.now c.index_mut-2.result.now (allocation_bits c.flags-flags.result) c.in-Ok.block (g.D.MemoryDevice.properties c.args.device.now) (g.D.MemoryDevice.objects c.args.device.now) =
     record {
       is = c.self.invariant;
       known = rw (← c.self.view_is) at c.requires.known;
@@ -96,11 +102,11 @@ add_leaf-key-requires-clause-free g c =
     } in
     ap (λ (t : Table). set_of.contains t.live (span_of_leaf c.into_parts-memory.result.1)) c.reserve.ensures.kept
     ∙ ap (λ leaf. set_of.contains c.self.inside.spans.live (span_of_leaf leaf)) c.into_parts-memory.ensures.leaf
-    ∙ span_is_free given _ _ told.0 _ told.2 c.in-Ok.ensures.objects c.in-Ok.ensures.granted
+    ∙ span_is_free given _ _ told.0 _ told.2 c.in-Ok.ensures.objects (some_power c.in-Ok.ensures.granted.power)
 
 given : (g : Over) (c : goal.After-new g)
     → Given c.self.inside.limits c.self.inside.heaps.items c.self.inside.buddies.items c.self.inside.free_lists.items c.self.inside.spans c.self.inside.allocations_remains c.args.memory_type c.heap_index-heap.result
-    c.index_mut.result.now c.index_mut-2.result.now c.args.request (allocation_bits c.flags-flags.result) c.in-Ok.block (g.D.MemoryDevice.properties c.args.device.now) (g.D.MemoryDevice.objects c.args.device.now)
+    c.index_mut.result.now c.index_mut-2.result.now (allocation_bits c.flags-flags.result) c.in-Ok.block (g.D.MemoryDevice.properties c.args.device.now) (g.D.MemoryDevice.objects c.args.device.now)
 given g c = record {
   is = c.self.invariant;
   known = rw (← c.self.view_is) at c.requires.known;
@@ -159,10 +165,10 @@ after g c =
     c.add_leaf-key.new.spans c.alloc-answer.new.allocations_remains
 
 is : (g : Over) (c : goal.After-new g)
-    → IsServed (given g c) _ _ c.in-Ok.ensures.allocates.0 _ c.in-Ok.ensures.allocates.2 c.in-Ok.ensures.objects c.in-Ok.ensures.granted c.add_leaf-key.new.spans c.chunk_size-chunk_size.result c.in-Ok.ensures.sound (size_is g c) (held_is g c)
+    → IsServed (given g c) _ _ c.in-Ok.ensures.allocates.0 _ c.in-Ok.ensures.allocates.2 c.in-Ok.ensures.objects (some_power c.in-Ok.ensures.granted.power) c.add_leaf-key.new.spans c.chunk_size-chunk_size.result c.in-Ok.ensures.sound (size_is g c) (held_is g c)
     (live_is g c) (places_are g c) (account c.alloc-answer.new.self c.alloc-answer.new.heap c.alloc-answer.new.allocations_remains)
 is g c =
-    served (given g c) _ _ c.in-Ok.ensures.allocates.0 _ c.in-Ok.ensures.allocates.2 c.in-Ok.ensures.objects c.in-Ok.ensures.granted c.add_leaf-key.new.spans c.chunk_size-chunk_size.result c.in-Ok.ensures.sound (size_is g c) (held_is g c)
+    served (given g c) _ _ c.in-Ok.ensures.allocates.0 _ c.in-Ok.ensures.allocates.2 c.in-Ok.ensures.objects (some_power c.in-Ok.ensures.granted.power) c.add_leaf-key.new.spans c.chunk_size-chunk_size.result c.in-Ok.ensures.sound (size_is g c) (held_is g c)
     (live_is g c) (places_are g c)
 
 pub invariant_of-self-in-Ok : goal.invariant_of-self-in-Ok

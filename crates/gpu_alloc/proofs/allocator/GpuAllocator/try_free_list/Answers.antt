@@ -1,4 +1,4 @@
-use Rattle.std.proofs.Common.{◌≡◌, ◌⊎◌, ℕ, [], IfSome, refl, sym, ap, ◌∙◌, subst}
+use Rattle.std.proofs.Common.{◌≡◌, ◌⊎◌, ℕ, ◌<◌, ◌≤◌, [], IfSome, refl, sym, ap, ◌∙◌, subst, arith}
 use Rattle.std.proofs.lemmas.List.{get_or-set_same}
 use Rattle.std.specs.Option.{IsSome, is_some}
 use Rattle.std.proofs.Math.ListN.{set}
@@ -31,6 +31,10 @@ use Rattle.gpu_alloc.proofs.allocator.GpuAllocator.try_free_list.Given.{Over}
 use Rattle.gpu_alloc.proofs.HandedOn.{below, address_there}
 use Rattle.gpu_alloc.proofs.allocator.GpuAllocator.try_free_list.Goals as goal
 use Rattle.gpu_alloc.proofs.FreeLists.Types.{serves_own}
+
+-- what is no less than some bytes is some bytes
+some_bytes : {m n : ℕ} → 0 < m → m ≤ n → 0 < n
+some_bytes some enough = omega (arith, some, enough)
 
 -- Before anything is asked of the device.
 
@@ -94,7 +98,7 @@ pub add_slot-key-requires-clause-free : goal.add_slot-key-requires-clause-free
 add_slot-key-requires-clause-free g c =
     let told = c.in-Ok.ensures.allocates in
     let given : Given c.self.inside.limits c.self.inside.heaps.items c.self.inside.buddies.items c.self.inside.free_lists.items c.self.inside.spans c.self.inside.allocations_remains c.args.memory_type c.heap_index-heap.result
-    c.index_mut.result.now c.index_mut-2.result.now c.args.request (allocation_bits c.flags-flags.result) c.in-Ok.block (g.D.MemoryDevice.properties c.args.device.now) (g.D.MemoryDevice.objects c.args.device.now) =
+    c.index_mut.result.now c.index_mut-2.result.now (allocation_bits c.flags-flags.result) c.in-Ok.block (g.D.MemoryDevice.properties c.args.device.now) (g.D.MemoryDevice.objects c.args.device.now) =
     record {
       is = c.self.invariant;
       known = rw (← c.self.view_is) at c.requires.known;
@@ -103,15 +107,14 @@ add_slot-key-requires-clause-free g c =
       at_heap = c.index_mut-2.ensures.value;
       flags_are = c.flags-flags.ensures;
       agrees = rw (← c.self.view_is) at c.requires.agrees;
-      nonempty = c.requires.askable.nonempty;
     } in
     ap (λ (t : Table). set_of.contains t.live (span_of_slot c.into_parts-memory.result.1)) c.reserve.ensures.kept
     ∙ ap (λ slot. set_of.contains c.self.inside.spans.live (span_of_slot slot)) c.into_parts-memory.ensures.slot
-    ∙ slot_is_free given _ _ _ told.0 _ told.2 c.in-Ok.ensures.objects c.in-Ok.ensures.granted
+    ∙ slot_is_free given _ _ _ told.0 _ told.2 c.in-Ok.ensures.objects (some_bytes c.requires.askable.nonempty c.in-Ok.ensures.granted.enough)
 
 given : (g : Over) (c : goal.After-new g)
     → Given c.self.inside.limits c.self.inside.heaps.items c.self.inside.buddies.items c.self.inside.free_lists.items c.self.inside.spans c.self.inside.allocations_remains c.args.memory_type c.heap_index-heap.result
-    c.index_mut.result.now c.index_mut-2.result.now c.args.request (allocation_bits c.flags-flags.result) c.in-Ok.block (g.D.MemoryDevice.properties c.args.device.now) (g.D.MemoryDevice.objects c.args.device.now)
+    c.index_mut.result.now c.index_mut-2.result.now (allocation_bits c.flags-flags.result) c.in-Ok.block (g.D.MemoryDevice.properties c.args.device.now) (g.D.MemoryDevice.objects c.args.device.now)
 given g c = record {
   is = c.self.invariant;
   known = rw (← c.self.view_is) at c.requires.known;
@@ -120,7 +123,6 @@ given g c = record {
   at_heap = c.index_mut-2.ensures.value;
   flags_are = c.flags-flags.ensures;
   agrees = rw (← c.self.view_is) at c.requires.agrees;
-  nonempty = c.requires.askable.nonempty;
 }
 
 -- The table with the block's span, as `list_served` asks for it.
@@ -172,10 +174,10 @@ after g c =
     c.add_slot-key.new.spans c.alloc-answer.new.allocations_remains
 
 is : (g : Over) (c : goal.After-new g)
-    → IsServed (given g c) _ _ _ c.in-Ok.ensures.allocates.0 _ c.in-Ok.ensures.allocates.2 c.in-Ok.ensures.objects c.in-Ok.ensures.granted c.add_slot-key.new.spans c.chunk_size-chunk_size.result c.in-Ok.ensures.sound (size_is g c) (held_is g c) (live_is g c)
+    → IsServed (given g c) _ _ _ c.in-Ok.ensures.allocates.0 _ c.in-Ok.ensures.allocates.2 c.in-Ok.ensures.objects (some_bytes c.requires.askable.nonempty c.in-Ok.ensures.granted.enough) c.add_slot-key.new.spans c.chunk_size-chunk_size.result c.in-Ok.ensures.sound (size_is g c) (held_is g c) (live_is g c)
     (places_are g c) (account c.alloc-answer.new.self c.alloc-answer.new.heap c.alloc-answer.new.allocations_remains)
 is g c =
-    list_served (given g c) _ _ _ c.in-Ok.ensures.allocates.0 _ c.in-Ok.ensures.allocates.2 c.in-Ok.ensures.objects c.in-Ok.ensures.granted c.add_slot-key.new.spans c.chunk_size-chunk_size.result c.in-Ok.ensures.sound (size_is g c) (held_is g c) (live_is g c)
+    list_served (given g c) _ _ _ c.in-Ok.ensures.allocates.0 _ c.in-Ok.ensures.allocates.2 c.in-Ok.ensures.objects (some_bytes c.requires.askable.nonempty c.in-Ok.ensures.granted.enough) c.add_slot-key.new.spans c.chunk_size-chunk_size.result c.in-Ok.ensures.sound (size_is g c) (held_is g c) (live_is g c)
     (places_are g c)
 
 pub invariant_of-self-in-Ok : goal.invariant_of-self-in-Ok

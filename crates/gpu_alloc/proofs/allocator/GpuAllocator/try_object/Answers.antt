@@ -10,10 +10,10 @@ use Rattle.gpu_alloc_types.specs.Properties.{Properties}
 use Rattle.gpu_alloc.specs.Agreement.{Agrees}
 use Rattle.gpu_alloc.specs.Candidates.{own_question, own_candidate, whole_block, holding}
 use Rattle.gpu_alloc_base.specs.Case.{Asks}
-use Rattle.gpu_alloc.specs.Inside.{state_in, properties_in, whole_span, IsLiveIn, IsOfObject}
+use Rattle.gpu_alloc.specs.Inside.{state_in, properties_in, whole_span}
 use Rattle.gpu_alloc_base.specs.NewChunk.{flags_of, made, HasOneChunkMore}
 use Rattle.gpu_alloc.specs.Spans.{Table, span_at}
-use Rattle.gpu_alloc.specs.State.{State, HeldObject, Span, Block}
+use Rattle.gpu_alloc.specs.State.{State, HeldObject, Block}
 use Rattle.gpu_alloc_buddy.specs.BuddyState.{Buddy}
 use Rattle.gpu_alloc_freelist.specs.FreeListState.{Listing}
 use Rattle.gpu_alloc_base.specs.declared.heap.Heap.{Heap}
@@ -24,6 +24,7 @@ use Rattle.gpu_alloc.proofs.NewObjects.{counted_new}
 use Rattle.gpu_alloc.proofs.Consistency.{HoldsMore, heap_there, ledger-room}
 use Rattle.gpu_alloc.proofs.Grants.{own_object, state_held, decides_granted}
 use Rattle.gpu_alloc.proofs.HeapLists.{properties_kept}
+use Rattle.gpu_alloc.proofs.Tables.LiveSpans.{not_live_new}
 use Rattle.gpu_alloc.proofs.OwnObjects.{consistent-room, consistent-held}
 use Rattle.gpu_alloc.proofs.allocator.GpuAllocator.try_object.Given.{Over}
 use Rattle.gpu_alloc_base.proofs.Outcomes.{when_ok}
@@ -219,16 +220,10 @@ no_object g c =
     let none : g.D.MemoryDevice.objects c.args.device.now c.object.result ≡ None = rw c.object.ensures made.0 in
     ap (λ (s : State). finite.get s.held c.object.result) c.self.view_is ∙ not_held c.args.self.now _ _ _ c.requires.agrees none
 
-not_live : (t : Table) (span : Span) → finite.get t.held span.object ≡ None → ((other : Span) → IsLiveIn t other → IsOfObject t other) → set_of.contains t.live span ≡ false
-not_live t span none of_objects = elim (set_of.contains t.live span) as (λ x. set_of.contains t.live span ≡ x → x ≡ false) [
-  | true ↦ λ live. absurd (let held = (of_objects span live).held in cc (none, held))
-  | false ↦ λ free. refl
-] refl
-
 pub insert-key-requires-clause-free : goal.insert-key-requires-clause-free
 insert-key-requires-clause-free g c =
     ap (λ live. set_of.contains live (span_at c.object.result 0 c.args.request.size)) (live_kept c.reserve.new.self c.self.inside.spans c.reserve.ensures.kept)
-    ∙ not_live c.self.inside.spans (span_at c.object.result 0 c.args.request.size) (no_object g c) c.self.invariant.books.spans
+    ∙ not_live_new c.self.inside.spans (span_at c.object.result 0 c.args.request.size) c.self.invariant.books.spans (no_object g c)
 
 pub insert-key-requires-clause-object : goal.insert-key-requires-clause-object
 insert-key-requires-clause-object g c = ap (λ held. finite.get held c.object.result) (held_kept c.reserve.new.self c.self.inside.spans c.reserve.ensures.kept) ∙ no_object g c
