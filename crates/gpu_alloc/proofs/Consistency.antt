@@ -10,14 +10,15 @@ use Rattle.std.specs.FinSet as set_of
 use Rattle.gpu_alloc_types.specs.Properties.{Properties, heap_at}
 use Rattle.gpu_alloc.specs.State.{HeldObject, Span, share, is_shared}
 use Rattle.gpu_alloc.specs.Spans.{Table}
-use Rattle.gpu_alloc.specs.Inside.{IsBooked, IsKnown, IsOfObject, IsLiveIn, AreSmall, AreLedgers, offer_of, whole_span}
+use Rattle.gpu_alloc.specs.Inside.{IsBooked, IsKnown, IsOfObject, IsLiveIn, AreSmall, AreLedgers, offer_of}
+use Rattle.gpu_alloc.specs.Sound.{LiesIn}
 use Rattle.gpu_alloc.specs.declared.block.Kind.{Kind}
 use Rattle.gpu_alloc.specs.declared.block.Kind.TheVariants.{Dedicated, Imported, BuddyChunk, FreeListChunk}
 use Rattle.gpu_alloc_base.specs.declared.heap.Heap.{Heap}
 use Rattle.gpu_alloc.proofs.Ledgers.{ledger-bound, Held, small-insert, small-remove}
 use Rattle.gpu_alloc_base.proofs.Sums.{sum_by-insert, sum_by-remove, len_more, len_less}
-use Rattle.gpu_alloc_base.proofs.Maps.{name_test, eq-true, eq-false}
-use Rattle.gpu_alloc.proofs.Tables.LiveSpans.{live_new, live_still, live_before, live_kept, live_other}
+use Rattle.gpu_alloc_base.proofs.Maps.{name_test, eq-true, eq-false, one_value}
+use Rattle.gpu_alloc.proofs.Tables.LiveSpans.{live_new, live_before, live_other, HasSameSpans, spans_same, spans_more, spans_fewer}
 use Rattle.gpu_alloc.proofs.HeapLists.{heap_inside, ledger_at, ledgers_set}
 
 test-same : (a b n : ℕ) → a ≡ b → cond (a == b) n 0 ≡ n
@@ -33,24 +34,31 @@ chunk_kinds Imported chunk = absurd (cc)
 chunk_kinds BuddyChunk chunk = inl refl
 chunk_kinds (FreeListChunk number) chunk = inr (number, refl)
 
--- a chunk is no object of its own
-own_is_no_chunk : (kind : Kind) → kind ≡ Dedicated → is_shared kind ≡ true → ⊥
-own_is_no_chunk kind own chunk = let both = ap is_shared (sym own) ∙ chunk in absurd (cc)
-
--- a held object with a span in it: an object of its own with its whole, or a chunk with any span
+-- a held object with a span in it, which lies there as the object's kind says where it is no chunk
 pub record IsHeldWith (p : Properties) (h : HeldObject) (span : Span) : Type 0 where
   pub nonempty : 0 < span.size
   pub small : h.counted < 2 ^ 64
   pub known : h.memory_type < length p.memory_types
-  pub kind : ((h.kind ≡ Dedicated) × (span ≡ whole_span span.object h)) ⊎ (is_shared h.kind ≡ true)
+  pub lies : is_shared h.kind ≡ false → LiesIn h.kind h.counted span
 
--- what is known of an object stays so as long as its whole is live, where it is an object of its own
-known_still : (p : Properties) (t now : Table) (q : ℕ) (h : HeldObject) → (IsLiveIn t (whole_span q h) → IsLiveIn now (whole_span q h)) → IsKnown t p q h → IsKnown now p q h
-known_still p t now q h still k = record { of_type = k.of_type; of_kind = elim (k.of_kind) [ inl own ↦ inl (own.0, still own.1) | inr chunk ↦ inr chunk ] }
+-- what is known of an object stays so, where it is no chunk as long as the same spans of it are live
+pub known_still : (p : Properties) (t now : Table) (q : ℕ) (h : HeldObject) → (is_shared h.kind ≡ false → HasSameSpans t now q) → IsKnown t p q h → IsKnown now p q h
+known_still p t now q h same k = record {
+  of_type = k.of_type;
+  one_span = λ own.
+      let one = k.one_span own in
+      record {
+        span = one.span;
+        live = (same own).still one.span one.of_object one.live;
+        of_object = one.of_object;
+        lies = one.lies;
+        alone = λ other live there. one.alone other ((same own).was other there live) there;
+      };
+}
 
 -- a span is of its object as long as that is held
-of_object_still : (t now : Table) (span : Span) → finite.get now.held span.object ≡ finite.get t.held span.object → IsOfObject t span → IsOfObject now span
-of_object_still t now span same o = record { nonempty = o.nonempty; object = o.object; held = same ∙ o.held; whole = o.whole }
+pub of_object_still : (t now : Table) (span : Span) → finite.get now.held span.object ≡ finite.get t.held span.object → IsOfObject t span → IsOfObject now span
+of_object_still t now span same o = record { nonempty = o.nonempty; object = o.object; held = same ∙ o.held }
 
 module _ (p : Properties) (heaps : List Heap) (t : Table) (remaining : ℕ) (is : IsBooked p heaps t remaining) (offers : p.memory_heaps ≡ map offer_of heaps) where
   pub heap_there : (memory_type : ℕ) → memory_type < length p.memory_types → heap_at p memory_type < length heaps
@@ -59,15 +67,6 @@ module _ (p : Properties) (heaps : List Heap) (t : Table) (remaining : ℕ) (is 
   -- a held object
   pub known_object : (name : ℕ) (h : HeldObject) → finite.get t.held name ≡ Some h → IsKnown t p name h
   known_object name h found = subst (λ (o : Option HeldObject). IfSome o (IsKnown t p name)) found (is.known name)
-
-  -- the one live span of an object of its own
-  pub whole_last : (h : HeldObject) (span : Span) → finite.get t.held span.object ≡ Some h → h.kind ≡ Dedicated → span ≡ whole_span span.object h
-      → (other : Span) → IsLiveIn t other → other.object ≡ span.object → other ≡ span
-  whole_last h span found kind is_whole other live there =
-      let o = is.spans other live in
-      let both : Some o.object ≡ Some h = sym o.held ∙ ap (finite.get t.held) there ∙ found in
-      let same : o.object ≡ h = cc in
-      o.whole (ap (λ (x : HeldObject). x.kind) same ∙ kind) ∙ (λ k. whole_span (there k) (same k)) ∙ sym is_whole
 
   -- its heap's ledger is far below the largest number
   pub ledger-room : (memory_type i size : ℕ) (h : Heap) → memory_type < length p.memory_types → i ≡ heap_at p memory_type → h ≡ get_or heaps i h → size < 2 ^ 64 → h.used + size < 2 ^ 128
@@ -88,38 +87,44 @@ module _ (p : Properties) (heaps : List Heap) (t : Table) (remaining : ℕ) (is 
     get_more : (q : ℕ) → finite.get now.held q ≡ cond (q == span.object) (Some h) (finite.get t.held q)
     get_more q = ap (λ (x : Held). finite.get x q) m.held ∙ finite.get-insert nat_cmp_total t.held span.object h q ∙ ap (λ b. cond b (Some h) (finite.get t.held q)) (name_test q span.object)
 
-    is_live : (other : Span) → IsTrue (set_of.contains (set_of.insert t.live span) other) → IsLiveIn now other
-    is_live other = subst (λ s. IsTrue (set_of.contains s other)) (sym m.live)
+    -- a live span is the new one, or was live in another object
+    new_or_was : (other : Span) → IsLiveIn now other → (other ≡ span) ⊎ (IsOfObject t other × (other.object ≢ span.object))
+    new_or_was other is_now = elim (live_before t.live span other (subst (λ s. IsTrue (set_of.contains s other)) m.live is_now)) [
+      | inl new ↦ inl new
+      | inr was ↦ let o = is.spans other was in inr (o, λ same. let there = ap (finite.get t.held) (sym same) ∙ o.held in let free = m.free in absurd (cc))
+    ]
 
     known_new : IsKnown now p span.object h
     known_new = record {
       of_type = m.with.known;
-      of_kind = elim (m.with.kind) [ inl own ↦ inl (own.0, subst (IsLiveIn now) own.1 (is_live span (live_new t.live span))) | inr chunk ↦ inr chunk ];
+      one_span = λ own. record {
+        span = span;
+        live = subst (λ s. IsTrue (set_of.contains s span)) (sym m.live) (live_new t.live span);
+        of_object = refl;
+        lies = m.with.lies own;
+        alone = λ other live there. elim (new_or_was other live) [ inl new ↦ new | inr was ↦ absurd (was.1 there) ];
+      };
     }
 
     known_more : (q : ℕ) → IfSome (finite.get now.held q) (IsKnown now p q)
     known_more q = subst (λ (o : Option HeldObject). IfSome o (IsKnown now p q)) (sym (get_more q)) (cases _ refl)
       where
-        old : (o : Option HeldObject) → IfSome o (IsKnown t p q) → IfSome o (IsKnown now p q)
-        old None k = k
-        old (Some x) k = known_still p t now q x (λ was. is_live _ (live_still t.live span _ was)) k
+        old : q ≢ span.object → (o : Option HeldObject) → IfSome o (IsKnown t p q) → IfSome o (IsKnown now p q)
+        old other None k = k
+        old other (Some x) k = known_still p t now q x (λ own. spans_more t now q span other m.live) k
 
         cases : (b : Bool) → (q == span.object) ≡ b → IfSome (cond b (Some h) (finite.get t.held q)) (IsKnown now p q)
         cases true e = let here : span.object ≡ q = grind (arith, nat_tests) in subst (λ n. IsKnown now p n h) here known_new
-        cases false e = old (finite.get t.held q) (is.known q)
+        cases false e = old (grind (arith, nat_tests)) (finite.get t.held q) (is.known q)
 
-    spans_more : (other : Span) → IsLiveIn now other → IsOfObject now other
-    spans_more other is_now = elim (live_before t.live span other (subst (λ s. IsTrue (set_of.contains s other)) m.live is_now)) [
+    of_object_more : (other : Span) → IsLiveIn now other → IsOfObject now other
+    of_object_more other is_now = elim (new_or_was other is_now) [
       | inl new ↦ subst (IsOfObject now) (sym new) (record {
         nonempty = m.with.nonempty;
         object = h;
         held = get_more span.object ∙ ap (λ b. cond b (Some h) (finite.get t.held span.object)) (eq-true span.object span.object refl);
-        whole = λ own. elim (m.with.kind) [ inl is_own ↦ is_own.1 | inr chunk ↦ absurd (own_is_no_chunk h.kind own chunk) ];
       })
-      | inr was ↦
-          let o = is.spans other was in
-          let apart : other.object ≢ span.object = λ same. let there = ap (finite.get t.held) (sym same) ∙ o.held in let free = m.free in absurd (cc) in
-          of_object_still t now other (get_more other.object ∙ ap (λ b. cond b (Some h) (finite.get t.held other.object)) (eq-false other.object span.object apart)) o
+      | inr was ↦ of_object_still t now other (get_more other.object ∙ ap (λ b. cond b (Some h) (finite.get t.held other.object)) (eq-false other.object span.object was.1)) was.0
     ]
 
     ledgers_more : (heap changed : Heap) (i : ℕ) → i ≡ heap_at p h.memory_type → heap ≡ get_or heaps i heap → changed.used ≡ heap.used + h.counted → AreLedgers p (set heaps i changed) (finite.entries now.held)
@@ -137,7 +142,7 @@ module _ (p : Properties) (heaps : List Heap) (t : Table) (remaining : ℕ) (is 
       usable = is.usable;
       count = omega (arith, is.count, ap (λ (x : Held). finite.len x) m.held, len_more t.held span.object h m.free);
       known = known_more;
-      spans = spans_more;
+      spans = of_object_more;
       small = subst (λ (x : Held). AreSmall (finite.entries x)) (sym m.held) (small-insert t.held span.object h m.free m.with.small is.small);
       ledgers = ledgers_more heap changed i here at more;
     }
@@ -158,8 +163,8 @@ module _ (p : Properties) (heaps : List Heap) (t : Table) (remaining : ℕ) (is 
   record HoldsLess (now : Table) (h : HeldObject) (name : ℕ) : Type 0 where
     found : finite.get t.held name ≡ Some h
     held : now.held ≡ finite.remove t.held name
-    live_was : (other : Span) → IsLiveIn now other → IsLiveIn t other × (other.object ≢ name)
-    live_is : (other : Span) → other.object ≢ name → IsLiveIn t other → IsLiveIn now other
+    unused : (span : Span) → IsLiveIn now span → span.object ≢ name
+    others : (q : ℕ) → q ≢ name → HasSameSpans t now q
 
   module _ (now : Table) (h : HeldObject) (name : ℕ) (l : HoldsLess now h name) where
     get_less : (q : ℕ) → finite.get now.held q ≡ cond (q == name) None (finite.get t.held q)
@@ -170,16 +175,16 @@ module _ (p : Properties) (heaps : List Heap) (t : Table) (remaining : ℕ) (is 
       where
         old : q ≢ name → (o : Option HeldObject) → IfSome o (IsKnown t p q) → IfSome o (IsKnown now p q)
         old other None k = k
-        old other (Some x) k = known_still p t now q x (l.live_is (whole_span q x) other) k
+        old other (Some x) k = known_still p t now q x (λ own. l.others q other) k
 
         cases : (b : Bool) → (q == name) ≡ b → IfSome (cond b None (finite.get t.held q)) (IsKnown now p q)
         cases true e = tt
         cases false e = old (grind (arith, nat_tests)) (finite.get t.held q) (is.known q)
 
-    spans_fewer : (other : Span) → IsLiveIn now other → IsOfObject now other
-    spans_fewer other is_now =
-        let was = l.live_was other is_now in
-        of_object_still t now other (get_less other.object ∙ ap (λ b. cond b None (finite.get t.held other.object)) (eq-false other.object name was.1)) (is.spans other was.0)
+    of_object_fewer : (span : Span) → IsLiveIn now span → IsOfObject now span
+    of_object_fewer span is_now =
+        let other = l.unused span is_now in
+        of_object_still t now span (get_less span.object ∙ ap (λ b. cond b None (finite.get t.held span.object)) (eq-false span.object name other)) (is.spans span ((l.others span.object other).was span refl is_now))
 
     ledgers_fewer : (heap changed : Heap) (i : ℕ) → i ≡ heap_at p h.memory_type → heap ≡ get_or heaps i heap → changed.used ≡ heap.used - h.counted → AreLedgers p (set heaps i changed) (finite.entries now.held)
     ledgers_fewer heap changed i here at less =
@@ -195,7 +200,7 @@ module _ (p : Properties) (heaps : List Heap) (t : Table) (remaining : ℕ) (is 
       usable = is.usable;
       count = omega (arith, is.count, ap (λ (x : Held). finite.len x) l.held, len_less t.held name h l.found);
       known = known_fewer;
-      spans = spans_fewer;
+      spans = of_object_fewer;
       small = subst (λ (x : Held). AreSmall (finite.entries x)) (sym l.held) (small-remove t.held name h l.found is.small);
       ledgers = ledgers_fewer heap changed i here at less;
     }
@@ -212,10 +217,10 @@ module _ (p : Properties) (heaps : List Heap) (t : Table) (remaining : ℕ) (is 
   booked-gone now h span l = booked-less now h span.object (record {
     found = l.found;
     held = l.held;
-    live_was = λ other is_now.
+    unused = λ other is_now same.
         let was = live_other t.live span other (subst (λ s. IsTrue (set_of.contains s other)) l.live is_now) in
-        (was.1, λ same. was.0 (l.last other was.1 same));
-    live_is = λ other apart was. subst (λ s. IsTrue (set_of.contains s other)) (sym l.live) (live_kept t.live span other (λ same. apart (ap (λ (s : Span). s.object) same)) was);
+        was.0 (l.last other was.1 same);
+    others = λ q other. spans_fewer t now q span other l.live;
   })
 
   -- no span of it was live
@@ -230,44 +235,41 @@ module _ (p : Properties) (heaps : List Heap) (t : Table) (remaining : ℕ) (is 
   booked-let_go now h name l = booked-less now h name (record {
     found = l.found;
     held = l.held;
-    live_was = λ other is_now. let was = subst (λ s. IsTrue (set_of.contains s other)) l.live is_now in (was, l.unused other was);
-    live_is = λ other apart was. subst (λ s. IsTrue (set_of.contains s other)) (sym l.live) was;
+    unused = λ span is_now. l.unused span (subst (λ s. IsTrue (set_of.contains s span)) l.live is_now);
+    others = λ q other. spans_same t now q l.live;
   })
 
   -- A span comes or goes in a chunk that is held before and after.
 
-  -- the same objects are held, and each of its own has its whole
-  same_held : (now : Table) → now.held ≡ t.held → ((q : ℕ) (h : HeldObject) → finite.get t.held q ≡ Some h → h.kind ≡ Dedicated → IsLiveIn t (whole_span q h) → IsLiveIn now (whole_span q h))
-      → ((other : Span) → IsLiveIn now other → IsOfObject t other) → IsBooked p heaps now remaining
-  same_held now held still spans = record {
-    usable = is.usable;
-    count = subst (λ (x : Held). remaining + finite.len x < 2 ^ 32) (sym held) is.count;
-    known = λ q. subst (λ (x : Held). IfSome (finite.get x q) (IsKnown now p q)) (sym held) (kept q (finite.get t.held q) refl (is.known q));
-    spans = λ other live. of_object_still t now other (ap (λ (x : Held). finite.get x other.object) held) (spans other live);
-    small = subst (λ (x : Held). AreSmall (finite.entries x)) (sym held) is.small;
-    ledgers = subst (λ (x : Held). AreLedgers p heaps (finite.entries x)) (sym held) is.ledgers;
-  }
-    where
-      kept : (q : ℕ) (o : Option HeldObject) → finite.get t.held q ≡ o → IfSome o (IsKnown t p q) → IfSome o (IsKnown now p q)
-      kept q None found k = k
-      kept q (Some h) found k = record { of_type = k.of_type; of_kind = elim (k.of_kind) [ inl own ↦ inl (own.0, still q h found own.0 own.1) | inr chunk ↦ inr chunk ] }
-
   module _ (now : Table) (h : HeldObject) (span : Span) (found : finite.get t.held span.object ≡ Some h) (chunk : is_shared h.kind ≡ true) (held : now.held ≡ t.held) where
+    -- an object that is no chunk is another one
+    apart : (q : ℕ) (x : HeldObject) → finite.get t.held q ≡ Some x → is_shared x.kind ≡ false → q ≢ span.object
+    apart q x there own same =
+        let one : x ≡ h = one_value _ x h there (ap (finite.get t.held) same ∙ found) in
+        let kinds = ap (λ (y : HeldObject). is_shared y.kind) one in
+        absurd (cc)
+
+    same_held : ((q : ℕ) → q ≢ span.object → HasSameSpans t now q) → ((other : Span) → IsLiveIn now other → IsOfObject t other) → IsBooked p heaps now remaining
+    same_held same spans = record {
+      usable = is.usable;
+      count = subst (λ (x : Held). remaining + finite.len x < 2 ^ 32) (sym held) is.count;
+      known = λ q. subst (λ (x : Held). IfSome (finite.get x q) (IsKnown now p q)) (sym held) (kept q (finite.get t.held q) refl (is.known q));
+      spans = λ other live. of_object_still t now other (ap (λ (x : Held). finite.get x other.object) held) (spans other live);
+      small = subst (λ (x : Held). AreSmall (finite.entries x)) (sym held) is.small;
+      ledgers = subst (λ (x : Held). AreLedgers p heaps (finite.entries x)) (sym held) is.ledgers;
+    }
+      where
+        kept : (q : ℕ) (o : Option HeldObject) → finite.get t.held q ≡ o → IfSome o (IsKnown t p q) → IfSome o (IsKnown now p q)
+        kept q None there k = k
+        kept q (Some x) there k = known_still p t now q x (λ own. same q (apart q x there own)) k
+
     pub booked-span : 0 < span.size → now.live ≡ set_of.insert t.live span → IsBooked p heaps now remaining
-    booked-span some live = same_held now held
-        (λ q x there own was. subst (λ s. IsTrue (set_of.contains s (whole_span q x))) (sym live) (live_still t.live span _ was))
+    booked-span some live = same_held (λ q other. spans_more t now q span other live)
         (λ other is_now. elim (live_before t.live span other (subst (λ s. IsTrue (set_of.contains s other)) live is_now)) [
-          | inl new ↦ subst (IsOfObject t) (sym new) (record { nonempty = some; object = h; held = found; whole = λ own. absurd (own_is_no_chunk h.kind own chunk) })
+          | inl new ↦ subst (IsOfObject t) (sym new) (record { nonempty = some; object = h; held = found })
           | inr was ↦ is.spans other was
         ])
 
     pub booked-span_gone : now.live ≡ set_of.remove t.live span → IsBooked p heaps now remaining
-    booked-span_gone live = same_held now held
-        (λ q x there own was. subst (λ s. IsTrue (set_of.contains s (whole_span q x))) (sym live) (live_kept t.live span _ (λ same. apart q x there own (ap (λ (s : Span). s.object) same)) was))
+    booked-span_gone live = same_held (λ q other. spans_fewer t now q span other live)
         (λ other is_now. is.spans other (live_other t.live span other (subst (λ s. IsTrue (set_of.contains s other)) live is_now)).1)
-      where
-        apart : (q : ℕ) (x : HeldObject) → finite.get t.held q ≡ Some x → x.kind ≡ Dedicated → q ≢ span.object
-        apart q x there own same =
-            let both : Some x ≡ Some h = sym there ∙ ap (finite.get t.held) same ∙ found in
-            let one : x ≡ h = cc in
-            absurd (own_is_no_chunk x.kind own (ap (λ (y : HeldObject). is_shared y.kind) one ∙ chunk))

@@ -1,4 +1,4 @@
--- What an allocator's fields keep, as room is made in its table, and as an object of its own comes or goes.
+-- What an allocator's fields keep, as room is made in its table, and as an object of one block comes or goes.
 use Rattle.std.proofs.Common.{◌≡◌, ◌≢◌, ℕ, ◌+◌, ◌-◌, ◌<◌, cond, List, get_or, map, Option, Some, None, IfSome, false, refl, sym, ◌∙◌, ap, subst}
 use Rattle.std.proofs.Math.ListN.{set}
 use Rattle.std.specs.Cmp.{nat_cmp_total}
@@ -9,17 +9,18 @@ use Rattle.gpu_alloc_freelist.specs.FreeListState.{Listing}
 use Rattle.gpu_alloc.specs.Inside.{IsKnown, IsOfObject, IsChunkOf, IsLinked, IsBuddyOf, IsNumberedChunk, IsListLinked, IsListOf, IsConsistent, offer_of}
 use Rattle.gpu_alloc.specs.Sound.{is_list_chunk}
 use Rattle.gpu_alloc.specs.Spans.{Place, Table}
-use Rattle.gpu_alloc.specs.State.{HeldObject, Span}
+use Rattle.gpu_alloc.specs.State.{HeldObject, Span, is_shared}
 use Rattle.gpu_alloc.specs.declared.block.Kind.{Kind}
-use Rattle.gpu_alloc.specs.declared.block.Kind.TheVariants.{Dedicated, BuddyChunk}
+use Rattle.gpu_alloc.specs.declared.block.Kind.TheVariants.{Dedicated, Imported, BuddyChunk, FreeListChunk}
 use Rattle.gpu_alloc_base.specs.declared.config.Config.{Config}
 use Rattle.gpu_alloc_base.specs.declared.heap.Heap.{Heap}
-use Rattle.gpu_alloc.proofs.Consistency.{HoldsMore, HoldsFewer, booked-held, booked-gone}
+use Rattle.gpu_alloc.proofs.Consistency.{HoldsMore, HoldsFewer, known_still, of_object_still, booked-held, booked-gone}
 use Rattle.gpu_alloc.proofs.Buddies.HasBuddies.{IsNoChunk, beside_more, beside_fewer, buddies_beside}
 use Rattle.gpu_alloc.proofs.FreeLists.HasLists.{IsNoListChunk, lists_beside}
 use Rattle.gpu_alloc.proofs.Buddies.Links.{IsBeside}
 use Rattle.gpu_alloc_base.proofs.Maps.{other_inserted, kept_other, gone, name_test, eq-true}
 use Rattle.gpu_alloc.proofs.Ledgers.{Held}
+use Rattle.gpu_alloc.proofs.Tables.LiveSpans.{spans_same}
 
 some_also : {X : Type 0} (P Q : X → Type 0) (o : Option X) → ((x : X) → P x → Q x) → IfSome o P → IfSome o Q
 some_also P Q None also is = is
@@ -32,10 +33,10 @@ module _ (c : Config) (p : Properties) (t : Table) (room : ℕ) where
   wider = record t { room = room }
 
   known_wider : (q : ℕ) (h : HeldObject) → IsKnown t p q h → IsKnown wider p q h
-  known_wider q h k = record { of_type = k.of_type; of_kind = k.of_kind }
+  known_wider q h = known_still p t wider q h (λ own. spans_same t wider q refl)
 
   of_object_wider : (span : Span) → IsOfObject t span → IsOfObject wider span
-  of_object_wider span o = record { nonempty = o.nonempty; object = o.object; held = o.held; whole = o.whole }
+  of_object_wider span = of_object_still t wider span refl
 
   chunk_before : (memory_type object : ℕ) (h : HeldObject) → IsChunkOf wider memory_type object h → IsChunkOf t memory_type object h
   chunk_before memory_type object h chunk = record { held = chunk.held; of_kind = chunk.of_kind; of_type = chunk.of_type }
@@ -90,17 +91,24 @@ pub consistent-room : (c : Config) (p : Properties) (heaps : List Heap) (buddies
 consistent-room c p heaps buddies lists t now remaining kept is =
     subst (λ (x : Table). IsConsistent c p heaps buddies lists x remaining) (sym kept) (consistent_wider c p t now.room heaps buddies lists remaining is)
 
--- An object of its own comes or goes.
+-- An object of one block comes or goes.
 
-own_is_no_chunk : (kind : Kind) → kind ≡ Dedicated → kind ≢ BuddyChunk
-own_is_no_chunk kind own chunk = let both = sym own ∙ chunk in absurd (cc)
+-- it is no chunk
+no_buddy_chunk : (kind : Kind) → is_shared kind ≡ false → kind ≢ BuddyChunk
+no_buddy_chunk kind own chunk = let both = ap is_shared (sym chunk) ∙ own in absurd (cc)
+
+no_list_chunk : (kind : Kind) → is_shared kind ≡ false → is_list_chunk kind ≡ false
+no_list_chunk Dedicated own = refl
+no_list_chunk Imported own = refl
+no_list_chunk BuddyChunk own = refl
+no_list_chunk (FreeListChunk number) own = absurd (cc)
 
 module _ (c : Config) (p : Properties) (heaps : List Heap) (buddies : List Buddy) (lists : List Listing) (t : Table) (remaining : ℕ) (is : IsConsistent c p heaps buddies lists t remaining) (offers : p.memory_heaps ≡ map offer_of heaps)
-    (now : Table) (h : HeldObject) (span : Span) (own : h.kind ≡ Dedicated) where
+    (now : Table) (h : HeldObject) (span : Span) (own : is_shared h.kind ≡ false) where
   own_object : (m : Table) → finite.get m.held span.object ≡ Some h → IsNoChunk m span.object × IsNoListChunk m span.object
   own_object m found = (
-    subst (λ (o : Option HeldObject). IfSome o (λ x. x.kind ≢ BuddyChunk)) (sym found) (own_is_no_chunk h.kind own),
-    subst (λ (o : Option HeldObject). IfSome o (λ x. is_list_chunk x.kind ≡ false)) (sym found) (ap is_list_chunk own),
+    subst (λ (o : Option HeldObject). IfSome o (λ x. x.kind ≢ BuddyChunk)) (sym found) (no_buddy_chunk h.kind own),
+    subst (λ (o : Option HeldObject). IfSome o (λ x. is_list_chunk x.kind ≡ false)) (sym found) (no_list_chunk h.kind own),
   )
 
   no_object : (m : Table) → finite.get m.held span.object ≡ None → IsNoChunk m span.object × IsNoListChunk m span.object

@@ -1,6 +1,6 @@
 -- What the allocator's fields keep, as its state tells it.
 use Rattle.std.proofs.Common.{◌≡◌, ◌≢◌, ◌⊎◌, inl, inr, ℕ, zero, suc, ◌+◌, ◌<◌, ◌≤◌, true, false, List, [], ◌∷◌, length, Option, Some, None, IfSome, slice_get, refl, sym, ◌∙◌, ap, subst, arith}
-use Rattle.std.proofs.lemmas.Bool.{cases_eq, cases_lt}
+use Rattle.std.proofs.lemmas.Bool.{cases_eq, cases_lt, cases_Bool}
 use Rattle.std.proofs.lemmas.Nat.{pow_pos}
 use Rattle.std.specs.FinMap as map
 use Rattle.gpu_alloc_types.specs.Properties.{Properties, atom_of, is_non_coherent}
@@ -11,7 +11,7 @@ use Rattle.gpu_alloc_base.specs.FreeSpace.{IsIn, IsMultipleOf}
 use Rattle.gpu_alloc.specs.Atoms.{KeepsAtoms, IsNextListChunk}
 use Rattle.gpu_alloc.specs.FreeListSharing.{IsListChunk, latest_number, next_list_chunk}
 use Rattle.gpu_alloc.specs.FirstTypes.{first_types, first_type_state}
-use Rattle.gpu_alloc.specs.Inside.{state_in, properties_in, types_in, span_of_leaf, leaf_at, span_of_slot, slot_at, whole_span, IsLiveIn, IsChunkOf, IsNumberedChunk, IsKnown, IsBuddyOf, IsListOf, IsConsistent}
+use Rattle.gpu_alloc.specs.Inside.{state_in, properties_in, types_in, span_of_leaf, leaf_at, span_of_slot, slot_at, IsLiveIn, IsChunkOf, IsNumberedChunk, IsKnown, IsBuddyOf, IsListOf, IsConsistent}
 use Rattle.gpu_alloc.specs.Sound.{IsSound, LiesIn, is_list_chunk}
 use Rattle.gpu_alloc.specs.Spans.{Place, Table}
 use Rattle.gpu_alloc.specs.State.{HeldObject, Span, State, TypeState, AreApart, is_shared}
@@ -148,12 +148,9 @@ module _ {c : Config} {p : Properties} {t : Table} {buddies : List Buddy} {lists
     | inr of_list ↦ list_apart (list_at object h held).1 held of_list.1
   ]
 
-  -- a live span of an object of one block is the whole of it
-  is_whole : (span : Span) (h : HeldObject) → IsLiveIn t span → map.get t.held span.object ≡ Some h → h.kind ≡ Dedicated → span ≡ whole_span span.object h
-  is_whole span h live held kind =
-      let of = is.books.spans span live in
-      let same : of.object ≡ h = one_value _ of.object h of.held held in
-      of.whole (ap (λ (x : HeldObject). x.kind) same ∙ kind) ∙ ap (whole_span span.object) same
+  -- an object of one block has one live span
+  is_alone : (object : ℕ) (h : HeldObject) → map.get t.held object ≡ Some h → is_shared h.kind ≡ false → (x y : Span) → IsLiveIn t x → IsLiveIn t y → x.object ≡ object → y.object ≡ object → x ≡ y
+  is_alone object h held own x y live also named same = let one = (known_at object h held).one_span own in one.alone x live named ∙ sym (one.alone y also same)
 
   lies_inside : (span : Span) → IsLiveIn t span → (h : HeldObject) × (map.get t.held span.object ≡ Some h) × LiesIn h.kind h.counted span
   lies_inside span live =
@@ -161,47 +158,34 @@ module _ {c : Config} {p : Properties} {t : Table} {buddies : List Buddy} {lists
       let in_chunk : is_shared of.object.kind ≡ true → span.offset + span.size ≤ of.object.counted = λ kind. chunk_inside span.object of.object of.held kind span live refl in (
         of.object,
         of.held,
-        elim ((known_at span.object of.object of.held).of_kind) [
-          | inl own ↦
-              let whole = of.whole own.0 in
-              subst (λ k. LiesIn k of.object.counted span) (sym own.0) (ap (λ (x : Span). x.offset) whole, ap (λ (x : Span). x.size) whole)
-          | inr kind ↦ elim (chunk_kinds of.object.kind kind) [
+        elim (cases_Bool (is_shared of.object.kind)) [
+          | inl kind ↦ elim (chunk_kinds of.object.kind kind) [
             | inl of_buddy ↦ subst (λ k. LiesIn k of.object.counted span) (sym of_buddy) (in_chunk kind)
             | inr of_list ↦ subst (λ k. LiesIn k of.object.counted span) (sym of_list.1) (in_chunk kind)
           ]
+          | inr own ↦ let one = (known_at span.object of.object of.held).one_span own in subst (LiesIn of.object.kind of.object.counted) (sym (one.alone span live refl)) one.lies
         ],
       )
-
-  -- an object of one block has one live span
-  is_alone : (object : ℕ) (h : HeldObject) → map.get t.held object ≡ Some h → is_shared h.kind ≡ false → (x y : Span) → IsLiveIn t x → IsLiveIn t y → x.object ≡ object → y.object ≡ object → x ≡ y
-  is_alone object h held no_chunk x y live also named same = elim ((known_at object h held).of_kind) [
-    | inl own ↦
-        let of_x = is_whole x h live (subst (λ n. map.get t.held n ≡ Some h) (sym named) held) own.0 in
-        let of_y = is_whole y h also (subst (λ n. map.get t.held n ≡ Some h) (sym same) held) own.0 in
-        of_x ∙ ap (λ n. whole_span n h) (named ∙ sym same) ∙ sym of_y
-    | inr chunk ↦ absurd (cc)
-  ]
 
   are_apart : (x y : Span) → IsLiveIn t x → IsLiveIn t y → x ≢ y → AreApart x y
   are_apart x y live also other = elim (cases_eq x.object y.object) [
     | inl same ↦
         let of = is.books.spans x live in
-        let held : map.get t.held y.object ≡ Some of.object = ap (λ n. map.get t.held n) (sym same) ∙ of.held in
-        elim ((known_at x.object of.object of.held).of_kind) [
-          | inl own ↦ absurd (other (of.whole own.0 ∙ ap (λ n. whole_span n of.object) same ∙ sym (is_whole y of.object also held own.0)))
-          | inr kind ↦ inr (chunk_apart x.object of.object of.held kind x y live also refl (sym same) other)
+        elim (cases_Bool (is_shared of.object.kind)) [
+          | inl kind ↦ inr (chunk_apart x.object of.object of.held kind x y live also refl (sym same) other)
+          | inr own ↦ absurd (other (is_alone x.object of.object of.held own x y live also refl (sym same)))
         ]
     | inr apart ↦ inl apart
   ]
 
   -- a free list may keep a chunk in which nothing is live, and nothing else is held so
   is_used : (object : ℕ) (h : HeldObject) → map.get t.held object ≡ Some h → is_list_chunk h.kind ≡ false → HasSpan t object
-  is_used object h held no_list = elim ((known_at object h held).of_kind) [
-    | inl own ↦ (whole_span object h, own.1, refl)
-    | inr kind ↦ elim (chunk_kinds h.kind kind) [
+  is_used object h held no_list = elim (cases_Bool (is_shared h.kind)) [
+    | inl kind ↦ elim (chunk_kinds h.kind kind) [
       | inl of_buddy ↦ chunk_used (buddy_at object h held).1 held of_buddy
       | inr of_list ↦ absurd (let both = ap is_list_chunk (sym of_list.1) ∙ no_list in cc)
     ]
+    | inr own ↦ let one = (known_at object h held).one_span own in (one.span, one.live, one.of_object)
   ]
 
   each_used : (object : ℕ) (o : Option HeldObject) → map.get t.held object ≡ o → IfSome o (λ h. is_list_chunk h.kind ≡ false → HasSpan t object)

@@ -1,5 +1,5 @@
 -- What an allocator's fields stand for, and what they keep.
-use Rattle.std.specs.Prelude.{◌≡◌, ◌⊎◌, ℕ, ◌+◌, ◌<◌, ◌^◌, true, List, [], ◌∷◌, map, length, slice_get, sum_by, Some}
+use Rattle.std.specs.Prelude.{◌≡◌, ℕ, ◌+◌, ◌<◌, ◌^◌, false, List, [], ◌∷◌, map, length, slice_get, sum_by, Some}
 use Rattle.std.specs.Prelude.{is_some, IfSome, IsTrue, cond}
 use Rattle.std.specs.FinMap as map_of
 use Rattle.std.specs.FinSet as set
@@ -7,7 +7,7 @@ use Rattle.std.specs.Ordering.{nat_cmp}
 use Rattle.gpu_alloc_types.specs.Properties.{Properties, IsUsable, heap_size, props_at, atom_of}
 use Rattle.gpu_alloc_types.specs.declared.types.MemoryHeap.{MemoryHeap}
 use Rattle.gpu_alloc.specs.declared.limits.Limits.{Limits}
-use Rattle.gpu_alloc.specs.declared.block.Kind.TheVariants.{Dedicated, BuddyChunk, FreeListChunk}
+use Rattle.gpu_alloc.specs.declared.block.Kind.TheVariants.{BuddyChunk, FreeListChunk}
 use Rattle.gpu_alloc_base.specs.declared.buddy_block.Leaf.{Leaf}
 use Rattle.gpu_alloc_base.specs.declared.config.Config.{Config}
 use Rattle.gpu_alloc_base.specs.declared.free_list_block.Slot.{Slot}
@@ -19,6 +19,7 @@ use Rattle.gpu_alloc_freelist.specs.FreeListSound as list
 use Rattle.gpu_alloc_freelist.specs.FreeListState.{Listing, IsLiveSlot}
 use Rattle.gpu_alloc_base.specs.Sizes.{minimal_size, final_size}
 use Rattle.gpu_alloc.specs.FirstTypes.{first_types}
+use Rattle.gpu_alloc.specs.Sound.{LiesIn}
 use Rattle.gpu_alloc.specs.Spans.{Place, Table}
 use Rattle.gpu_alloc.specs.State.{HeldObject, Span, TypeState, State, share, is_shared}
 
@@ -61,23 +62,27 @@ state_in l heaps buddies lists t remaining = record {
 
 -- The table of held objects and live spans.
 
-abbrev pub whole_span : ℕ → HeldObject → Span
-whole_span object h = record { object = object; offset = 0; size = h.counted }
-
 abbrev pub IsLiveIn : Table → Span → Type 0
 IsLiveIn t span = IsTrue (set.contains t.live span)
 
--- an object is held of a known memory type: as one live block, as a buddy chunk, or as a chunk of a free list
+-- one span of the object is live and no other, and it lies there as the object's kind says
+pub record HasOneSpan (t : Table) (object : ℕ) (h : HeldObject) : Type 0 where
+  pub span : Span
+  pub live : IsLiveIn t span
+  pub of_object : span.object ≡ object
+  pub lies : LiesIn h.kind h.counted span
+  pub alone : (other : Span) → IsLiveIn t other → other.object ≡ object → other ≡ span
+
+-- an object is held of a known memory type, and where it is no chunk one span of it is live
 pub record IsKnown (t : Table) (p : Properties) (object : ℕ) (h : HeldObject) : Type 0 where
   pub of_type : h.memory_type < length p.memory_types
-  pub of_kind : ((h.kind ≡ Dedicated) × IsLiveIn t (whole_span object h)) ⊎ (is_shared h.kind ≡ true)
+  pub one_span : is_shared h.kind ≡ false → HasOneSpan t object h
 
--- a live span is not empty and of a held object, and the whole of one that was made for it alone
+-- a live span is not empty and of a held object
 pub record IsOfObject (t : Table) (span : Span) : Type 0 where
   pub nonempty : 0 < span.size
   pub object : HeldObject
   pub held : map_of.get t.held span.object ≡ Some object
-  pub whole : object.kind ≡ Dedicated → span ≡ whole_span span.object object
 
 -- each counted size is a number of bytes that a device knows
 abbrev pub AreSmall : List (ℕ × HeldObject) → Type 0

@@ -571,7 +571,7 @@ impl<M: MemoryObject, A: Allocator> GpuAllocator<M, A> {
         }
     }
 
-    /// Takes back a block that is an object of its own.
+    /// Takes back the one block of an object.
     fn dealloc_object<D: MemoryDevice<M>>(&mut self, device: &mut D, block: MemoryBlock<M>)
         requires own { is_shared block.kind ≡ false }
         requires owned { IsOwned self.old block }

@@ -1,5 +1,5 @@
 -- A memory type's buddy allocator among the allocator's fields, and what a block of one of its chunks leaves there.
-use Rattle.std.proofs.Common.{◌≡◌, inr, ℕ, ◌+◌, ◌-◌, ◌^◌, ◌<◌, ◌≤◌, false, cond, List, length, get_or, Option, Some, None, IfSome, refl, sym, ◌∙◌, ap, subst, arith}
+use Rattle.std.proofs.Common.{◌≡◌, ℕ, ◌+◌, ◌-◌, ◌^◌, ◌<◌, ◌≤◌, false, cond, List, length, get_or, Option, Some, None, IfSome, refl, sym, ◌∙◌, ap, subst, arith}
 use Rattle.std.proofs.Math.ListN.{set}
 use Rattle.std.proofs.lemmas.List.{length-map, set-get_or}
 use Rattle.std.proofs.lemmas.Nat.{pow_pos}
@@ -160,7 +160,7 @@ module _ {A : Type 0} (l : Limits A) (heaps : List Heap) (buddies : List Buddy) 
           subst (λ (q : Properties). IsConsistent l.config q (set heaps i changed) (set buddies index (with_leaf (with_chunk b leaf size) leaf)) lists now (remaining - 1))
           (sym (properties_kept l heaps i changed heap at_heap (ap (λ (h : Heap). h.size) counts))) (record {
             books = booked-held p heaps t remaining is.books refl now object_of (span_of_leaf leaf)
-                (record { with = record { nonempty = some_bytes (with_leaf (with_chunk b leaf size) leaf) leaf sound (now_live b.live leaf); small = small; known = known; kind = inr refl }; free = free; held = held; live = more.live })
+                (record { with = record { nonempty = some_bytes (with_leaf (with_chunk b leaf size) leaf) leaf sound (now_live b.live leaf); small = small; known = known; lies = λ own. absurd (cc) }; free = free; held = held; live = more.live })
                 heap changed i some here at_heap (ap (λ (h : Heap). h.used) counts);
             shared = buddies_set l.config p t now buddies leaf.object chunk_beside is.shared index (with_leaf (with_chunk b leaf size) leaf)
                 (subst (λ (o : Option HeldObject). IfSome o (λ h. h.memory_type ≡ index)) (sym free) tt)

@@ -1,5 +1,5 @@
 -- Each memory type's buddy allocator, as one object's part of the table changes.
-use Rattle.std.proofs.Common.{◌≡◌, ◌≢◌, ℕ, true, false, cond, List, Option, Some, None, IfSome, slice_get, refl, sym, ◌∙◌, ap, subst, inl, inr}
+use Rattle.std.proofs.Common.{◌≡◌, ◌≢◌, ℕ, true, false, cond, List, Option, Some, None, IfSome, slice_get, refl, sym, ◌∙◌, ap, subst}
 use Rattle.std.proofs.Math.ListN.{set}
 use Rattle.std.proofs.lemmas.List.{length-set}
 use Rattle.std.specs.Ordering.{eq_by_cmp}
@@ -14,7 +14,7 @@ use Rattle.gpu_alloc.specs.declared.block.Kind.TheVariants.{BuddyChunk}
 use Rattle.gpu_alloc_base.specs.declared.config.Config.{Config}
 use Rattle.gpu_alloc.proofs.HeapLists.{each_set}
 use Rattle.gpu_alloc.proofs.Buddies.Links.{IsBeside, linked_beside}
-use Rattle.gpu_alloc.proofs.Tables.LiveSpans.{span_total, span_test, live_still, live_before, live_kept, live_other}
+use Rattle.gpu_alloc.proofs.Tables.LiveSpans.{span_total, span_test, spans_more, spans_fewer}
 
 -- What a span makes of the table is of its object.
 
@@ -28,11 +28,8 @@ module _ (old now : Table) (span : Span) (held : (q : ℕ) → q ≢ span.object
   pub beside_more : (place : Place) → now.live ≡ set_of.insert old.live span → now.places ≡ finite.insert old.places span place → IsBeside old now span.object
   beside_more place live places = record {
     held = held;
-    live_was = λ other apart is. elim (live_before old.live span other (subst (λ s. set_of.contains s other ≡ true) live is)) [
-      | inl same ↦ absurd (apart (ap (λ (s : Span). s.object) same))
-      | inr was ↦ was
-    ];
-    live_is = λ other apart was. subst (λ s. set_of.contains s other ≡ true) (sym live) (live_still old.live span other was);
+    live_was = λ other apart. (spans_more old now other.object span apart live).was other refl;
+    live_is = λ other apart. (spans_more old now other.object span apart live).still other refl;
     places = λ other apart.
         ap (λ (m : finite.FinMap span_cmp Place). finite.get m other) places ∙ finite.get-insert span_total old.places span place other
         ∙ ap (λ b. cond b (Some place) (finite.get old.places other)) (other_span other apart);
@@ -41,8 +38,8 @@ module _ (old now : Table) (span : Span) (held : (q : ℕ) → q ≢ span.object
   pub beside_fewer : now.live ≡ set_of.remove old.live span → now.places ≡ finite.remove old.places span → IsBeside old now span.object
   beside_fewer live places = record {
     held = held;
-    live_was = λ other apart is. (live_other old.live span other (subst (λ s. set_of.contains s other ≡ true) live is)).1;
-    live_is = λ other apart was. subst (λ s. set_of.contains s other ≡ true) (sym live) (live_kept old.live span other (λ same. apart (ap (λ (s : Span). s.object) same)) was);
+    live_was = λ other apart. (spans_fewer old now other.object span apart live).was other refl;
+    live_is = λ other apart. (spans_fewer old now other.object span apart live).still other refl;
     places = λ other apart.
         ap (λ (m : finite.FinMap span_cmp Place). finite.get m other) places ∙ finite.get-remove span_total old.places span other
         ∙ ap (λ b. cond b None (finite.get old.places other)) (other_span other apart);

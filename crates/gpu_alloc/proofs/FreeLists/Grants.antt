@@ -1,5 +1,5 @@
 -- What a block that a memory type's free list gives leaves in the allocator's fields, in a held chunk or in a new one.
-use Rattle.std.proofs.Common.{◌≡◌, ◌≢◌, inl, inr, ℕ, ◌+◌, ◌-◌, ◌^◌, ◌<◌, ◌≤◌, true, List, length, get_or, Some, None, refl, sym, ◌∙◌, ap, subst, arith}
+use Rattle.std.proofs.Common.{◌≡◌, ◌≢◌, inl, ℕ, ◌+◌, ◌-◌, ◌^◌, ◌<◌, ◌≤◌, true, List, length, get_or, Some, None, refl, sym, ◌∙◌, ap, subst, arith}
 use Rattle.std.proofs.Math.ListN.{set}
 use Rattle.std.proofs.lemmas.Bool.Decides.{nat_tests}
 use Rattle.std.specs.FinMap as finite
@@ -164,7 +164,7 @@ module _ {A : Type 0} (limits : Limits A) (heaps : List Heap) (buddies : List Bu
           subst (λ (q : Properties). IsConsistent limits.config q (set heaps i changed) buddies (set lists index list_after) now (remaining - 1))
           (sym (properties_kept limits heaps i changed heap at_heap (ap (λ (h : Heap). h.size) counts))) (record {
             books = booked-held p heaps t remaining is.books refl now object_of (span_of_slot slot)
-                (record { with = record { nonempty = (sound.space.inside slot ((slot_inserted l.space.live slot slot).1 (inl refl))).nonempty; small = small; known = known; kind = inr refl }; free = free; held = held; live = more.live })
+                (record { with = record { nonempty = (sound.space.inside slot ((slot_inserted l.space.live slot slot).1 (inl refl))).nonempty; small = small; known = known; lies = λ own. absurd (cc) }; free = free; held = held; live = more.live })
                 heap changed i some here at_heap (ap (λ (h : Heap). h.used) counts);
             shared = buddies_beside limits.config p t now buddies slot.object chunk_beside is.shared
                 (none_at t slot.object (λ h. h.kind ≢ BuddyChunk) free)

@@ -1,5 +1,5 @@
 -- Live spans, as one comes or goes.
-use Rattle.std.proofs.Common.{◌≡◌, ◌≢◌, ◌⊎◌, inl, inr, Bool, true, false, not, ◌&&◌, ◌||◌, None, IsTrue, refl, sym, subst, Equal}
+use Rattle.std.proofs.Common.{◌≡◌, ◌≢◌, ◌⊎◌, inl, inr, Bool, true, false, not, ◌&&◌, ◌||◌, None, IsTrue, refl, sym, subst, Equal, ℕ, ◌∙◌, ap}
 use Rattle.std.specs.Bool.{Decides}
 use Rattle.std.specs.Cmp.{IsTotalOrder}
 use Rattle.std.specs.Cmp.Lexicographic.{on_texts}
@@ -87,3 +87,33 @@ not_live live span never = elim (contains live span) as (λ x. contains live spa
 -- the object of one that is live is held
 pub not_live_new : (t : Table) (span : Span) → ((other : Span) → IsLiveIn t other → IsOfObject t other) → map.get t.held span.object ≡ None → contains t.live span ≡ false
 not_live_new t span of_objects free = not_live t.live span (λ live. let held = (of_objects span live).held in absurd (cc))
+
+-- Tables in which the same spans of an object are live.
+
+pub record HasSameSpans (old now : Table) (object : ℕ) : Type 0 where
+  pub still : (span : Span) → span.object ≡ object → IsLiveIn old span → IsLiveIn now span
+  pub was : (span : Span) → span.object ≡ object → IsLiveIn now span → IsLiveIn old span
+
+module _ (old now : Table) (object : ℕ) where
+  pub spans_same : now.live ≡ old.live → HasSameSpans old now object
+  spans_same live = record {
+    still = λ span named was. subst (λ s. IsTrue (contains s span)) (sym live) was;
+    was = λ span named is. subst (λ s. IsTrue (contains s span)) live is;
+  }
+
+  -- a span of another object comes
+  pub spans_more : (own : Span) → object ≢ own.object → now.live ≡ insert old.live own → HasSameSpans old now object
+  spans_more own other live = record {
+    still = λ span named was. subst (λ s. IsTrue (contains s span)) (sym live) (live_still old.live own span was);
+    was = λ span named is. elim (live_before old.live own span (subst (λ s. IsTrue (contains s span)) live is)) [
+      | inl new ↦ absurd (other (sym named ∙ ap (λ (s : Span). s.object) new))
+      | inr was ↦ was
+    ];
+  }
+
+  -- and goes
+  pub spans_fewer : (own : Span) → object ≢ own.object → now.live ≡ remove old.live own → HasSameSpans old now object
+  spans_fewer own other live = record {
+    still = λ span named was. subst (λ s. IsTrue (contains s span)) (sym live) (live_kept old.live own span (λ same. other (sym named ∙ ap (λ (s : Span). s.object) same)) was);
+    was = λ span named is. (live_other old.live own span (subst (λ s. IsTrue (contains s span)) live is)).1;
+  }

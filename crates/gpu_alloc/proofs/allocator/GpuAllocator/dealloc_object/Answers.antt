@@ -6,14 +6,14 @@ use Rattle.gpu_alloc_types.specs.Device.Event.{Deallocated}
 use Rattle.gpu_alloc.specs.Agreement.{Agrees}
 use Rattle.gpu_alloc.specs.Inside.{state_in}
 use Rattle.gpu_alloc.specs.Spans.{held_of, span_at}
-use Rattle.gpu_alloc.specs.State.{State, HeldObject, Span, IsOwned, span_of}
+use Rattle.gpu_alloc.specs.State.{State, Span, span_of}
 use Rattle.gpu_alloc_base.specs.declared.heap.Heap.{Heap}
 use Rattle.gpu_alloc.proofs.Agreeing.{agrees_returned}
 use Rattle.gpu_alloc.proofs.Consistency.{covers, fits_again}
 use Rattle.gpu_alloc.proofs.HeapLists.{properties_kept}
 use Rattle.gpu_alloc.proofs.Tables.LiveSpans.{live_other}
 use Rattle.gpu_alloc.proofs.OwnObjects.{consistent-gone}
-use Rattle.gpu_alloc.proofs.Returns.{IsWholeBlock, returned, goes_with, owned_whole, let_go, state_returned}
+use Rattle.gpu_alloc.proofs.Returns.{returned, goes_with, let_go, state_returned}
 use Rattle.gpu_alloc.proofs.allocator.GpuAllocator.dealloc_object.Given.{Over}
 use Rattle.gpu_alloc.proofs.allocator.GpuAllocator.dealloc_object.Goals as goal
 
@@ -41,16 +41,10 @@ invariant_of-self g c =
     (consistent-gone _ _ _ _ _ c.self.inside.spans _ c.self.invariant refl c.remove-removed.new.self (held_of c.unwrap-object.result) (span_of c.args.block) fewer.0 fewer.1
     (c.remove-removed.ensures.places ∙ ap (finite.remove c.self.inside.spans.places) span) c.index_mut.result.now _ _ c.heap_index-heap.ensures at (ap (λ (h : Heap). h.used) c.dealloc.ensures))
 
--- What is known at the end: the state before, what the block was, and the state that is left.
+-- What is known at the end: the state before, and the state that is left.
 
 abbrev before : (g : Over) → goal.After-drop-memory g → State
 before g c = state_in c.self.inside.limits c.self.inside.heaps.items c.self.inside.buddies.items c.self.inside.free_lists.items c.self.inside.spans c.self.inside.allocations_remains
-
-owned : (g : Over) (c : goal.After-drop-memory g) → IsOwned (before g c) c.args.block
-owned g c = rw (← c.self.view_is) at c.requires.owned
-
-whole : (g : Over) (c : goal.After-drop-memory g) → (h : HeldObject) × IsWholeBlock c.self.inside.spans c.args.block h
-whole g c = owned_whole c.self.inside.limits _ c.self.inside.buddies.items c.self.inside.free_lists.items _ _ c.args.block c.self.invariant.books (owned g c) c.requires.own
 
 left : (g : Over) (c : goal.After-drop-memory g)
     → state_in c.self.inside.limits (set c.self.inside.heaps.items c.heap_index-heap.result c.dealloc.new.self) c.self.inside.buddies.items c.self.inside.free_lists.items c.remove-removed.new.self (c.self.inside.allocations_remains + 1)
@@ -67,13 +61,13 @@ returns-clause-freed g c =
     rw (← c.self.view_is) (
       Deallocated c.args.block.object ∷ [],
       (c.deallocate_memory.new.self, rw (← c.into_memory-memory.ensures) c.deallocate_memory.ensures, refl),
-      (c.args.block.object ∷ [], goes_with _ _ _ (whole g c).1.kind, (refl, left g c)),
+      (c.args.block.object ∷ [], goes_with _ _ _ c.requires.own, (refl, left g c)),
     )
 
 pub returns-clause-objects : goal.returns-clause-objects
 returns-clause-objects g c =
     let gone = rw c.into_memory-memory.ensures at (g.met.D.MemoryDevice.row _ _ _ c.deallocate_memory.ensures) in
-    rw (← c.self.view_is) (c.args.block.object ∷ [], goes_with _ _ _ (whole g c).1.kind, gone)
+    rw (← c.self.view_is) (c.args.block.object ∷ [], goes_with _ _ _ c.requires.own, gone)
 
 pub returns-clause-agrees : goal.returns-clause-agrees
 returns-clause-agrees g c =

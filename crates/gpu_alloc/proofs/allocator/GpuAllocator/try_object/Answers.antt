@@ -10,7 +10,7 @@ use Rattle.gpu_alloc_types.specs.Properties.{Properties}
 use Rattle.gpu_alloc.specs.Agreement.{Agrees}
 use Rattle.gpu_alloc.specs.Candidates.{own_question, own_candidate, whole_block, holding}
 use Rattle.gpu_alloc_base.specs.Case.{Asks}
-use Rattle.gpu_alloc.specs.Inside.{state_in, properties_in, whole_span}
+use Rattle.gpu_alloc.specs.Inside.{state_in, properties_in, whole_span, IsLiveIn, IsOfObject}
 use Rattle.gpu_alloc_base.specs.NewChunk.{flags_of, made, HasOneChunkMore}
 use Rattle.gpu_alloc.specs.Spans.{Table, span_at}
 use Rattle.gpu_alloc.specs.State.{State, HeldObject, Block}
@@ -91,15 +91,15 @@ free g c =
     let none : g.D.MemoryDevice.objects c.args.device.now c.object.result ≡ None = rw c.object.ensures made.0 in
     ap (λ (s : State). finite.get s.held c.object.result) c.self.view_is ∙ not_held c.args.self.now _ _ _ c.requires.agrees none
 
-more : (g : Over) (c : goal.After-new g) → HoldsMore _ _ _ _ c.self.invariant.books refl c.insert-key.new.self (object g c) (whole_span c.object.result (object g c))
+more : (g : Over) (c : goal.After-new g) → HoldsMore _ _ _ _ c.self.invariant.books refl c.insert-key.new.self (object g c) (span_at c.object.result 0 c.args.request.size)
 more g c =
     let known = rw (← c.self.view_is) at c.requires.known in
     let small : c.args.request.size < 2 ^ 64 = c.well_formed.1.1.0.1.1.0.1 in
     record {
-      with = record { nonempty = c.requires.askable.nonempty; small = small; known = known; kind = inl (refl, refl) };
+      with = record { nonempty = c.requires.askable.nonempty; small = small; known = known; lies = λ own. (refl, refl) };
       free = free g c;
       held = c.insert-key.ensures.held ∙ ap (λ held. finite.insert held c.object.result (object g c)) (held_kept c.reserve.new.self c.self.inside.spans c.reserve.ensures.kept);
-      live = c.insert-key.ensures.live ∙ ap (λ live. set_of.insert live (whole_span c.object.result (object g c))) (live_kept c.reserve.new.self c.self.inside.spans c.reserve.ensures.kept);
+      live = c.insert-key.ensures.live ∙ ap (λ live. set_of.insert live (span_at c.object.result 0 c.args.request.size)) (live_kept c.reserve.new.self c.self.inside.spans c.reserve.ensures.kept);
     }
 
 state_is : (g : Over) (c : goal.After-new g)
@@ -115,8 +115,8 @@ block_is g c = c.new.ensures ∙ (λ k. record (block g c) { object = sym c.obje
 pub invariant_of-self-in-Ok : goal.invariant_of-self-in-Ok
 invariant_of-self-in-Ok g c =
     rw (properties_kept c.self.inside.limits c.self.inside.heaps.items c.heap_index-heap.result c.alloc.new.self c.index_mut.result.now c.index_mut.ensures.value (ap (λ (h : Heap). h.size) c.alloc.ensures))
-    (consistent-held _ _ _ _ _ c.self.inside.spans _ c.self.invariant refl c.insert-key.new.self (object g c) (whole_span c.object.result (object g c)) refl (more g c) _
-    (c.insert-key.ensures.places ∙ ap (λ places. finite.insert places (whole_span c.object.result (object g c)) (record { chunk = 0; index = 0 })) (places_kept c.reserve.new.self c.self.inside.spans c.reserve.ensures.kept)) c.index_mut.result.now _ _ (positive c.self.inside.allocations_remains c.if-self-eq0.false)
+    (consistent-held _ _ _ _ _ c.self.inside.spans _ c.self.invariant refl c.insert-key.new.self (object g c) (span_at c.object.result 0 c.args.request.size) refl (more g c) _
+    (c.insert-key.ensures.places ∙ ap (λ places. finite.insert places (span_at c.object.result 0 c.args.request.size) (record { chunk = 0; index = 0 })) (places_kept c.reserve.new.self c.self.inside.spans c.reserve.ensures.kept)) c.index_mut.result.now _ _ (positive c.self.inside.allocations_remains c.if-self-eq0.false)
     c.heap_index-heap.ensures c.index_mut.ensures.value (ap (λ (h : Heap). h.used) c.alloc.ensures))
 
 pub returns-in-Ok-clause-tries : goal.returns-in-Ok-clause-tries
