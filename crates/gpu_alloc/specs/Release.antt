@@ -58,6 +58,13 @@ pub record AreChunksGone (s : State) (t : ℕ) (keep_last : Bool) (gone : List �
       → IsListChunk s t m (get_or gone i d) → IsListChunk s t n (get_or gone j d) → m < n
   pub all : (object : ℕ) → Contains gone object ↔ ((number : ℕ) × MayGo s t keep_last number object)
 
+-- These chunks of a memory type, which are all that may go, go back to the device, and it has the other objects then.
+pub record GivesBack (s : State) (t : ℕ) (keep_last : Bool) (gone : List ℕ) (es : List Event) (new : State)
+    (old_objects new_objects : ℕ → Option Object) : Type 0 where
+  pub chunks : AreChunksGone s t keep_last gone
+  pub lets : LetsGo s gone es new
+  pub objects : new_objects ≡ without_objects old_objects gone
+
 -- What goes with a block whose span was taken off, by what its object is held for: an object of its own, or a buddy
 -- chunk without a live block.
 abbrev pub GoesWith : Kind → State → ℕ → List ℕ → Type 0

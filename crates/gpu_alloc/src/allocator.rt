@@ -13,8 +13,8 @@ ghost use Rattle.gpu_alloc.specs.Allocation.{Allocates, ObjectsAfter, ObjectsTri
 ghost use Rattle.gpu_alloc.specs.declared.allocator.Strategy.TheVariants.{OwnObject, InBuddyChunk, InFreeList};
 ghost use Rattle.gpu_alloc.specs.Atoms.{KeepsAtoms};
 ghost use Rattle.gpu_alloc.specs.Opening.{opened};
-ghost use Rattle.gpu_alloc.specs.Release.{Frees, ObjectsFreed, LetsGo, Cleans, ObjectsCleaned, AreChunksGone};
-ghost use Rattle.gpu_alloc.specs.Release.{IsCleanedUp, without_span, without_objects};
+ghost use Rattle.gpu_alloc.specs.Release.{Frees, ObjectsFreed, Cleans, ObjectsCleaned, GivesBack};
+ghost use Rattle.gpu_alloc.specs.Release.{IsCleanedUp, without_span};
 ghost use Rattle.gpu_alloc.specs.Request.{IsAskable};
 ghost use Rattle.gpu_alloc.specs.Sound as Sound;
 ghost use Rattle.gpu_alloc.specs.State.{HeldObject, Span, IsLive, IsOwned, is_shared, ledger, total};
@@ -664,8 +664,7 @@ impl<M: MemoryObject, A: Allocator> GpuAllocator<M, A> {
         requires known { memory_type < length (self.old.properties).memory_types }
         requires agrees { Agrees self.old (D.properties device.old) (D.objects device.old) }
         ensures gives { (gone : List ℕ) × (es : List Event) × Chain D.step device.old es device.new
-            × AreChunksGone self.old memory_type keep_last gone × LetsGo self.old gone es self.new
-            × (D.objects device.new ≡ without_objects (D.objects device.old) gone) }
+            × GivesBack self.old memory_type keep_last gone es self.new (D.objects device.old) (D.objects device.new) }
         ensures agrees { Agrees self.new (D.properties device.new) (D.objects device.new) }
         ensures total { total self.new ≡ total self.old }
     {

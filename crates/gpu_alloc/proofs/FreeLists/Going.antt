@@ -18,7 +18,7 @@ use Rattle.gpu_alloc_freelist.specs.FreeListAllocator as list
 use Rattle.gpu_alloc_freelist.specs.FreeListSound.{IsSound}
 use Rattle.gpu_alloc_freelist.specs.FreeListState.{Listing}
 use Rattle.gpu_alloc.specs.Inside.{state_in, properties_in, types_in, list_object, slot_at, IsLiveIn, IsConsistent, IsListOf, IsNumberedChunk}
-use Rattle.gpu_alloc.specs.Release.{AreChunksGone, LetsGo, without_all, without_objects}
+use Rattle.gpu_alloc.specs.Release.{GivesBack, LetsGo, without_all, without_objects}
 use Rattle.gpu_alloc.specs.FirstTypes.{first_types}
 use Rattle.gpu_alloc.specs.Spans.{Place, Table}
 use Rattle.gpu_alloc.specs.State.{HeldObject, Span, span_cmp, State, total}
@@ -223,9 +223,7 @@ giving_begins keep_last l heaps buddies lists t remaining index i q objects is k
 -- what came back, once none may go any more
 pub record IsGivenBack (keep_last : Bool) (index : ℕ) (s : State) (q : Properties) (objects : ℕ → Option Object) (now : State) (es : List Event) (objects_now : ℕ → Option Object) : Type 0 where
   pub names : List ℕ
-  pub chunks : AreChunksGone s index keep_last names
-  pub lets : LetsGo s names es now
-  pub objects_are : objects_now ≡ without_objects objects names
+  pub gives : GivesBack s index keep_last names es now objects objects_now
   pub agrees : Agrees now q objects_now
   pub whole : total now ≡ total s
 
@@ -276,9 +274,7 @@ module _ {A : Type 0} {keep_last : Bool} {index i : ℕ} {s : State} {q : Proper
         (subst (λ x. IsGivenBack keep_last index s q objects x (es ++ es_now) objects_now) (sym state_same)
         (subst (λ fs. IsGivenBack keep_last index s q objects (state_in l heaps buddies lists t remaining) fs objects_now) none_more (record {
           names = map (object_of w.from.allocator.space) w.numbers;
-          chunks = gone_is s w.places w.room index w.from.allocator w.serves keep_last w.numbers (ends way_here gives.0).0;
-          lets = w.lets;
-          objects_are = w.objects_are;
+          gives = record { chunks = gone_is s w.places w.room index w.from.allocator w.serves keep_last w.numbers (ends way_here gives.0).0; lets = w.lets; objects = w.objects_are };
           agrees = w.agrees;
           whole = w.whole;
         })))

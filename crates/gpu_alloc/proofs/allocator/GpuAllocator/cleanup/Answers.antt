@@ -12,7 +12,7 @@ loop-memory_type-preserved g c =
       way.0 ++ gives.0,
       way.1 ++ gives.1,
       chain_append g.D.MemoryDevice.step way.1 gives.1 _ _ _ way.2 gives.2,
-      cleaning_goes_on _ _ _ _ _ _ _ _ c.loop-memory_type.memory_type way.0 gives.0 way.1 gives.1 way.3 gives.3 gives.4 gives.5 c.give_back.ensures.agrees c.give_back.ensures.total,
+      cleaning_goes_on _ _ _ _ _ _ _ _ c.loop-memory_type.memory_type way.0 gives.0 way.1 gives.1 way.3 gives.3.chunks gives.3.lets gives.3.objects c.give_back.ensures.agrees c.give_back.ensures.total,
     )
 
 -- At the end all of all memory types went that may go.

@@ -76,7 +76,7 @@ returns-clause-gives g c =
     let way = c.loop-object.invariant.way in
     let last = c.in_default.ensures.gives in
     let back = given g c in
-    (back.names, way.0 ++ last.0, chain_append g.D.MemoryDevice.step way.0 last.0 _ _ _ way.1 last.1, back.chunks, back.lets, back.objects_are)
+    (back.names, way.0 ++ last.0, chain_append g.D.MemoryDevice.step way.0 last.0 _ _ _ way.1 last.1, back.gives)
 
 pub returns-clause-agrees : goal.returns-clause-agrees
 returns-clause-agrees g c =
