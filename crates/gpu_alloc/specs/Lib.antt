@@ -4,6 +4,7 @@ pub mod Atoms
 pub mod BuddySharing
 pub mod Candidates
 pub mod Codes
+pub mod Exactness
 pub mod FirstTypes
 pub mod FreeBytes
 pub mod FreeListSharing

@@ -1,26 +1,24 @@
 //! Laws of the definitions that contracts cite, and those definitions computed on samples. The functions do nothing.
 
-ghost use Rattle.std.specs.Prelude.{◌≡◌, ◌-◌, ◌<◌, ◌≤◌, ◌^◌, ◌↔◌, ℕ, List, [], ◌∷◌, Some, None, Contains, true, false};
+ghost use Rattle.std.specs.Prelude.{◌≡◌, ℕ, List, [], ◌∷◌, Some, None, true, false};
 ghost use Rattle.gpu_alloc.specs.Allocation.{strategy};
+ghost use Rattle.gpu_alloc.specs.Exactness.{AreCanonical, AreFreePieces, AreLongEnough, ArePiecesApart};
+ghost use Rattle.gpu_alloc.specs.Exactness.{AreSpaced, AreFreeRuns, TellPlaces};
 ghost use Rattle.gpu_alloc.specs.declared.allocator.Strategy.TheVariants.{OwnObject, InBuddyChunk, InFreeList};
 ghost use Rattle.gpu_alloc_buddy.specs.Buddy.{opened as empty_buddy, rounded, chunk_size};
 ghost use Rattle.gpu_alloc_base.specs.Wanted.{wanted};
 ghost use Rattle.gpu_alloc_buddy.specs.BuddyState.{Buddy, IsFreeAt};
 ghost use Rattle.gpu_alloc_base.specs.Config.{potato, prototyping};
-ghost use Rattle.gpu_alloc_base.specs.FreeSpace.{IsIn, IsPlace, IsFreePiece};
 ghost use Rattle.gpu_alloc.specs.FreeBytes.{IsFreeByte};
 ghost use Rattle.gpu_alloc_freelist.specs.FreeList.{HasPlace};
 ghost use Rattle.gpu_alloc_freelist.specs.FreeListState.{Space, IsFreeIn};
-ghost use Rattle.gpu_alloc_base.specs.FreeRuns.{IsFreeRun, IsSpaced, HasRoom, tail_start};
+ghost use Rattle.gpu_alloc_base.specs.FreeRuns.{tail_start};
 ghost use Rattle.gpu_alloc.specs.FreeListSharing.{IsFreeInChunk, HasListPlace, list_size, list_alignment};
 ghost use Rattle.gpu_alloc.specs.FreeListSharing.{list_question};
 ghost use Rattle.gpu_alloc_base.specs.declared.region.FreeListRegion.{FreeListRegion};
-ghost use Rattle.gpu_alloc_base.specs.Pieces.{IsCanonical};
-ghost use Rattle.gpu_alloc_base.specs.AlignMasks.{IsAlignMask};
 ghost use Rattle.gpu_alloc.specs.Samples.{one_type, over, bytes_for, buddy_config};
 ghost use Rattle.gpu_alloc.specs.BuddySharing.{buddy_size, buddy_question, with_buddy_chunk};
-ghost use Rattle.gpu_alloc_base.specs.Sizes.{IsNextPowerOfTwo, next_power_of_two, minimal_size, initial_size};
-ghost use Rattle.gpu_alloc_base.specs.Sizes.{starting_size, final_size, grown_chunk, IsLeastProduct, doubled_chunk};
+ghost use Rattle.gpu_alloc_base.specs.Sizes.{minimal_size, final_size, grown_chunk, doubled_chunk};
 ghost use Rattle.gpu_alloc.specs.FirstTypes.{first_types};
 ghost use Rattle.gpu_alloc.specs.State.{State};
 ghost use Rattle.gpu_alloc.specs.declared.block.Kind.{Kind};
@@ -38,45 +36,34 @@ pub use gpu_alloc_usage::laws::{
 /// are exactly the longest free ranges of a power of two that start at a multiple of their length: of a buddy
 /// allocator's chunks by key, and of an allocator's objects by name.
 pub fn kept_pieces_are_the_free_pieces()
-    ensures exact { (b : Buddy) (pieces : List Piece) → IsCanonical (Contains pieces) (IsFreeAt b) → (p : Piece)
-        → Contains pieces p ↔ IsFreePiece (IsFreeAt b) p.chunk p.start (2 ^ p.order) }
-    ensures place { (b : Buddy) (pieces : List Piece) → IsCanonical (Contains pieces) (IsFreeAt b)
-        → (chunk start order : ℕ) → IsPlace (IsFreeAt b) chunk start (2 ^ order) → (p : Piece) × Contains pieces p
-        × (order ≤ p.order) }
-    ensures exact_in_objects { (s : State) (memory_type : ℕ) (kind : Kind) (pieces : List Piece)
-        → IsCanonical (Contains pieces) (IsFreeByte s memory_type kind) → (p : Piece) → Contains pieces p
-        ↔ IsFreePiece (IsFreeByte s memory_type kind) p.chunk p.start (2 ^ p.order) }
-    ensures place_in_objects { (s : State) (memory_type : ℕ) (kind : Kind) (pieces : List Piece)
-        → IsCanonical (Contains pieces) (IsFreeByte s memory_type kind) → (object start order : ℕ)
-        → IsPlace (IsFreeByte s memory_type kind) object start (2 ^ order) → (p : Piece) × Contains pieces p
-        × (order ≤ p.order) }
+    ensures exact { (b : Buddy) (pieces : List Piece)
+        → AreCanonical (IsFreeAt b) pieces → AreFreePieces (IsFreeAt b) pieces }
+    ensures place { (b : Buddy) (pieces : List Piece)
+        → AreCanonical (IsFreeAt b) pieces → AreLongEnough (IsFreeAt b) pieces }
+    ensures exact_in_objects { (s : State) (t : ℕ) (kind : Kind) (pieces : List Piece)
+        → AreCanonical (IsFreeByte s t kind) pieces → AreFreePieces (IsFreeByte s t kind) pieces }
+    ensures place_in_objects { (s : State) (t : ℕ) (kind : Kind) (pieces : List Piece)
+        → AreCanonical (IsFreeByte s t kind) pieces → AreLongEnough (IsFreeByte s t kind) pieces }
 {}
 
 /// Two free pieces that share a byte are one.
 pub fn free_pieces_are_apart()
-    ensures in_chunks { (b : Buddy) (chunk a n c m at : ℕ) → IsFreePiece (IsFreeAt b) chunk a n
-        → IsFreePiece (IsFreeAt b) chunk c m → IsIn a n at → IsIn c m at → (a ≡ c) × (n ≡ m) }
-    ensures in_objects { (s : State) (memory_type : ℕ) (kind : Kind) (object a n b m at : ℕ)
-        → IsFreePiece (IsFreeByte s memory_type kind) object a n
-        → IsFreePiece (IsFreeByte s memory_type kind) object b m → IsIn a n at → IsIn b m at → (a ≡ b) × (n ≡ m) }
+    ensures in_chunks { (b : Buddy) → ArePiecesApart (IsFreeAt b) }
+    ensures in_objects { (s : State) (t : ℕ) (kind : Kind) → ArePiecesApart (IsFreeByte s t kind) }
 {}
 
 /// Regions that are not empty, of which no two overlap or touch, and which together are the free bytes, are exactly the
 /// free runs: of a free list's chunks, and of a memory type's chunks in the whole allocator. There is a place for a
 /// block exactly where some region has room for it.
 pub fn regions_are_the_free_runs()
-    ensures exact { (s : Space) (regions : List FreeListRegion) → IsSpaced (IsFreeIn s) (Contains regions)
-        → (r : FreeListRegion) → Contains regions r ↔ IsFreeRun (IsFreeIn s) r.chunk r.start r.end }
-    ensures place { (s : Space) (regions : List FreeListRegion) → IsSpaced (IsFreeIn s) (Contains regions)
-        → (size order : ℕ) → 0 < size → HasPlace s size (2 ^ order)
-        ↔ ((r : FreeListRegion) × Contains regions r × HasRoom size (2 ^ order) r.start r.end) }
-    ensures exact_in_state { (s : State) (memory_type : ℕ) (regions : List FreeListRegion)
-        → IsSpaced (IsFreeInChunk s memory_type) (Contains regions) → (r : FreeListRegion) → Contains regions r
-        ↔ IsFreeRun (IsFreeInChunk s memory_type) r.chunk r.start r.end }
-    ensures place_in_state { (s : State) (memory_type : ℕ) (regions : List FreeListRegion)
-        → IsSpaced (IsFreeInChunk s memory_type) (Contains regions) → (size order : ℕ) → 0 < size
-        → HasListPlace s memory_type size (2 ^ order)
-        ↔ ((r : FreeListRegion) × Contains regions r × HasRoom size (2 ^ order) r.start r.end) }
+    ensures exact { (s : Space) (regions : List FreeListRegion)
+        → AreSpaced (IsFreeIn s) regions → AreFreeRuns (IsFreeIn s) regions }
+    ensures place { (s : Space) (regions : List FreeListRegion)
+        → AreSpaced (IsFreeIn s) regions → TellPlaces (HasPlace s) regions }
+    ensures exact_in_state { (s : State) (t : ℕ) (regions : List FreeListRegion)
+        → AreSpaced (IsFreeInChunk s t) regions → AreFreeRuns (IsFreeInChunk s t) regions }
+    ensures place_in_state { (s : State) (t : ℕ) (regions : List FreeListRegion)
+        → AreSpaced (IsFreeInChunk s t) regions → TellPlaces (HasListPlace s t) regions }
 {}
 
 /// Chunks of free lists and the tails that blocks are, for a first chunk of 8192 bytes: the next chunk, one that has to
