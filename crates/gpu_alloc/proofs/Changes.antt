@@ -1,5 +1,5 @@
 -- What a call changes in what is live and held, over the definitions alone.
-use Rattle.std.proofs.Common.{◌≡◌, ◌≢◌, ◌⊎◌, inl, inr, ℕ, zero, suc, ◌+◌, ◌<◌, ◌≤◌, Bool, true, false, List, [], ◌∷◌, ◌++◌, length, Option, Some, None, IsSome, Ok, refl, sym, ◌∙◌, ap, subst, arith, Contains}
+use Rattle.std.proofs.Common.{◌≡◌, ◌≢◌, ◌⊎◌, inl, inr, ℕ, zero, suc, ◌+◌, ◌<◌, ◌≤◌, Bool, true, false, List, [], ◌∷◌, Option, Some, None, Ok, refl, sym, ◌∙◌, ap, subst, arith, Contains}
 use Rattle.std.proofs.lemmas.List.Elements.{Contains-append_left, Contains-append_right, Contains-append_cases}
 use Rattle.std.specs.FinMap as map
 use Rattle.std.specs.FinSet as set
@@ -9,10 +9,10 @@ use Rattle.gpu_alloc_base.specs.Case as case
 use Rattle.gpu_alloc.specs.Allocation.{Allocates, TriesAll, strategy, candidates_of}
 use Rattle.gpu_alloc.specs.Agreement.{Agrees, IsCounted}
 use Rattle.gpu_alloc.specs.Candidates.{candidate}
-use Rattle.gpu_alloc.specs.FreeListSharing.{IsListChunk}
-use Rattle.gpu_alloc.specs.Release.{AreAllGone, AreChunksGone, GoesWith, LetsGo, without_all, without_objects}
+use Rattle.gpu_alloc.specs.Owned.{HoldsWith}
+use Rattle.gpu_alloc.specs.Release.{AreAllGone, AreChunksGone, GoesWith, without_all, without_objects}
 use Rattle.gpu_alloc.specs.Sound.{IsSound, LiesIn}
-use Rattle.gpu_alloc.specs.State.{State, Block, HeldObject, Span, span_of, AreApart, IsLive, IsOwned, total}
+use Rattle.gpu_alloc.specs.State.{State, Block, HeldObject, Span, span_of, AreApart, IsLive, IsOwned}
 use Rattle.gpu_alloc.specs.declared.allocator.Strategy.{Strategy}
 use Rattle.gpu_alloc.specs.declared.allocator.Strategy.TheVariants.{OwnObject, InBuddyChunk, InFreeList}
 use Rattle.gpu_alloc.specs.declared.block.Kind.{Kind}
@@ -22,33 +22,45 @@ use Rattle.gpu_alloc.specs.declared.request.Request.{Request}
 use Rattle.gpu_alloc_types.specs.Properties.{Properties}
 use Rattle.gpu_alloc_base.proofs.Lists.{contains_head, contains_later, contains_cases, contains_none}
 use Rattle.gpu_alloc_base.proofs.Maps.{one_value}
-use Rattle.gpu_alloc_base.proofs.Names.{here, one_or_two, get_removed, get_removed-other, get_put-other}
+use Rattle.gpu_alloc_base.proofs.Names.{here, one_or_two, get_removed-other, get_put-other}
 use Rattle.gpu_alloc.proofs.Decisions.{of_allocation}
 use Rattle.gpu_alloc.proofs.FreeLists.Gone.{kept_was}
 use Rattle.gpu_alloc.proofs.Ledgers.{Held}
+use Rattle.gpu_alloc.proofs.Tables.LiveSpans.{live_still}
 
 -- A grant.
 
--- one more span is live, and what was held is held as it was
+-- one more span is live, the held objects are those of before or those and the block's, and what was given to `new` stays
 pub record Adds (s : State) (b : Block) (new : State) : Type 0 where
   pub live : new.live ≡ set.insert s.live (span_of b)
-  pub held : (object : ℕ) (h : HeldObject) → map.get s.held object ≡ Some h → map.get new.held object ≡ Some h
+  pub held : HoldsWith s b new
   pub properties : new.properties ≡ s.properties
+  pub config : new.config ≡ s.config
 
--- an object that is held stays so where another one is put beside it
-beside : (held : Held) (made : ℕ) (chunk : HeldObject) → map.get held made ≡ None → (object : ℕ) (h : HeldObject) → map.get held object ≡ Some h → map.get (map.insert held made chunk) object ≡ Some h
-beside held made chunk free object h at = get_put-other held made chunk object (λ same. let none : map.get held object ≡ None = ap (map.get held) same ∙ free in absurd (cc)) ∙ at
+-- what was held is held as it was
+still_held : (s : State) (b : Block) (new : State) → HoldsWith s b new → (object : ℕ) (h : HeldObject) → map.get s.held object ≡ Some h → map.get new.held object ≡ Some h
+still_held s b new (inl same) object h at = ap (λ (m : Held). map.get m object) same ∙ at
+still_held s b new (inr (made, free, more)) object h at =
+    ap (λ (m : Held). map.get m object) more
+    ∙ get_put-other s.held b.object made object (λ same. let none : map.get s.held object ≡ None = ap (map.get s.held) same ∙ free in absurd (cc)) ∙ at
+
+-- so each block that was owned is
+pub granted_kept : (s : State) (b : Block) (new : State) → Adds s b new → (c : Block) → IsOwned s c → IsOwned new c
+granted_kept s b new adds c owned = record {
+  live = rw (adds.live) (live_still s.live (span_of b) (span_of c) owned.live);
+  held = (owned.held.0, still_held s b new adds.held c.object owned.held.0 owned.held.1, owned.held.2, owned.held.3);
+}
 
 adds_like : (s : State) (b : Block) (like new : State) → new ≡ like → Adds s b like → Adds s b new
 adds_like s b like new same adds = subst (Adds s b) (sym same) adds
 
 grant_adds : (w : Strategy) (s : State) (r : Request) (t : ℕ) (es : List Event) (b : Block) (new : State) → case.Decides (candidate w s r t) es (Ok b) new → Adds s b new
 grant_adds OwnObject s r t es b new (inl gives) = absurd gives.place
-grant_adds OwnObject s r t es b new (inr gives) = adds_like s b _ new gives.state (record { live = refl; held = beside s.held b.object _ gives.place.was_free; properties = refl })
-grant_adds InBuddyChunk s r t es b new (inl gives) = adds_like s b _ new gives.state (record { live = refl; held = λ object h at. at; properties = refl })
-grant_adds InBuddyChunk s r t es b new (inr gives) = adds_like s b _ new gives.state (record { live = refl; held = beside s.held b.object _ gives.place.was_free; properties = refl })
-grant_adds InFreeList s r t es b new (inl gives) = adds_like s b _ new gives.state (record { live = refl; held = λ object h at. at; properties = refl })
-grant_adds InFreeList s r t es b new (inr gives) = adds_like s b _ new gives.state (record { live = refl; held = beside s.held b.object _ gives.place.was_free; properties = refl })
+grant_adds OwnObject s r t es b new (inr gives) = adds_like s b _ new gives.state (record { live = refl; held = inr (_, gives.place.was_free, refl); properties = refl; config = refl })
+grant_adds InBuddyChunk s r t es b new (inl gives) = adds_like s b _ new gives.state (record { live = refl; held = inl refl; properties = refl; config = refl })
+grant_adds InBuddyChunk s r t es b new (inr gives) = adds_like s b _ new gives.state (record { live = refl; held = inr (_, gives.place.was_free, refl); properties = refl; config = refl })
+grant_adds InFreeList s r t es b new (inl gives) = adds_like s b _ new gives.state (record { live = refl; held = inl refl; properties = refl; config = refl })
+grant_adds InFreeList s r t es b new (inr gives) = adds_like s b _ new gives.state (record { live = refl; held = inr (_, gives.place.was_free, refl); properties = refl; config = refl })
 
 tries_add : (s : State) (r : Request) (hint : Option Dedicated) (ts : List ℕ) (es : List Event) (b : Block) (new : State) → TriesAll s r hint ts es (Ok b) new → Adds s b new
 tries_add s r hint [] es b new tried = absurd (let n = tried.1 in cc)

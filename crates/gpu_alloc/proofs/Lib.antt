@@ -14,6 +14,7 @@ pub mod Ledgers
 pub mod NewObjects
 pub mod Opened
 pub mod OwnObjects
+pub mod Owning
 pub mod ReturnedTotals
 pub mod Returns
 pub mod Soundness

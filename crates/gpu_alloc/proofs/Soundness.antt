@@ -15,7 +15,7 @@ use Rattle.gpu_alloc.specs.Inside.{state_in, properties_in, types_in, span_of_le
 use Rattle.gpu_alloc.specs.Sound.{IsSound, LiesIn, is_list_chunk}
 use Rattle.gpu_alloc.specs.Spans.{Place, Table}
 use Rattle.gpu_alloc.specs.State.{HeldObject, Span, State, TypeState, AreApart, is_shared}
-use Rattle.gpu_alloc.specs.declared.block.Kind.TheVariants.{Dedicated, BuddyChunk, FreeListChunk}
+use Rattle.gpu_alloc.specs.declared.block.Kind.TheVariants.{BuddyChunk, FreeListChunk}
 use Rattle.gpu_alloc_base.specs.declared.config.Config.{Config}
 use Rattle.gpu_alloc_base.specs.declared.heap.Heap.{Heap}
 use Rattle.gpu_alloc.specs.declared.limits.Limits.{Limits}

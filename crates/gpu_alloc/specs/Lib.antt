@@ -10,6 +10,7 @@ pub mod FreeBytes
 pub mod FreeListSharing
 pub mod Inside
 pub mod Opening
+pub mod Owned
 pub mod Release
 pub mod Request
 pub mod Samples

@@ -10,7 +10,7 @@ use Rattle.gpu_alloc_types.specs.Properties.{Properties}
 use Rattle.gpu_alloc.specs.Agreement.{Agrees}
 use Rattle.gpu_alloc.specs.Candidates.{own_question, own_candidate, whole_block, holding}
 use Rattle.gpu_alloc_base.specs.Case.{Asks}
-use Rattle.gpu_alloc.specs.Inside.{state_in, properties_in, IsLiveIn, IsOfObject}
+use Rattle.gpu_alloc.specs.Inside.{state_in, properties_in}
 use Rattle.gpu_alloc_base.specs.NewChunk.{flags_of, made, HasOneChunkMore}
 use Rattle.gpu_alloc.specs.Spans.{Table, span_at}
 use Rattle.gpu_alloc.specs.State.{State, HeldObject, Block}

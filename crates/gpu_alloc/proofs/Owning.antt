@@ -1,0 +1,101 @@
+-- What calls leave of the blocks that a caller has in hand.
+use Rattle.std.proofs.Common.{◌≡◌, ◌≢◌, zero, suc, ◌+◌, ◌-◌, ◌<◌, true, false, cond, List, [], ◌∷◌, ◌++◌, refl, sym, ◌∙◌, ap, subst, arith}
+use Rattle.std.specs.FinSet as set
+use Rattle.gpu_alloc_types.specs.Device.{Event}
+use Rattle.gpu_alloc.specs.Owned.{AreTwo, IsBeside, AreOwned}
+use Rattle.gpu_alloc.specs.Release.{Cleans, Frees}
+use Rattle.gpu_alloc.specs.Sound.{IsSound}
+use Rattle.gpu_alloc.specs.State.{State, Block, Span, span_of, span_cmp, AreApart, IsLive, IsOwned}
+use Rattle.gpu_alloc.proofs.Changes.{Adds, granted_kept, apart_differ, apart_back, still_owned}
+use Rattle.gpu_alloc.proofs.Tables.LiveSpans.{span_total, live_kept, not_live}
+
+-- Two blocks.
+
+pub two_back : (b c : Block) → AreTwo b c → AreTwo c b
+two_back b c two = record { apart = apart_back (span_of b) (span_of c) two.apart; differ = λ same. two.differ (sym same) }
+
+-- two live spans that are apart are of two blocks
+pub two_live : (s : State) (b c : Block) → IsSound s → IsOwned s b → AreApart (span_of b) (span_of c) → AreTwo b c
+two_live s b c sound owned apart = record { apart = apart; differ = apart_differ (span_of b) (span_of c) apart (sound.nonempty (span_of b) owned.live) }
+
+-- two owned blocks of different spans share no byte
+pub differ_two : (s : State) (b c : Block) → IsSound s → IsOwned s b → IsOwned s c → span_of b ≢ span_of c → AreTwo b c
+differ_two s b c sound owned also differ = record { apart = sound.apart (span_of b) (span_of c) owned.live also.live differ; differ = differ }
+
+-- All blocks of a list.
+
+all_kept : (s new : State) → ((c : Block) → IsOwned s c → IsOwned new c) → (cs : List Block) → AreOwned s cs → AreOwned new cs
+all_kept s new kept [] owned = tt
+all_kept s new kept (c ∷ cs) owned = (kept c owned.0, owned.1, all_kept s new kept cs owned.2)
+
+beside_more : (b c : Block) (cs : List Block) → IsBeside c cs → AreTwo c b → IsBeside c (cs ++ b ∷ [])
+beside_more b c [] beside two = (two, tt)
+beside_more b c (d ∷ cs) beside two = (beside.0, beside_more b c cs beside.1 two)
+
+-- A grant.
+
+module _ (s : State) (b : Block) (new : State) (adds : Adds s b new) where
+  pub granted_all : (cs : List Block) → AreOwned s cs → AreOwned new cs
+  granted_all = all_kept s new (granted_kept s b new adds)
+
+  module _ (sound : IsSound s) (free : (span : Span) → IsLive s span → AreApart span (span_of b)) where
+    -- the block is another than each that was owned
+    pub granted_other : (c : Block) → IsOwned s c → AreTwo c b
+    granted_other c owned = two_live s c b sound owned (free (span_of c) owned.live)
+
+    -- and goes to them
+    pub granted_more : IsOwned new b → (cs : List Block) → AreOwned s cs → AreOwned new (cs ++ b ∷ [])
+    granted_more own [] owned = (own, tt, tt)
+    granted_more own (c ∷ cs) owned = (granted_kept s b new adds c owned.0, beside_more b c cs owned.1 (granted_other c owned.0), granted_more own cs owned.2)
+
+    not_yet : set.contains s.live (span_of b) ≡ false
+    not_yet = not_live s.live (span_of b) (λ live. apart_differ (span_of b) (span_of b) (free (span_of b) live) (sound.nonempty (span_of b) live) refl)
+
+    pub granted_count : set.len new.live ≡ set.len s.live + 1
+    granted_count = ap (λ (l : set.FinSet span_cmp). set.len l) adds.live ∙ set.len-insert span_total s.live (span_of b) ∙ ap (λ t. cond t (set.len s.live) (set.len s.live + 1)) not_yet
+
+-- A return.
+
+some_live : (live : set.FinSet span_cmp) (span : Span) → set.contains live span ≡ true → 0 < set.len live
+some_live live span there = elim (set.len live) as (λ n. set.len live ≡ n → 0 < n) [
+  | zero ↦ λ none.
+      let empty = set.empty_of_len live none in
+      let no : set.contains live span ≡ false = ap (λ (l : set.FinSet span_cmp). set.contains l span) empty ∙ set.contains-empty span_cmp span in
+      absurd (let n : false ≡ true = sym no ∙ there in cc)
+  | suc n ↦ λ is. omega arith
+] refl
+
+module _ (s : State) (b : Block) (es : List Event) (new : State) (frees : Frees s b es new) where
+  pub returned_live : new.live ≡ set.remove s.live (span_of b)
+  returned_live = ap (λ (t : State). t.live) frees.2.1
+
+  pub returned_count : IsLive s (span_of b) → set.len new.live + 1 ≡ set.len s.live
+  returned_count live =
+      let some = some_live s.live (span_of b) live in
+      let less : set.len new.live ≡ set.len s.live - 1 = ap (λ (l : set.FinSet span_cmp). set.len l) returned_live ∙ set.len-remove span_total s.live (span_of b) ∙ ap (λ t. cond t (set.len s.live - 1) (set.len s.live)) live in
+      omega (arith, some, less)
+
+  module _ (sound : IsSound new) where
+    pub returned_kept : (c : Block) → IsOwned s c → span_of c ≢ span_of b → IsOwned new c
+    returned_kept c owned other =
+        let live : IsLive new (span_of c) = rw returned_live (live_kept s.live (span_of b) (span_of c) other owned.live) in
+        still_owned s new frees.0 c sound (ap (λ (t : State). t.held) frees.2.1) owned live
+
+    pub returned_all : (cs : List Block) → IsBeside b cs → AreOwned s cs → AreOwned new cs
+    returned_all [] beside owned = tt
+    returned_all (c ∷ cs) beside owned = (returned_kept c owned.0 (λ same. beside.0.differ (sym same)), owned.1, returned_all cs beside.1 owned.2)
+
+-- A cleanup.
+
+module _ (s : State) (es : List Event) (new : State) (cleans : Cleans s es new) (sound : IsSound new) where
+  pub cleaned_kept : (c : Block) → IsOwned s c → IsOwned new c
+  cleaned_kept c owned =
+      let live : IsLive new (span_of c) = subst (λ (l : set.FinSet span_cmp). set.contains l (span_of c) ≡ true) (sym (ap (λ (t : State). t.live) cleans.2.1)) owned.live in
+      still_owned s new cleans.0 c sound (ap (λ (t : State). t.held) cleans.2.1) owned live
+
+  pub cleaned_all : (cs : List Block) → AreOwned s cs → AreOwned new cs
+  cleaned_all = all_kept s new cleaned_kept
+
+-- none is live where there are none
+pub none_live : (live : set.FinSet span_cmp) → set.len live ≡ 0 → (span : Span) → set.contains live span ≡ true → ⊥
+none_live live none span there = let some = some_live live span there in omega (arith, some, none)
