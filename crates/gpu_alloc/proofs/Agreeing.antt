@@ -1,19 +1,22 @@
--- An allocator and its device that agree, as both hold one object more or one fewer, and as a block goes.
-use Rattle.std.proofs.Common.{◌≡◌, ◌≢◌, inl, inr, ℕ, ◌==◌, Bool, true, false, cond, Option, Some, None, IfSome, refl, sym, ◌∙◌, ap, subst, arith}
+-- An allocator and its device that agree, as both hold one object more or one fewer, and as a block comes or goes.
+use Rattle.std.proofs.Common.{◌≡◌, ◌≢◌, inl, inr, ℕ, ◌==◌, Bool, true, false, cond, Option, Some, None, IfSome, IsTrue, refl, sym, ◌∙◌, ap, subst, arith}
+use Rattle.std.proofs.lemmas.Bool.{cases_eq}
 use Rattle.std.proofs.lemmas.Bool.Decides.{nat_tests}
 use Rattle.std.specs.Cmp.{nat_cmp_total}
 use Rattle.std.specs.FinMap as finite
-use Rattle.gpu_alloc_types.specs.Properties.{Properties}
+use Rattle.std.specs.FinSet as set
+use Rattle.gpu_alloc_types.specs.Properties.{Properties, is_host_visible}
 use Rattle.gpu_alloc_types.specs.Device.{Object, HeldWith, put}
 use Rattle.gpu_alloc_types.specs.Objects.{put-same, put-other}
-use Rattle.gpu_alloc.specs.State.{State, HeldObject, Span, Block, IsLive, span_of}
+use Rattle.gpu_alloc.specs.State.{State, HeldObject, Span, Block, IsLive, span_of, is_shared}
 use Rattle.gpu_alloc.specs.Release.{without_span}
 use Rattle.gpu_alloc.specs.Agreement.{Agrees, IsThere, IsCounted, IsInside, IsMappedWhole}
-use Rattle.gpu_alloc_types.specs.Device.{IsFresh}
-use Rattle.gpu_alloc.specs.Candidates.{holding}
+use Rattle.gpu_alloc.specs.Allocation.{IsAsCounted}
+use Rattle.gpu_alloc.specs.BuddySharing.{with_span}
+use Rattle.gpu_alloc_base.specs.NewObject.{HasOneMore}
 use Rattle.gpu_alloc.specs.declared.block.Kind.{Kind}
 use Rattle.gpu_alloc.specs.declared.block.Kind.TheVariants.{Dedicated, Imported, BuddyChunk, FreeListChunk}
-use Rattle.gpu_alloc_base.proofs.Maps.{name_test}
+use Rattle.gpu_alloc_base.proofs.Maps.{name_test, one_value, own_inserted}
 use Rattle.gpu_alloc.proofs.Tables.LiveSpans.{live_before, live_other}
 
 -- the spans of an object that are live were live
@@ -35,6 +38,10 @@ not_held s p f name a none = elim (finite.get s.held name) as (λ v. finite.get 
   | None ↦ λ e h. refl
   | Some x ↦ λ e h. absurd (let there : f name ≡ Some h.0 = h.1 in cc)
 ] refl (a.holds name)
+
+-- what agrees does so as long as nothing changes
+pub agrees_kept : (s now : State) (p q : Properties) (f g : ℕ → Option Object) → Agrees s p f → now ≡ s → q ≡ p → g ≡ f → Agrees now q g
+agrees_kept s now p q f g agrees state properties objects = rw (state, properties, objects) agrees
 
 -- One object more, on both sides.
 
@@ -59,24 +66,63 @@ agrees_more s now p f name h o a same held older there = record {
       (there_more s now f name h o q (finite.get s.held q) (q == name) refl same (older q) there (a.holds q));
 }
 
--- the device made the whole of a block
-abbrev pub IsMade : Block → (ℕ → Option Object) → (ℕ → Option Object) → Type 0
-IsMade b old new = (old b.object ≡ None) × ((o : Object) × IsFresh b.size b.memory_type o × (new ≡ put old b.object (Some o)))
+-- A block more.
 
--- a granted object of its own keeps the two in agreement
-pub agrees_granted : (s : State) (p q : Properties) (f g : ℕ → Option Object) (b : Block) → Agrees s p f → q ≡ p → IsMade b f g
-    → Agrees (holding s (record { memory_type = b.memory_type; counted = b.size; kind = Dedicated }) b) q g
-agrees_granted s p q f g b a same after =
-    let h : HeldObject = record { memory_type = b.memory_type; counted = b.size; kind = Dedicated } in
-    let now : State = holding s h b in
-    let fresh = after.1.1 in
-    subst (λ objects. Agrees now q objects) (sym after.1.2) (subst (λ p. Agrees now p (put f b.object (Some after.1.0))) (sym same)
-    (agrees_more s now p f b.object h after.1.0 a refl refl
-    (λ name other span live of_it. elim (live_before s.live (span_of b) span live) [
-      | inl new ↦ absurd (other (sym of_it ∙ ap (λ (x : Span). x.object) new))
-      | inr was ↦ was
-    ])
-    (record { of_type = fresh.of_type; of_size = fresh.of_size })))
+-- the spans of another object are no more than before
+older_but : (s now : State) (own : Span) → now.live ≡ set.insert s.live own → (name : ℕ) → name ≢ own.object → IsOlder s now name
+older_but s now own more name other span live named = elim (live_before s.live own span (subst (λ x. IsTrue (set.contains x span)) more live)) [
+  | inl new ↦ absurd (other (sym named ∙ ap (λ (x : Span). x.object) new))
+  | inr was ↦ was
+]
+
+-- what is counted of a shared object hangs on no span
+counted_shared : (kind : Kind) (s now : State) (name counted : ℕ) (o : Object) → is_shared kind ≡ true → now.properties ≡ s.properties → IsCounted kind s name counted o → IsCounted kind now name counted o
+counted_shared Dedicated s now name counted o shared same is = absurd (cc)
+counted_shared Imported s now name counted o shared same is = absurd (cc)
+counted_shared BuddyChunk s now name counted o shared same is = (is.0, subst (λ p. IsMappedWhole p o) (sym same) is.1)
+counted_shared (FreeListChunk number) s now name counted o shared same is = (is.0, subst (λ p. IsMappedWhole p o) (sym same) is.1)
+
+-- in a shared object
+pub agrees_with_span : (s : State) (p : Properties) (f : ℕ → Option Object) (own : Span) (h : HeldObject) → Agrees s p f → finite.get s.held own.object ≡ Some h → is_shared h.kind ≡ true → Agrees (with_span s own) p f
+agrees_with_span s p f own h a held shared = record {
+  properties = a.properties;
+  holds = λ name. kept name (finite.get s.held name) refl (a.holds name);
+}
+  where
+    there : (name : ℕ) (x : HeldObject) (o : Object) → finite.get s.held name ≡ Some x → IsThere s name x o → IsThere (with_span s own) name x o
+    there name x o is was = elim (cases_eq name own.object) [
+      | inl here ↦
+          let same : x ≡ h = one_value _ x h is (ap (finite.get s.held) here ∙ held) in
+          record { of_type = was.of_type; of_size = counted_shared x.kind s (with_span s own) name x.counted o (ap (λ (y : HeldObject). is_shared y.kind) same ∙ shared) refl was.of_size }
+      | inr other ↦ there_kept s (with_span s own) name x o refl (older_but s (with_span s own) own refl name other) was
+    ]
+
+    kept : (name : ℕ) (v : Option HeldObject) → finite.get s.held name ≡ v → IfSome v (λ x. HeldWith f name (IsThere s name x)) → IfSome v (λ x. HeldWith f name (IsThere (with_span s own) name x))
+    kept name None none was = tt
+    kept name (Some x) is was = (was.0, was.1, there name x was.0 is was.2)
+
+-- A new object that is as it is counted, and no import.
+
+-- it is mapped whole where it is shared
+mapped_whole : (p : Properties) (s : State) (t counted : ℕ) (o : Object) → p ≡ s.properties → o.memory_type ≡ t → o.size ≡ counted → o.mapped ≡ cond (is_host_visible p t) (Some (0, counted)) None → IsMappedWhole s.properties o
+mapped_whole p s t counted o same of_type of_size mapped visible =
+    let seen : is_host_visible p t ≡ true = (λ k. is_host_visible (same k) (sym of_type k)) ∙ visible in
+    mapped ∙ ap (λ b. cond b (Some (0, counted)) None) seen ∙ ap (λ n. Some (0, n)) (sym of_size)
+
+counted_as_made : (kind : Kind) (p : Properties) (s : State) (name t counted : ℕ) (o : Object) → kind ≢ Imported → p ≡ s.properties → IsAsCounted p (record { memory_type = t; counted = counted; kind = kind }) o → IsCounted kind s name counted o
+counted_as_made Dedicated p s name t counted o no_import same is = is.of_size
+counted_as_made Imported p s name t counted o no_import same is = absurd (no_import refl)
+counted_as_made BuddyChunk p s name t counted o no_import same is = (is.of_size, mapped_whole p s t counted o same is.of_type is.of_size is.mapped)
+counted_as_made (FreeListChunk number) p s name t counted o no_import same is = (is.of_size, mapped_whole p s t counted o same is.of_type is.of_size is.mapped)
+
+-- in such an object
+pub agrees_with_object : (s now : State) (p : Properties) (f g : ℕ → Option Object) (own : Span) (h : HeldObject) → Agrees s p f → now.properties ≡ s.properties → now.held ≡ finite.insert s.held own.object h → now.live ≡ set.insert s.live own
+    → h.kind ≢ Imported → HasOneMore (IsAsCounted s.properties) (finite.get now.held own.object) own.object f g → Agrees now p g
+agrees_with_object s now p f g own h a same held live no_import more =
+    let is : more.counted ≡ h = one_value _ more.counted h more.is_counted (ap (λ m. finite.get m own.object) held ∙ own_inserted s.held own.object h) in
+    let made_so = subst (λ x. IsAsCounted s.properties x more.made) is more.is_as in
+    subst (Agrees now p) (sym more.now) (agrees_more s now p f own.object h more.made a same held (older_but s now own live)
+    (record { of_type = made_so.of_type; of_size = counted_as_made h.kind s.properties now own.object h.memory_type h.counted more.made no_import (sym same) made_so }))
 
 -- One object fewer, on both sides.
 

@@ -1,8 +1,11 @@
--- What follows from a decision: nothing changes where it refuses, and remaining and held objects are as many as before.
+-- What follows from a decision: nothing changes where it refuses, remaining and held objects are as many as before, and what
+-- holds wherever a candidate gives a block holds of a grant.
 use Rattle.std.proofs.Common.{◌≡◌, inl, inr, ℕ, Bool, true, false, List, [], ◌∷◌, Option, None, Result, Ok, Err, refl, ◌+◌, ◌-◌, ◌<◌, ◌∙◌, ap, arith}
-use Rattle.std.specs.Prelude.{MatchBool, OnErr, ◌&&◌, ◌==◌, nat_lt, nat_eq, length}
+use Rattle.std.specs.Prelude.{All, MatchBool, OnErr, ◌&&◌, ◌==◌, nat_lt, nat_eq, length}
+use Rattle.std.proofs.lemmas.List.Elements.{All-head, All-tail}
 use Rattle.std.specs.FinMap as map
 use Rattle.gpu_alloc_types.specs.Device.{Event}
+use Rattle.gpu_alloc_types.specs.Flags.{usage_bits}
 use Rattle.gpu_alloc_base.specs.Case as case
 use Rattle.gpu_alloc_base.specs.Case.{Case}
 use Rattle.gpu_alloc_base.specs.declared.error.AllocationError.{AllocationError}
@@ -16,6 +19,7 @@ use Rattle.gpu_alloc.specs.declared.allocator.Strategy.TheVariants.{OwnObject, I
 use Rattle.gpu_alloc.specs.declared.request.Dedicated.{Dedicated}
 use Rattle.gpu_alloc.specs.declared.request.Request.{Request}
 use Rattle.gpu_alloc_base.proofs.Sums.{len_more}
+use Rattle.gpu_alloc_usage.proofs.Ranking.Candidates.{candidates-within}
 
 -- One candidate.
 
@@ -77,7 +81,7 @@ module _ (s : State) (r : Request) (hint : Option Dedicated) where
     abbrev Refused : AllocationError → Type 0
     Refused e = Refuses s e es answer new
 
-    pub of_allocation : {X : Type 0} → ((e : AllocationError) → Refused e → X) → (TriesAll s r hint (candidates_of s r) es answer new → X) → Allocates s r hint es answer new → X
+    of_allocation : {X : Type 0} → ((e : AllocationError) → Refused e → X) → (TriesAll s r hint (candidates_of s r) es answer new → X) → Allocates s r hint es answer new → X
     of_allocation refused tried =
         by_tests (nat_lt s.properties.max_memory_allocation_size r.size) (is_required hint && (s.remaining == 0)) (nat_eq (length (candidates_of s r)) 0)
         (refused OutOfDeviceMemory) (refused TooManyObjects) (refused NoCompatibleMemoryTypes) tried
@@ -88,3 +92,15 @@ module _ (s : State) (r : Request) (hint : Option Dedicated) where
   pub allocates_kept : (es : List Event) (answer : Result Block AllocationError) (new : State) → Allocates s r hint es answer new → OnErr answer (new ≡ s)
   allocates_kept es (Ok b) new h = tt
   allocates_kept es (Err e) new h = of_allocation es (Err e) new (λ cause refused. refused.2) (all_refused (candidates_of s r) es e new) h
+
+  -- what holds wherever a known memory type gives a block holds of a grant
+  module _ {X : Type 0} (b : Block) (new : State) (gives : (t : ℕ) (es : List Event) → t < length s.properties.memory_types → Decides s r hint t es (Ok b) new → X) where
+    one_gives : (ts : List ℕ) (es : List Event) → All (λ t. t < length s.properties.memory_types) ts → TriesAll s r hint ts es (Ok b) new → X
+    one_gives [] es known tried = absurd (cc)
+    one_gives (t ∷ ts) es known (inl passed) = one_gives ts passed.1 (All-tail (λ t. t < length s.properties.memory_types) t ts known) passed.4
+    one_gives (t ∷ ts) es known (inr decides) = gives t es (All-head (λ t. t < length s.properties.memory_types) t ts known) decides
+
+    pub of_grant : (es : List Event) → Allocates s r hint es (Ok b) new → X
+    of_grant es h =
+        of_allocation es (Ok b) new (λ e refused. absurd (let never = refused.1 in cc))
+        (one_gives (candidates_of s r) es (candidates-within s.properties.memory_types (usage_bits r.usage) r.memory_types)) h

@@ -1,17 +1,14 @@
 -- What a caller may know of a granted block follows from the decision, by the way in which its candidate is served.
-use Rattle.std.proofs.Common.{◌≡◌, inl, inr, ℕ, zero, suc, ◌+◌, ◌*◌, ◌-◌, ◌%◌, ◌^◌, ◌<◌, ◌≤◌, true, false, cond, nat_le, List, [], ◌∷◌, length, Option, Some, None, Result, Ok, Err, IsTrue, refl, sym, ◌∙◌, ap, subst, arith}
-use Rattle.std.specs.Prelude.{IfOk, max, All}
+use Rattle.std.proofs.Common.{◌≡◌, inl, inr, ℕ, zero, suc, ◌+◌, ◌*◌, ◌-◌, ◌%◌, ◌^◌, ◌<◌, ◌≤◌, true, false, cond, nat_le, List, length, Option, Some, None, Result, Ok, Err, IsTrue, refl, sym, ◌∙◌, ap, subst, arith}
+use Rattle.std.specs.Prelude.{IfOk, max}
 use Rattle.std.proofs.lemmas.Bool.{cases_eq, cases_lt}
 use Rattle.std.proofs.lemmas.Bool.Decides.{nat_tests}
-use Rattle.std.proofs.lemmas.List.Elements.{All-head, All-tail}
 use Rattle.std.proofs.lemmas.Nat.{pow_pos}
 use Rattle.std.proofs.Math.Nat.{mul_comm, zero-mod, zero-mul, one-mul}
 use Rattle.std.specs.FinMap as map
 use Rattle.std.specs.FinSet as set
 use Rattle.gpu_alloc_types.specs.Device.{Event}
-use Rattle.gpu_alloc_types.specs.Flags.{usage_bits}
 use Rattle.gpu_alloc_types.specs.Properties.{atom_of, heap_size}
-use Rattle.gpu_alloc_usage.proofs.Ranking.Candidates.{candidates-within}
 use Rattle.gpu_alloc_base.specs.Case as case
 use Rattle.gpu_alloc_base.specs.FreeRuns.{IsFreeRun, tail_start}
 use Rattle.gpu_alloc_base.specs.FreeSpace.{IsIn, IsMultipleOf, IsPowerOfTwo}
@@ -23,7 +20,7 @@ use Rattle.gpu_alloc_base.proofs.Maps.{own_inserted}
 use Rattle.gpu_alloc_base.proofs.Multiples.{mod_from_multiple, multiple_down, multiple_from_mod, multiple_min, multiple_of_lower, multiple_rest, multiple_times}
 use Rattle.gpu_alloc_base.proofs.PowersOfTwo.{greater_power, power_of_bit}
 use Rattle.gpu_alloc_buddy.specs.Buddy.{Fits}
-use Rattle.gpu_alloc.specs.Allocation.{Allocates, IsGranted, TriesAll, candidates_of, fits_a_chunk, strategy}
+use Rattle.gpu_alloc.specs.Allocation.{Allocates, IsGranted, fits_a_chunk, strategy}
 use Rattle.gpu_alloc.specs.Atoms.{KeepsAtoms, IsNextListChunk}
 use Rattle.gpu_alloc.specs.BuddySharing.{IsPieceFront, buddy_question, buddy_size, front_of, with_span}
 use Rattle.gpu_alloc.specs.Candidates.{candidate}
@@ -38,7 +35,7 @@ use Rattle.gpu_alloc.specs.declared.block.Kind.{Kind}
 use Rattle.gpu_alloc.specs.declared.block.Kind.TheVariants.{Dedicated as DedicatedObject, BuddyChunk, FreeListChunk}
 use Rattle.gpu_alloc.specs.declared.request.Dedicated.{Dedicated}
 use Rattle.gpu_alloc.specs.declared.request.Request.{Request}
-use Rattle.gpu_alloc.proofs.Decisions.{of_allocation}
+use Rattle.gpu_alloc.proofs.Decisions.{of_grant}
 use Rattle.gpu_alloc.proofs.Soundness.{ranges_apart}
 use Rattle.gpu_alloc.proofs.Strategies.{fits_its_list}
 use Rattle.gpu_alloc.proofs.Tables.LiveSpans.{live_new}
@@ -257,15 +254,7 @@ module _ (s : State) (r : Request) (sound : IsSound s) where
 
   -- The whole allocation.
 
-  module _ (atoms : KeepsAtoms s) (asked : IsAskable s.properties.buffer_device_address r) (hint : Option Dedicated) where
-    all_granted : (ts : List ℕ) (es : List Event) (b : Block) (new : State) → All (λ t. t < length s.properties.memory_types) ts → TriesAll s r hint ts es (Ok b) new → IsGranted s r new b
-    all_granted [] es b new known tried = absurd (cc)
-    all_granted (t ∷ ts) es b new known (inl passed) = all_granted ts passed.1 b new (All-tail (λ t. t < length s.properties.memory_types) t ts known) passed.4
-    all_granted (t ∷ ts) es b new known (inr decides) =
-        granted_by atoms asked t (strategy s r hint t) es b new (All-head (λ t. t < length s.properties.memory_types) t ts known) (fits_its_list s r hint t) decides.1
-
-    pub allocates_granted : (es : List Event) (answer : Result Block AllocationError) (new : State) → Allocates s r hint es answer new → IfOk answer (IsGranted s r new)
-    allocates_granted es (Err e) new h = tt
-    allocates_granted es (Ok b) new h =
-        of_allocation s r hint es (Ok b) new (λ e refused. absurd (let never = refused.1 in cc))
-        (λ tried. all_granted (candidates_of s r) es b new (candidates-within s.properties.memory_types (usage_bits r.usage) r.memory_types) tried) h
+  pub allocates_granted : KeepsAtoms s → IsAskable s.properties.buffer_device_address r → (hint : Option Dedicated) (es : List Event) (answer : Result Block AllocationError) (new : State) → Allocates s r hint es answer new → IfOk answer (IsGranted s r new)
+  allocates_granted atoms asked hint es (Err e) new h = tt
+  allocates_granted atoms asked hint es (Ok b) new h =
+      of_grant s r hint b new (λ t es known decides. granted_by atoms asked t (strategy s r hint t) es b new known (fits_its_list s r hint t) decides.1) es h

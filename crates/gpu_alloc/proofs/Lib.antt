@@ -1,3 +1,4 @@
+pub mod Agreed
 pub mod Agreeing
 pub mod Atoms
 pub mod Buddies

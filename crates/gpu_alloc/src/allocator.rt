@@ -242,7 +242,6 @@ impl<M: MemoryObject, A: Allocator> GpuAllocator<M, A> {
         ensures decided { (es : List Event) × Chain D.step device.old es device.new
             × Allocates self.old request hint es result self.new }
         ensures objects { ObjectsAfter self.old result self.new (D.objects device.old) (D.objects device.new) }
-        ensures agrees { Agrees self.new (D.properties device.new) (D.objects device.new) }
     {
         if request.size > self.max_allocation_size() {
             return Err(AllocationError::OutOfDeviceMemory);
@@ -272,7 +271,6 @@ impl<M: MemoryObject, A: Allocator> GpuAllocator<M, A> {
         ensures tries { (es : List Event) × Chain D.step device.old es device.new
             × TriesAll self.old request hint candidates.now es result self.new }
         ensures objects { ObjectsAfter self.old result self.new (D.objects device.old) (D.objects device.new) }
-        ensures agrees { Agrees self.new (D.properties device.new) (D.objects device.new) }
     {
         for &memory_type in candidates {
             match self.try_type(device, request, hint, memory_type)? {
@@ -297,7 +295,6 @@ impl<M: MemoryObject, A: Allocator> GpuAllocator<M, A> {
         ensures tries { (es : List Event) × Chain D.step device.old es device.new
             × Tries self.old request hint memory_type es result self.new }
         ensures objects { ObjectsTried self.old result self.new (D.objects device.old) (D.objects device.new) }
-        ensures agrees { Agrees self.new (D.properties device.new) (D.objects device.new) }
     {
         if self.heap_size(memory_type) < request.size {
             return Ok(None);
@@ -371,7 +368,6 @@ impl<M: MemoryObject, A: Allocator> GpuAllocator<M, A> {
         ensures tries { (es : List Event) × Chain D.step device.old es device.new
             × TriesBy OwnObject self.old request memory_type es result self.new }
         ensures objects { ObjectsTried self.old result self.new (D.objects device.old) (D.objects device.new) }
-        ensures agrees { Agrees self.new (D.properties device.new) (D.objects device.new) }
     {
         if self.allocations_remains == 0 {
             return Err(AllocationError::TooManyObjects);
@@ -430,7 +426,6 @@ impl<M: MemoryObject, A: Allocator> GpuAllocator<M, A> {
         ensures tries { (es : List Event) × Chain D.step device.old es device.new
             × TriesBy InBuddyChunk self.old request memory_type es result self.new }
         ensures objects { ObjectsTried self.old result self.new (D.objects device.old) (D.objects device.new) }
-        ensures agrees { Agrees self.new (D.properties device.new) (D.objects device.new) }
     {
         let own = memory_type as usize;
         let heap = self.limits.heap_index(memory_type);
@@ -491,7 +486,6 @@ impl<M: MemoryObject, A: Allocator> GpuAllocator<M, A> {
         ensures tries { (es : List Event) × Chain D.step device.old es device.new
             × TriesBy InFreeList self.old request memory_type es result self.new }
         ensures objects { ObjectsTried self.old result self.new (D.objects device.old) (D.objects device.new) }
-        ensures agrees { Agrees self.new (D.properties device.new) (D.objects device.new) }
     {
         let own = memory_type as usize;
         let heap = self.limits.heap_index(memory_type);

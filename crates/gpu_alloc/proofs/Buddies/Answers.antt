@@ -34,7 +34,6 @@ use Rattle.gpu_alloc.proofs.Tables.LiveSpans.{not_live, not_live_new}
 use Rattle.gpu_alloc_base.proofs.Books.{made_new, chunk_more}
 use Rattle.gpu_alloc_base.proofs.ToldTwice.{asks_is}
 use Rattle.gpu_alloc.proofs.NewObjects.{counted_new}
-use Rattle.gpu_alloc.proofs.Buddies.Served.{agrees_with_span, agrees_with_chunk}
 use Rattle.gpu_alloc.proofs.Buddies.Serving.{Serves, front_is, told_with}
 use Rattle.gpu_alloc.proofs.Buddies.Grants.{serves, buddy_of, consistent_with_leaf, state_with_leaf, consistent_with_chunk, state_with_chunk, asked_size}
 
@@ -97,7 +96,6 @@ module _ {A : Type 0} {l : Limits A} {heaps : List Heap} {buddies : List Buddy} 
       pub consistent : IsConsistent l.config (properties_in l (set heaps i a.heap)) (set heaps i a.heap) (set buddies index a.allocator) lists now a.remaining
       pub gives : GivesInPlace (buddy_candidate before size index) es block (state_of a) ⊎ GivesInNewObject (buddy_candidate before size index) es block (state_of a)
       pub objects_are : ObjectsWith before block (state_of a) old new
-      pub agreed : agreement.Agrees (state_of a) q new
 
     -- in a chunk that was held
     in_chunk : (front : IsFront b size leaf) → new ≡ old → after ≡ account (with_leaf b leaf) heap remaining
@@ -112,8 +110,6 @@ module _ {A : Type 0} {l : Limits A} {heaps : List Heap} {buddies : List Buddy} 
           consistent = consistent_with_leaf l heaps buddies lists t remaining index b given.is given.known given.at i heap given.here given.at_heap leaf front.chunk now front.held front.object sound_now same_held more;
           gives = inl (subst (GivesInPlace (buddy_candidate before size index) es block) (sym state) gives);
           objects_are = rw there same_objects;
-          agreed = subst (λ o. agreement.Agrees (state_of (account (with_leaf b leaf) heap remaining)) q o) (sym same_objects)
-              (subst (λ x. agreement.Agrees x q old) (sym state) (agrees_with_span before t.places t.room index b serving q old leaf front.chunk front.held front.object given.agrees));
         })
 
     -- in a new chunk
@@ -142,7 +138,6 @@ module _ {A : Type 0} {l : Limits A} {heaps : List Heap} {buddies : List Buddy} 
           consistent = consistent_with_chunk l heaps buddies lists t remaining index b given.is given.known given.at i heap given.here given.at_heap leaf n now changed begins.free_key free some small sound_now held_now more refl;
           gives = inr (subst (GivesInNewObject (buddy_candidate before size index) es block) (sym state_asked) gives);
           objects_are = rw free (counted_new before (record { memory_type = index; counted = n; kind = BuddyChunk }) (buddy_question before index size) leaf.object _ old new found_now refl asked refl new_chunk);
-          agreed = subst (λ x. agreement.Agrees x q new) (sym state_asked) (agrees_with_chunk before t.places t.room index b serving q old new size leaf given.agrees new_chunk);
         })
 
     pub served : IsServed after

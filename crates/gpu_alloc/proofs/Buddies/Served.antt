@@ -1,9 +1,7 @@
 -- The blocks of a memory type's buddy allocator in the whole allocator's state, and on the device.
-use Rattle.std.proofs.Common.{◌≡◌, ◌≢◌, inl, inr, ℕ, ◌<◌, ◌≤◌, ◌^◌, cond, List, length, get_or, Option, Some, None, IfSome, IsTrue, refl, sym, ◌∙◌, ap, subst, arith}
-use Rattle.std.proofs.lemmas.Bool.{cases_eq}
+use Rattle.std.proofs.Common.{◌≡◌, ℕ, ◌<◌, ◌≤◌, ◌^◌, List, length, get_or, Option, Some, None, IfSome, refl, sym, ◌∙◌, ap, subst, arith}
 use Rattle.std.specs.Prelude.{sum_by}
 use Rattle.std.specs.FinMap as map
-use Rattle.std.specs.FinSet as set
 use Rattle.gpu_alloc_types.specs.Device.{Object, HeldWith}
 use Rattle.gpu_alloc_types.specs.Flags.{has_bit}
 use Rattle.gpu_alloc_types.specs.Properties.{Properties, heap_at, props_at, is_host_visible}
@@ -15,20 +13,16 @@ use Rattle.gpu_alloc_base.specs.Chunks as chunks
 use Rattle.gpu_alloc_buddy.specs.BuddyState.{Buddy, IsLiveLeaf}
 use Rattle.gpu_alloc_base.specs.Chunks.{Chunk}
 use Rattle.gpu_alloc.specs.Inside.{IsChunkOf, IsBooked, chunk_object, span_of_leaf, place_of_leaf, leaf_at}
-use Rattle.gpu_alloc_base.specs.NewChunk.{HasOneChunkMore}
 use Rattle.gpu_alloc.specs.Release.{IsUnused, without_span}
-use Rattle.gpu_alloc.specs.BuddySharing.{buddy_question, with_span, with_buddy_chunk}
 use Rattle.gpu_alloc.specs.Spans.{Place}
 use Rattle.gpu_alloc.specs.State.{HeldObject, Span, span_cmp, span_of, Block, State, IsLive, share}
-use Rattle.gpu_alloc.specs.declared.block.Kind.TheVariants.{BuddyChunk}
 use Rattle.gpu_alloc_base.specs.declared.buddy_block.Leaf.{Leaf}
 use Rattle.gpu_alloc_base.specs.declared.heap.Heap.{Heap}
-use Rattle.gpu_alloc.proofs.Agreeing.{there_kept, agrees_more}
 use Rattle.gpu_alloc_base.proofs.Leaves.{leaf_removed}
 use Rattle.gpu_alloc.proofs.Ledgers.{sum_by-small}
 use Rattle.gpu_alloc_base.proofs.Sums.{sum_by-within, len-within}
 use Rattle.gpu_alloc_base.proofs.Maps.{eq-true, one_value}
-use Rattle.gpu_alloc.proofs.Tables.LiveSpans.{live_before, live_kept, live_other}
+use Rattle.gpu_alloc.proofs.Tables.LiveSpans.{live_kept, live_other}
 use Rattle.gpu_alloc.proofs.Buddies.Serving.{table_of, Serves}
 use Rattle.gpu_alloc.proofs.HeapLists.{ledger_at}
 
@@ -78,14 +72,6 @@ module _ (s : State) (places : map.FinMap span_cmp Place) (room index : ℕ) (b 
 
   -- The device.
 
-  -- the spans of another object are no more than before
-  older_but : (live : set.FinSet span_cmp) (leaf : Leaf) (name : ℕ) → name ≢ leaf.object → (span : Span) → IsTrue (set.contains (set.insert live (span_of_leaf leaf)) span) → span.object ≡ name
-      → IsTrue (set.contains live span)
-  older_but live leaf name other span now named = elim (live_before live (span_of_leaf leaf) span now) [
-    | inl new ↦ absurd (other (sym named ∙ ap (λ (x : Span). x.object) new))
-    | inr was ↦ was
-  ]
-
   pub buddy_agrees : (p : Properties) (objects : ℕ → Option Object) → index < length s.properties.memory_types → agreement.Agrees s p objects → buddy.Agrees b p objects
   buddy_agrees p objects known agrees = record {
     known = subst (λ t. t < length p.memory_types) (sym serves.of.for_type.memory_type) is_known;
@@ -111,45 +97,6 @@ module _ (s : State) (places : map.FinMap span_cmp Place) (room index : ℕ) (b 
               mapped = λ visible. h.2.of_size.1 (ap (is_host_visible s.properties) h.2.of_type ∙ ap (λ bits. has_bit bits 2) at_type ∙ visible);
             },
           )
-
-  -- after a block more
-  pub agrees_with_span : (p : Properties) (objects : ℕ → Option Object) (leaf : Leaf) (chunk : Chunk) → map.get b.chunks leaf.chunk ≡ Some chunk → leaf.object ≡ chunk.object
-      → agreement.Agrees s p objects → agreement.Agrees (with_span s (span_of_leaf leaf)) p objects
-  agrees_with_span p objects leaf chunk is object agrees = record {
-    properties = agrees.properties;
-    holds = λ name. held name (map.get s.held name) refl (agrees.holds name);
-  }
-    where
-      there : (name : ℕ) (h : HeldObject) (o : Object) → map.get s.held name ≡ Some h → agreement.IsThere s name h o → agreement.IsThere (with_span s (span_of_leaf leaf)) name h o
-      there name h o is_held was = elim (cases_eq name leaf.object) [
-        | inl here ↦
-            let same : h ≡ chunk_object b chunk = one_value _ h _ is_held (ap (λ n. map.get s.held n) (here ∙ object) ∙ serves.of.linked.chunks leaf.chunk chunk is) in
-            subst (λ x. agreement.IsThere s name x o → agreement.IsThere (with_span s (span_of_leaf leaf)) name x o) (sym same) (λ t. record { of_type = t.of_type; of_size = t.of_size }) was
-        | inr other ↦ there_kept s (with_span s (span_of_leaf leaf)) name h o refl (older_but s.live leaf name other) was
-      ]
-
-      held : (name : ℕ) (v : Option HeldObject) → map.get s.held name ≡ v → IfSome v (λ h. HeldWith objects name (agreement.IsThere s name h))
-          → IfSome v (λ h. HeldWith objects name (agreement.IsThere (with_span s (span_of_leaf leaf)) name h))
-      held name None none was = tt
-      held name (Some h) is_held was = (was.0, was.1, there name h was.0 is_held was.2)
-
-  -- after a chunk more with a block in it
-  pub agrees_with_chunk : (p : Properties) (old new : ℕ → Option Object) (size : ℕ) (leaf : Leaf) → agreement.Agrees s p old
-      → HasOneChunkMore (buddy_question s index size) leaf.object old new
-      → agreement.Agrees (with_span (with_buddy_chunk s index leaf.object (buddy_question s index size).size) (span_of_leaf leaf)) p new
-  agrees_with_chunk p old new size leaf agrees more =
-      let now : State = with_span (with_buddy_chunk s index leaf.object (buddy_question s index size).size) (span_of_leaf leaf) in
-      let h : HeldObject = record { memory_type = index; counted = (buddy_question s index size).size; kind = BuddyChunk } in
-      let made = more.1.1 in
-      subst (λ f. agreement.Agrees now p f) (sym more.1.2)
-      (agrees_more s now p old leaf.object h more.1.0 agrees refl refl (older_but s.live leaf)
-      (record {
-        of_type = made.of_type;
-        of_size = (
-          made.of_size,
-          λ visible. made.mapped ∙ ap (λ v. cond v (Some (0, (buddy_question s index size).size)) None) (sym (ap (is_host_visible s.properties) made.of_type) ∙ visible) ∙ ap (λ n. Some (0, n)) (sym made.of_size),
-        );
-      }))
 
   -- The ledger and the count.
 

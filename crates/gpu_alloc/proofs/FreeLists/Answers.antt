@@ -36,7 +36,7 @@ use Rattle.gpu_alloc.proofs.Agreeing.{not_held}
 use Rattle.gpu_alloc.proofs.Ledgers.{Held}
 use Rattle.gpu_alloc.proofs.FreeLists.Grants.{consistent_with_slot, state_with_slot, consistent_with_list_chunk, state_with_list_chunk, asked_size}
 use Rattle.gpu_alloc.proofs.FreeLists.Links.{HasSlotMore}
-use Rattle.gpu_alloc.proofs.FreeLists.Served.{span_is_slot, agrees_with_slot, agrees_with_list_chunk}
+use Rattle.gpu_alloc.proofs.FreeLists.Served.{span_is_slot}
 use Rattle.gpu_alloc.proofs.FreeLists.Serving.{ServesList, tail_is, question_is, told_with}
 use Rattle.gpu_alloc_base.proofs.Maps.{own_inserted}
 use Rattle.gpu_alloc.proofs.FreeLists.Types.{own_listing, serves_own}
@@ -105,7 +105,6 @@ module _ {A : Type 0} {limits : Limits A} {heaps : List Heap} {buddies : List Bu
       pub consistent : IsConsistent limits.config (properties_in limits (set heaps i a.heap)) (set heaps i a.heap) buddies (set lists index a.allocator) now a.remaining
       pub gives : GivesInPlace (list_candidate before size alignment index) es block (state_of a) ⊎ GivesInNewObject (list_candidate before size alignment index) es block (state_of a)
       pub objects_are : ObjectsWith before block (state_of a) old new
-      pub agreed : agreement.Agrees (state_of a) q new
 
     -- in a chunk that was held
     in_run : (tail : IsTail l.space size alignment slot) → new ≡ old → after ≡ account (listing_with_slot l slot) heap remaining
@@ -122,8 +121,6 @@ module _ {A : Type 0} {limits : Limits A} {heaps : List Heap} {buddies : List Bu
           consistent = consistent_with_slot limits heaps buddies lists t remaining index l given.is given.known given.at i heap given.here given.at_heap slot chunk now found tail.object.2 sound_now same_held more;
           gives = inl (subst (GivesInPlace (list_candidate before size alignment index) es block) (sym state) gives);
           objects_are = rw there same_objects;
-          agreed = subst (λ o. agreement.Agrees (state_of (account (listing_with_slot l slot) heap remaining)) q o) (sym same_objects)
-              (subst (λ x. agreement.Agrees x q old) (sym state) (agrees_with_slot before t.places t.room index l serving q old slot chunk found tail.object.2 given.agrees));
         })
 
     -- in a new chunk
@@ -155,7 +152,6 @@ module _ {A : Type 0} {limits : Limits A} {heaps : List Heap} {buddies : List Bu
           consistent = consistent_with_list_chunk limits heaps buddies lists t remaining index l given.is given.known given.at i heap given.here given.at_heap slot n now changed number free some small sound_now held_now more refl;
           gives = inr (subst (GivesInNewObject (list_candidate before size alignment index) es block) (sym state_asked) gives);
           objects_are = rw free (counted_new before row (list_question before index size) slot.object _ old new found_now refl asked refl new_chunk);
-          agreed = subst (λ x. agreement.Agrees x q new) (sym state_asked) (agrees_with_list_chunk before t.places t.room index l serving q old new size slot given.agrees new_chunk);
         })
 
     -- what is asked for a new chunk

@@ -1,4 +1,5 @@
 use Rattle.std.proofs.Common.{None}
+use Rattle.gpu_alloc.proofs.Agreed.{allocates_agrees, chain_keeps}
 use Rattle.gpu_alloc.proofs.Decisions.{allocates_kept, allocates_total}
 use Rattle.gpu_alloc.proofs.Granted.{allocates_granted}
 use Rattle.gpu_alloc.proofs.allocator.GpuAllocator.alloc.Goals as goal
@@ -11,3 +12,9 @@ returns-clause-total g c = allocates_total c.args.self.now c.args.request None _
 
 pub returns-clause-granted : goal.returns-clause-granted
 returns-clause-granted g c = allocates_granted c.args.self.now c.args.request c.keeps_sound.ensures.sound c.keeps_sound.ensures.atoms c.requires.askable None _ _ _ c.allocate-answer.ensures.decided.2
+
+pub returns-clause-agrees : goal.returns-clause-agrees
+returns-clause-agrees g c =
+    let decided = c.allocate-answer.ensures.decided in
+    let properties = chain_keeps g.D.MemoryDevice.step g.D.MemoryDevice.properties g.met.D.MemoryDevice.keeps_properties _ _ _ decided.1 in
+    allocates_agrees c.args.self.now _ _ _ c.requires.agrees _ c.args.request None _ _ _ properties decided.2 c.allocate-answer.ensures.objects

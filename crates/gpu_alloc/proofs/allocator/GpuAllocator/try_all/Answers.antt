@@ -1,6 +1,8 @@
 use Rattle.std.proofs.Common.{add-one, ◌∙◌}
 use Rattle.std.proofs.lemmas.Result.{err_from_is_err_and}
 use Rattle.gpu_alloc_types.specs.Chains.{chain_append}
+use Rattle.gpu_alloc.proofs.Agreed.{chain_keeps}
+use Rattle.gpu_alloc.proofs.Agreeing.{agrees_kept}
 use Rattle.gpu_alloc.proofs.Trials.{continues_next, continues_decided, continues_end}
 use Rattle.gpu_alloc.proofs.allocator.GpuAllocator.try_all.Goals as goal
 
@@ -8,6 +10,12 @@ pub returns-clause-tries : goal.returns-clause-tries
 returns-clause-tries g c =
     let before = c.loop-memory_type.invariant.passed in
     rw c.loop-memory_type.invariant.same (before.0, before.1, continues_end c.args.self.now c.args.request c.args.hint _ _ before.0 c.loop-memory_type-test.false before.2)
+
+pub try_type-requires-clause-agrees : goal.try_type-requires-clause-agrees
+try_type-requires-clause-agrees g c =
+    let before = c.loop-memory_type.invariant in
+    let properties = chain_keeps g.D.MemoryDevice.step g.D.MemoryDevice.properties g.met.D.MemoryDevice.keeps_properties _ _ _ before.passed.1 in
+    agrees_kept c.args.self.now _ _ _ _ _ c.requires.agrees before.same properties before.objects
 
 pub loop-memory_type-preserved : goal.loop-memory_type-preserved
 loop-memory_type-preserved g c =
@@ -17,7 +25,6 @@ loop-memory_type-preserved g c =
       same = tried.2.1;
       passed = rw add-one (_, chain_append g.D.MemoryDevice.step _ _ _ _ _ before.1 tried.1, continues_next c.args.self.now c.args.request c.args.hint _ _ _ _ c.loop-memory_type-test.true before.2 tried.2.0);
       objects = rw c.in-None.is at c.in_ok-block.ensures.objects ∙ c.loop-memory_type.invariant.objects;
-      agrees = c.in_ok-block.ensures.agrees;
     }
 
 pub returns-in-Some-clause-tries : goal.returns-in-Some-clause-tries
@@ -37,6 +44,3 @@ pub returns-in_err-block-clause-objects : goal.returns-in_err-block-clause-objec
 returns-in_err-block-clause-objects g c =
     let p = err_from_is_err_and c.from_residual.result c.from_residual.ensures.1 in
     rw p.1 (c.in_err-block.ensures.objects ∙ c.loop-memory_type.invariant.objects)
-
-pub returns-in_err-block-clause-agrees : goal.returns-in_err-block-clause-agrees
-returns-in_err-block-clause-agrees g c = c.in_err-block.ensures.agrees

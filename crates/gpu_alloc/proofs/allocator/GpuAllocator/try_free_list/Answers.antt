@@ -49,7 +49,6 @@ returns-in-Some g c =
     rw (c.passing.ensures, ← c.self.view_is) (record {
       tries = ([], refl, refused_tries _ [] c.in-Some.refusal _ (first_is told c.in-Some.refusal first));
       objects = nothing_made s c.in-Some.refusal s _ _ refl;
-      agrees = rw (← c.self.view_is) at c.requires.agrees;
     })
 
 pub invariant_of-self : goal.invariant_of-self
@@ -196,10 +195,6 @@ returns-in-Ok-clause-tries g c =
 pub returns-in-Ok-clause-objects : goal.returns-in-Ok-clause-objects
 returns-in-Ok-clause-objects g c = rw (← c.self.view_is, block_is g c) (is g c).objects_are
 
-pub returns-in-Ok-clause-agrees : goal.returns-in-Ok-clause-agrees
-returns-in-Ok-clause-agrees g c =
-    rw c.in-Ok.ensures.properties (is g c).agreed
-
 -- A refusal.
 
 pub invariant_of-self-in-Err : goal.invariant_of-self-in-Err
@@ -212,7 +207,6 @@ invariant_of-self-in-Err g c =
 pub returns-in-Err : goal.returns-in-Err
 returns-in-Err g c =
     let known = rw (← c.self.view_is) at c.requires.known in
-    let agrees = rw (← c.self.view_is) at c.requires.agrees in
     let serving = serves_own c.self.inside.limits _ _ _ _ _ c.args.memory_type c.index_mut.result.now c.self.invariant known c.index_mut.ensures.value in
     let same = c.in-Err.ensures.refused in
     let told = c.in-Err.ensures.allocates in
@@ -226,7 +220,6 @@ returns-in-Err g c =
         refused_tries _ told.0 c.in-Err.refusal _ (refused_is (told_of _ _ _ c.args.memory_type _ serving c.index_mut-2.result.now c.args.request _ c.flags-flags.ensures) told.0 c.in-Err.refusal _ told.2),
       );
       objects = nothing_made s c.in-Err.refusal s _ _ c.in-Err.ensures.objects;
-      agrees = rw (c.in-Err.ensures.properties, c.in-Err.ensures.objects) agrees;
     })
 
 pub heap_index-heap-requires : goal.heap_index-heap-requires
@@ -252,9 +245,6 @@ refuses-first-requires-clause-alignment g c = c.requires.askable.alignment
 
 pub returns-then-is_err-clause-objects : goal.returns-then-is_err-clause-objects
 returns-then-is_err-clause-objects g c = refl
-
-pub returns-then-is_err-clause-agrees : goal.returns-then-is_err-clause-agrees
-returns-then-is_err-clause-agrees g c = rw (ap (λ (t : Table). t.held) c.reserve.ensures.kept, ap (λ (t : Table). t.live) c.reserve.ensures.kept, c.self.view_is) c.requires.agrees
 
 pub index_mut-requires : goal.index_mut-requires
 index_mut-requires g c = below refl (c.self.inside.free_lists.ok.0 ∙ c.self.invariant.listed.count) (rw (← c.self.view_is) at c.requires.known)

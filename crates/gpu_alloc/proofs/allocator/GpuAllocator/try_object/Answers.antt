@@ -1,13 +1,12 @@
-use Rattle.std.proofs.Common.{◌≡◌, ◌≢◌, ℕ, Bool, true, false, cond, IsTrue, Option, List, ◌-◌, ◌<◌, ◌∷◌, [], ◌^◌, None, Err, refl, sym, ap, ◌∙◌, arith, subst, inl, inr, length, vec_len}
+use Rattle.std.proofs.Common.{◌≡◌, ◌≢◌, ℕ, Bool, true, false, cond, IsTrue, List, ◌-◌, ◌<◌, ◌∷◌, [], ◌^◌, None, Err, refl, sym, ap, ◌∙◌, arith, subst, inl, inr, length, vec_len}
 use Rattle.std.proofs.Math.ListN.{set}
 use Rattle.std.proofs.lemmas.Grind.{common_steps}
 use Rattle.std.specs.FinMap as finite
 use Rattle.std.specs.FinSet as set_of
-use Rattle.gpu_alloc_types.specs.Device.{Object, IsAskable}
+use Rattle.gpu_alloc_types.specs.Device.{IsAskable}
 use Rattle.gpu_alloc_types.specs.Device.Event.{Allocated}
 use Rattle.gpu_alloc_types.specs.Flags.{has_bit}
 use Rattle.gpu_alloc_types.specs.Properties.{Properties}
-use Rattle.gpu_alloc.specs.Agreement.{Agrees}
 use Rattle.gpu_alloc.specs.Candidates.{own_question, own_candidate, whole_block, holding}
 use Rattle.gpu_alloc_base.specs.Case.{Asks}
 use Rattle.gpu_alloc.specs.Inside.{state_in, properties_in}
@@ -19,7 +18,7 @@ use Rattle.gpu_alloc_freelist.specs.FreeListState.{Listing}
 use Rattle.gpu_alloc_base.specs.declared.heap.Heap.{Heap}
 use Rattle.gpu_alloc.specs.declared.limits.Limits.{Limits}
 use Rattle.gpu_alloc_base.proofs.Maps.{own_inserted}
-use Rattle.gpu_alloc.proofs.Agreeing.{IsMade, agrees_granted, not_held}
+use Rattle.gpu_alloc.proofs.Agreeing.{not_held}
 use Rattle.gpu_alloc.proofs.NewObjects.{counted_new}
 use Rattle.gpu_alloc.proofs.Consistency.{HoldsMore, heap_there, ledger-room}
 use Rattle.gpu_alloc.proofs.Grants.{own_object, state_held, decides_granted}
@@ -127,12 +126,6 @@ returns-in-Ok-clause-tries g c =
       decides_granted (before g c) _ c.args.request c.args.memory_type c.object.result _ (block_is g c) (positive c.self.inside.allocations_remains c.if-self-eq0.false) (free g c) (state_is g c),
     )
 
--- the device has the block's object
-one_more : (g : Over) (c : goal.After-new g) → IsMade (block g c) (g.D.MemoryDevice.objects c.args.device.now) (g.D.MemoryDevice.objects c.allocate_memory-answer.new.self)
-one_more g c =
-    subst (λ n. IsMade (whole_block (before g c) n c.args.request.size c.args.memory_type) (g.D.MemoryDevice.objects c.args.device.now) (g.D.MemoryDevice.objects c.allocate_memory-answer.new.self))
-    (sym c.object.ensures) (g.met.D.MemoryDevice.row _ _ _ c.in-Ok.ensures)
-
 pub returns-in-Ok-clause-objects : goal.returns-in-Ok-clause-objects
 returns-in-Ok-clause-objects g c =
     let s = before g c in
@@ -141,17 +134,10 @@ returns-in-Ok-clause-objects g c =
     let n = c.object.result in
     let old = g.D.MemoryDevice.objects c.args.device.now in
     let new = g.D.MemoryDevice.objects c.allocate_memory-answer.new.self in
-    let one = one_more g c in
-    let made_one : HasOneChunkMore q n old new = (one.0, (one.1.0, record { of_type = one.1.1.of_type; of_size = one.1.1.of_size; mapped = one.1.1.unmapped }, one.1.2)) in
+    let one = g.met.D.MemoryDevice.row _ _ _ c.in-Ok.ensures in
+    let made_one = subst (λ x. HasOneChunkMore q x old new) (sym c.object.ensures) (one.0, (one.1.0, record { of_type = one.1.1.of_type; of_size = one.1.1.of_size; mapped = one.1.1.unmapped }, one.1.2)) in
     let found = ap (λ held. finite.get held n) (more g c).held ∙ own_inserted s.held n h in
     rw (← c.self.view_is, block_is g c) (rw (free g c) (counted_new s h q n _ old new found refl refl refl made_one))
-
-pub returns-in-Ok-clause-agrees : goal.returns-in-Ok-clause-agrees
-returns-in-Ok-clause-agrees g c =
-    let agreed = rw (← c.self.view_is) at c.requires.agrees in
-    let same = g.met.D.MemoryDevice.keeps_properties _ _ _ c.in-Ok.ensures in
-    subst (λ s. Agrees s (g.D.MemoryDevice.properties c.allocate_memory-answer.new.self) (g.D.MemoryDevice.objects c.allocate_memory-answer.new.self)) (sym (state_is g c))
-    (agrees_granted (before g c) _ _ _ _ (block g c) agreed same (one_more g c))
 
 pub returns-in-Err-OutOfHostMemory-clause-tries : goal.returns-in-Err-OutOfHostMemory-clause-tries
 returns-in-Err-OutOfHostMemory-clause-tries g c =
@@ -164,28 +150,14 @@ returns-in-Err-OutOfHostMemory-clause-tries g c =
 
 -- The device grants nothing: room was made, and the state is the one before.
 
-agrees_kept : (s new : State) (p q : Properties) (f h : ℕ → Option Object) → new ≡ s → q ≡ p → h ≡ f → Agrees s p f → Agrees new q h
-agrees_kept s new p q f h state properties objects agreed = rw (state, properties, objects) agreed
-
 kept-is_err : (g : Over) (c : goal.Then-is_err g)
     → state_in c.self.inside.limits c.self.inside.heaps.items c.self.inside.buddies.items c.self.inside.free_lists.items c.reserve.new.self c.self.inside.allocations_remains ≡ c.args.self.now
 kept-is_err g c = state_kept c.self.inside.limits c.self.inside.heaps.items c.self.inside.buddies.items c.self.inside.free_lists.items c.reserve.new.self c.self.inside.spans c.self.inside.allocations_remains c.reserve.ensures.kept ∙ c.self.view_is
-
-kept-device : (g : Over) (c : goal.In-Err-OutOfDeviceMemory g)
-    → state_in c.self.inside.limits c.self.inside.heaps.items c.self.inside.buddies.items c.self.inside.free_lists.items c.reserve.new.self c.self.inside.allocations_remains ≡ c.args.self.now
-kept-device g c = state_kept c.self.inside.limits c.self.inside.heaps.items c.self.inside.buddies.items c.self.inside.free_lists.items c.reserve.new.self c.self.inside.spans c.self.inside.allocations_remains c.reserve.ensures.kept ∙ c.self.view_is
-
-kept-host : (g : Over) (c : goal.In-Err-OutOfHostMemory g)
-    → state_in c.self.inside.limits c.self.inside.heaps.items c.self.inside.buddies.items c.self.inside.free_lists.items c.reserve.new.self c.self.inside.allocations_remains ≡ c.args.self.now
-kept-host g c = state_kept c.self.inside.limits c.self.inside.heaps.items c.self.inside.buddies.items c.self.inside.free_lists.items c.reserve.new.self c.self.inside.spans c.self.inside.allocations_remains c.reserve.ensures.kept ∙ c.self.view_is
 
 pub returns-then-is_err-clause-tries : goal.returns-then-is_err-clause-tries
 returns-then-is_err-clause-tries g c =
     let some = subst (λ s. 0 < s.remaining) c.self.view_is (positive c.self.inside.allocations_remains c.if-self-eq0.false) in
     ([], refl, (kept-is_err g c, inl (refl, record { fits = tt; ways = inr (record { objects = some; number = tt }) })))
-
-pub returns-then-is_err-clause-agrees : goal.returns-then-is_err-clause-agrees
-returns-then-is_err-clause-agrees g c = subst (λ s. Agrees s (g.D.MemoryDevice.properties c.args.device.now) (g.D.MemoryDevice.objects c.args.device.now)) (sym (kept-is_err g c)) c.requires.agrees
 
 pub returns-in-Err-OutOfDeviceMemory-clause-tries : goal.returns-in-Err-OutOfDeviceMemory-clause-tries
 returns-in-Err-OutOfDeviceMemory-clause-tries g c =
@@ -199,18 +171,8 @@ returns-in-Err-OutOfDeviceMemory-clause-tries g c =
 pub returns-in-Err-OutOfDeviceMemory-clause-objects : goal.returns-in-Err-OutOfDeviceMemory-clause-objects
 returns-in-Err-OutOfDeviceMemory-clause-objects g c = g.met.D.MemoryDevice.row _ _ _ (rw c.in-Err-OutOfDeviceMemory.is at c.allocate_memory-answer.ensures)
 
-pub returns-in-Err-OutOfDeviceMemory-clause-agrees : goal.returns-in-Err-OutOfDeviceMemory-clause-agrees
-returns-in-Err-OutOfDeviceMemory-clause-agrees g c =
-    let step = rw c.in-Err-OutOfDeviceMemory.is at c.allocate_memory-answer.ensures in
-    agrees_kept _ _ _ _ _ _ (kept-device g c) (g.met.D.MemoryDevice.keeps_properties _ _ _ step) (g.met.D.MemoryDevice.row _ _ _ step) c.requires.agrees
-
 pub returns-in-Err-OutOfHostMemory-clause-objects : goal.returns-in-Err-OutOfHostMemory-clause-objects
 returns-in-Err-OutOfHostMemory-clause-objects g c = g.met.D.MemoryDevice.row _ _ _ (rw c.in-Err-OutOfHostMemory.is at c.allocate_memory-answer.ensures)
-
-pub returns-in-Err-OutOfHostMemory-clause-agrees : goal.returns-in-Err-OutOfHostMemory-clause-agrees
-returns-in-Err-OutOfHostMemory-clause-agrees g c =
-    let step = rw c.in-Err-OutOfHostMemory.is at c.allocate_memory-answer.ensures in
-    agrees_kept _ _ _ _ _ _ (kept-host g c) (g.met.D.MemoryDevice.keeps_properties _ _ _ step) (g.met.D.MemoryDevice.row _ _ _ step) c.requires.agrees
 
 -- The new object's name is free in the table, and so is its span.
 
