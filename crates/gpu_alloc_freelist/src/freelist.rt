@@ -119,7 +119,7 @@ impl<M: MemoryObject, A: Allocator + Copy> FreeListAllocator<M, A> {
         let mut ranges = Vec::with_capacity(self.freelist.allocator(), regions.len())?;
         for region in regions {
             ranges.push_reserved(FreeRange {
-                object: self.freelist.object_of(region.chunk),
+                object: self.freelist.chunk(region.chunk).memory.object(),
                 start: region.start,
                 end: region.end,
             });
@@ -329,7 +329,7 @@ impl<M: MemoryObject, A: Allocator> FreeListAllocator<M, A> {
         requires { IsSome (map.get (self.now).space.chunks number) }
         ensures { IfSome (map.get (self.now).space.chunks number) (λ c. c.size ≡ result) }
     {
-        self.freelist.size_of(number)
+        self.freelist.chunk(number).size
     }
 
     /// Ends an allocator that holds no chunk.

@@ -33,10 +33,10 @@ use std::sync::ledger::Ledger;
 
 /// A held chunk: its number, a handle of its object, and its size in bytes.
 #[derive(Drop)]
-struct ListChunk<M: MemoryObject> {
+pub(super) struct ListChunk<M: MemoryObject> {
     number: u64,
-    memory: M,
-    size: u64,
+    pub(super) memory: M,
+    pub(super) size: u64,
 }
 
 /// Chunks of memory, the free runs in them, and the blocks that are live. It cannot be let go:
@@ -233,8 +233,7 @@ impl<M: MemoryObject, A: Allocator> FreeList<M, A> {
         };
         self.reserve()?;
         let region = self.regions[index];
-        let chunk = chunk_at(self.chunks.as_slice(), region.chunk);
-        let memory = self.chunks[chunk].memory.duplicate()?;
+        let memory = self.chunk(region.chunk).memory.duplicate()?;
         let slot = tail_of(region, memory.object(), size, align_mask);
         take_tail(&mut self.regions, index, slot.offset);
         keep(&mut self.live, slot);
@@ -320,22 +319,14 @@ impl<M: MemoryObject, A: Allocator> FreeList<M, A> {
         self.regions.as_slice()
     }
 
-    /// The name of a held chunk's object.
-    pub(crate) fn object_of(&self, number: u64) -> u64
+    /// A held chunk.
+    pub(super) fn chunk(&self, number: u64) -> &ListChunk<M>
         requires { IsSome (map.get (self.now.space).chunks number) }
-        ensures { IfSome (map.get (self.now.space).chunks number) (λ c. c.object ≡ result) }
+        ensures { map.get (self.now.space).chunks number
+            ≡ Some (record { object = M.object result.now.memory; size = result.now.size }) }
     {
         let chunk = chunk_at(self.chunks.as_slice(), number);
-        self.chunks[chunk].memory.object()
-    }
-
-    /// The size of a held chunk, in bytes.
-    pub(crate) fn size_of(&self, number: u64) -> u64
-        requires { IsSome (map.get (self.now.space).chunks number) }
-        ensures { IfSome (map.get (self.now.space).chunks number) (λ c. c.size ≡ result) }
-    {
-        let chunk = chunk_at(self.chunks.as_slice(), number);
-        self.chunks[chunk].size
+        &self.chunks[chunk]
     }
 
     /// The allocator of its vectors.

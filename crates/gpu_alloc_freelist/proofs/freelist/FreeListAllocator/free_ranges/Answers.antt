@@ -1,4 +1,4 @@
-use Rattle.std.proofs.Common.{rules, ◌≡◌, ◌+◌, map, ap, subst, arith}
+use Rattle.std.proofs.Common.{rules, ◌≡◌, ◌+◌, map, sym, ap, subst, arith}
 use Rattle.std.proofs.lemmas.Fn.{always_returns_same}
 use Rattle.std.proofs.lemmas.List.Elements.{Contains-get_or}
 use Rattle.std.specs.List.Sorted.{IsPermutation}
@@ -13,8 +13,8 @@ use Rattle.gpu_alloc_freelist.proofs.freelist.FreeListAllocator.free_ranges.Goal
 pub loop-region-init : goal.loop-region-init
 loop-region-init g c = let made = c.in_ok-ranges.ensures in (made.items, (made.len, made.capacity))
 
-pub object_of-requires : goal.object_of-requires
-object_of-requires g c =
+pub chunk-requires : goal.chunk-requires
+chunk-requires g c =
     let regions = c.regions-regions.result.now in
     is_held c.self.inside.freelist.space _ ((c.regions-regions.ensures.runs _).0 (Contains-get_or regions c.loop-region.region-index (record { chunk = 0; start = 0; end = 0 }) c.loop-region-test.true))
 
@@ -28,7 +28,7 @@ loop-region-preserved g c =
     let i = c.loop-region.region-index in
     let d : FreeListRegion = record { chunk = 0; start = 0; end = 0 } in
     let held = is_held t _ ((c.regions-regions.ensures.runs _).0 (Contains-get_or regions i d c.loop-region-test.true)) in (
-      one_more t c.args.self.now.space (ap (λ (l : Listing). l.space) c.self.view_is) regions i c.object_of.result d c.loop-region-test.true held c.object_of.ensures c.loop-region.ranges.items c.push_reserved.new.self.items c.loop-region.invariant.0 c.push_reserved.ensures.items,
+      one_more t c.args.self.now.space (ap (λ (l : Listing). l.space) c.self.view_is) regions i c.object.result d c.loop-region-test.true held (rw c.chunk.ensures (sym c.object.ensures)) c.loop-region.ranges.items c.push_reserved.new.self.items c.loop-region.invariant.0 c.push_reserved.ensures.items,
       (omega (arith, c.push_reserved.ensures.len, c.loop-region.invariant.1.0), omega (arith, c.push_reserved.ensures.capacity, c.loop-region.invariant.1.1)),
     )
 

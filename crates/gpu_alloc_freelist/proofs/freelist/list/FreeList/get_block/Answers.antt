@@ -11,8 +11,6 @@ use Rattle.gpu_alloc_freelist.proofs.FreeListGrants.{IsFoundAt, IsTailOf, IsTake
 use Rattle.gpu_alloc_freelist.proofs.freelist.list.FreeList.get_block.Given.{Over}
 use Rattle.gpu_alloc_freelist.proofs.freelist.list.FreeList.get_block.Goals.{In-Some, After-index-region, After-tail_of-slot}
 use Rattle.gpu_alloc_freelist.proofs.freelist.list.FreeList.get_block.Goals as goal
-use Rattle.gpu_alloc_freelist.proofs.NumberedRows.{row_found}
-use Rattle.gpu_alloc_freelist.proofs.NumberSearch.{said_at}
 
 -- how a held chunk is seen
 abbrev seen : (g : Over) → ListChunk g.row.M.Denot → Chunk
@@ -47,11 +45,11 @@ again g c =
     let same = ap (λ (s : Store). s.space) c.self-2.view_is ∙ c.reserve.ensures.kept ∙ ap (λ (s : Store). s.space) (sym c.self.view_is) in
     found_again _ _ c.self-2.inside.regions.items c.self.inside.regions.items c.args.size (c.args.align_mask + 1) c.in-Some.index same c.self-2.invariant.1.runs c.self.invariant.1.runs at
 
-pub chunk_at-chunk-requires : goal.chunk_at-chunk-requires
-chunk_at-chunk-requires g c =
-    let at = again g (goal.at.chunk_at-chunk-requires g c).After-index-region in
-    rw (c.as_slice-2.ensures.value) (
-    chunk_found (λ (x : ListChunk g.row.M.Denot). x.number) c.self-2.inside.chunks.items c.self-2.invariant.0 (seen g) c.self-2.inside.live.items c.self-2.inside.latest (λ (x : ListChunk g.row.M.Denot). x.size)
+pub chunk-requires : goal.chunk-requires
+chunk-requires g c =
+    let at = again g (goal.at.chunk-requires g c).After-index-region in
+    rw (← c.self-2.view_is) (
+    chunk_found (λ (x : ListChunk g.row.M.Denot). x.number) c.self-2.inside.chunks.items c.self-2.invariant.0 (seen g) c.self-2.inside.live.items c.self-2.inside.latest (seen g)
     c.self-2.inside.regions.items c.index-region.result.now c.self-2.invariant.1.runs (c.in-Some.index, at.0, sym c.index-region.ensures)
     )
 
@@ -89,20 +87,15 @@ is_tail : (g : Over) (c : goal.After-new g) → IsTailOf c.self-2.inside.regions
 is_tail g c = let at = goal.at.returns-clause-sound g c in tail g at.After-tail_of-slot (again g at.After-index-region)
 
 -- its chunk is held
-held : (g : Over) (c : goal.After-new g) → map.get (before g c).chunks c.index-region.result.now.chunk ≡ Some (seen g c.index.result.now)
-held g c =
-    let rows = c.self-2.inside.chunks.items in
-    let row = c.index.result.now in
-    let within : c.chunk_at-chunk.result < length rows = rw (c.as_slice-2.ensures.value) at c.chunk_at-chunk.ensures.within in
-    let same = said_at (λ (x : ListChunk g.row.M.Denot). x.number ≡ c.index-region.result.now.chunk) rows c.chunk_at-chunk.result row within c.index.ensures (rw (c.as_slice-2.ensures.value) at c.chunk_at-chunk.ensures.number) in
-    subst (λ k. map.get (before g c).chunks k ≡ Some (seen g row)) same (row_found (λ (x : ListChunk g.row.M.Denot). x.number) (seen g) rows row c.self-2.invariant.0 (c.chunk_at-chunk.result, within, sym c.index.ensures))
+held : (g : Over) (c : goal.After-new g) → map.get (before g c).chunks c.index-region.result.now.chunk ≡ Some (seen g c.chunk.result.now)
+held g c = rw (← c.self-2.view_is) at c.chunk.ensures
 
-object : (g : Over) (c : goal.After-new g) → c.tail_of-slot.result.object ≡ (seen g c.index.result.now).object
+object : (g : Over) (c : goal.After-new g) → c.tail_of-slot.result.object ≡ (seen g c.chunk.result.now).object
 object g c = ap (λ (s : Slot). s.object) c.tail_of-slot.ensures ∙ c.object.ensures ∙ c.in_ok-memory.ensures
 
 took : (g : Over) (c : goal.After-new g) → IsTaken (before g c) c.take_tail.new.regions.items c.tail_of-slot.result
 took g c =
-    tail_taken _ _ _ _ _ _ (is_tail g c) (before g c) c.self-2.invariant.1.runs (seen g c.index.result.now) (held g c) (object g c) c.take_tail.new.regions.items c.requires.nonempty c.self-2.invariant.1.sound
+    tail_taken _ _ _ _ _ _ (is_tail g c) (before g c) c.self-2.invariant.1.runs (seen g c.chunk.result.now) (held g c) (object g c) c.take_tail.new.regions.items c.requires.nonempty c.self-2.invariant.1.sound
     (λ d. c.take_tail.ensures.kept (before g c) d c.self-2.invariant.1.runs)
 
 after_is : (g : Over) (c : goal.After-new g) → space_in (before g c).chunks c.keep.new.live.items (before g c).latest ≡ with_slot (before g c) c.tail_of-slot.result
@@ -121,7 +114,7 @@ invariant_of-self g c =
 
 pub returns-clause-takes : goal.returns-clause-takes
 returns-clause-takes g c =
-    let tail_is = last_tail _ _ _ _ _ _ (is_tail g c) (before g c) c.self-2.invariant.1.runs (seen g c.index.result.now) (held g c) (object g c) in
+    let tail_is = last_tail _ _ _ _ _ _ (is_tail g c) (before g c) c.self-2.invariant.1.runs (seen g c.chunk.result.now) (held g c) (object g c) in
     rw (c.new.ensures) (
       subst (λ s. IsTail s c.args.size (c.args.align_mask + 1) c.tail_of-slot.result) (before_is g c) tail_is,
       after_is g c ∙ ap (λ s. with_slot s c.tail_of-slot.result) (before_is g c),

@@ -6,8 +6,8 @@ use Rattle.gpu_alloc_freelist.specs.declared.freelist.list.ListChunk.{ListChunk}
 use Rattle.gpu_alloc_freelist.proofs.NumberSearch.{said_at}
 use Rattle.gpu_alloc_freelist.proofs.NumberedRows.{row_found}
 use Rattle.gpu_alloc_freelist.proofs.FreeListRanges.{number_found}
-use Rattle.gpu_alloc_freelist.proofs.freelist.list.FreeList.object_of.Given.{Over}
-use Rattle.gpu_alloc_freelist.proofs.freelist.list.FreeList.object_of.Goals as goal
+use Rattle.gpu_alloc_freelist.proofs.freelist.list.FreeList.chunk.Given.{Over}
+use Rattle.gpu_alloc_freelist.proofs.freelist.list.FreeList.chunk.Goals as goal
 
 -- how a held chunk is seen
 abbrev seen : (g : Over) → ListChunk g.row.M.Denot → Chunk
@@ -27,4 +27,4 @@ returns g c =
     let same = said_at (λ (x : ListChunk g.row.M.Denot). x.number ≡ c.args.number) rows c.chunk_at-chunk.result row within c.index.ensures (rw (c.as_slice.ensures.value) at c.chunk_at-chunk.ensures.number) in
     let held : map.get (by_number (λ (x : ListChunk g.row.M.Denot). x.number) (seen g) rows) c.args.number ≡ Some (seen g row) =
     subst (λ k. map.get (by_number (λ (x : ListChunk g.row.M.Denot). x.number) (seen g) rows) k ≡ Some (seen g row)) same (row_found (λ (x : ListChunk g.row.M.Denot). x.number) (seen g) rows row c.self.invariant.0 (c.chunk_at-chunk.result, within, sym c.index.ensures)) in
-    rw (← c.self.view_is, held) (sym c.object.ensures)
+    rw (← c.self.view_is) held
