@@ -20,6 +20,7 @@ use Rattle.gpu_alloc_freelist.specs.FreeListState.{Space, Listing, IsLiveSlot, I
 use Rattle.gpu_alloc_base.specs.FreeRuns.{AreFree, IsFreeRun, tail_start}
 use Rattle.gpu_alloc_base.specs.FreeSpace.{IsIn, IsMultipleOf, IsPowerOfTwo}
 use Rattle.gpu_alloc_base.specs.NewChunk.{chunk_question}
+use Rattle.gpu_alloc_freelist.specs.FreeListInside.{IsRounded}
 use Rattle.gpu_alloc_base.specs.AlignMasks.{IsAlignMask}
 use Rattle.gpu_alloc_base.specs.declared.error.AllocationError.{AllocationError}
 use Rattle.gpu_alloc_base.specs.declared.error.AllocationError.TheVariants.{TooManyObjects}
@@ -340,8 +341,8 @@ answers_granted a new w size alignment flags es (Err e) p f g s agrees r answers
 
 -- What is looked for.
 
-pub askable : (l : Listing) (size mask : ℕ) → 0 < size → size ≤ l.final_chunk → IsAlignMask mask → l.atom ≤ mask + 1 → IsAskable l size (mask + 1)
-askable l size mask some fits is_mask aligned = record { nonempty = some; fits = fits; power = power_of_bit (mask + 1) is_mask.power; aligned = aligned }
+pub askable : (l : Listing) (size mask : ℕ) → IsRounded l size mask → IsAskable l size (mask + 1)
+askable l size mask r = record { nonempty = r.nonempty; fits = r.fits; power = power_of_bit (mask + 1) r.alignment.power; aligned = r.aligned }
 
 -- what a request is rounded to
 pub rounds : (l : Listing) (w : Wanted) (size alignment : ℕ) → size ≡ rounded l w → alignment ≡ alignment_of l w → IsSound l → 0 < w.size → rounded l w ≤ l.final_chunk → IsAlignMask w.align_mask → IsRoundedTo l w size alignment

@@ -8,6 +8,7 @@ use Rattle.gpu_alloc_base.specs.Chunks.{Chunk}
 use Rattle.gpu_alloc_freelist.specs.FreeListState.{Space, Store, Listing, IsFreeIn}
 use Rattle.gpu_alloc_base.specs.Slots.{slot_cmp}
 use Rattle.gpu_alloc_freelist.specs.FreeListSound.{IsSoundSpace}
+use Rattle.gpu_alloc_base.specs.AlignMasks.{IsAlignMask}
 use Rattle.gpu_alloc_base.specs.FreeRuns.{AreRuns, HasRoom}
 use Rattle.gpu_alloc_base.specs.declared.free_list_block.Slot.{Slot}
 use Rattle.gpu_alloc_base.specs.declared.region.FreeListRegion.{FreeListRegion}
@@ -56,6 +57,13 @@ listing_in space next_chunk final_chunk memory_type props atom = record {
   props = props;
   atom = atom;
 }
+
+-- a rounded request: some bytes that fit the largest chunk, at an alignment that is no less than the atom
+pub record IsRounded (l : Listing) (size align_mask : ℕ) : Type 0 where
+  pub nonempty : 0 < size
+  pub fits : size ≤ l.final_chunk
+  pub alignment : IsAlignMask align_mask
+  pub aligned : l.atom ≤ align_mask + 1
 
 -- How the runs are searched.
 

@@ -16,9 +16,6 @@ use Rattle.gpu_alloc_freelist.proofs.freelist.FreeListAllocator.alloc.Given.{Ove
 use Rattle.gpu_alloc_freelist.proofs.freelist.FreeListAllocator.alloc.Goals.{After-alloc_rounded}
 use Rattle.gpu_alloc_freelist.proofs.freelist.FreeListAllocator.alloc.Goals as goal
 
-pub alloc_rounded-requires-clause-alignment : goal.alloc_rounded-requires-clause-alignment
-alloc_rounded-requires-clause-alignment g c = rw (c.max-align_mask.ensures) (greater_mask c.args.align_mask c.self.inside.atom_mask c.requires.alignment c.self.invariant.atom)
-
 -- what changes, before the call and after it
 abbrev old : (g : Over) → After-alloc_rounded g → Account Listing
 old g c = account c.args.self.now c.args.heap.now c.args.allocations_remains.now
@@ -64,14 +61,13 @@ returns-clause-total g c =
     let told = c.alloc_rounded.ensures.answers in
     answers_total (keeps_books (old g c) c.rounded_size-size.result (c.max-align_mask.result + 1) (allocation_bits c.args.flags) c.alloc_rounded.ensures.sound) told.0 c.alloc_rounded.result (new g c) told.2
 
-pub alloc_rounded-requires-clause-aligned : goal.alloc_rounded-requires-clause-aligned
-alloc_rounded-requires-clause-aligned g c = omega (arith, c.max-align_mask.ensures, ap (λ (l : Listing). l.atom) c.self.view_is)
-
-pub alloc_rounded-requires-clause-atoms : goal.alloc_rounded-requires-clause-atoms
-alloc_rounded-requires-clause-atoms g c = (_, c.rounded_size-size.ensures.is)
-
-pub alloc_rounded-requires-clause-fits : goal.alloc_rounded-requires-clause-fits
-alloc_rounded-requires-clause-fits g c = rw (c.rounded_size-size.ensures.is) c.requires.fits
+pub alloc_rounded-requires-clause-rounded : goal.alloc_rounded-requires-clause-rounded
+alloc_rounded-requires-clause-rounded g c = record {
+  nonempty = c.rounded_size-size.ensures.nonempty;
+  fits = rw (c.rounded_size-size.ensures.is) c.requires.fits;
+  alignment = rw (c.max-align_mask.ensures) (greater_mask c.args.align_mask c.self.inside.atom_mask c.requires.alignment c.self.invariant.atom);
+  aligned = omega (arith, c.max-align_mask.ensures, ap (λ (l : Listing). l.atom) c.self.view_is);
+}
 
 -- the alignment that is used
 alignment_is : (g : Over) (c : After-alloc_rounded g) → c.max-align_mask.result + 1 ≡ alignment c.args.self.now (wanted c.args.size c.args.align_mask (allocation_bits c.args.flags))

@@ -23,10 +23,9 @@ over g a s = listing_in s a.chunk_size a.final_chunk_size a.memory_type (propert
 pub invariant_of-self : goal.invariant_of-self
 invariant_of-self g c =
     let l : Listing = listing_in c.self.inside.freelist.space c.self.inside.chunk_size c.self.inside.final_chunk_size c.self.inside.memory_type (property_bits c.self.inside.props) (c.self.inside.atom_mask + 1) in
-    let fits = rw (← c.self.view_is) at c.requires.fits in
-    let aligned = rw (← c.self.view_is) at c.requires.aligned in
+    let rounded = rw (← c.self.view_is) at c.requires.rounded in
     let took = rw (c.in-Ok-Some.field-0-is) at c.in-Ok-Some.ensures.takes in
-    let asked = askable l c.args.size c.args.align_mask c.requires.nonempty fits c.requires.alignment aligned in
+    let asked = askable l c.args.size c.args.align_mask rounded in
     subst (λ s. IsSound (listing_in s c.self.inside.chunk_size c.self.inside.final_chunk_size c.self.inside.memory_type (property_bits c.self.inside.props) (c.self.inside.atom_mask + 1))) (sym took.1)
     (sound_with_tail l c.args.size (c.args.align_mask + 1) c.in-Ok-Some.block c.self.invariant asked took.0)
 
@@ -107,9 +106,6 @@ take_chunk-requires-clause-agrees g c =
     let same : over g c.self.inside c.get_block.new.self.space ≡ c.args.self.now = ap (over g c.self.inside) took.1 ∙ c.self.view_is in
     subst (λ x. Agrees x (g.D.MemoryDevice.properties c.args.device.now) (g.D.MemoryDevice.objects c.args.device.now)) (sym same) c.requires.agrees
 
-pub take_chunk-requires-clause-aligned : goal.take_chunk-requires-clause-aligned
-take_chunk-requires-clause-aligned g c = rw (← c.self.view_is) at c.requires.aligned
-
 pub take_chunk-requires-clause-asks : goal.take_chunk-requires-clause-asks
 take_chunk-requires-clause-asks g c =
     let took = rw (c.in-Ok-None.field-0-is) at c.in-Ok-None.ensures.takes in
@@ -119,17 +115,16 @@ take_chunk-requires-clause-asks g c =
       remains = record { objects = omega (arith, c.if-allocations_remains-eq0.false); number = c.has_number.ensures.0 c.if-not-has_number.false };
     }
 
-pub take_chunk-requires-clause-atoms : goal.take_chunk-requires-clause-atoms
-take_chunk-requires-clause-atoms g c = rw (← c.self.view_is) at c.requires.atoms
-
 pub take_chunk-requires-clause-counted : goal.take_chunk-requires-clause-counted
 take_chunk-requires-clause-counted g c =
     let took = rw (c.in-Ok-None.field-0-is) at c.in-Ok-None.ensures.takes in
     let same : over g c.self.inside c.get_block.new.self.space ≡ c.args.self.now = ap (over g c.self.inside) took.1 ∙ c.self.view_is in
     subst (λ (x : Listing). IsCounted x.space.chunks c.args.heap.now c.args.allocations_remains.now) (sym same) c.requires.counted
 
-pub take_chunk-requires-clause-fits : goal.take_chunk-requires-clause-fits
-take_chunk-requires-clause-fits g c = rw (← c.self.view_is) at c.requires.fits
+pub take_chunk-requires-clause-rounded : goal.take_chunk-requires-clause-rounded
+take_chunk-requires-clause-rounded g c =
+    let rounded = rw (← c.self.view_is) at c.requires.rounded in
+    record { nonempty = rounded.nonempty; fits = rounded.fits; alignment = rounded.alignment; aligned = rounded.aligned }
 
 pub returns-clause-answers : goal.returns-clause-answers
 returns-clause-answers g c =
