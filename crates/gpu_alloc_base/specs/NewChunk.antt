@@ -1,6 +1,7 @@
 -- What a device is asked for a new shared chunk, and how that ends.
 use Rattle.std.specs.Prelude.{◌≡◌, ◌≢◌, ◌⊎◌, ℕ, Bool, List, [], ◌∷◌, ◌++◌, Option, Some, None, Result, Ok, Err, IsTrue}
 use Rattle.std.specs.Prelude.{cond}
+use Rattle.std.specs.Result.{result_map_both}
 use Rattle.gpu_alloc_types.specs.Device.{Object, Event, Range, put}
 use Rattle.gpu_alloc_types.specs.Properties.{Properties}
 use Rattle.gpu_alloc_types.specs.Device.Event.{Allocated, Deallocated, Mapped}
@@ -89,6 +90,13 @@ AsksBlock q es (Err OutOfDeviceMemory) = LacksDeviceMemory q es
 AsksBlock q es (Err OutOfHostMemory) = LacksHostMemory q es ⊎ IsGivenBack q es
 AsksBlock q es (Err NoCompatibleMemoryTypes) = ⊥
 AsksBlock q es (Err TooManyObjects) = ⊥
+
+-- an answer by its object's name, and by the names that its two handles give
+abbrev pub told_object : {B E : Type 0} → (B → ℕ) → Result B E → Result ℕ E
+told_object object answer = result_map_both object (λ e. e) answer
+
+abbrev pub told_handles : {M E : Type 0} → (M → ℕ) → Result (M × M) E → Result (ℕ × ℕ) E
+told_handles object answer = result_map_both (λ handles. (object handles.0, object handles.1)) (λ e. e) answer
 
 -- a new object, and what is mapped of it: all where the question says so
 pub record IsChunkObject (q : ChunkQuestion) (o : Object) : Type 0 where

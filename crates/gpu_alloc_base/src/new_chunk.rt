@@ -1,13 +1,12 @@
 //! New shared chunks: an object asked of the device, and mapped whole where the host sees it. It is public for the
 //! crates above.
 
-ghost use Rattle.std.specs.Prelude.{◌≡◌, ◌∷◌, [], ◌<◌, List, IsTrue, IfErr};
-ghost use Rattle.std.specs.Result.{result_map_both};
+ghost use Rattle.std.specs.Prelude.{◌≡◌};
 ghost use Rattle.gpu_alloc_types.specs.Flags.{allocation_bits};
 ghost use Rattle.gpu_alloc_types.specs.Properties.{is_host_visible};
-ghost use Rattle.gpu_alloc_types.specs.Device.{Event, Chain, IsAskable};
+ghost use Rattle.gpu_alloc_types.specs.Device.{Asked, IsAskable};
 ghost use Rattle.gpu_alloc_base.specs.NewChunk.{AsksChunk, ChunkAfter, AsksChunkTwice, ChunkAfterTwice, chunk_question};
-ghost use Rattle.gpu_alloc_base.specs.NewChunk.{new_chunk_refusal};
+ghost use Rattle.gpu_alloc_base.specs.NewChunk.{new_chunk_refusal, told_object, told_handles};
 
 use crate::AllocationError;
 use gpu_alloc_types::{AllocationFlags, DeviceMapError, MemoryDevice, MemoryObject, OutOfMemory};
@@ -37,11 +36,11 @@ pub fn new_chunk<M: MemoryObject, D: MemoryDevice<M>>(
     requires askable { IsAskable (D.properties device.old) size memory_type (allocation_bits flags) }
     requires visible { is_host_visible (D.properties device.old) memory_type ≡ visible }
 
-    ensures asks { (es : List Event) × Chain D.step device.old es device.new
-        × AsksChunk (chunk_question size memory_type (allocation_bits flags) visible) es
-        (result_map_both M.object (λ e. e) result) }
+    ensures asks { Asked D.step device.old device.new
+        (λ es. AsksChunk (chunk_question size memory_type (allocation_bits flags) visible) es
+        (told_object M.object result)) }
     ensures objects { ChunkAfter (chunk_question size memory_type (allocation_bits flags) visible)
-        (result_map_both M.object (λ e. e) result) (D.objects device.old) (D.objects device.new) }
+        (told_object M.object result) (D.objects device.old) (D.objects device.new) }
     ensures properties { D.properties device.new ≡ D.properties device.old }
 {
     let memory = match device.allocate_memory(size, memory_type, flags) {
@@ -72,12 +71,11 @@ pub fn new_chunk_with_handle<M: MemoryObject, D: MemoryDevice<M>>(
     requires askable { IsAskable (D.properties device.old) size memory_type (allocation_bits flags) }
     requires visible { is_host_visible (D.properties device.old) memory_type ≡ visible }
 
-    ensures asks { (es : List Event) × Chain D.step device.old es device.new
-        × AsksChunkTwice (chunk_question size memory_type (allocation_bits flags) visible) es
-        (result_map_both (λ handles. (M.object handles.0, M.object handles.1)) (λ e. e) result) }
+    ensures asks { Asked D.step device.old device.new
+        (λ es. AsksChunkTwice (chunk_question size memory_type (allocation_bits flags) visible) es
+        (told_handles M.object result)) }
     ensures objects { ChunkAfterTwice (chunk_question size memory_type (allocation_bits flags) visible)
-        (result_map_both (λ handles. (M.object handles.0, M.object handles.1)) (λ e. e) result) (D.objects device.old)
-        (D.objects device.new) }
+        (told_handles M.object result) (D.objects device.old) (D.objects device.new) }
     ensures properties { D.properties device.new ≡ D.properties device.old }
 {
     let memory = new_chunk(device, size, memory_type, flags, visible)?;

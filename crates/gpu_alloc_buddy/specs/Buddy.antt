@@ -3,12 +3,13 @@ use Rattle.std.specs.Prelude.{◌≡◌, ◌⊎◌, ℕ, ◌+◌, ◌-◌, ◌*�
 use Rattle.std.specs.Prelude.{Some, None, Result, Ok, Err}
 use Rattle.std.specs.FinMap as map
 use Rattle.std.specs.FinSet as set
-use Rattle.gpu_alloc_types.specs.Flags.{has_bit}
+use Rattle.gpu_alloc_types.specs.Flags.{allocation_bits, has_bit}
 use Rattle.gpu_alloc_types.specs.Properties.{Properties}
 use Rattle.gpu_alloc_types.specs.Device.{Object, Event, put}
+use Rattle.gpu_alloc_types.specs.declared.allocation_flags.AllocationFlags.{AllocationFlags}
 use Rattle.gpu_alloc_types.specs.Device.Event.{Deallocated}
 use Rattle.gpu_alloc_base.specs.Accounts as accounts
-use Rattle.gpu_alloc_base.specs.Accounts.{Account}
+use Rattle.gpu_alloc_base.specs.Accounts.{Account, account, HeldChunks}
 use Rattle.gpu_alloc_base.specs.Case.{Case, Answers}
 use Rattle.gpu_alloc_base.specs.FreeSpace.{IsIn, IsMultipleOf, IsPowerOfTwo, IsPlace, IsFreePiece}
 use Rattle.gpu_alloc_base.specs.NewChunk.{ChunkQuestion}
@@ -18,6 +19,7 @@ use Rattle.gpu_alloc_base.specs.Chunks.{Chunk}
 use Rattle.gpu_alloc_base.specs.declared.buddy_block.Leaf.{Leaf}
 use Rattle.gpu_alloc_base.specs.declared.error.AllocationError.{AllocationError}
 use Rattle.gpu_alloc_base.specs.declared.error.AllocationError.TheVariants.{OutOfHostMemory}
+use Rattle.gpu_alloc_base.specs.declared.heap.Heap.{Heap}
 use Rattle.gpu_alloc_base.specs.Wanted.{Wanted}
 
 -- the size of the block: the least power of two that is not below the request's size and alignment, the atom and the
@@ -66,13 +68,13 @@ pub record BeginsChunk (b : Buddy) (size : ℕ) (leaf : Leaf) : Type 0 where
 abbrev pub with_leaf : Buddy → Leaf → Buddy
 with_leaf b leaf = record b { live = set.insert b.live leaf }
 
--- one more chunk is held, and the next one will be as large at least
+-- one more chunk is held, of the block's object
+abbrev pub chunks_with : HeldChunks → Leaf → ℕ → HeldChunks
+chunks_with chunks leaf size = map.insert chunks leaf.chunk (record { object = leaf.object; size = size })
+
+-- and the next one will be as large at least
 abbrev pub with_chunk : Buddy → Leaf → ℕ → Buddy
-with_chunk b leaf size =
-    record b {
-      chunks = map.insert b.chunks leaf.chunk (record { object = leaf.object; size = size });
-      next_chunk = size;
-    }
+with_chunk b leaf size = record b { chunks = chunks_with b.chunks leaf size; next_chunk = size }
 
 abbrev pub in_new_chunk : Account Buddy → Leaf → ℕ → Account Buddy
 in_new_chunk a leaf size = record {
@@ -104,6 +106,19 @@ case_of a w = buddy_case a (rounded a.allocator w) w.flags
 
 abbrev pub Allocates : Account Buddy → Wanted → List Event → Result Leaf AllocationError → Account Buddy → Type 0
 Allocates a w es answer new = Answers (case_of a w) es answer new
+
+-- What a call answers, by what it has before and after it: the allocator, the heap, and how many more objects may be
+-- held. The one is asked for what is wanted, the other for a block of the rounded size.
+abbrev pub CallAllocates : Buddy → Heap → ℕ → Wanted → Result Leaf AllocationError → Buddy → Heap → ℕ → List Event
+    → Type 0
+CallAllocates b heap remaining w answer new new_heap new_remaining es =
+    Allocates (account b heap remaining) w es answer (account new new_heap new_remaining)
+
+abbrev pub CallAnswers : Buddy → Heap → ℕ → ℕ → AllocationFlags → Result Leaf AllocationError → Buddy → Heap → ℕ
+    → List Event → Type 0
+CallAnswers b heap remaining size flags answer new new_heap new_remaining es =
+    Answers (buddy_case (account b heap remaining) size (allocation_bits flags)) es answer
+    (account new new_heap new_remaining)
 
 -- a place is looked for: a block in one, or none there, or no host memory for a block in one
 abbrev pub TakesPlace : Buddy → ℕ → Result (Option Leaf) AllocationError → Buddy → Type 0

@@ -1,28 +1,31 @@
 -- What the fields of a buddy allocator keep.
-use Rattle.std.specs.Prelude.{ℕ, ◌+◌, ◌^◌, ◌≤◌, Bool, ◌&&◌, ◌==◌, List, length}
-use Rattle.std.specs.List.{IsDistinct}
+use Rattle.std.specs.Prelude.{◌≡◌, ◌≢◌, ℕ, ◌+◌, ◌^◌, ◌<◌, ◌≤◌, Bool, ◌&&◌, ◌==◌, List, length, slice_index_or, None}
+use Rattle.std.specs.List.{All, IsDistinct}
 use Rattle.std.specs.FinMap as map
 use Rattle.std.specs.FinSet as set
 use Rattle.std.specs.Ordering.{nat_cmp, eq_by_cmp}
 use Rattle.slab.specs.Slab.{Slab}
 use Rattle.gpu_alloc_types.specs.Flags.{allocation_bits}
+use Rattle.gpu_alloc_base.specs.Accounts.{HeldChunks}
 use Rattle.gpu_alloc_base.specs.NewChunk.{ChunkQuestion}
 use Rattle.gpu_alloc_base.specs.SlabViews.{by_key}
 use Rattle.gpu_alloc_base.specs.Pieces.{AreKept}
-use Rattle.gpu_alloc_buddy.specs.BuddyState.{Buddy, IsFreeAt}
+use Rattle.gpu_alloc_buddy.specs.Buddy.{with_chunk, with_leaf}
+use Rattle.gpu_alloc_buddy.specs.BuddyState.{Buddy, IsFreeAt, IsLiveLeaf}
 use Rattle.gpu_alloc_base.specs.Leaves.{leaf_cmp}
 use Rattle.gpu_alloc_base.specs.Chunks.{Chunk}
 use Rattle.gpu_alloc_base.specs.declared.buddy_block.Leaf.{Leaf}
 use Rattle.gpu_alloc_base.specs.declared.piece.Piece.{Piece}
 use Rattle.gpu_alloc_buddy.specs.declared.buddy.AskedChunk.{AskedChunk}
+use Rattle.gpu_alloc_buddy.specs.declared.buddy.Chunk.{Chunk as HeldChunk}
 
 -- a list of live blocks as a set
 abbrev pub leaf_set : List Leaf → set.FinSet leaf_cmp
 leaf_set live = set.from_list live
 
--- held chunks by their keys, from the names of their objects and their sizes as powers of two
-abbrev pub chunks_in : {T : Type 0} → (T → ℕ) → (T → ℕ) → Slab T → map.FinMap nat_cmp Chunk
-chunks_in object order chunks = by_key (λ c. record { object = object c; size = 2 ^ order c }) chunks
+-- held chunks by their keys, with the names of their objects
+abbrev pub chunks_in : {M : Type 0} → (M → ℕ) → Slab (HeldChunk M) → HeldChunks
+chunks_in object chunks = by_key (λ c. record { object = object c.memory; size = 2 ^ c.order }) chunks
 
 -- what the device is asked for a chunk
 abbrev pub question_of : AskedChunk → ChunkQuestion
@@ -54,6 +57,19 @@ abbrev pub same_fields : Leaf → Leaf → Bool
 same_fields a b =
     (a.object == b.object) &&
     ((a.chunk == b.chunk) && ((a.offset == b.offset) && ((a.size == b.size) && (a.index == b.index))))
+
+-- a shortest of the pieces that have this order or more stands here
+abbrev pub IsShortestAt : List Piece → ℕ → ℕ → Type 0
+IsShortestAt pieces order i =
+    (i < length pieces)
+    × ((d : Piece) → (order ≤ (slice_index_or pieces i d).order)
+    × All (λ p. order ≤ p.order → (slice_index_or pieces i d).order ≤ p.order) pieces)
+
+-- Pieces that are kept are so again, with a chunk more of which a block is the front.
+abbrev pub KeepsPieces : List Piece → List Piece → Leaf → ℕ → Type 0
+KeepsPieces old new leaf size =
+    (b : Buddy) → map.get b.chunks leaf.chunk ≡ None → ((other : Leaf) → IsLiveLeaf b other → other.chunk ≢ leaf.chunk)
+    → AreKept old (IsFreeAt b) → AreKept new (IsFreeAt (with_leaf (with_chunk b leaf size) leaf))
 
 -- the free pieces are kept, no live block stands twice in the list, and there is room for the piece of each return
 pub record IsStored (b : Buddy) (pieces : List Piece) (live : List Leaf) (capacity : ℕ) : Type 0 where

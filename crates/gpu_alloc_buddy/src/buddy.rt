@@ -1,27 +1,23 @@
 //! The buddy allocator: shared chunks of one memory type, whose blocks are aligned powers of two.
 
-ghost use Rattle.std.specs.Prelude.{◌≡◌, ℕ, ◌+◌, ◌≤◌, ◌<◌, ◌≢◌, ◌↔◌, ◌^◌, ◌++◌, ◌∷◌, [], max, List, length, IfOk};
-ghost use Rattle.std.specs.Prelude.{IfErr, OnOk, OnErr, IfSome, IsSome, IsTrue, Some, None, slice_index_or, vec_len};
-ghost use Rattle.std.specs.Prelude.{vec_capacity};
+ghost use Rattle.std.specs.Prelude.{◌≡◌, ℕ, ◌+◌, ◌≤◌, ◌<◌, ◌↔◌, ◌^◌, ◌++◌, ◌∷◌, [], IfOk, IfErr, OnOk, OnErr, IfSome};
+ghost use Rattle.std.specs.Prelude.{IsSome, IsTrue, Some, None, vec_len, vec_capacity};
 ghost use Rattle.std.specs.FinMap as map;
 ghost use Rattle.std.specs.FinSet as set;
 ghost use Rattle.gpu_alloc_types.specs.Flags.{allocation_bits, property_bits, has_bit};
-ghost use Rattle.gpu_alloc_types.specs.Device.{Event, Chain, IsAskable};
+ghost use Rattle.gpu_alloc_types.specs.Device.{Asked, IsAskable};
 ghost use Rattle.gpu_alloc_types.specs.Properties.{is_host_visible};
 ghost use Rattle.std.specs.Int.{is_power_of_two};
-ghost use Rattle.std.specs.Result.{result_map_both};
-ghost use Rattle.gpu_alloc_buddy.specs.Buddy.{IsUnusedChunk, without_leaf, opened, rounded, buddy_case, case_of};
-ghost use Rattle.gpu_alloc_buddy.specs.Buddy.{Allocates, HasPlace, TakesPlace};
-ghost use Rattle.gpu_alloc_buddy.specs.Buddy.{Frees, ObjectsFreed, IsGranted, with_leaf, with_chunk, Agrees};
-ghost use Rattle.gpu_alloc_buddy.specs.Buddy.{ObjectsAfter};
+ghost use Rattle.gpu_alloc_buddy.specs.Buddy.{Agrees, buddy_case, CallAllocates, CallAnswers, case_of, chunks_with};
+ghost use Rattle.gpu_alloc_buddy.specs.Buddy.{Frees, HasPlace, IsGranted, IsUnusedChunk, ObjectsAfter, ObjectsFreed};
+ghost use Rattle.gpu_alloc_buddy.specs.Buddy.{opened, rounded, TakesPlace, without_leaf};
 ghost use Rattle.gpu_alloc_base.specs.Accounts.{account, IsCounted, chunks_and_remaining};
-ghost use Rattle.gpu_alloc_base.specs.Case.{Answers, Asks, RefusesFirst};
-ghost use Rattle.gpu_alloc_base.specs.NewChunk.{AsksBlock, ChunkAfter};
-ghost use Rattle.gpu_alloc_base.specs.Wanted.{wanted};
-ghost use Rattle.gpu_alloc_buddy.specs.BuddyInside.{chunks_in, question_of};
+ghost use Rattle.gpu_alloc_base.specs.Case.{Asks, RefusesFirst};
+ghost use Rattle.gpu_alloc_base.specs.NewChunk.{AsksBlock, ChunkAfter, told_object};
+ghost use Rattle.gpu_alloc_base.specs.Wanted.{requested, wanted};
+ghost use Rattle.gpu_alloc_buddy.specs.BuddyInside.{chunks_in, KeepsPieces, question_of};
 ghost use Rattle.gpu_alloc_buddy.specs.BuddySound.{IsSound};
-ghost use Rattle.gpu_alloc_buddy.specs.BuddyState.{Buddy, IsLiveLeaf, IsFreeAt};
-ghost use Rattle.gpu_alloc_base.specs.Pieces.{AreKept};
+ghost use Rattle.gpu_alloc_buddy.specs.BuddyState.{IsLiveLeaf};
 ghost use Rattle.slab.specs.Slab.{get, Updates, HasRoomFor, slab_len};
 ghost use Rattle.gpu_alloc_base.specs.AlignMasks.{IsAlignMask};
 
@@ -171,16 +167,15 @@ impl<M: MemoryObject, A: Allocator> BuddyAllocator<M, A> {
         requires bound { heap.old.used ≤ 2 ^ 127 }
 
         // What was asked of the device, the answer, and what changed.
-        ensures allocates { (es : List Event) × Chain D.step device.old es device.new
-            × Allocates (account self.old heap.old allocations_remains.old)
-            (wanted size align_mask (allocation_bits flags)) es result
-            (account self.new heap.new allocations_remains.new) }
+        ensures allocates { Asked D.step device.old device.new
+            (CallAllocates self.old heap.old allocations_remains.old (requested size align_mask flags) result
+            self.new heap.new allocations_remains.new) }
         ensures objects { ObjectsAfter self.old result self.new (D.objects device.old) (D.objects device.new) }
         ensures agrees { Agrees self.new (D.properties device.new) (D.objects device.new) }
         ensures properties { D.properties device.new ≡ D.properties device.old }
 
         // What follows from it.
-        ensures granted { IfOk result (IsGranted self.old (wanted size align_mask (allocation_bits flags)) self.new) }
+        ensures granted { IfOk result (IsGranted self.old (requested size align_mask flags) self.new) }
         ensures refused { OnErr result
             ((self.new ≡ self.old) × ((heap.new ≡ heap.old) × (allocations_remains.new ≡ allocations_remains.old))) }
         ensures sound { IsSound self.new }
@@ -239,9 +234,9 @@ impl<M: MemoryObject, A: Allocator> BuddyAllocator<M, A> {
         requires agrees { Agrees self.old (D.properties device.old) (D.objects device.old) }
         requires counted { IsCounted self.old.chunks heap.old allocations_remains.old }
 
-        ensures frees { (es : List Event) × Chain D.step device.old es device.new
-            × Frees (account self.old heap.old allocations_remains.old) block es
-            (account self.new heap.new allocations_remains.new) }
+        ensures frees { Asked D.step device.old device.new
+            (λ es. Frees (account self.old heap.old allocations_remains.old) block es
+            (account self.new heap.new allocations_remains.new)) }
         ensures objects { ObjectsFreed self.old block (D.objects device.old) (D.objects device.new) }
         ensures agrees { Agrees self.new (D.properties device.new) (D.objects device.new) }
         ensures properties { D.properties device.new ≡ D.properties device.old }
@@ -266,9 +261,9 @@ impl<M: MemoryObject, A: Allocator> BuddyAllocator<M, A> {
         requires agrees { Agrees self.old (D.properties device.old) (D.objects device.old) }
         requires counted { IsCounted self.old.chunks heap.old allocations_remains.old }
 
-        ensures frees { (es : List Event) × Chain D.step device.old es device.new
-            × Frees (account self.old heap.old allocations_remains.old) block es
-            (account self.new heap.new allocations_remains.new) }
+        ensures frees { Asked D.step device.old device.new
+            (λ es. Frees (account self.old heap.old allocations_remains.old) block es
+            (account self.new heap.new allocations_remains.new)) }
         ensures told { IsTrue result ↔ IsUnusedChunk (without_leaf self.old block) block.chunk }
         ensures objects { ObjectsFreed self.old block (D.objects device.old) (D.objects device.new) }
         ensures agrees { Agrees self.new (D.properties device.new) (D.objects device.new) }
@@ -346,10 +341,9 @@ impl<M: MemoryObject, A: Allocator> BuddyAllocator<M, A> {
         requires agrees { Agrees self.old (D.properties device.old) (D.objects device.old) }
         requires counted { IsCounted self.old.chunks heap.old allocations_remains.old }
         requires bound { heap.old.used ≤ 2 ^ 127 }
-        ensures answers { (es : List Event) × Chain D.step device.old es device.new
-            × Answers
-            (buddy_case (account self.old heap.old allocations_remains.old) (2 ^ order) (allocation_bits flags)) es
-            result (account self.new heap.new allocations_remains.new) }
+        ensures answers { Asked D.step device.old device.new
+            (CallAnswers self.old heap.old allocations_remains.old (2 ^ order) flags result
+            self.new heap.new allocations_remains.new) }
         ensures objects { ObjectsAfter self.old result self.new (D.objects device.old) (D.objects device.new) }
         ensures properties { D.properties device.new ≡ D.properties device.old }
     {
@@ -413,10 +407,9 @@ impl<M: MemoryObject, A: Allocator> BuddyAllocator<M, A> {
         requires agrees { Agrees self.old (D.properties device.old) (D.objects device.old) }
         requires counted { IsCounted self.old.chunks heap.old allocations_remains.old }
         requires bound { heap.old.used ≤ 2 ^ 127 }
-        ensures answers { (es : List Event) × Chain D.step device.old es device.new
-            × Answers
-            (buddy_case (account self.old heap.old allocations_remains.old) (2 ^ order) (allocation_bits flags)) es
-            result (account self.new heap.new allocations_remains.new) }
+        ensures answers { Asked D.step device.old device.new
+            (CallAnswers self.old heap.old allocations_remains.old (2 ^ order) flags result
+            self.new heap.new allocations_remains.new) }
         ensures objects { ObjectsAfter self.old result self.new (D.objects device.old) (D.objects device.new) }
         ensures properties { D.properties device.new ≡ D.properties device.old }
     {
@@ -472,23 +465,17 @@ fn ask_chunk<M: MemoryObject, A: Allocator, D: MemoryDevice<M>>(
     requires askable { IsAskable (D.properties device.old) (2 ^ asked.order) asked.memory_type
         (allocation_bits asked.flags) }
     requires visible { is_host_visible (D.properties device.old) asked.memory_type ≡ asked.visible }
-    ensures asks { (es : List Event) × Chain D.step device.old es device.new
-        × AsksBlock (question_of asked) es (result_map_both (λ leaf. leaf.object) (λ e. e) result) }
-    ensures objects { ChunkAfter (question_of asked) (result_map_both (λ leaf. leaf.object) (λ e. e) result)
+    ensures asks { Asked D.step device.old device.new
+        (λ es. AsksBlock (question_of asked) es (told_object (λ leaf. leaf.object) result)) }
+    ensures objects { ChunkAfter (question_of asked) (told_object (λ leaf. leaf.object) result)
         (D.objects device.old) (D.objects device.new) }
     ensures properties { D.properties device.new ≡ D.properties device.old }
     ensures leaf { IfOk result
         (λ leaf. leaf ≡ record { object = leaf.object; chunk = leaf.chunk; offset = 0; size = 2 ^ order; index = 0 }) }
-    ensures key { IfOk result
-        (λ leaf. map.get (chunks_in (λ c. M.object c.memory) (λ c. c.order) chunks.old) leaf.chunk ≡ None) }
+    ensures key { IfOk result (λ leaf. map.get (chunks_in M.object chunks.old) leaf.chunk ≡ None) }
     ensures chunks { IfOk result
-        (λ leaf. chunks_in (λ c. M.object c.memory) (λ c. c.order) chunks.new ≡ map.insert
-        (chunks_in (λ c. M.object c.memory) (λ c. c.order) chunks.old) leaf.chunk
-        (record { object = leaf.object; size = 2 ^ asked.order })) }
-    ensures kept { IfOk result
-        (λ leaf. (b : Buddy) → map.get b.chunks leaf.chunk ≡ None
-        → ((other : Leaf) → IsLiveLeaf b other → other.chunk ≢ leaf.chunk) → AreKept pieces.old.items (IsFreeAt b)
-        → AreKept pieces.new.items (IsFreeAt (with_leaf (with_chunk b leaf (2 ^ asked.order)) leaf))) }
+        (λ leaf. chunks_in M.object chunks.new ≡ chunks_with (chunks_in M.object chunks.old) leaf (2 ^ asked.order)) }
+    ensures kept { IfOk result (λ leaf. KeepsPieces pieces.old.items pieces.new.items leaf (2 ^ asked.order)) }
     ensures live { IfOk result (λ leaf. live.new.items ≡ live.old.items ++ leaf ∷ []) }
     ensures count { OnOk result (vec_len pieces.new + order ≡ vec_len pieces.old + asked.order) }
     ensures capacity { vec_capacity pieces.new ≡ vec_capacity pieces.old }
@@ -527,9 +514,7 @@ fn begin_chunk<M: MemoryObject, A: Allocator>(
     ensures key { get chunks.old result.chunk ≡ None }
     ensures chunks { Updates chunks.old chunks.new result.chunk (Some chunk) }
     ensures len { slab_len chunks.new ≡ slab_len chunks.old + 1 }
-    ensures kept { (b : Buddy) → map.get b.chunks result.chunk ≡ None
-        → ((leaf : Leaf) → IsLiveLeaf b leaf → leaf.chunk ≢ result.chunk) → AreKept pieces.old.items (IsFreeAt b)
-        → AreKept pieces.new.items (IsFreeAt (with_leaf (with_chunk b result (2 ^ chunk.order)) result)) }
+    ensures kept { KeepsPieces pieces.old.items pieces.new.items result (2 ^ chunk.order) }
     ensures live { live.new.items ≡ live.old.items ++ result ∷ [] }
     ensures count { vec_len pieces.new + order ≡ vec_len pieces.old + chunk.order }
     ensures capacity { vec_capacity pieces.new ≡ vec_capacity pieces.old }

@@ -6,13 +6,14 @@ use Rattle.std.specs.Prelude as list
 use Rattle.std.specs.List.{Contains}
 use Rattle.std.specs.FinMap as map
 use Rattle.std.specs.Ordering.{nat_cmp}
-use Rattle.gpu_alloc_types.specs.Flags.{has_bit}
+use Rattle.gpu_alloc_types.specs.Flags.{allocation_bits, has_bit}
 use Rattle.gpu_alloc_types.specs.Properties.{Properties}
-use Rattle.gpu_alloc_types.specs.Device.{Object, Event, put}
+use Rattle.gpu_alloc_types.specs.Device.{Asked, Object, Event, put}
+use Rattle.gpu_alloc_types.specs.declared.allocation_flags.AllocationFlags.{AllocationFlags}
 use Rattle.gpu_alloc_types.specs.Device.Event.{Deallocated}
 use Rattle.gpu_alloc_types.specs.declared.types.FreeRange.{FreeRange}
 use Rattle.gpu_alloc_base.specs.Accounts as accounts
-use Rattle.gpu_alloc_base.specs.Accounts.{Account}
+use Rattle.gpu_alloc_base.specs.Accounts.{Account, account}
 use Rattle.gpu_alloc_base.specs.Case.{Case, Answers}
 use Rattle.gpu_alloc_base.specs.Wanted.{Wanted}
 use Rattle.gpu_alloc_base.specs.Chunks.{Chunk}
@@ -25,6 +26,7 @@ use Rattle.gpu_alloc_base.specs.NewChunk.{ChunkQuestion}
 use Rattle.gpu_alloc_base.specs.Sizes.{up, grown_chunk, doubled_chunk}
 use Rattle.gpu_alloc_base.specs.declared.free_list_block.Slot.{Slot}
 use Rattle.gpu_alloc_base.specs.declared.error.AllocationError.{AllocationError}
+use Rattle.gpu_alloc_base.specs.declared.heap.Heap.{Heap}
 
 -- the size that is looked for, in whole atoms
 abbrev pub rounded : Listing → Wanted → ℕ
@@ -91,6 +93,19 @@ case_of a w = list_case a (rounded a.allocator w) (alignment a.allocator w) w.fl
 
 abbrev pub Allocates : Account Listing → Wanted → List Event → Result Slot AllocationError → Account Listing → Type 0
 Allocates a w es answer new = Answers (case_of a w) es answer new
+
+-- What a call answers, by what it has before and after it: the allocator, the heap, and how many more objects may be
+-- held. The one is asked for what is wanted, the other for a block of the rounded size.
+abbrev pub CallAllocates : Listing → Heap → ℕ → Wanted → Result Slot AllocationError → Listing → Heap → ℕ → List Event
+    → Type 0
+CallAllocates l heap remaining w answer new new_heap new_remaining es =
+    Allocates (account l heap remaining) w es answer (account new new_heap new_remaining)
+
+abbrev pub CallAnswers : Listing → Heap → ℕ → ℕ → ℕ → AllocationFlags → Result Slot AllocationError → Listing → Heap → ℕ
+    → List Event → Type 0
+CallAnswers l heap remaining size alignment flags answer new new_heap new_remaining es =
+    Answers (list_case (account l heap remaining) size alignment (allocation_bits flags)) es answer
+    (account new new_heap new_remaining)
 
 -- Chunks that go.
 
@@ -202,6 +217,13 @@ GivesBack keep_last a gone es new old_objects new_objects =
     AreGone a.allocator.space keep_last gone
     × (LetsGo a gone es new × (new_objects ≡ without_objects_of a.allocator.space old_objects gone))
 
+-- so a call gives them back, and the device is asked so
+abbrev pub CallGivesBack : {D : Type 0} → (D → Event → D → Type 0) → (D → ℕ → Option Object) → D → D → Bool
+    → Account Listing → Account Listing → Type 0
+CallGivesBack step objects old_device new_device keep_last a new =
+    (gone : List ℕ) × Asked step old_device new_device
+    (λ es. GivesBack keep_last a gone es new (objects old_device) (objects new_device))
+
 -- One chunk goes.
 
 abbrev pub account_without_chunk : Account Listing → ℕ → Account Listing
@@ -222,6 +244,13 @@ GivesFirst keep_last a es (Some object) new old_objects new_objects =
     × ((object ≡ object_of a.allocator.space number)
     × ((es ≡ Deallocated object ∷ [])
     × ((new ≡ account_without_chunk a number) × (new_objects ≡ put old_objects object None)))))
+
+-- so a call gives it back, and the device is asked so
+abbrev pub CallGivesFirst : {D : Type 0} → (D → Event → D → Type 0) → (D → ℕ → Option Object) → D → D → Bool
+    → Account Listing → Option ℕ → Account Listing → Type 0
+CallGivesFirst step objects old_device new_device keep_last a answer new =
+    Asked step old_device new_device
+    (λ es. GivesFirst keep_last a es answer new (objects old_device) (objects new_device))
 
 -- a block less
 abbrev pub listing_without : Listing → Slot → Listing

@@ -1,21 +1,20 @@
 //! The free-list allocator: shared chunks of one memory type, whose blocks are the tails of free runs.
 
-ghost use Rattle.std.specs.Prelude.{◌≡◌, ℕ, ◌+◌, ◌≤◌, ◌<◌, ◌^◌, ◌↔◌, List, Contains, IfOk, IfErr, IfSome, OnErr};
-ghost use Rattle.std.specs.Prelude.{IsSome, IsTrue, Some, None, true, false, cond};
+ghost use Rattle.std.specs.Prelude.{◌≡◌, ℕ, ◌+◌, ◌≤◌, ◌<◌, ◌^◌, ◌↔◌, Contains, IfOk, IfSome, OnErr};
+ghost use Rattle.std.specs.Prelude.{IsSome, IsTrue, Some, None, true, false};
 ghost use Rattle.std.specs.FinMap as map;
 ghost use Rattle.std.specs.Int.{is_power_of_two};
 ghost use Rattle.gpu_alloc_types.specs.Flags.{allocation_bits, property_bits, has_bit};
-ghost use Rattle.gpu_alloc_types.specs.Device.{Event, Chain};
+ghost use Rattle.gpu_alloc_types.specs.Device.{Asked};
 ghost use Rattle.gpu_alloc_types.specs.declared.types.FreeRange.{FreeRange as Range};
-ghost use Rattle.gpu_alloc_base.specs.Wanted.{wanted};
-ghost use Rattle.gpu_alloc_freelist.specs.FreeList.{HasPlace, without_slot};
-ghost use Rattle.gpu_alloc_freelist.specs.FreeListAllocator.{Agrees, alignment, Allocates, AreInOrder, case_of};
-ghost use Rattle.gpu_alloc_freelist.specs.FreeListAllocator.{chunk_size, Cleans, Frees, GivesBack, GivesFirst};
+ghost use Rattle.gpu_alloc_base.specs.Wanted.{requested, wanted};
+ghost use Rattle.gpu_alloc_freelist.specs.FreeList.{without_slot};
+ghost use Rattle.gpu_alloc_freelist.specs.FreeListAllocator.{Agrees, AreInOrder, CallAllocates, CallAnswers, case_of};
+ghost use Rattle.gpu_alloc_freelist.specs.FreeListAllocator.{CallGivesBack, CallGivesFirst, chunk_size, Cleans, Frees};
 ghost use Rattle.gpu_alloc_freelist.specs.FreeListAllocator.{IsGranted, IsRunOf, list_case, listing_without};
 ghost use Rattle.gpu_alloc_freelist.specs.FreeListAllocator.{ObjectsAfter, ObjectsCleaned, ObjectsFreed, opened};
-ghost use Rattle.gpu_alloc_freelist.specs.FreeListAllocator.{rounded};
 ghost use Rattle.gpu_alloc_base.specs.Accounts.{account, IsCounted, chunks_and_remaining};
-ghost use Rattle.gpu_alloc_base.specs.Case.{Answers, Asks, RefusesFirst};
+ghost use Rattle.gpu_alloc_base.specs.Case.{Asks, RefusesFirst};
 ghost use Rattle.gpu_alloc_freelist.specs.FreeListInside.{IsRounded};
 ghost use Rattle.gpu_alloc_freelist.specs.FreeListSound.{IsSound, IsSoundSpace};
 ghost use Rattle.gpu_alloc_freelist.specs.FreeListState.{Listing, IsLiveSlot};
@@ -172,16 +171,15 @@ impl<M: MemoryObject, A: Allocator> FreeListAllocator<M, A> {
         requires bound { heap.old.used ≤ 2 ^ 127 }
 
         // What was asked of the device, the answer, and what changed.
-        ensures allocates { (es : List Event) × Chain D.step device.old es device.new
-            × Allocates (account self.old heap.old allocations_remains.old)
-            (wanted size align_mask (allocation_bits flags)) es result
-            (account self.new heap.new allocations_remains.new) }
+        ensures allocates { Asked D.step device.old device.new
+            (CallAllocates self.old heap.old allocations_remains.old (requested size align_mask flags) result
+            self.new heap.new allocations_remains.new) }
         ensures objects { ObjectsAfter self.old result self.new (D.objects device.old) (D.objects device.new) }
         ensures agrees { Agrees self.new (D.properties device.new) (D.objects device.new) }
         ensures properties { D.properties device.new ≡ D.properties device.old }
 
         // What follows from it.
-        ensures granted { IfOk result (IsGranted self.old (wanted size align_mask (allocation_bits flags)) self.new) }
+        ensures granted { IfOk result (IsGranted self.old (requested size align_mask flags) self.new) }
         ensures refused { OnErr result
             ((self.new ≡ self.old) × ((heap.new ≡ heap.old) × (allocations_remains.new ≡ allocations_remains.old))) }
         ensures sound { IsSound self.new }
@@ -242,9 +240,9 @@ impl<M: MemoryObject, A: Allocator> FreeListAllocator<M, A> {
         requires agrees { Agrees self.old (D.properties device.old) (D.objects device.old) }
         requires counted { IsCounted (self.old).space.chunks heap.old allocations_remains.old }
 
-        ensures frees { (es : List Event) × Chain D.step device.old es device.new
-            × Frees (account self.old heap.old allocations_remains.old) block es
-            (account self.new heap.new allocations_remains.new) }
+        ensures frees { Asked D.step device.old device.new
+            (λ es. Frees (account self.old heap.old allocations_remains.old) block es
+            (account self.new heap.new allocations_remains.new)) }
         ensures objects { ObjectsFreed self.old block (D.objects device.old) (D.objects device.new) }
         ensures agrees { Agrees self.new (D.properties device.new) (D.objects device.new) }
         ensures properties { D.properties device.new ≡ D.properties device.old }
@@ -272,9 +270,9 @@ impl<M: MemoryObject, A: Allocator> FreeListAllocator<M, A> {
         requires agrees { Agrees self.old (D.properties device.old) (D.objects device.old) }
         requires counted { IsCounted (self.old).space.chunks heap.old allocations_remains.old }
 
-        ensures cleans { (es : List Event) × Chain D.step device.old es device.new
-            × Cleans (account self.old heap.old allocations_remains.old) es
-            (account self.new heap.new allocations_remains.new) }
+        ensures cleans { Asked D.step device.old device.new
+            (λ es. Cleans (account self.old heap.old allocations_remains.old) es
+            (account self.new heap.new allocations_remains.new)) }
         ensures objects { ObjectsCleaned self.old (D.objects device.old) (D.objects device.new) }
         ensures agrees { Agrees self.new (D.properties device.new) (D.objects device.new) }
         ensures properties { D.properties device.new ≡ D.properties device.old }
@@ -308,9 +306,9 @@ impl<M: MemoryObject, A: Allocator> FreeListAllocator<M, A> {
     ) -> Option<u64>
         requires agrees { Agrees self.old (D.properties device.old) (D.objects device.old) }
         requires counted { IsCounted (self.old).space.chunks heap.old allocations_remains.old }
-        ensures gives { (es : List Event) × Chain D.step device.old es device.new
-            × GivesFirst keep_last (account self.old heap.old allocations_remains.old) es result
-            (account self.new heap.new allocations_remains.new) (D.objects device.old) (D.objects device.new) }
+        ensures gives { CallGivesFirst D.step D.objects device.old device.new keep_last
+            (account self.old heap.old allocations_remains.old) result
+            (account self.new heap.new allocations_remains.new) }
         ensures agrees { Agrees self.new (D.properties device.new) (D.objects device.new) }
         ensures properties { D.properties device.new ≡ D.properties device.old }
         ensures sound { IsSound self.new }
@@ -375,10 +373,9 @@ impl<M: MemoryObject, A: Allocator> FreeListAllocator<M, A> {
         requires agrees { Agrees self.old (D.properties device.old) (D.objects device.old) }
         requires counted { IsCounted (self.old).space.chunks heap.old allocations_remains.old }
         requires bound { heap.old.used ≤ 2 ^ 127 }
-        ensures answers { (es : List Event) × Chain D.step device.old es device.new
-            × Answers
-            (list_case (account self.old heap.old allocations_remains.old) size (align_mask + 1)
-            (allocation_bits flags)) es result (account self.new heap.new allocations_remains.new) }
+        ensures answers { Asked D.step device.old device.new
+            (CallAnswers self.old heap.old allocations_remains.old size (align_mask + 1) flags result
+            self.new heap.new allocations_remains.new) }
         ensures objects { ObjectsAfter self.old result self.new (D.objects device.old) (D.objects device.new) }
         ensures properties { D.properties device.new ≡ D.properties device.old }
         ensures sound { IsSound self.old }
@@ -412,10 +409,9 @@ impl<M: MemoryObject, A: Allocator> FreeListAllocator<M, A> {
         requires agrees { Agrees self.old (D.properties device.old) (D.objects device.old) }
         requires counted { IsCounted (self.old).space.chunks heap.old allocations_remains.old }
         requires bound { heap.old.used ≤ 2 ^ 127 }
-        ensures answers { (es : List Event) × Chain D.step device.old es device.new
-            × Answers
-            (list_case (account self.old heap.old allocations_remains.old) size (align_mask + 1)
-            (allocation_bits flags)) es result (account self.new heap.new allocations_remains.new) }
+        ensures answers { Asked D.step device.old device.new
+            (CallAnswers self.old heap.old allocations_remains.old size (align_mask + 1) flags result
+            self.new heap.new allocations_remains.new) }
         ensures objects { ObjectsAfter self.old result self.new (D.objects device.old) (D.objects device.new) }
         ensures properties { D.properties device.new ≡ D.properties device.old }
     {
@@ -466,9 +462,9 @@ impl<M: MemoryObject, A: Allocator> FreeListAllocator<M, A> {
     )
         requires agrees { Agrees self.old (D.properties device.old) (D.objects device.old) }
         requires counted { IsCounted (self.old).space.chunks heap.old allocations_remains.old }
-        ensures gives { (gone : List ℕ) × (es : List Event) × Chain D.step device.old es device.new
-            × GivesBack keep_last (account self.old heap.old allocations_remains.old) gone es
-            (account self.new heap.new allocations_remains.new) (D.objects device.old) (D.objects device.new) }
+        ensures gives { CallGivesBack D.step D.objects device.old device.new keep_last
+            (account self.old heap.old allocations_remains.old)
+            (account self.new heap.new allocations_remains.new) }
         ensures agrees { Agrees self.new (D.properties device.new) (D.objects device.new) }
         ensures properties { D.properties device.new ≡ D.properties device.old }
         ensures sound { IsSound self.new }

@@ -151,3 +151,7 @@ Row p old (BytesGot name offset bytes) new =
 abbrev pub Chain : {D : Type 0} → (D → Event → D → Type 0) → D → List Event → D → Type 0
 Chain {D} step old [] new = new ≡ old
 Chain {D} step old (e ∷ es) new = (mid : D) × step old e mid × Chain step mid es new
+
+-- The device was asked, in such questions, and came from one state to the other.
+abbrev pub Asked : {D : Type 0} → (D → Event → D → Type 0) → D → D → (List Event → Type 0) → Type 0
+Asked step old new P = (es : List Event) × Chain step old es new × P es

@@ -5,6 +5,7 @@ ghost use Rattle.std.specs.Prelude.{IfSome, IfNone, MatchOption, vec_len, vec_ca
 ghost use Rattle.std.specs.List.{All, Contains};
 ghost use Rattle.gpu_alloc_base.specs.FreeSpace.{IsMultipleOf, IsPowerOfTwo};
 ghost use Rattle.gpu_alloc_base.specs.Pieces.{AreHalves, AreKept, AreKeptBeside, joined};
+ghost use Rattle.gpu_alloc_buddy.specs.BuddyInside.{IsShortestAt};
 ghost use Rattle.gpu_alloc_buddy.specs.BuddyState.{Buddy, IsFreeAt};
 ghost use Rattle.gpu_alloc_base.specs.declared.piece.Piece.{Piece as PieceRecord};
 
@@ -38,10 +39,7 @@ fn place_of(pieces: &[Piece], piece: Piece) -> Option<usize>
 
 /// Where a shortest piece of this order or more stands. None where every piece is shorter.
 pub(super) fn shortest(pieces: &[Piece], order: u32) -> Option<usize>
-    ensures some { IfSome result
-        (λ i. (i < length pieces.now)
-        × ((d : PieceRecord) → (order ≤ (slice_index_or pieces.now i d).order)
-        × All (λ p. order ≤ p.order → (slice_index_or pieces.now i d).order ≤ p.order) pieces.now)) }
+    ensures some { IfSome result (IsShortestAt pieces.now order) }
     ensures none { IfNone result (All (λ p. p.order < order) pieces.now) }
 {
     let mut best: Option<usize> = None;

@@ -1,16 +1,15 @@
 //! A free list: chunks of memory by number, their free runs, and the blocks that are live in them.
 
-ghost use Rattle.std.specs.Prelude.{◌≡◌, ◌⊎◌, ◌≤◌, ◌<◌, ◌+◌, ◌↔◌, ℕ, List, length, slice_get, false, Some, None};
+ghost use Rattle.std.specs.Prelude.{◌≡◌, ◌⊎◌, ◌≤◌, ◌<◌, ◌+◌, ◌↔◌, ℕ, length, slice_get, false, Some, None};
 ghost use Rattle.std.specs.Prelude.{IfSome};
-ghost use Rattle.std.specs.Prelude.{IfNone, IfOk, IfErr, OnOk, OnErr, IsOk, IsSome, IsTrue, MatchOption, vec_len};
+ghost use Rattle.std.specs.Prelude.{IfNone, IfOk, IfErr, OnOk, OnErr, IsOk, IsSome, IsTrue, vec_len};
 ghost use Rattle.std.specs.Prelude.{vec_capacity};
 ghost use Rattle.std.specs.FinMap as map;
 ghost use Rattle.std.specs.FinSet as set;
 ghost use Rattle.std.specs.List.{Contains, IsDistinct};
-ghost use Rattle.std.specs.Result.{result_map_both};
 ghost use Rattle.gpu_alloc_types.specs.Flags.{allocation_bits};
 ghost use Rattle.gpu_alloc_types.specs.Properties.{is_host_visible};
-ghost use Rattle.gpu_alloc_types.specs.Device.{Event, Chain, IsAskable};
+ghost use Rattle.gpu_alloc_types.specs.Device.{Asked, IsAskable};
 ghost use Rattle.gpu_alloc_freelist.specs.FreeList.{TakesTail, IsFirstToGo, MayGo, HasNumber, HasPlace, with_slot};
 ghost use Rattle.gpu_alloc_freelist.specs.FreeList.{without_slot, with_chunk, without_chunk, first_tail, no_space};
 ghost use Rattle.gpu_alloc_freelist.specs.FreeListInside.{by_number, IsWholeRegion, MayBeTaken, IsFirstWhole};
@@ -19,7 +18,7 @@ ghost use Rattle.gpu_alloc_freelist.specs.FreeListSound.{IsSoundSpace};
 ghost use Rattle.gpu_alloc_freelist.specs.FreeListState.{IsLiveSlot, IsFreeIn};
 ghost use Rattle.gpu_alloc_base.specs.FreeRuns.{IsFreeRun, AreRising};
 ghost use Rattle.gpu_alloc_base.specs.AlignMasks.{IsAlignMask};
-ghost use Rattle.gpu_alloc_base.specs.NewChunk.{AsksBlock, ChunkAfter, chunk_question};
+ghost use Rattle.gpu_alloc_base.specs.NewChunk.{AsksBlock, ChunkAfter, chunk_question, told_object};
 ghost use Rattle.gpu_alloc_base.specs.declared.region.FreeListRegion.{FreeListRegion as Region};
 
 use super::regions::{insert, last_with_room, tail_of, take_tail};
@@ -188,11 +187,11 @@ impl<M: MemoryObject, A: Allocator> FreeList<M, A> {
         requires number { HasNumber self.old.space }
         requires askable { IsAskable (D.properties device.old) chunk_size memory_type (allocation_bits flags) }
         requires visible { is_host_visible (D.properties device.old) memory_type ≡ visible }
-        ensures asks { (es : List Event) × Chain D.step device.old es device.new
-            × AsksBlock (chunk_question chunk_size memory_type (allocation_bits flags) visible) es
-            (result_map_both (λ slot. slot.object) (λ e. e) result) }
+        ensures asks { Asked D.step device.old device.new
+            (λ es. AsksBlock (chunk_question chunk_size memory_type (allocation_bits flags) visible) es
+            (told_object (λ slot. slot.object) result)) }
         ensures objects { ChunkAfter (chunk_question chunk_size memory_type (allocation_bits flags) visible)
-            (result_map_both (λ slot. slot.object) (λ e. e) result) (D.objects device.old) (D.objects device.new) }
+            (told_object (λ slot. slot.object) result) (D.objects device.old) (D.objects device.new) }
         ensures properties { D.properties device.new ≡ D.properties device.old }
         ensures block { IfOk result
             (λ slot. slot ≡ first_tail self.old.space slot.object chunk_size size (align_mask + 1)) }

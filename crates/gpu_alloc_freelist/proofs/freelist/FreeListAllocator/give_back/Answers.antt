@@ -37,4 +37,4 @@ loop-memory-preserved g c =
 pub returns-clause-gives : goal.returns-clause-gives
 returns-clause-gives g c =
     let way = c.loop-memory.invariant.way in
-    rw (c.in_default.ensures.none.1) (way.0, way.1, way.2, ends {from = account c.args.self.now c.args.heap.now c.args.allocations_remains.now} way.3 c.in_default.ensures.none.0)
+    rw (c.in_default.ensures.none.1) (way.0, (way.1, way.2, ends {from = account c.args.self.now c.args.heap.now c.args.allocations_remains.now} way.3 c.in_default.ensures.none.0))
