@@ -95,9 +95,10 @@ impl<M: MemoryObject, A: Allocator> FreeList<M, A> {
     /// Makes room for one more chunk with one more block: for their runs too, the front of the chunk now and the block
     /// when it comes back. Whether there is room, contracts see as a number.
     ///
-    /// The only refusal is want of memory. Nothing but the room changes, after a refusal too.
+    /// The only refusal is want of memory. Nothing but the room changes, which is no less, after a refusal too.
     pub fn reserve(&mut self) -> Result<(), AllocError>
         ensures room { OnOk result (0 < self.new.room) }
+        ensures stays { self.old.room ≤ self.new.room }
         ensures succeeds { 0 < self.old.room → IsOk result }
         ensures kept { self.new.space ≡ self.old.space }
     {
@@ -215,7 +216,8 @@ impl<M: MemoryObject, A: Allocator> FreeList<M, A> {
     ///
     /// The size has to be at least 1, and `align_mask + 1` a power of two of at most 2^63. It takes the room of
     /// `reserve` itself, only once a run has room. The only refusal is want of host memory, for that room or for a
-    /// second handle of the chunk's object, and then the list is as it was.
+    /// second handle of the chunk's object, and then the list is as it was. A block takes one chunk's room at most, and
+    /// a refusal none.
     pub fn get_block(
         &mut self,
         align_mask: u64,
@@ -225,6 +227,8 @@ impl<M: MemoryObject, A: Allocator> FreeList<M, A> {
         requires alignment { IsAlignMask align_mask }
         ensures takes { TakesTail self.old.space size (align_mask + 1) result self.new.space }
         ensures none { IfOk result (λ block. IfNone block (self.new ≡ self.old)) }
+        ensures room { OnOk result (self.old.room ≤ self.new.room + 1) }
+        ensures stays { OnErr result (self.old.room ≤ self.new.room) }
         ensures sound { IsSoundSpace self.new.space }
     {
         let Some(index) = last_with_room(self.regions.as_slice(), size, align_mask) else {
