@@ -6,7 +6,7 @@ use Rattle.std.specs.FinSet as set
 use Rattle.gpu_alloc_types.specs.Device.{Event, Object, put}
 use Rattle.gpu_alloc_types.specs.Objects.{put-same, put-other}
 use Rattle.gpu_alloc_base.specs.Case as case
-use Rattle.gpu_alloc.specs.Allocation.{Allocates, TriesAll, strategy, candidates_of}
+use Rattle.gpu_alloc.specs.Allocation.{Allocates, strategy}
 use Rattle.gpu_alloc.specs.Agreement.{Agrees, IsCounted}
 use Rattle.gpu_alloc.specs.Candidates.{candidate}
 use Rattle.gpu_alloc.specs.Owned.{HoldsWith}
@@ -23,7 +23,7 @@ use Rattle.gpu_alloc_types.specs.Properties.{Properties}
 use Rattle.gpu_alloc_base.proofs.Lists.{contains_head, contains_later, contains_cases, contains_none}
 use Rattle.gpu_alloc_base.proofs.Maps.{one_value}
 use Rattle.gpu_alloc_base.proofs.Names.{here, one_or_two, get_removed-other, get_put-other}
-use Rattle.gpu_alloc.proofs.Decisions.{of_allocation}
+use Rattle.gpu_alloc.proofs.Decisions.{of_grant}
 use Rattle.gpu_alloc.proofs.FreeLists.Gone.{kept_was}
 use Rattle.gpu_alloc.proofs.Ledgers.{Held}
 use Rattle.gpu_alloc.proofs.Tables.LiveSpans.{live_still}
@@ -62,13 +62,8 @@ grant_adds InBuddyChunk s r t es b new (inr gives) = adds_like s b _ new gives.s
 grant_adds InFreeList s r t es b new (inl gives) = adds_like s b _ new gives.state (record { live = refl; held = inl refl; properties = refl; config = refl })
 grant_adds InFreeList s r t es b new (inr gives) = adds_like s b _ new gives.state (record { live = refl; held = inr (_, gives.place.was_free, refl); properties = refl; config = refl })
 
-tries_add : (s : State) (r : Request) (hint : Option Dedicated) (ts : List ℕ) (es : List Event) (b : Block) (new : State) → TriesAll s r hint ts es (Ok b) new → Adds s b new
-tries_add s r hint [] es b new tried = absurd (let n = tried.1 in cc)
-tries_add s r hint (t ∷ ts) es b new (inl passed) = tries_add s r hint ts passed.1 b new passed.4
-tries_add s r hint (t ∷ ts) es b new (inr decides) = grant_adds (strategy s r hint t) s r t es b new decides.1
-
 pub allocates_adds : (s : State) (r : Request) (hint : Option Dedicated) (es : List Event) (b : Block) (new : State) → Allocates s r hint es (Ok b) new → Adds s b new
-allocates_adds s r hint es b new = of_allocation s r hint es (Ok b) new (λ e refused. absurd (let n = refused.1 in cc)) (tries_add s r hint (candidates_of s r) es b new)
+allocates_adds s r hint es b new = of_grant s r hint b new (λ t fs known decides. grant_adds (strategy s r hint t) s r t fs b new decides.1) es
 
 -- Objects that go.
 

@@ -9,8 +9,8 @@ use Rattle.gpu_alloc.specs.Allocation.{IsGranted}
 use Rattle.gpu_alloc.specs.Sound as allocator
 use Rattle.gpu_alloc.specs.State.{Span, span_of, Block, State, IsLive, IsOwned, AreApart}
 use Rattle.gpu_alloc.specs.declared.request.Request.{Request}
-use Rattle.gpu_alloc.proofs.Changes.{Adds, apart_back}
-use Rattle.gpu_alloc.proofs.Tables.LiveSpans.{live_still, live_before}
+use Rattle.gpu_alloc.proofs.Changes.{Adds, apart_back, granted_kept}
+use Rattle.gpu_alloc.proofs.Tables.LiveSpans.{live_before}
 use Rattle.gpu_session.specs.Sound.{IsBlock, IsSound, IsKept}
 use Rattle.gpu_session.proofs.Blocks.{owned_block}
 use Rattle.gpu_alloc_base.proofs.Names.{here, wherever, put-cases, get_put, get_put-other}
@@ -28,14 +28,8 @@ module _ {s : State} {blocks : finite.FinMap nat_cmp Block} {r : Request} {name 
   owned_before : (n : ℕ) (c : Block) → finite.get blocks n ≡ Some c → IsOwned s c
   owned_before n c at = (here (finite.get blocks n) (IsBlock s before) (sound.blocks n) c at).owned
 
-  live_kept : (span : Span) → IsLive s span → IsLive new span
-  live_kept span live = rw (g.adds.live) (live_still s.live (span_of b) span live)
-
   live_cases : (span : Span) → IsLive new span → (span ≡ span_of b) ⊎ IsLive s span
   live_cases span live = live_before s.live (span_of b) span (rw (g.adds.live) at live)
-
-  owned_still : (c : Block) → IsOwned s c → IsOwned new c
-  owned_still c owned = record { live = live_kept (span_of c) owned.live; held = (owned.held.0, g.adds.held c.object owned.held.0 owned.held.1, owned.held.2, owned.held.3) }
 
   -- the new block has no byte of another
   apart_from : (n : ℕ) (c : Block) → finite.get blocks n ≡ Some c → AreApart (span_of c) (span_of b)
@@ -47,7 +41,7 @@ module _ {s : State} {blocks : finite.FinMap nat_cmp Block} {r : Request} {name 
     allocator = g.sound;
     blocks = λ n. wherever (finite.get (finite.insert blocks name b) n) (IsBlock new after) (λ c at. owned_block new q after c g.sound g.agrees (elim (put-cases blocks name b n c at) [
       | inl e ↦ subst (IsOwned new) (sym e.1) g.granted.owned
-      | inr h ↦ owned_still c (owned_before n c h.1)
+      | inr h ↦ granted_kept s b new g.adds c (owned_before n c h.1)
     ]));
     apart = λ n m c d ne at_n at_m. elim (put-cases blocks name b n c at_n) [
       | inl e ↦ elim (put-cases blocks name b m d at_m) [

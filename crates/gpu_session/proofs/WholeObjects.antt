@@ -4,14 +4,14 @@ use Rattle.std.specs.FinMap as finite
 use Rattle.gpu_alloc_types.specs.Device.{Event, Object}
 use Rattle.gpu_alloc_types.specs.Properties.{Properties}
 use Rattle.gpu_alloc.specs.Agreement.{IsCounted}
-use Rattle.gpu_alloc.specs.Allocation.{Allocates, TriesAll, candidates_of}
+use Rattle.gpu_alloc.specs.Allocation.{Allocates}
 use Rattle.gpu_alloc.specs.Sound.{LiesIn}
 use Rattle.gpu_alloc.specs.State.{Span, span_of, HeldObject, Block, State, is_shared}
 use Rattle.gpu_alloc.specs.declared.block.Kind.{Kind}
 use Rattle.gpu_alloc.specs.declared.block.Kind.TheVariants.{Dedicated as DedicatedObject}
 use Rattle.gpu_alloc.specs.declared.request.Request.{Request}
 use Rattle.gpu_alloc.specs.declared.request.Dedicated.TheVariants.{Required}
-use Rattle.gpu_alloc.proofs.Decisions.{of_allocation}
+use Rattle.gpu_alloc.proofs.Decisions.{of_grant}
 use Rattle.gpu_alloc.proofs.Changes.{apart_differ}
 use Rattle.gpu_alloc_base.proofs.Maps.{one_value}
 use Rattle.gpu_alloc_base.proofs.Names.{here, wherever, put-cases, removed-cases}
@@ -66,16 +66,11 @@ module _ {p : Properties} {objects : ℕ → Option Object} {s : Books} (sound :
 
 -- A required grant is an object of its own.
 
-own_from : (s : State) (r : Request) (ts : List ℕ) (es : List Event) (b : Block) (new : State) → TriesAll s r (Some Required) ts es (Ok b) new → b.kind ≡ DedicatedObject
-own_from s r [] es b new tried = absurd (let n = tried.1 in cc)
-own_from s r (t ∷ ts) es b new (inl later) = own_from s r ts later.1 b new later.4
-own_from s r (t ∷ ts) es b new (inr decided) = elim (decided.1) [
+own_granted : (s : State) (r : Request) (es : List Event) (b : Block) (new : State) → Allocates s r (Some Required) es (Ok b) new → b.kind ≡ DedicatedObject
+own_granted s r es b new = of_grant s r (Some Required) b new (λ t fs known decides. elim (decides.1) [
   | inl here ↦ absurd (here.place)
   | inr gives ↦ ap (λ (c : Block). c.kind) gives.place.is
-]
-
-own_granted : (s : State) (r : Request) (es : List Event) (b : Block) (new : State) → Allocates s r (Some Required) es (Ok b) new → b.kind ≡ DedicatedObject
-own_granted s r es b new = of_allocation s r (Some Required) es (Ok b) new (λ e refused. absurd (let n = refused.1 in cc)) (own_from s r (candidates_of s r) es b new)
+]) es
 
 -- Steps.
 
