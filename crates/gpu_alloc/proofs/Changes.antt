@@ -31,7 +31,7 @@ use Rattle.gpu_alloc.proofs.Tables.LiveSpans.{live_still}
 -- A grant.
 
 -- one more span is live, the held objects are those of before or those and the block's, and what was given to `new` stays
-pub record Adds (s : State) (b : Block) (new : State) : Type 0 where
+pub record Grows (s : State) (b : Block) (new : State) : Type 0 where
   pub live : new.live ≡ set.insert s.live (span_of b)
   pub held : HoldsWith s b new
   pub properties : new.properties ≡ s.properties
@@ -45,25 +45,25 @@ still_held s b new (inr (made, free, more)) object h at =
     ∙ get_put-other s.held b.object made object (λ same. let none : map.get s.held object ≡ None = ap (map.get s.held) same ∙ free in absurd (cc)) ∙ at
 
 -- so each block that was owned is
-pub granted_kept : (s : State) (b : Block) (new : State) → Adds s b new → (c : Block) → IsOwned s c → IsOwned new c
-granted_kept s b new adds c owned = record {
-  live = rw (adds.live) (live_still s.live (span_of b) (span_of c) owned.live);
-  held = (owned.held.0, still_held s b new adds.held c.object owned.held.0 owned.held.1, owned.held.2, owned.held.3);
+pub granted_kept : (s : State) (b : Block) (new : State) → Grows s b new → (c : Block) → IsOwned s c → IsOwned new c
+granted_kept s b new grows c owned = record {
+  live = rw (grows.live) (live_still s.live (span_of b) (span_of c) owned.live);
+  held = (owned.held.0, still_held s b new grows.held c.object owned.held.0 owned.held.1, owned.held.2, owned.held.3);
 }
 
-adds_like : (s : State) (b : Block) (like new : State) → new ≡ like → Adds s b like → Adds s b new
-adds_like s b like new same adds = subst (Adds s b) (sym same) adds
+grows_like : (s : State) (b : Block) (like new : State) → new ≡ like → Grows s b like → Grows s b new
+grows_like s b like new same grows = subst (Grows s b) (sym same) grows
 
-grant_adds : (w : Strategy) (s : State) (r : Request) (t : ℕ) (es : List Event) (b : Block) (new : State) → case.Decides (candidate w s r t) es (Ok b) new → Adds s b new
-grant_adds OwnObject s r t es b new (inl gives) = absurd gives.place
-grant_adds OwnObject s r t es b new (inr gives) = adds_like s b _ new gives.state (record { live = refl; held = inr (_, gives.place.was_free, refl); properties = refl; config = refl })
-grant_adds InBuddyChunk s r t es b new (inl gives) = adds_like s b _ new gives.state (record { live = refl; held = inl refl; properties = refl; config = refl })
-grant_adds InBuddyChunk s r t es b new (inr gives) = adds_like s b _ new gives.state (record { live = refl; held = inr (_, gives.place.was_free, refl); properties = refl; config = refl })
-grant_adds InFreeList s r t es b new (inl gives) = adds_like s b _ new gives.state (record { live = refl; held = inl refl; properties = refl; config = refl })
-grant_adds InFreeList s r t es b new (inr gives) = adds_like s b _ new gives.state (record { live = refl; held = inr (_, gives.place.was_free, refl); properties = refl; config = refl })
+grant_grows : (w : Strategy) (s : State) (r : Request) (t : ℕ) (es : List Event) (b : Block) (new : State) → case.Decides (candidate w s r t) es (Ok b) new → Grows s b new
+grant_grows OwnObject s r t es b new (inl gives) = absurd gives.place
+grant_grows OwnObject s r t es b new (inr gives) = grows_like s b _ new gives.state (record { live = refl; held = inr (_, gives.place.was_free, refl); properties = refl; config = refl })
+grant_grows InBuddyChunk s r t es b new (inl gives) = grows_like s b _ new gives.state (record { live = refl; held = inl refl; properties = refl; config = refl })
+grant_grows InBuddyChunk s r t es b new (inr gives) = grows_like s b _ new gives.state (record { live = refl; held = inr (_, gives.place.was_free, refl); properties = refl; config = refl })
+grant_grows InFreeList s r t es b new (inl gives) = grows_like s b _ new gives.state (record { live = refl; held = inl refl; properties = refl; config = refl })
+grant_grows InFreeList s r t es b new (inr gives) = grows_like s b _ new gives.state (record { live = refl; held = inr (_, gives.place.was_free, refl); properties = refl; config = refl })
 
-pub allocates_adds : (s : State) (r : Request) (hint : Option Dedicated) (es : List Event) (b : Block) (new : State) → Allocates s r hint es (Ok b) new → Adds s b new
-allocates_adds s r hint es b new = of_grant s r hint b new (λ t fs known decides. grant_adds (strategy s r hint t) s r t fs b new decides.1) es
+pub allocates_grow : (s : State) (r : Request) (hint : Option Dedicated) (es : List Event) (b : Block) (new : State) → Allocates s r hint es (Ok b) new → Grows s b new
+allocates_grow s r hint es b new = of_grant s r hint b new (λ t fs known decides. grant_grows (strategy s r hint t) s r t fs b new decides.1) es
 
 -- Objects that go.
 

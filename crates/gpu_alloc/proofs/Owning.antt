@@ -1,12 +1,24 @@
 -- What calls leave of the blocks that a caller has in hand.
-use Rattle.std.proofs.Common.{◌≡◌, ◌≢◌, zero, suc, ◌+◌, ◌-◌, ◌<◌, true, false, cond, List, [], ◌∷◌, ◌++◌, refl, sym, ◌∙◌, ap, subst, arith}
+use Rattle.std.proofs.Common.{◌≡◌, ◌≢◌, zero, suc, ◌+◌, ◌-◌, ◌<◌, true, false, cond, List, [], ◌∷◌, ◌++◌, refl, sym, ◌∙◌, ap, subst, arith, Option, Result, Ok, Err, IfOk, ℕ}
+use Rattle.std.specs.FinMap as map
 use Rattle.std.specs.FinSet as set
-use Rattle.gpu_alloc_types.specs.Device.{Event}
-use Rattle.gpu_alloc.specs.Owned.{AreTwo, IsBeside, AreOwned}
+use Rattle.gpu_alloc_types.specs.Device.{Event, Object}
+use Rattle.gpu_alloc.specs.Allocation.{Allocates, IsGranted}
+use Rattle.gpu_alloc.specs.Owned.{AreTwo, IsBeside, AreOwned, Leaves, Adds, Removes}
+use Rattle.gpu_alloc.specs.Agreement.{Agrees}
+use Rattle.gpu_alloc.specs.Opening.{opened}
+use Rattle.gpu_alloc.specs.Types.Config.{Config}
+use Rattle.gpu_alloc_types.specs.Properties.{Properties}
+use Rattle.std.specs.Ordering.{nat_cmp}
+use Rattle.gpu_alloc_base.proofs.Names.{wherever}
 use Rattle.gpu_alloc.specs.Release.{Cleans, Frees}
 use Rattle.gpu_alloc.specs.Sound.{IsSound}
-use Rattle.gpu_alloc.specs.State.{State, Block, Span, span_of, span_cmp, AreApart, IsLive, IsOwned}
-use Rattle.gpu_alloc.proofs.Changes.{Adds, granted_kept, apart_differ, apart_back, still_owned}
+use Rattle.gpu_alloc.specs.declared.request.Dedicated.{Dedicated}
+use Rattle.gpu_alloc.specs.declared.request.Request.{Request}
+use Rattle.gpu_alloc_base.specs.declared.error.AllocationError.{AllocationError}
+use Rattle.gpu_alloc.proofs.Decisions.{allocates_kept}
+use Rattle.gpu_alloc.specs.State.{HeldObject, State, Block, Span, span_of, span_cmp, AreApart, IsLive, IsOwned}
+use Rattle.gpu_alloc.proofs.Changes.{Grows, allocates_grow, granted_kept, apart_differ, apart_back, still_owned}
 use Rattle.gpu_alloc.proofs.Tables.LiveSpans.{span_total, live_kept, not_live}
 
 -- Two blocks.
@@ -34,9 +46,9 @@ beside_more b c (d ∷ cs) beside two = (beside.0, beside_more b c cs beside.1 t
 
 -- A grant.
 
-module _ (s : State) (b : Block) (new : State) (adds : Adds s b new) where
+module _ (s : State) (b : Block) (new : State) (grows : Grows s b new) where
   pub granted_all : (cs : List Block) → AreOwned s cs → AreOwned new cs
-  granted_all = all_kept s new (granted_kept s b new adds)
+  granted_all = all_kept s new (granted_kept s b new grows)
 
   module _ (sound : IsSound s) (free : (span : Span) → IsLive s span → AreApart span (span_of b)) where
     -- the block is another than each that was owned
@@ -46,13 +58,44 @@ module _ (s : State) (b : Block) (new : State) (adds : Adds s b new) where
     -- and goes to them
     pub granted_more : IsOwned new b → (cs : List Block) → AreOwned s cs → AreOwned new (cs ++ b ∷ [])
     granted_more own [] owned = (own, tt, tt)
-    granted_more own (c ∷ cs) owned = (granted_kept s b new adds c owned.0, beside_more b c cs owned.1 (granted_other c owned.0), granted_more own cs owned.2)
+    granted_more own (c ∷ cs) owned = (granted_kept s b new grows c owned.0, beside_more b c cs owned.1 (granted_other c owned.0), granted_more own cs owned.2)
 
     not_yet : set.contains s.live (span_of b) ≡ false
     not_yet = not_live s.live (span_of b) (λ live. apart_differ (span_of b) (span_of b) (free (span_of b) live) (sound.nonempty (span_of b) live) refl)
 
     pub granted_count : set.len new.live ≡ set.len s.live + 1
-    granted_count = ap (λ (l : set.FinSet span_cmp). set.len l) adds.live ∙ set.len-insert span_total s.live (span_of b) ∙ ap (λ t. cond t (set.len s.live) (set.len s.live + 1)) not_yet
+    granted_count = ap (λ (l : set.FinSet span_cmp). set.len l) grows.live ∙ set.len-insert span_total s.live (span_of b) ∙ ap (λ t. cond t (set.len s.live) (set.len s.live + 1)) not_yet
+
+-- What an allocation leaves and adds.
+
+-- where nothing changed, everything is left
+left_as_it_was : (s new : State) → new ≡ s → Leaves s new
+left_as_it_was s new same = record {
+  properties = ap (λ (t : State). t.properties) same;
+  config = ap (λ (t : State). t.config) same;
+  owned = λ b owned. subst (λ t. IsOwned t b) (sym same) owned;
+  all = λ bs owned. subst (λ t. AreOwned t bs) (sym same) owned;
+}
+
+module _ (s : State) (r : Request) (hint : Option Dedicated) (es : List Event) where
+  pub allocates_leave : (answer : Result Block AllocationError) (new : State) → Allocates s r hint es answer new → Leaves s new
+  allocates_leave (Err e) new decided = left_as_it_was s new (allocates_kept s r hint es (Err e) new decided)
+  allocates_leave (Ok b) new decided =
+      let grows = allocates_grow s r hint es b new decided in
+      record { properties = grows.properties; config = grows.config; owned = granted_kept s b new grows; all = granted_all s b new grows }
+
+  pub allocates_add : IsSound s → (answer : Result Block AllocationError) (new : State) → Allocates s r hint es answer new → IfOk answer (IsGranted s r new) → IfOk answer (Adds s new)
+  allocates_add sound (Err e) new decided granted = tt
+  allocates_add sound (Ok b) new decided granted =
+      let grows = allocates_grow s r hint es b new decided in
+      record {
+        live = grows.live;
+        count = granted_count s b new grows sound granted.was_free;
+        held = grows.held;
+        before = granted_other s b new grows sound granted.was_free;
+        after = λ c owned. two_back c b (granted_other s b new grows sound granted.was_free c owned);
+        all = granted_more s b new grows sound granted.was_free granted.owned;
+      }
 
 -- A return.
 
@@ -85,17 +128,43 @@ module _ (s : State) (b : Block) (es : List Event) (new : State) (frees : Frees 
     returned_all [] beside owned = tt
     returned_all (c ∷ cs) beside owned = (returned_kept c owned.0 (λ same. beside.0.differ (sym same)), owned.1, returned_all cs beside.1 owned.2)
 
+    pub frees_remove : IsOwned s b → Removes s b new
+    frees_remove owned = record {
+      properties = ap (λ (t : State). t.properties) frees.2.1;
+      config = ap (λ (t : State). t.config) frees.2.1;
+      live = returned_live;
+      count = returned_count owned.live;
+      owned = returned_kept;
+      all = λ cs all. returned_all cs all.1 all.2;
+    }
+
 -- A cleanup.
 
 module _ (s : State) (es : List Event) (new : State) (cleans : Cleans s es new) (sound : IsSound new) where
-  pub cleaned_kept : (c : Block) → IsOwned s c → IsOwned new c
+  cleaned_kept : (c : Block) → IsOwned s c → IsOwned new c
   cleaned_kept c owned =
       let live : IsLive new (span_of c) = subst (λ (l : set.FinSet span_cmp). set.contains l (span_of c) ≡ true) (sym (ap (λ (t : State). t.live) cleans.2.1)) owned.live in
       still_owned s new cleans.0 c sound (ap (λ (t : State). t.held) cleans.2.1) owned live
 
-  pub cleaned_all : (cs : List Block) → AreOwned s cs → AreOwned new cs
-  cleaned_all = all_kept s new cleaned_kept
+  pub cleans_leave : Leaves s new
+  cleans_leave = record {
+    properties = ap (λ (t : State). t.properties) cleans.2.1;
+    config = ap (λ (t : State). t.config) cleans.2.1;
+    owned = cleaned_kept;
+    all = all_kept s new cleaned_kept;
+  }
 
 -- none is live where there are none
 pub none_live : (live : set.FinSet span_cmp) → set.len live ≡ 0 → (span : Span) → set.contains live span ≡ true → ⊥
 none_live live none span there = let some = some_live live span there in omega (arith, some, none)
+
+-- An allocator that holds nothing.
+
+pub opened_agrees : (c : Config) (p q : Properties) (objects : ℕ → Option Object) → q ≡ p → Agrees (opened c p) q objects
+opened_agrees c p q objects same = record {
+  properties = same;
+  holds = λ name. wherever (map.get (map.empty {X = HeldObject} {R = nat_cmp}) name) _ (λ h at. let none = map.get-empty {X = HeldObject} nat_cmp name in absurd (cc));
+}
+
+pub opened_none : (c : Config) (p : Properties) → (set.len ((opened c p).live) ≡ 0) × (map.len ((opened c p).held) ≡ 0)
+opened_none c p = (set.len-empty span_cmp, map.len-empty nat_cmp HeldObject)

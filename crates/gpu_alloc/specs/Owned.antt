@@ -1,6 +1,7 @@
--- The blocks that a caller has in hand.
-use Rattle.std.specs.Prelude.{◌≡◌, ◌≢◌, ◌⊎◌, List, [], ◌∷◌, None}
+-- What a call makes of the blocks that a caller has in hand.
+use Rattle.std.specs.Prelude.{◌≡◌, ◌≢◌, ◌⊎◌, ◌+◌, List, [], ◌∷◌, ◌++◌, None}
 use Rattle.std.specs.FinMap as map
+use Rattle.std.specs.FinSet as set
 use Rattle.gpu_alloc.specs.State.{HeldObject, State, Block, span_of, AreApart, IsOwned}
 
 -- two blocks that share no byte, and so are of two spans
@@ -18,8 +19,33 @@ abbrev pub AreOwned : State → List Block → Type 0
 AreOwned s [] = Unit {0}
 AreOwned s (b ∷ bs) = IsOwned s b × IsBeside b bs × AreOwned s bs
 
+-- What a call leaves that takes no block back: what was given to `new`, and each block that was owned.
+pub record Leaves (s new : State) : Type 0 where
+  pub properties : new.properties ≡ s.properties
+  pub config : new.config ≡ s.config
+  pub owned : (b : Block) → IsOwned s b → IsOwned new b
+  pub all : (bs : List Block) → AreOwned s bs → AreOwned new bs
+
 -- the held objects are those of before, or those and the block's
 abbrev pub HoldsWith : State → Block → State → Type 0
 HoldsWith s b new =
     (new.held ≡ s.held)
     ⊎ ((h : HeldObject) × (map.get s.held b.object ≡ None) × (new.held ≡ map.insert s.held b.object h))
+
+-- What a grant adds: the block's span to those that are live, and the block to those in hand, which are others.
+pub record Adds (s new : State) (b : Block) : Type 0 where
+  pub live : new.live ≡ set.insert s.live (span_of b)
+  pub count : set.len new.live ≡ set.len s.live + 1
+  pub held : HoldsWith s b new
+  pub before : (c : Block) → IsOwned s c → AreTwo c b
+  pub after : (c : Block) → IsOwned s c → AreTwo b c
+  pub all : (bs : List Block) → AreOwned s bs → AreOwned new (bs ++ b ∷ [])
+
+-- What a return takes away: the block's span, and no other block that is in hand.
+pub record Removes (s : State) (b : Block) (new : State) : Type 0 where
+  pub properties : new.properties ≡ s.properties
+  pub config : new.config ≡ s.config
+  pub live : new.live ≡ set.remove s.live (span_of b)
+  pub count : set.len new.live + 1 ≡ set.len s.live
+  pub owned : (c : Block) → IsOwned s c → span_of c ≢ span_of b → IsOwned new c
+  pub all : (cs : List Block) → AreOwned s (b ∷ cs) → AreOwned new cs

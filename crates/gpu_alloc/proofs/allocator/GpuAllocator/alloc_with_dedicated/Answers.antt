@@ -2,6 +2,7 @@ use Rattle.std.proofs.Common.{Some}
 use Rattle.gpu_alloc.proofs.Agreed.{allocates_agrees, chain_keeps}
 use Rattle.gpu_alloc.proofs.Decisions.{allocates_kept, allocates_total}
 use Rattle.gpu_alloc.proofs.Granted.{allocates_granted}
+use Rattle.gpu_alloc.proofs.Owning.{allocates_add, allocates_leave}
 use Rattle.gpu_alloc.proofs.allocator.GpuAllocator.alloc_with_dedicated.Goals as goal
 
 pub returns-clause-refused : goal.returns-clause-refused
@@ -18,3 +19,9 @@ returns-clause-agrees g c =
     let decided = c.allocate-answer.ensures.decided in
     let properties = chain_keeps g.D.MemoryDevice.step g.D.MemoryDevice.properties g.met.D.MemoryDevice.keeps_properties _ _ _ decided.1 in
     allocates_agrees c.args.self.now _ _ _ c.requires.agrees _ c.args.request (Some c.args.dedicated) _ _ _ properties decided.2 c.allocate-answer.ensures.objects
+
+pub returns-clause-leaves : goal.returns-clause-leaves
+returns-clause-leaves g c = allocates_leave c.args.self.now c.args.request (Some c.args.dedicated) _ _ _ c.allocate-answer.ensures.decided.2
+
+pub returns-clause-added : goal.returns-clause-added
+returns-clause-added g c = allocates_add c.args.self.now c.args.request (Some c.args.dedicated) _ c.keeps_sound.ensures.sound _ _ c.allocate-answer.ensures.decided.2 (returns-clause-granted g c)

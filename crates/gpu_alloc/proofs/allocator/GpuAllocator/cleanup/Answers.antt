@@ -1,7 +1,11 @@
-use Rattle.std.proofs.Common.{◌≡◌, length, ◌++◌, arith}
+use Rattle.std.proofs.Common.{◌≡◌, length, ◌++◌, ◌∙◌, ap, arith}
 use Rattle.gpu_alloc_types.specs.Chains.{chain_append}
 use Rattle.gpu_alloc.specs.Release.{AreAllGone}
 use Rattle.gpu_alloc.proofs.FreeLists.Cleanups.{cleaning_goes_on, all_gone, left_is}
+use Rattle.gpu_alloc.proofs.Owning.{cleans_leave, none_live}
+use Rattle.gpu_alloc.specs.State.{HeldObject, State}
+use Rattle.std.specs.FinMap as map
+use Rattle.std.specs.Ordering.{nat_cmp}
 use Rattle.gpu_alloc.proofs.allocator.GpuAllocator.cleanup.Given.{Over}
 use Rattle.gpu_alloc.proofs.allocator.GpuAllocator.cleanup.Goals as goal
 
@@ -55,3 +59,12 @@ returns-clause-left g c object h =
     let all = rw (← c.self.view_is) at way.3.all in
     let lets = rw (← c.self.view_is) at way.3.lets in
     rw (← c.self.view_is) (left_is c.self.inside.limits _ _ _ _ _ c.self.invariant way.0 (rw (← last) all) _ _ lets object h)
+
+pub returns-clause-leaves : goal.returns-clause-leaves
+returns-clause-leaves g c = let cleaned = returns-clause-cleaned g c in cleans_leave c.args.self.now cleaned.0 _ cleaned.2 c.keeps_sound.ensures.sound
+
+pub returns-clause-live : goal.returns-clause-live
+returns-clause-live g c = ap (λ (s : State). s.live) (returns-clause-cleaned g c).2.2.1
+
+pub returns-clause-empty : goal.returns-clause-empty
+returns-clause-empty g c none = ap map.len (returns-clause-ends g c (none_live c.args.self.now.live none)).0 ∙ map.len-empty nat_cmp HeldObject

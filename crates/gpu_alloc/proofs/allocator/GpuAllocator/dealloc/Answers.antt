@@ -1,38 +1,9 @@
+use Rattle.gpu_alloc.proofs.Owning.{frees_remove}
 use Rattle.gpu_alloc.proofs.ReturnedTotals.{frees_total}
 use Rattle.gpu_alloc.proofs.allocator.GpuAllocator.dealloc.Goals as goal
 
-pub returns-in-Dedicated-clause-freed : goal.returns-in-Dedicated-clause-freed
-returns-in-Dedicated-clause-freed g c = c.dealloc_object.ensures.freed
+pub returns-clause-removed : goal.returns-clause-removed
+returns-clause-removed g c = frees_remove c.args.self.now c.args.block _ _ c.free.ensures.freed.2 c.free.ensures.sound c.requires.owned
 
-pub returns-in-Dedicated-clause-objects : goal.returns-in-Dedicated-clause-objects
-returns-in-Dedicated-clause-objects g c = c.dealloc_object.ensures.objects
-
-pub returns-in-Dedicated-clause-agrees : goal.returns-in-Dedicated-clause-agrees
-returns-in-Dedicated-clause-agrees g c = c.dealloc_object.ensures.agrees
-
-pub returns-in-Dedicated-clause-total : goal.returns-in-Dedicated-clause-total
-returns-in-Dedicated-clause-total g c = frees_total c.args.self.now c.args.block _ _ c.requires.owned c.dealloc_object.ensures.freed.2
-
-pub returns-in-BuddyChunk-clause-freed : goal.returns-in-BuddyChunk-clause-freed
-returns-in-BuddyChunk-clause-freed g c = c.dealloc_in_chunk.ensures.freed
-
-pub returns-in-BuddyChunk-clause-objects : goal.returns-in-BuddyChunk-clause-objects
-returns-in-BuddyChunk-clause-objects g c = c.dealloc_in_chunk.ensures.objects
-
-pub returns-in-BuddyChunk-clause-agrees : goal.returns-in-BuddyChunk-clause-agrees
-returns-in-BuddyChunk-clause-agrees g c = c.dealloc_in_chunk.ensures.agrees
-
-pub returns-in-BuddyChunk-clause-total : goal.returns-in-BuddyChunk-clause-total
-returns-in-BuddyChunk-clause-total g c = frees_total c.args.self.now c.args.block _ _ c.requires.owned c.dealloc_in_chunk.ensures.freed.2
-
-pub returns-in-FreeListChunk-clause-freed : goal.returns-in-FreeListChunk-clause-freed
-returns-in-FreeListChunk-clause-freed g c = c.dealloc_in_list.ensures.freed
-
-pub returns-in-FreeListChunk-clause-objects : goal.returns-in-FreeListChunk-clause-objects
-returns-in-FreeListChunk-clause-objects g c = c.dealloc_in_list.ensures.objects
-
-pub returns-in-FreeListChunk-clause-agrees : goal.returns-in-FreeListChunk-clause-agrees
-returns-in-FreeListChunk-clause-agrees g c = c.dealloc_in_list.ensures.agrees
-
-pub returns-in-FreeListChunk-clause-total : goal.returns-in-FreeListChunk-clause-total
-returns-in-FreeListChunk-clause-total g c = frees_total c.args.self.now c.args.block _ _ c.requires.owned c.dealloc_in_list.ensures.freed.2
+pub returns-clause-total : goal.returns-clause-total
+returns-clause-total g c = frees_total c.args.self.now c.args.block _ _ c.requires.owned c.free.ensures.freed.2
