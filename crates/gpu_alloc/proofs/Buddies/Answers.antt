@@ -1,12 +1,11 @@
 -- What a block that a memory type's buddy allocator gives comes to for the whole allocator.
-use Rattle.std.proofs.Common.{◌≡◌, ◌⊎◌, inl, inr, ℕ, ◌+◌, ◌-◌, ◌^◌, ◌<◌, false, cond, List, length, get_or, Option, Some, None, Ok, is_some, IfSome, refl, sym, ◌∙◌, ap, subst, arith}
+use Rattle.std.proofs.Common.{◌≡◌, ◌⊎◌, inl, inr, ℕ, ◌+◌, ◌-◌, ◌^◌, ◌<◌, false, cond, List, Option, Some, None, Ok, is_some, IfSome, refl, sym, ◌∙◌, ap, subst, arith}
 use Rattle.std.proofs.Math.ListN.{set}
 use Rattle.gpu_alloc_base.proofs.AlignedPowers.{pow-le}
 use Rattle.std.specs.FinMap as finite
 use Rattle.std.specs.FinSet as set_of
 use Rattle.gpu_alloc_types.specs.Device.{Event, Object}
-use Rattle.gpu_alloc_types.specs.Properties.{Properties, heap_at}
-use Rattle.gpu_alloc.specs.Agreement as agreement
+use Rattle.gpu_alloc_types.specs.Properties.{Properties}
 use Rattle.gpu_alloc_base.specs.Accounts.{Account, account}
 use Rattle.gpu_alloc_base.specs.Case.{Answers, GivesInPlace, GivesInNewObject}
 use Rattle.gpu_alloc_base.specs.NewObject.{HasOneMore}
@@ -18,7 +17,7 @@ use Rattle.gpu_alloc_buddy.specs.BuddyState.{Buddy}
 use Rattle.gpu_alloc_base.specs.Chunks.{Chunk, IsNew}
 use Rattle.gpu_alloc_freelist.specs.FreeListState.{Listing}
 use Rattle.gpu_alloc.specs.Inside.{state_in, properties_in, with_chunk_of, span_of_leaf, place_of_leaf, IsConsistent}
-use Rattle.gpu_alloc_base.specs.NewChunk.{flags_of, made, HasOneChunkMore}
+use Rattle.gpu_alloc_base.specs.NewChunk.{made}
 use Rattle.gpu_alloc.specs.BuddySharing.{buddy_question, buddy_block, with_span, with_buddy_chunk}
 use Rattle.gpu_alloc.specs.Spans.{Table}
 use Rattle.gpu_alloc.specs.State.{HeldObject, Block, State}
@@ -31,24 +30,18 @@ use Rattle.gpu_alloc.proofs.Ledgers.{Held}
 use Rattle.gpu_alloc_base.proofs.Maps.{own_inserted}
 use Rattle.gpu_alloc.proofs.Buddies.Links.{HasLeafMore}
 use Rattle.gpu_alloc.proofs.Tables.LiveSpans.{not_live, not_live_new}
-use Rattle.gpu_alloc_base.proofs.Books.{made_new, chunk_more}
+use Rattle.gpu_alloc_base.proofs.Books.{made_new}
 use Rattle.gpu_alloc_base.proofs.ToldTwice.{asks_is}
+use Rattle.gpu_alloc.proofs.HandedOn.{Given}
+use Rattle.gpu_alloc_types.specs.Flags.{has_bit}
 use Rattle.gpu_alloc.proofs.NewObjects.{counted_new}
 use Rattle.gpu_alloc.proofs.Buddies.Serving.{Serves, front_is, told_with}
 use Rattle.gpu_alloc.proofs.Buddies.Grants.{serves, buddy_of, consistent_with_leaf, state_with_leaf, consistent_with_chunk, state_with_chunk, asked_size}
 
--- a request to a buddy allocator among the fields, and the block that it gave
-pub record Given {A : Type 0} (l : Limits A) (heaps : List Heap) (buddies : List Buddy) (lists : List Listing) (t : Table) (remaining index i : ℕ) (b : Buddy) (heap : Heap) (flags : ℕ) (leaf : Leaf) (q : Properties) (old : ℕ → Option Object) : Type 0 where
-  pub is : IsConsistent l.config (properties_in l heaps) heaps buddies lists t remaining
-  pub known : index < length (properties_in l heaps).memory_types
-  pub at : b ≡ get_or buddies index b
-  pub here : i ≡ heap_at (properties_in l heaps) index
-  pub at_heap : heap ≡ get_or heaps i heap
-  pub flags_are : flags ≡ flags_of (properties_in l heaps)
-  pub agrees : agreement.Agrees (state_in l heaps buddies lists t remaining) q old
+-- A request to a buddy allocator among the fields, and the block that it gave.
 
 module _ {A : Type 0} {l : Limits A} {heaps : List Heap} {buddies : List Buddy} {lists : List Listing} {t : Table} {remaining index i : ℕ} {b : Buddy} {heap : Heap} {flags : ℕ} {leaf : Leaf} {q : Properties} {old : ℕ → Option Object}
-    (given : Given l heaps buddies lists t remaining index i b heap flags leaf q old) (new : ℕ → Option Object) (size : ℕ) (es : List Event) (after : Account Buddy)
+    (given : Given l heaps buddies lists t remaining index i buddies b heap flags q old) (new : ℕ → Option Object) (size : ℕ) (es : List Event) (after : Account Buddy)
     (answers : Answers (buddy_case (account b heap remaining) size flags) es (Ok leaf) after) (objects : ObjectsAfter b (Ok leaf) after.allocator old new) (nonempty : 0 < leaf.size) where
   abbrev before : State
   before = state_in l heaps buddies lists t remaining
@@ -115,10 +108,11 @@ module _ {A : Type 0} {l : Limits A} {heaps : List Heap} {buddies : List Buddy} 
     -- in a new chunk
     in_new_chunk : BeginsChunk b size leaf → finite.get t.held leaf.object ≡ None → 0 < remaining
         → after ≡ account (with_leaf (with_chunk b leaf (chunk_size b size)) leaf) (record heap { used = heap.used + chunk_size b size }) (remaining - 1)
-        → HasOneChunkMore (buddy_question before index size) leaf.object old new
+        → HasOneMore (IsNew b.memory_type (sees_chunks b)) (finite.get after.allocator.chunks leaf.chunk) leaf.object old new
         → GivesInNewObject (buddy_candidate before size index) es block (with_span (with_buddy_chunk before index leaf.object (buddy_question before index size).size) (span_of_leaf leaf))
         → IsServed after
-    in_new_chunk begins free some after_is new_chunk gives =
+    in_new_chunk begins free some after_is one_more gives =
+        let for_type = serving.of.for_type in
         let n = chunk_size b size in
         let chunk : Chunk = record { object = leaf.object; size = n } in
         let after_buddy = ap (λ (a : Account Buddy). a.allocator) after_is in
@@ -137,7 +131,7 @@ module _ {A : Type 0} {l : Limits A} {heaps : List Heap} {buddies : List Buddy} 
         subst IsServed (sym after_is) (record {
           consistent = consistent_with_chunk l heaps buddies lists t remaining index b given.is given.known given.at i heap given.here given.at_heap leaf n now changed begins.free_key free some small sound_now held_now more refl;
           gives = inr (subst (GivesInNewObject (buddy_candidate before size index) es block) (sym state_asked) gives);
-          objects_are = rw free (counted_new before (record { memory_type = index; counted = n; kind = BuddyChunk }) (buddy_question before index size) leaf.object _ old new found_now refl asked refl new_chunk);
+          objects_are = rw free (counted_new before.properties b.memory_type (sees_chunks b) chunk (record { memory_type = index; counted = n; kind = BuddyChunk }) leaf.object _ _ old new chunk_now found_now for_type.memory_type refl (ap (λ bits. has_bit bits 2) for_type.props) one_more);
         })
 
     pub served : IsServed after
@@ -152,11 +146,7 @@ module _ {A : Type 0} {l : Limits A} {heaps : List Heap} {buddies : List Buddy} 
           let told = told_with before t.places t.room index b serving heap size flags given.flags_are in
           let asked : question b size flags ≡ buddy_question before index size = told.question in
           let free = not_held_yet more.was_free in
-          let n = chunk_size b size in
-          let chunk : Chunk = record { object = leaf.object; size = n } in
-          let chunk_now : finite.get after.allocator.chunks leaf.chunk ≡ Some chunk = ap (λ (a : Account Buddy). finite.get a.allocator.chunks leaf.chunk) gives.state ∙ own_inserted b.chunks leaf.chunk chunk in
-          let made_one = chunk_more b.memory_type b.props b.chunks after.allocator.chunks leaf.chunk chunk (question b size flags) old new more chunk_now refl refl refl in
-          in_new_chunk begins free gives.asks.remains.objects gives.state (subst (λ x. HasOneChunkMore x leaf.object old new) asked made_one) (record {
+          in_new_chunk begins free gives.asks.remains.objects gives.state more (record {
             asks = asks_is told gives.asks;
             place = record { is = λ k. buddy_block before index (record { object = leaf.object; offset = begins.start k; size = begins.of_size k }); was_free = free };
             asked = gives.asked ∙ ap (λ x. made x leaf.object) asked;

@@ -1,11 +1,10 @@
 -- What a block that a memory type's free list gives comes to for the whole allocator.
-use Rattle.std.proofs.Common.{IfSome, ◌≡◌, ◌⊎◌, inl, inr, ℕ, ◌+◌, ◌-◌, ◌^◌, ◌<◌, false, cond, List, length, get_or, Option, Some, None, Ok, is_some, refl, sym, ◌∙◌, ap, subst, arith}
+use Rattle.std.proofs.Common.{IfSome, ◌≡◌, ◌⊎◌, inl, inr, ℕ, ◌+◌, ◌-◌, ◌^◌, ◌<◌, false, cond, List, Option, Some, None, Ok, is_some, refl, sym, ◌∙◌, ap, subst, arith}
 use Rattle.std.proofs.Math.ListN.{set}
 use Rattle.std.specs.FinMap as finite
 use Rattle.std.specs.FinSet as set_of
 use Rattle.gpu_alloc_types.specs.Device.{Event, Object}
-use Rattle.gpu_alloc_types.specs.Properties.{Properties, heap_at}
-use Rattle.gpu_alloc.specs.Agreement as agreement
+use Rattle.gpu_alloc_types.specs.Properties.{Properties}
 use Rattle.gpu_alloc.specs.Allocation.{ObjectsWith}
 use Rattle.gpu_alloc_buddy.specs.BuddyState.{Buddy}
 use Rattle.gpu_alloc_base.specs.Chunks.{Chunk, IsNew}
@@ -16,15 +15,17 @@ use Rattle.gpu_alloc_base.specs.NewObject.{HasOneMore}
 use Rattle.gpu_alloc.specs.Candidates.{list_candidate}
 use Rattle.gpu_alloc_freelist.specs.FreeListAllocator.{question, ObjectsAfter, chunk_size, next_size, list_case, listing_with_slot, in_new_chunk, sees_chunks}
 use Rattle.gpu_alloc.proofs.Tables.LiveSpans.{not_live, not_live_new}
-use Rattle.gpu_alloc_base.proofs.Books.{made_new, chunk_more}
+use Rattle.gpu_alloc_base.proofs.Books.{made_new}
 use Rattle.gpu_alloc_base.proofs.ToldTwice.{asks_is}
 use Rattle.gpu_alloc_freelist.proofs.Spaces.{next_is_new}
+use Rattle.gpu_alloc.proofs.HandedOn.{Given}
+use Rattle.gpu_alloc_types.specs.Flags.{has_bit}
 use Rattle.gpu_alloc.proofs.NewObjects.{counted_new}
 use Rattle.gpu_alloc_freelist.specs.FreeListSound.{IsSound}
 use Rattle.gpu_alloc_freelist.specs.FreeListState.{Listing}
 use Rattle.gpu_alloc.specs.Inside.{state_in, properties_in, with_chunk_of_slot, span_of_slot, slot_at, no_place, IsConsistent}
 use Rattle.gpu_alloc.specs.FreeListSharing.{list_question, list_block, latest_number, tail_of, with_list_chunk}
-use Rattle.gpu_alloc_base.specs.NewChunk.{ChunkQuestion, flags_of, made, HasOneChunkMore}
+use Rattle.gpu_alloc_base.specs.NewChunk.{ChunkQuestion, made}
 use Rattle.gpu_alloc.specs.BuddySharing.{with_span}
 use Rattle.gpu_alloc.specs.Spans.{Table}
 use Rattle.gpu_alloc.specs.State.{HeldObject, Block, State}
@@ -41,18 +42,10 @@ use Rattle.gpu_alloc.proofs.FreeLists.Serving.{ServesList, tail_is, question_is,
 use Rattle.gpu_alloc_base.proofs.Maps.{own_inserted}
 use Rattle.gpu_alloc.proofs.FreeLists.Types.{own_listing, serves_own}
 
--- a request to a free list among the fields, and the block that it gave
-pub record Given {A : Type 0} (limits : Limits A) (heaps : List Heap) (buddies : List Buddy) (lists : List Listing) (t : Table) (remaining index i : ℕ) (l : Listing) (heap : Heap) (flags : ℕ) (slot : Slot) (q : Properties) (old : ℕ → Option Object) : Type 0 where
-  pub is : IsConsistent limits.config (properties_in limits heaps) heaps buddies lists t remaining
-  pub known : index < length (properties_in limits heaps).memory_types
-  pub at : l ≡ get_or lists index l
-  pub here : i ≡ heap_at (properties_in limits heaps) index
-  pub at_heap : heap ≡ get_or heaps i heap
-  pub flags_are : flags ≡ flags_of (properties_in limits heaps)
-  pub agrees : agreement.Agrees (state_in limits heaps buddies lists t remaining) q old
+-- A request to a free list among the fields, and the block that it gave.
 
 module _ {A : Type 0} {limits : Limits A} {heaps : List Heap} {buddies : List Buddy} {lists : List Listing} {t : Table} {remaining index i : ℕ} {l : Listing} {heap : Heap} {flags : ℕ} {slot : Slot} {q : Properties} {old : ℕ → Option Object}
-    (given : Given limits heaps buddies lists t remaining index i l heap flags slot q old) (new : ℕ → Option Object) (size alignment : ℕ) (es : List Event) (after : Account Listing)
+    (given : Given limits heaps buddies lists t remaining index i lists l heap flags q old) (new : ℕ → Option Object) (size alignment : ℕ) (es : List Event) (after : Account Listing)
     (answers : Answers (list_case (account l heap remaining) size alignment flags) es (Ok slot) after) (objects : ObjectsAfter l (Ok slot) after.allocator old new) (nonempty : 0 < slot.size) where
   abbrev before : State
   before = state_in limits heaps buddies lists t remaining
@@ -126,10 +119,11 @@ module _ {A : Type 0} {limits : Limits A} {heaps : List Heap} {buddies : List Bu
     -- in a new chunk
     in_new_run : slot.chunk ≡ l.space.latest + 1 → finite.get t.held slot.object ≡ None → 0 < remaining
         → after ≡ account (record l { space = with_slot (with_chunk l.space slot.object (chunk_size l size)) slot; next_chunk = next_size l (chunk_size l size) }) (record heap { used = heap.used + chunk_size l size }) (remaining - 1)
-        → HasOneChunkMore (list_question before index size) slot.object old new
+        → HasOneMore (IsNew l.memory_type (sees_chunks l)) (finite.get after.allocator.space.chunks slot.chunk) slot.object old new
         → GivesInNewObject (list_candidate before size alignment index) es block (with_span (with_list_chunk before index slot.object (list_question before index size).size) (span_of_slot slot))
         → IsServed after
-    in_new_run number free some after_is new_chunk gives =
+    in_new_run number free some after_is one_more gives =
+        let for_type = serving.of.for_type in
         let n : ℕ = chunk_size l size in
         let chunk : Chunk = record { object = slot.object; size = n } in
         let changed : Heap = record heap { used = heap.used + n } in
@@ -151,7 +145,7 @@ module _ {A : Type 0} {limits : Limits A} {heaps : List Heap} {buddies : List Bu
         subst IsServed (sym after_is) (record {
           consistent = consistent_with_list_chunk limits heaps buddies lists t remaining index l given.is given.known given.at i heap given.here given.at_heap slot n now changed number free some small sound_now held_now more refl;
           gives = inr (subst (GivesInNewObject (list_candidate before size alignment index) es block) (sym state_asked) gives);
-          objects_are = rw free (counted_new before row (list_question before index size) slot.object _ old new found_now refl asked refl new_chunk);
+          objects_are = rw free (counted_new before.properties l.memory_type (sees_chunks l) chunk row slot.object _ _ old new chunk_now found_now for_type.memory_type refl (ap (λ bits. has_bit bits 2) for_type.props) one_more);
         })
 
     -- what is asked for a new chunk
@@ -186,12 +180,7 @@ module _ {A : Type 0} {limits : Limits A} {heaps : List Heap} {buddies : List Bu
           let more = more_in first in
           let free = not_held_yet more.was_free in
           let after_is = gives.state ∙ account_is first in
-          let chunk : Chunk = record { object = slot.object; size = n } in
-          let chunk_now : finite.get after.allocator.space.chunks slot.chunk ≡ Some chunk =
-          ap (λ (a : Account Listing). finite.get a.allocator.space.chunks slot.chunk) after_is ∙ ap (finite.get (finite.insert l.space.chunks (l.space.latest + 1) chunk)) chunk_number
-          ∙ own_inserted l.space.chunks (l.space.latest + 1) chunk in
-          let made_one = chunk_more l.memory_type l.props l.space.chunks after.allocator.space.chunks slot.chunk chunk (question l size flags) old new more chunk_now refl refl refl in
-          in_new_run chunk_number free gives.asks.remains.objects after_is (subst (λ x. HasOneChunkMore x slot.object old new) asked_is made_one) (record {
+          in_new_run chunk_number free gives.asks.remains.objects after_is more (record {
             asks = asks_is (told_with before t.places t.room index l serving heap size alignment flags given.flags_are) gives.asks;
             place = record { is = (λ k. list_block before index (number k) (span_is k)); was_free = free };
             asked = gives.asked ∙ ap (λ x. made x slot.object) asked_is;

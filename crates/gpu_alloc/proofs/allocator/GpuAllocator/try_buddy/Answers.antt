@@ -22,12 +22,12 @@ use Rattle.gpu_alloc.proofs.Consistency.{heap_there}
 use Rattle.gpu_alloc.proofs.OwnObjects.{consistent-room}
 use Rattle.gpu_alloc.proofs.Buddies.Served.{buddy_agrees}
 use Rattle.gpu_alloc.proofs.Buddies.Serving.{Serves, told_of, rounded_is}
-use Rattle.gpu_alloc.proofs.Buddies.Answers.{Given, span_is_free, IsServed, served}
+use Rattle.gpu_alloc.proofs.Buddies.Answers.{span_is_free, IsServed, served}
 use Rattle.gpu_alloc.proofs.Buddies.Grants.{serves, counted_before, bounded_before, consistent_refused, state_refused}
 use Rattle.gpu_alloc_base.proofs.ToldTwice.{first_is, refused_is, wants_is}
 use Rattle.gpu_alloc.proofs.Trials.{refused_tries, nothing_made}
 use Rattle.gpu_alloc.proofs.allocator.GpuAllocator.try_buddy.Given.{Over}
-use Rattle.gpu_alloc.proofs.HandedOn.{below, address_there}
+use Rattle.gpu_alloc.proofs.HandedOn.{Given, given_by, below, address_there}
 use Rattle.gpu_alloc.proofs.allocator.GpuAllocator.try_buddy.Goals as goal
 
 -- a power of two is not 0
@@ -88,33 +88,20 @@ alloc-answer-requires-clause-bound g c =
 pub add_leaf-key-requires-clause-free : goal.add_leaf-key-requires-clause-free
 add_leaf-key-requires-clause-free g c =
     let told = c.in-Ok.ensures.allocates in
-    let given : Given c.self.inside.limits c.self.inside.heaps.items c.self.inside.buddies.items c.self.inside.free_lists.items c.self.inside.spans c.self.inside.allocations_remains c.args.memory_type c.heap_index-heap.result
-    c.index_mut.result.now c.index_mut-2.result.now (allocation_bits c.flags-flags.result) c.in-Ok.block (g.D.MemoryDevice.properties c.args.device.now) (g.D.MemoryDevice.objects c.args.device.now) =
-    record {
-      is = c.self.invariant;
-      known = rw (← c.self.view_is) at c.requires.known;
-      at = c.index_mut.ensures.value;
-      here = c.heap_index-heap.ensures;
-      at_heap = c.index_mut-2.ensures.value;
-      flags_are = c.flags-flags.ensures;
-      agrees = rw (← c.self.view_is) at c.requires.agrees;
-    } in
+    let known = rw (← c.self.view_is) at c.requires.known in
+    let agrees = rw (← c.self.view_is) at c.requires.agrees in
+    let given = given_by c.self.inside.limits c.self.invariant known c.index_mut.ensures.value c.heap_index-heap.ensures c.index_mut-2.ensures.value c.flags-flags.ensures agrees in
     ap (λ (t : Table). set_of.contains t.live (span_of_leaf c.into_parts-memory.result.1)) c.reserve.ensures.kept
     ∙ ap (λ leaf. set_of.contains c.self.inside.spans.live (span_of_leaf leaf)) c.into_parts-memory.ensures.leaf
     ∙ span_is_free given _ _ told.0 _ told.2 c.in-Ok.ensures.objects (some_power c.in-Ok.ensures.granted.power)
 
 given : (g : Over) (c : goal.After-new g)
     → Given c.self.inside.limits c.self.inside.heaps.items c.self.inside.buddies.items c.self.inside.free_lists.items c.self.inside.spans c.self.inside.allocations_remains c.args.memory_type c.heap_index-heap.result
-    c.index_mut.result.now c.index_mut-2.result.now (allocation_bits c.flags-flags.result) c.in-Ok.block (g.D.MemoryDevice.properties c.args.device.now) (g.D.MemoryDevice.objects c.args.device.now)
-given g c = record {
-  is = c.self.invariant;
-  known = rw (← c.self.view_is) at c.requires.known;
-  at = c.index_mut.ensures.value;
-  here = c.heap_index-heap.ensures;
-  at_heap = c.index_mut-2.ensures.value;
-  flags_are = c.flags-flags.ensures;
-  agrees = rw (← c.self.view_is) at c.requires.agrees;
-}
+    c.self.inside.buddies.items c.index_mut.result.now c.index_mut-2.result.now (allocation_bits c.flags-flags.result) (g.D.MemoryDevice.properties c.args.device.now) (g.D.MemoryDevice.objects c.args.device.now)
+given g c =
+    let known = rw (← c.self.view_is) at c.requires.known in
+    let agrees = rw (← c.self.view_is) at c.requires.agrees in
+    given_by c.self.inside.limits c.self.invariant known c.index_mut.ensures.value c.heap_index-heap.ensures c.index_mut-2.ensures.value c.flags-flags.ensures agrees
 
 -- The table with the block's span, as `served` asks for it.
 

@@ -10,7 +10,7 @@ use Rattle.gpu_alloc_types.specs.Properties.{Properties}
 use Rattle.gpu_alloc.specs.Candidates.{own_question, own_candidate, whole_block, holding}
 use Rattle.gpu_alloc_base.specs.Case.{Asks}
 use Rattle.gpu_alloc.specs.Inside.{state_in, properties_in}
-use Rattle.gpu_alloc_base.specs.NewChunk.{flags_of, made, HasOneChunkMore}
+use Rattle.gpu_alloc_base.specs.NewChunk.{flags_of, made}
 use Rattle.gpu_alloc.specs.Spans.{Table, span_at}
 use Rattle.gpu_alloc.specs.State.{State, HeldObject, Block}
 use Rattle.gpu_alloc_buddy.specs.BuddyState.{Buddy}
@@ -19,7 +19,8 @@ use Rattle.gpu_alloc_base.specs.declared.heap.Heap.{Heap}
 use Rattle.gpu_alloc.specs.declared.limits.Limits.{Limits}
 use Rattle.gpu_alloc_base.proofs.Maps.{own_inserted}
 use Rattle.gpu_alloc.proofs.Agreeing.{not_held}
-use Rattle.gpu_alloc.proofs.NewObjects.{counted_new}
+use Rattle.gpu_alloc_base.specs.NewObject.{HasOneMore}
+use Rattle.gpu_alloc.specs.Allocation.{IsAsCounted}
 use Rattle.gpu_alloc.proofs.Consistency.{HoldsMore, heap_there, ledger-room}
 use Rattle.gpu_alloc.proofs.Grants.{own_object, state_held, decides_granted}
 use Rattle.gpu_alloc.proofs.HeapLists.{properties_kept}
@@ -129,15 +130,15 @@ returns-in-Ok-clause-tries g c =
 pub returns-in-Ok-clause-objects : goal.returns-in-Ok-clause-objects
 returns-in-Ok-clause-objects g c =
     let s = before g c in
-    let h = own_object c.args.request.size c.args.memory_type in
-    let q = own_question s c.args.request.size c.args.memory_type in
+    let h = object g c in
     let n = c.object.result in
     let old = g.D.MemoryDevice.objects c.args.device.now in
     let new = g.D.MemoryDevice.objects c.allocate_memory-answer.new.self in
     let one = g.met.D.MemoryDevice.row _ _ _ c.in-Ok.ensures in
-    let made_one = subst (λ x. HasOneChunkMore q x old new) (sym c.object.ensures) (one.0, (one.1.0, record { of_type = one.1.1.of_type; of_size = one.1.1.of_size; mapped = one.1.1.unmapped }, one.1.2)) in
+    let fresh = one.1.1 in
     let found = ap (λ held. finite.get held n) (more g c).held ∙ own_inserted s.held n h in
-    rw (← c.self.view_is, block_is g c) (rw (free g c) (counted_new s h q n _ old new found refl refl refl made_one))
+    let made : HasOneMore (IsAsCounted s.properties) _ _ old new = record { counted = h; is_counted = found; was_free = rw c.object.ensures one.0; made = one.1.0; is_as = record { of_type = fresh.of_type; of_size = fresh.of_size; mapped = fresh.unmapped }; now = rw c.object.ensures one.1.2 } in
+    rw (← c.self.view_is, block_is g c) (rw (free g c) made)
 
 pub returns-in-Err-OutOfHostMemory-clause-tries : goal.returns-in-Err-OutOfHostMemory-clause-tries
 returns-in-Err-OutOfHostMemory-clause-tries g c =
