@@ -1,5 +1,5 @@
 -- What a caller may know of a granted block follows from the decision, by the way in which its candidate is served.
-use Rattle.std.proofs.Common.{◌≡◌, inl, inr, ℕ, zero, suc, ◌+◌, ◌*◌, ◌-◌, ◌%◌, ◌^◌, ◌<◌, ◌≤◌, true, false, cond, nat_le, List, length, Option, Some, None, Result, Ok, Err, IsTrue, refl, sym, ◌∙◌, ap, subst, arith}
+use Rattle.std.proofs.Common.{◌≡◌, inl, inr, ℕ, ◌+◌, ◌*◌, ◌-◌, ◌%◌, ◌^◌, ◌<◌, ◌≤◌, true, List, length, Option, Some, None, Result, Ok, Err, IsTrue, refl, sym, ◌∙◌, ap, subst, arith}
 use Rattle.std.specs.Prelude.{IfOk, max}
 use Rattle.std.proofs.lemmas.Bool.{cases_eq, cases_lt}
 use Rattle.std.proofs.lemmas.Bool.Decides.{nat_tests}
@@ -12,13 +12,13 @@ use Rattle.gpu_alloc_types.specs.Properties.{atom_of, heap_size}
 use Rattle.gpu_alloc_base.specs.Case as case
 use Rattle.gpu_alloc_base.specs.FreeRuns.{IsFreeRun, tail_start}
 use Rattle.gpu_alloc_base.specs.FreeSpace.{IsIn, IsMultipleOf, IsPowerOfTwo}
-use Rattle.gpu_alloc_base.specs.Sizes.{doubled_up, minimal_size, next_power_of_two}
+use Rattle.gpu_alloc_base.specs.Sizes.{minimal_size}
 use Rattle.gpu_alloc_base.specs.declared.error.AllocationError.{AllocationError}
 use Rattle.gpu_alloc_base.proofs.ChunkSizes.{cut_whole, grown_is_least, up_enough}
-use Rattle.gpu_alloc_base.proofs.FreeRuns.{tail_below, tail_ends}
+use Rattle.gpu_alloc_base.proofs.FreeRuns.{run_stops, tail_below, tail_ends}
 use Rattle.gpu_alloc_base.proofs.Maps.{own_inserted}
 use Rattle.gpu_alloc_base.proofs.Multiples.{mod_from_multiple, multiple_down, multiple_from_mod, multiple_min, multiple_of_lower, multiple_rest, multiple_times}
-use Rattle.gpu_alloc_base.proofs.PowersOfTwo.{greater_power, power_of_bit}
+use Rattle.gpu_alloc_base.proofs.PowersOfTwo.{greater_power, next_is_enough, power_of_bit}
 use Rattle.gpu_alloc_buddy.specs.Buddy.{Fits}
 use Rattle.gpu_alloc.specs.Allocation.{Allocates, IsGranted, fits_a_chunk, strategy}
 use Rattle.gpu_alloc.specs.Atoms.{KeepsAtoms, IsNextListChunk}
@@ -39,24 +39,6 @@ use Rattle.gpu_alloc.proofs.Decisions.{of_grant}
 use Rattle.gpu_alloc.proofs.Soundness.{ranges_apart}
 use Rattle.gpu_alloc.proofs.Strategies.{fits_its_list}
 use Rattle.gpu_alloc.proofs.Tables.LiveSpans.{live_new}
-
--- A next power of two that is less than 2^64 is enough, whatever it is of.
-
-doubled_enough : (n j x : ℕ) → doubled_up n (2 ^ j) x < 2 ^ (j + n) → IsPowerOfTwo (doubled_up n (2 ^ j) x) × (x ≤ doubled_up n (2 ^ j) x)
-unfolding doubled_up
-doubled_enough zero j x lt = let same : j + 0 ≡ j = omega arith in absurd (omega (arith, lt, ap (λ k. 2 ^ k) same))
-doubled_enough (suc n) j x lt =
-    elim (nat_le x (2 ^ j)) as (λ b. nat_le x (2 ^ j) ≡ b → cond b (2 ^ j) (doubled_up n (2 * 2 ^ j) x) < 2 ^ (j + suc n) → IsPowerOfTwo (cond b (2 ^ j) (doubled_up n (2 * 2 ^ j) x)) × (x ≤ cond b (2 ^ j) (doubled_up n (2 * 2 ^ j) x))) [
-      | true ↦ λ e _. ((j, refl), grind (arith, nat_tests))
-      | false ↦ λ e less.
-          let double : 2 ^ suc j ≡ 2 * 2 ^ j = omega arith in
-          let same : j + suc n ≡ suc j + n = omega arith in
-          let below : doubled_up n (2 * 2 ^ j) x < 2 ^ (suc j + n) = subst (λ k. doubled_up n (2 * 2 ^ j) x < 2 ^ k) same less in
-          subst (λ p. IsPowerOfTwo (doubled_up n p x) × (x ≤ doubled_up n p x)) double (doubled_enough n (suc j) x (subst (λ p. doubled_up n p x < 2 ^ (suc j + n)) (sym double) below))
-    ] refl lt
-
-next_enough : (x : ℕ) → next_power_of_two x < 2 ^ 64 → IsPowerOfTwo (next_power_of_two x) × (x ≤ next_power_of_two x)
-next_enough x lt = doubled_enough 64 0 x lt
 
 module _ (s : State) (r : Request) (sound : IsSound s) where
   -- A block of a kind, in an object of a memory type.
@@ -128,7 +110,7 @@ module _ (s : State) (r : Request) (sound : IsSound s) where
 
     module _ (fits : Fits (buddy_size s r t)) where
       rounded : IsPowerOfTwo (buddy_size s r t) × (max (max r.size (r.align_mask + 1)) atom ≤ buddy_size s r t)
-      rounded = let next = next_enough (max (max r.size (r.align_mask + 1)) (max atom (minimal_size s.config (heap_size s.properties t)))) (omega (arith, fits)) in (next.0, omega (arith, next.1))
+      rounded = let next = next_is_enough (max (max r.size (r.align_mask + 1)) (max atom (minimal_size s.config (heap_size s.properties t)))) (omega (arith, fits)) in (next.0, omega (arith, next.1))
 
       buddy_some : 0 < buddy_size s r t
       buddy_some = omega (arith, rounded.0.1, pow_pos rounded.0.0)
@@ -197,11 +179,7 @@ module _ (s : State) (r : Request) (sound : IsSound s) where
                 odd (ap (λ x. x % atom) here ∙ mod_from_multiple atom span.offset (atoms.begins t number span (subst (IsListChunk s t number) (sym same) chunk) live))
           ];
         } in
-        let longer = run.longest start (end + 1) (λ at from to. elim (cases_lt at end) [
-          | inl lt ↦ run.free at from lt
-          | inr ge ↦ let here : end ≡ at = omega (arith, ge, to) in subst (IsFreeInChunk s t number) here (object, next)
-        ]) (omega arith) (omega arith) in
-        omega (arith, longer.1) in
+        run_stops (IsFreeInChunk s t) number start end run (object, next) in
         elim (cases_eq (end % atom) 0) [
           | inl none ↦ multiple_from_mod atom end none
           | inr some ↦ absurd (never some)

@@ -169,20 +169,3 @@ module _ (memory_type props : ℕ) (before after : HeldChunks) (key : ℕ) (chun
         };
         now = more.1.2;
       })
-
-  -- and the way back
-  pub chunk_more : (more : HasOneMore (IsNew memory_type (has_bit props 2)) (map.get after key) chunk.object f g) → map.get after key ≡ Some chunk → memory_type ≡ q.memory_type → has_bit props 2 ≡ q.mapped → chunk.size ≡ q.size → HasOneChunkMore q chunk.object f g
-  chunk_more more held of_type seen size =
-      let is : more.counted ≡ chunk = one_value _ more.counted chunk more.is_counted held in
-      let counted : more.counted.size ≡ q.size = ap (λ (x : Chunk). x.size) is ∙ size in (
-        more.was_free,
-        (
-          more.made,
-          record {
-            of_type = more.is_as.of_type ∙ of_type;
-            of_size = more.is_as.of_size ∙ counted;
-            mapped = more.is_as.mapped ∙ rw (seen, counted) refl;
-          },
-          more.now,
-        ),
-      )

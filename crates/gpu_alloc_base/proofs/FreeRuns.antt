@@ -18,6 +18,15 @@ tail_ends size alignment end = omega (arith, tail_below size alignment end)
 
 -- Free ranges and regions.
 
+-- the byte behind a free run is not free
+pub run_stops : (F : ℕ → ℕ → Type 0) (chunk start end : ℕ) → IsFreeRun F chunk start end → F chunk end → ⊥
+run_stops F chunk start end run next =
+    let longer = run.longest start (end + 1) (λ at from to. elim (cases_lt at end) [
+      | inl lt ↦ run.free at from lt
+      | inr ge ↦ let here : end ≡ at = omega (arith, ge, to) in subst (F chunk) here next
+    ]) (omega arith) (omega arith) in
+    omega (arith, longer.1)
+
 module _ (F : ℕ → ℕ → Type 0) (Has : FreeListRegion → Type 0) (spaced : IsSpaced F Has) where
   -- a free range that is not empty lies in one region
   pub range_in : (chunk start end : ℕ) → start < end → AreFree F chunk start end → (r : FreeListRegion) × Has r × (r.chunk ≡ chunk) × (r.start ≤ start) × (end ≤ r.end)

@@ -38,6 +38,24 @@ doubled (suc n) j x enough least =
 pub is_next_power_of_two : (x : ℕ) → x ≤ 2 ^ 64 → IsNextPowerOfTwo x (next_power_of_two x)
 is_next_power_of_two x le = doubled 64 0 x le (λ k is. pow_mono {i = 0} {j = k} (omega arith))
 
+-- what doubling finds is a power of two, and enough where it is less than the last one
+doubled_enough : (n j x : ℕ) → doubled_up n (2 ^ j) x < 2 ^ (j + n) → ((k : ℕ) × (doubled_up n (2 ^ j) x ≡ 2 ^ k)) × (x ≤ doubled_up n (2 ^ j) x)
+unfolding doubled_up
+doubled_enough zero j x lt = let same : j + 0 ≡ j = omega arith in absurd (omega (arith, lt, ap (λ k. 2 ^ k) same))
+doubled_enough (suc n) j x lt =
+    elim (nat_le x (2 ^ j)) as (λ b. nat_le x (2 ^ j) ≡ b → cond b (2 ^ j) (doubled_up n (2 * 2 ^ j) x) < 2 ^ (j + suc n) → ((k : ℕ) × (cond b (2 ^ j) (doubled_up n (2 * 2 ^ j) x) ≡ 2 ^ k)) × (x ≤ cond b (2 ^ j) (doubled_up n (2 * 2 ^ j) x))) [
+      | true ↦ λ e _. ((j, refl), grind (arith, nat_tests))
+      | false ↦ λ e less.
+          let double : 2 ^ suc j ≡ 2 * 2 ^ j = omega arith in
+          let same : j + suc n ≡ suc j + n = omega arith in
+          let below : doubled_up n (2 * 2 ^ j) x < 2 ^ (suc j + n) = subst (λ k. doubled_up n (2 * 2 ^ j) x < 2 ^ k) same less in
+          subst (λ p. ((k : ℕ) × (doubled_up n p x ≡ 2 ^ k)) × (x ≤ doubled_up n p x)) double (doubled_enough n (suc j) x (subst (λ p. doubled_up n p x < 2 ^ (suc j + n)) (sym double) below))
+    ] refl lt
+
+-- a next power of two below 2^64 is enough, whatever it is of
+pub next_is_enough : (x : ℕ) → next_power_of_two x < 2 ^ 64 → ((k : ℕ) × (next_power_of_two x ≡ 2 ^ k)) × (x ≤ next_power_of_two x)
+next_is_enough x lt = doubled_enough 64 0 x lt
+
 -- a power of two has as many zeros below its only one
 pub trailing_zeros-power : (n k : ℕ) → n ≡ 2 ^ k → n < 2 ^ 64 → (n ≡ 2 ^ trailing_zeros w64 n) × (trailing_zeros w64 n < 64)
 trailing_zeros-power n k e fits =

@@ -32,7 +32,7 @@ use Rattle.gpu_alloc_base.proofs.Maps.{one_value, own_inserted, inserted_cases}
 use Rattle.gpu_alloc_base.proofs.PowersOfTwo.{greater_power, power_of_bit}
 use Rattle.gpu_alloc_freelist.proofs.Spaces.{was_live, now_live, space_with_slot, next_is_new, none_in_next, space_with_chunk}
 use Rattle.gpu_alloc_base.proofs.Multiples.{multiple_down, multiple_from_mod, multiple_of_lower, multiple_rest, mod_from_multiple}
-use Rattle.gpu_alloc_base.proofs.FreeRuns.{tail_below, tail_ends}
+use Rattle.gpu_alloc_base.proofs.FreeRuns.{run_stops, tail_below, tail_ends}
 
 -- A block more.
 
@@ -124,11 +124,7 @@ run_ends l chunk start end s run =
             odd (ap (λ x. x % l.atom) here ∙ mod_from_multiple l.atom slot.offset (s.slots slot live).0)
       ];
     } in
-    let longer = run.longest start (end + 1) (λ at from to. elim (cases_lt at end) [
-      | inl lt ↦ run.free at from lt
-      | inr ge ↦ let here : end ≡ at = omega (arith, ge, to) in subst (IsFreeIn l.space chunk) here next
-    ]) (omega arith) (omega arith) in
-    omega (arith, longer.1) in
+    run_stops (IsFreeIn l.space) chunk start end run next in
     elim (cases_eq (end % l.atom) 0) [
       | inl none ↦ multiple_from_mod l.atom end none
       | inr some ↦ absurd (never some)
