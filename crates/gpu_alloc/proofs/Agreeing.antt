@@ -29,7 +29,7 @@ counted_kept Imported s now name counted o same older is = λ span live of_it. s
 counted_kept BuddyChunk s now name counted o same older is = (is.0, subst (λ p. IsMappedWhole p o) (sym same) is.1)
 counted_kept (FreeListChunk number) s now name counted o same older is = (is.0, subst (λ p. IsMappedWhole p o) (sym same) is.1)
 
-pub there_kept : (s now : State) (name : ℕ) (h : HeldObject) (o : Object) → now.properties ≡ s.properties → IsOlder s now name → IsThere s name h o → IsThere now name h o
+there_kept : (s now : State) (name : ℕ) (h : HeldObject) (o : Object) → now.properties ≡ s.properties → IsOlder s now name → IsThere s name h o → IsThere now name h o
 there_kept s now name h o same older is = record { of_type = is.of_type; of_size = counted_kept h.kind s now name h.counted o same older is.of_size }
 
 -- a name that the device has not, the allocator has not
@@ -56,7 +56,7 @@ there_more s now f name h o q (Some x) false e same older there was =
     let other : q ≢ name = grind (arith, nat_tests) in
     (was.0, put-other f name (Some o) q other ∙ was.1, there_kept s now q x was.0 same (older other) was.2)
 
-pub agrees_more : (s now : State) (p : Properties) (f : ℕ → Option Object) (name : ℕ) (h : HeldObject) (o : Object) → Agrees s p f → now.properties ≡ s.properties
+agrees_more : (s now : State) (p : Properties) (f : ℕ → Option Object) (name : ℕ) (h : HeldObject) (o : Object) → Agrees s p f → now.properties ≡ s.properties
     → now.held ≡ finite.insert s.held name h → ((q : ℕ) → q ≢ name → IsOlder s now q) → IsThere now name h o → Agrees now p (put f name (Some o))
 agrees_more s now p f name h o a same held older there = record {
   properties = a.properties ∙ sym same;
