@@ -1,8 +1,8 @@
 //! Refused requests: which refusal it is, what the device is asked, and that nothing is left behind.
 
 use super::bench::{
-    Bench, DEVICE_LOCAL, HEAPS, Place, Step, TYPES, asked_for, bytes, offering, one_type, place_in,
-    play_on, play_refused,
+    Bench, Counts, DEVICE_LOCAL, HEAPS, Place, Step, TYPES, asked_for, bytes, offering, one_type,
+    place_in, play_on, play_refused,
 };
 use super::memory::plug;
 use super::transient::transient;
@@ -212,49 +212,64 @@ fn ask_in_hole<'a>(
     Ok(answer)
 }
 
-/// How far such a request came that was refused. Nothing is held, and the same request is granted with ample memory:
-/// its object's name tells whether there was one before.
+/// A request that takes a new chunk of so many bytes, and those that are granted before it.
+#[derive(Clone, Copy)]
+struct Growth<'a> {
+    before: &'a [Request],
+    request: Request,
+    chunk: u64,
+}
+
+/// How far such a request came that was refused. No more is held than before, and the same request is granted with
+/// ample memory: its object's name tells whether there was one in between.
 fn how_far(
     rt: &impl Abort,
     bench: &mut Bench<&LocalHeap>,
-    request: Request,
+    growth: Growth<'_>,
+    before: Counts,
     hole: usize,
 ) -> Reached {
     let counts = bench.counts();
     assert_eq!(rt;
         (counts.objects, counts.remaining, counts.used),
-        (0, 4096, 0),
+        (before.objects, before.remaining, before.used),
         "with {hole}"
     );
-    let later = bench.ask(rt, request, None);
+    let later = bench.ask(rt, growth.request, None);
     assert_eq!(rt;
         bench.last_allocation(),
-        Some((8192, 0, AllocationFlags::empty())),
+        Some((growth.chunk, 0, AllocationFlags::empty())),
         "with {hole}"
     );
     match later {
-        Ok(place) if place.object == 2 => Reached::Object,
-        Ok(_) if counts.asked == 1 => Reached::Question,
+        Ok(place) if place.object > before.asked.saturating_add(1) => Reached::Object,
+        Ok(_) if counts.asked > before.asked => Reached::Question,
         Ok(_) => Reached::Nothing,
         Err(error) => panic!(rt; "with {hole}: {error}"),
     }
 }
 
-/// How far a first request comes with one hole of memory left.
+/// How far a request comes with one hole of memory left.
 fn reached_in_hole(
     rt: &impl Abort,
     alloc: Global,
-    request: Request,
+    growth: Growth<'_>,
     hole: usize,
 ) -> Result<Reached, Fail> {
     let heap = LocalHeap::new(alloc, 1 << 16)?;
     let mut bench = Bench::new(rt, &heap, one_type())?;
-    let asked = ask_in_hole(rt, alloc, &heap, &mut bench, request, hole);
+    for request in growth.before {
+        if let Err(error) = bench.ask(rt, *request, None) {
+            panic!(rt; "before: {error}");
+        }
+    }
+    let before = bench.counts();
+    let asked = ask_in_hole(rt, alloc, &heap, &mut bench, growth.request, hole);
     let answer = match asked {
         Ok(Ok(_)) => Ok(Reached::Block),
         Ok(Err(error)) => {
             assert_eq!(rt; error, AllocationError::OutOfHostMemory, "with {hole}");
-            Ok(how_far(rt, &mut bench, request, hole))
+            Ok(how_far(rt, &mut bench, growth, before, hole))
         }
         Err(_) => Err(Fail::from("no memory for the plugs")),
     };
@@ -264,19 +279,21 @@ fn reached_in_hole(
 
 /// Each request for host memory is refused in turn, as the hole grows by 8 bytes until the block is granted. Once there
 /// is an object only its second handle is wanted, so two sizes of the hole at most come that far: all room was made
-/// before the question.
-fn compare_wants(rt: &impl Abort, alloc: Global, request: Request) -> Result<(), Fail> {
+/// before the question. With a first chunk some do; where a list grows that is not empty, what it leaves behind is hole
+/// enough for the rest.
+fn compare_wants(rt: &impl Abort, alloc: Global, growth: Growth<'_>) -> Result<(), Fail> {
+    let later = !growth.before.is_empty();
     let mut nothing = 0u32;
     let mut question = 0u32;
     let mut object = 0u32;
     for hole in 0..4096 {
-        match reached_in_hole(rt, alloc, request, hole << 3)? {
+        match reached_in_hole(rt, alloc, growth, hole << 3)? {
             Reached::Nothing => nothing = nothing.saturating_add(1),
             Reached::Question => question = question.saturating_add(1),
             Reached::Object => object = object.saturating_add(1),
             Reached::Block => {
                 assert!(rt;
-                    nothing > 0 && question > 0 && object > 0 && object <= 2,
+                    nothing > 0 && object <= 2 && (later || question > 0 && object > 0),
                     "{nothing}, {question} and {object}"
                 );
                 return Ok(());
@@ -289,7 +306,44 @@ fn compare_wants(rt: &impl Abort, alloc: Global, request: Request) -> Result<(),
 #[test]
 fn a_want_of_host_memory_leaves_nothing(rt: HostRuntime) -> Result<(), Fail> {
     for request in [bytes(100), transient(100)] {
-        compare_wants(&rt, rt.alloc(), request)?;
+        let growth = Growth {
+            before: &[],
+            request,
+            chunk: 8192,
+        };
+        compare_wants(&rt, rt.alloc(), growth)?;
+    }
+    Ok(())
+}
+
+/// A second chunk, for which the pieces of a buddy allocator grow, a fifth one of it, for which its chunks alone grow,
+/// and a fifth one of a free list, for which all its lists grow.
+#[test]
+fn a_want_of_host_memory_leaves_what_is_held(rt: HostRuntime) -> Result<(), Fail> {
+    for growth in [
+        Growth {
+            before: &[bytes(100)],
+            request: bytes(8192),
+            chunk: 16384,
+        },
+        Growth {
+            before: &[
+                bytes(100),
+                bytes(8192),
+                bytes(16384),
+                bytes(32000),
+                bytes(32000),
+            ],
+            request: bytes(32000),
+            chunk: 65536,
+        },
+        Growth {
+            before: &[transient(20000); 4],
+            request: transient(20000),
+            chunk: 32768,
+        },
+    ] {
+        compare_wants(&rt, rt.alloc(), growth)?;
     }
     Ok(())
 }
