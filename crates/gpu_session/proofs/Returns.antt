@@ -1,32 +1,28 @@
 -- What a return makes of the books.
 use Rattle.std.proofs.Common.{◌≡◌, ◌≢◌, ℕ, Bool, List, length, Option, Some, sym, ◌∙◌, ap, subst}
 use Rattle.std.specs.FinMap as finite
-use Rattle.std.specs.FinSet as set
 use Rattle.std.specs.Ordering.{nat_cmp}
 use Rattle.gpu_alloc_types.specs.Properties.{Properties}
-use Rattle.gpu_alloc_types.specs.Device.{Event, Object}
+use Rattle.gpu_alloc_types.specs.Device.{Object}
 use Rattle.gpu_alloc.specs.Agreement.{Agrees}
-use Rattle.gpu_alloc.specs.Release.{Frees}
+use Rattle.gpu_alloc.specs.Owned.{Removes}
 use Rattle.gpu_alloc.specs.Sound as allocator
 use Rattle.gpu_alloc.specs.State.{span_of, Block, State, IsLive, IsOwned}
-use Rattle.gpu_alloc.proofs.Changes.{apart_differ, still_owned}
-use Rattle.gpu_alloc.proofs.Tables.LiveSpans.{live_kept, live_other}
+use Rattle.gpu_alloc.proofs.Changes.{apart_differ}
+use Rattle.gpu_alloc.proofs.Tables.LiveSpans.{live_other}
 use Rattle.gpu_session.specs.Sound.{IsBlock, IsSound, IsKept}
 use Rattle.gpu_session.proofs.Blocks.{owned_block}
 use Rattle.gpu_alloc_base.proofs.Names.{here, wherever, removed-cases, get_removed-other}
 
 -- The block of a name was given back, on a device whose objects are then these.
-pub record Returns (s : State) (blocks : finite.FinMap nat_cmp Block) (name : ℕ) (b : Block) (es : List Event) (new : State) (q : Properties) (objects : ℕ → Option Object) : Type 0 where
+pub record Returns (s : State) (blocks : finite.FinMap nat_cmp Block) (name : ℕ) (b : Block) (new : State) (q : Properties) (objects : ℕ → Option Object) : Type 0 where
   pub named : finite.get blocks name ≡ Some b
-  pub frees : Frees s b es new
+  pub removes : Removes s b new
   pub sound : allocator.IsSound new
   pub agrees : Agrees new q objects
 
-module _ {s : State} {blocks : finite.FinMap nat_cmp Block} {name : ℕ} {b : Block} {es : List Event} {new : State} {p q : Properties} {before after : ℕ → Option Object}
-    (r : Returns s blocks name b es new q after) (sound : IsSound p before (record { allocator = s; blocks = blocks })) where
-  live_is : new.live ≡ set.remove s.live (span_of b)
-  live_is = ap (λ (t : State). t.live) r.frees.2.1
-
+module _ {s : State} {blocks : finite.FinMap nat_cmp Block} {name : ℕ} {b : Block} {new : State} {p q : Properties} {before after : ℕ → Option Object}
+    (r : Returns s blocks name b new q after) (sound : IsSound p before (record { allocator = s; blocks = blocks })) where
   block_at : (n : ℕ) (c : Block) → finite.get blocks n ≡ Some c → IsBlock s before c
   block_at n c at = here (finite.get blocks n) (IsBlock s before) (sound.blocks n) c at
 
@@ -34,9 +30,7 @@ module _ {s : State} {blocks : finite.FinMap nat_cmp Block} {name : ℕ} {b : Bl
   owned_still : (n : ℕ) (c : Block) → n ≢ name → finite.get blocks n ≡ Some c → IsOwned new c
   owned_still n c ne at =
       let block = block_at n c at in
-      let other = apart_differ (span_of c) (span_of b) (sound.apart n name c b ne at r.named) block.nonempty in
-      let live : IsLive new (span_of c) = rw live_is (live_kept s.live (span_of b) (span_of c) other block.owned.live) in
-      still_owned s new r.frees.0 c r.sound (ap (λ (t : State). t.held) r.frees.2.1) block.owned live
+      r.removes.owned c block.owned (apart_differ (span_of c) (span_of b) (sound.apart n name c b ne at r.named) block.nonempty)
 
   pub return_is_sound : IsSound q after (record { allocator = new; blocks = finite.remove blocks name })
   return_is_sound = record {
@@ -47,7 +41,7 @@ module _ {s : State} {blocks : finite.FinMap nat_cmp Block} {name : ℕ} {b : Bl
         owned_block new q after c r.sound r.agrees (owned_still n c h.0 h.1));
     apart = λ n m c d ne at_n at_m. sound.apart n m c d ne (removed-cases blocks name n c at_n).1 (removed-cases blocks name m d at_m).1;
     named = λ span live.
-        let l = live_other s.live (span_of b) span (rw live_is at live) in
+        let l = live_other s.live (span_of b) span (rw (r.removes.live) at live) in
         let f = sound.named span l.1 in
         let ne : f.0 ≢ name = λ e.
         let at : finite.get blocks name ≡ Some f.1.0 = subst (λ n. finite.get blocks n ≡ Some f.1.0) e f.1.1 in
@@ -58,11 +52,11 @@ module _ {s : State} {blocks : finite.FinMap nat_cmp Block} {name : ℕ} {b : Bl
   }
 
   pub return_keeps_properties : q ≡ p
-  return_keeps_properties = r.agrees.properties ∙ ap (λ (t : State). t.properties) r.frees.2.1 ∙ sym sound.agrees.properties
+  return_keeps_properties = r.agrees.properties ∙ r.removes.properties ∙ sym sound.agrees.properties
 
 -- What a session keeps, it keeps over a return.
-pub return_is_kept : {s : State} {blocks : finite.FinMap nat_cmp Block} {name : ℕ} {b : Block} {es : List Event} {new : State} {p q : Properties} {before after : ℕ → Option Object} {heaps : ℕ} {address : Bool}
-    → IsKept p before (record { allocator = s; blocks = blocks }) heaps address → Returns s blocks name b es new q after
+pub return_is_kept : {s : State} {blocks : finite.FinMap nat_cmp Block} {name : ℕ} {b : Block} {new : State} {p q : Properties} {before after : ℕ → Option Object} {heaps : ℕ} {address : Bool}
+    → IsKept p before (record { allocator = s; blocks = blocks }) heaps address → Returns s blocks name b new q after
     → IsKept q after (record { allocator = new; blocks = finite.remove blocks name }) heaps address
 return_is_kept k r = record {
   sound = return_is_sound r k.sound;

@@ -1,6 +1,5 @@
 use Rattle.std.proofs.Common.{[], Some, None, refl, sym, ◌∙◌, inl, inr}
 use Rattle.gpu_session.proofs.Conditions.{unnamed, in_use, without_fault}
-use Rattle.gpu_alloc.proofs.Changes.{allocates_adds}
 use Rattle.gpu_session.proofs.Grants.{grant_is_kept}
 use Rattle.gpu_alloc_base.proofs.Names.{put_by_name}
 use Rattle.gpu_session.proofs.session.Session.dedicated.Goals as goal
@@ -26,7 +25,8 @@ invariant_of-self-in-Ok g c =
     rw put
     (grant_is_kept {r = c.args.request} c.self.invariant (record {
       free = unnamed _ _ (sym c.contains_key.ensures ∙ c.if-contains_key.false);
-      adds = allocates_adds c.self.inside.allocator c.args.request (Some c.args.dedicated) decided.0 c.in-Ok.block c.alloc_with_dedicated.new.self decided.2;
+      adds = c.in-Ok.ensures.added;
+      leaves = c.in-Ok.ensures.leaves;
       granted = c.in-Ok.ensures.granted;
       sound = c.in-Ok.ensures.sound;
       agrees = c.in-Ok.ensures.agrees;

@@ -24,9 +24,9 @@ loop-block-preserved g c =
     let at = get_last _ _ c.in-Some.field-0-0 c.in-Some.block c.in-Some.ensures.entries c.in-Some.ensures.updates.1 in
     let freed = c.dealloc.ensures.freed in
     let owned = (here _ (IsBlock c.loop-block.allocator (g.D.MemoryDevice.objects c.loop-block.device)) (i.sound.blocks c.in-Some.field-0-0) c.in-Some.block at).owned in
-    let r : Returns c.loop-block.allocator (map.from_entries {R = nat_cmp} c.loop-block.blocks.entries) c.in-Some.field-0-0 c.in-Some.block freed.0 c.dealloc.new.self
+    let r : Returns c.loop-block.allocator (map.from_entries {R = nat_cmp} c.loop-block.blocks.entries) c.in-Some.field-0-0 c.in-Some.block c.dealloc.new.self
     (g.D.MemoryDevice.properties c.dealloc.new.device) (g.D.MemoryDevice.objects c.dealloc.new.device) =
-    record { named = at; frees = freed.2; sound = c.dealloc.ensures.sound; agrees = c.dealloc.ensures.agrees } in
+    record { named = at; removes = c.dealloc.ensures.removed; sound = c.dealloc.ensures.sound; agrees = c.dealloc.ensures.agrees } in
     rw (removed_by_name c.loop-block.blocks.entries c.pop.new.self.entries c.in-Some.field-0-0 c.in-Some.ensures.updates.0)
     (record {
       sound = return_is_sound r i.sound;

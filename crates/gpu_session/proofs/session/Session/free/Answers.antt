@@ -18,7 +18,7 @@ invariant_of-self g c =
     rw (removed_by_name c.self.inside.blocks.entries c.swap_remove.new.self.entries c.args.name c.swap_remove.ensures.updates.0)
     (return_is_kept c.self.invariant (record {
       named = at;
-      frees = c.dealloc.ensures.freed.2;
+      removes = c.dealloc.ensures.removed;
       sound = c.dealloc.ensures.sound;
       agrees = c.dealloc.ensures.agrees;
     }))
