@@ -14,13 +14,13 @@ ghost use Rattle.gpu_alloc.specs.Atoms.{KeepsAtoms};
 ghost use Rattle.gpu_alloc.specs.declared.allocator.Strategy.TheVariants.{OwnObject, InBuddyChunk, InFreeList};
 ghost use Rattle.gpu_alloc.specs.Opening.{opened};
 ghost use Rattle.gpu_alloc.specs.Owned.{Leaves, Adds, Removes};
-ghost use Rattle.gpu_alloc.specs.Release.{Frees, ObjectsFreed, Cleans, ObjectsCleaned, GivesBack};
-ghost use Rattle.gpu_alloc.specs.Release.{IsCleanedUp, without_span};
+ghost use Rattle.gpu_alloc.specs.Release.{Frees, ObjectsFreed, Cleans, ObjectsCleaned, IsCleanedUp};
 ghost use Rattle.gpu_alloc.specs.Request.{IsAskable};
 ghost use Rattle.gpu_alloc.specs.Sound as Sound;
-ghost use Rattle.gpu_alloc.specs.State.{HeldObject, Span, IsLive, IsOwned, is_shared, ledger, total};
+ghost use Rattle.gpu_alloc.specs.State.{HeldObject, Span, IsLive, IsOwned, ledger, total};
 
 mod by_type;
+mod returning;
 mod rows;
 
 use crate::block::Kind;
@@ -30,11 +30,11 @@ use crate::spans::{HeldRow, LiveSpan, Spans};
 use crate::{Dedicated, MemoryBlock, MemoryForUsage, Request};
 use by_type::{close_buddies, close_free_lists, empty_buddies, empty_free_lists, unused_heaps};
 use gpu_alloc_base::heap::Heap;
-use gpu_alloc_base::{AllocationError, BuddyBlock, Config, FreeListBlock, Slot};
+use gpu_alloc_base::{AllocationError, Config};
 use gpu_alloc_buddy::BuddyAllocator;
 use gpu_alloc_freelist::FreeListAllocator;
 use gpu_alloc_types::{DeviceProperties, MemoryDevice, MemoryObject, OutOfMemory, UsageFlags};
-use rows::{add_leaf, add_slot, leaf_in};
+use rows::{add_leaf, add_slot};
 use std::alloc::{AllocError, Allocator, Global};
 use std::marker::Model;
 
@@ -567,131 +567,7 @@ impl<M: MemoryObject, A: Allocator> GpuAllocator<M, A> {
         ensures total { total self.new ≡ total self.old }
         ensures sound { Sound.IsSound self.new }
     {
-        self.free(device, block);
-    }
-
-    /// Takes a block back, by what its object is held for.
-    fn free<D: MemoryDevice<M>>(&mut self, device: &mut D, block: MemoryBlock<M>)
-        requires owned { IsOwned self.old block }
-        requires agrees { Agrees self.old (D.properties device.old) (D.objects device.old) }
-        ensures freed { (es : List Event) × Chain D.step device.old es device.new × Frees self.old block es self.new }
-        ensures objects { ObjectsFreed self.old block (D.objects device.old) (D.objects device.new) }
-        ensures agrees { Agrees self.new (D.properties device.new) (D.objects device.new) }
-        ensures sound { Sound.IsSound self.new }
-    {
-        match block.kind() {
-            Kind::Dedicated | Kind::Imported => self.dealloc_object(device, block),
-            Kind::BuddyChunk => self.dealloc_in_chunk(device, block),
-            Kind::FreeListChunk(number) => self.dealloc_in_list(device, block, number),
-        }
-    }
-
-    /// Takes back the one block of an object.
-    fn dealloc_object<D: MemoryDevice<M>>(&mut self, device: &mut D, block: MemoryBlock<M>)
-        requires own { is_shared block.kind ≡ false }
-        requires owned { IsOwned self.old block }
-        requires agrees { Agrees self.old (D.properties device.old) (D.objects device.old) }
-        ensures freed { (es : List Event) × Chain D.step device.old es device.new × Frees self.old block es self.new }
-        ensures objects { ObjectsFreed self.old block (D.objects device.old) (D.objects device.new) }
-        ensures agrees { Agrees self.new (D.properties device.new) (D.objects device.new) }
-        ensures sound { Sound.IsSound self.new }
-    {
-        let (key, offset, size) = (block.key(), block.offset(), block.size());
-        let memory = block.into_memory();
-        device.deallocate_memory(&memory);
-        let removed = self.spans.remove(key, memory.object(), offset, size, true);
-        let object = removed.object.unwrap();
-        let heap = self.limits.heap_index(object.memory_type);
-        self.heaps[heap].dealloc(object.counted);
-        self.allocations_remains += 1;
-        self.keeps_sound();
-    }
-
-    /// Takes back a block of a buddy chunk. Where it stands there is what the table of spans says.
-    fn dealloc_in_chunk<D: MemoryDevice<M>>(&mut self, device: &mut D, block: MemoryBlock<M>)
-        requires shared { block.kind ≡ Kind.BuddyChunk }
-        requires owned { IsOwned self.old block }
-        requires agrees { Agrees self.old (D.properties device.old) (D.objects device.old) }
-        ensures freed { (es : List Event) × Chain D.step device.old es device.new × Frees self.old block es self.new }
-        ensures objects { ObjectsFreed self.old block (D.objects device.old) (D.objects device.new) }
-        ensures agrees { Agrees self.new (D.properties device.new) (D.objects device.new) }
-        ensures sound { Sound.IsSound self.new }
-    {
-        let (key, memory_type) = (block.key(), block.memory_type());
-        let (offset, size) = (block.offset(), block.size());
-        let memory = block.into_memory();
-        let object = memory.object();
-        let span = self.spans.find(key, object, offset, size).unwrap();
-        let heap = self.limits.heap_index(memory_type);
-        let gone = self.buddies[memory_type as usize].give_back(
-            device,
-            BuddyBlock::new(memory, leaf_in(span)),
-            &mut self.heaps[heap],
-            &mut self.allocations_remains,
-        );
-        self.spans.remove(key, object, offset, size, gone);
-    }
-
-    /// Takes back a block of a free list's chunk of this number.
-    fn dealloc_in_list<D: MemoryDevice<M>>(
-        &mut self,
-        device: &mut D,
-        block: MemoryBlock<M>,
-        number: u64,
-    )
-        requires listed { block.kind ≡ Kind.FreeListChunk number }
-        requires owned { IsOwned self.old block }
-        requires agrees { Agrees self.old (D.properties device.old) (D.objects device.old) }
-        ensures freed { (es : List Event) × Chain D.step device.old es device.new × Frees self.old block es self.new }
-        ensures objects { ObjectsFreed self.old block (D.objects device.old) (D.objects device.new) }
-        ensures agrees { Agrees self.new (D.properties device.new) (D.objects device.new) }
-        ensures sound { Sound.IsSound self.new }
-    {
-        let memory_type = block.memory_type();
-        self.free_block(block, number);
-        self.give_back(device, memory_type, true);
-        self.keeps_sound();
-    }
-
-    /// Takes a block's span off the table, and its bytes back into its memory type's free list.
-    fn free_block(&mut self, block: MemoryBlock<M>, number: u64)
-        requires listed { block.kind ≡ Kind.FreeListChunk number }
-        requires owned { IsOwned self.old block }
-        ensures freed { self.new ≡ without_span self.old block }
-        ensures known { block.memory_type < length (self.new.properties).memory_types }
-    {
-        let (key, memory_type) = (block.key(), block.memory_type());
-        let (offset, size) = (block.offset(), block.size());
-        let memory = block.into_memory();
-        let slot = Slot {
-            object: memory.object(),
-            chunk: number,
-            offset,
-            size,
-        };
-        self.spans.remove(key, slot.object, offset, size, false);
-        self.free_lists[memory_type as usize].free(FreeListBlock::new(memory, slot));
-    }
-
-    /// Gives a memory type's free-list chunks in which no block is live back to the device, the oldest first, but not
-    /// the one in which the last run lies where this one is kept.
-    fn give_back<D: MemoryDevice<M>>(&mut self, device: &mut D, memory_type: u32, keep_last: bool)
-        requires known { memory_type < length (self.old.properties).memory_types }
-        requires agrees { Agrees self.old (D.properties device.old) (D.objects device.old) }
-        ensures gives { (gone : List ℕ) × (es : List Event) × Chain D.step device.old es device.new
-            × GivesBack self.old memory_type keep_last gone es self.new (D.objects device.old) (D.objects device.new) }
-        ensures agrees { Agrees self.new (D.properties device.new) (D.objects device.new) }
-        ensures total { total self.new ≡ total self.old }
-    {
-        let heap = self.limits.heap_index(memory_type);
-        while let Some(object) = self.free_lists[memory_type as usize].give_back_first(
-            device,
-            keep_last,
-            &mut self.heaps[heap],
-            &mut self.allocations_remains,
-        ) {
-            self.spans.let_go(object);
-        }
+        self.take_back(device, block);
     }
 
     /// Gives every free-list chunk in which no block is live back to the device: by memory type, and then the oldest

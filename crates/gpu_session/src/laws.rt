@@ -47,8 +47,8 @@ pub fn steps_keep_the_total<M: MemoryObject, D: MemoryDevice<M>, A: Allocator>()
         → total (new.books).allocator ≡ total (old.books).allocator }
 {}
 
-/// Where each live block is the whole of an object of its own, a run of requests with the hint `Required` and of returns
-/// leaves it so.
+/// Where each live block is the whole of an object of its own, a run of requests with the hint `Required` and of
+/// returns leaves it so.
 pub fn required_runs_keep_whole_objects<M: MemoryObject, D: MemoryDevice<M>, A: Allocator>()
     ensures { (old new : SessionState D) (commands : List (ACommand A)) (replies : List (AReply A))
         → All IsForRequired commands → AreWholeObjects (D.objects old.device) old.books

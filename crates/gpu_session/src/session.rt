@@ -111,8 +111,8 @@ impl<M: MemoryObject, D: MemoryDevice<M>, A: Allocator + Copy> Session<M, D, A> 
         }
     }
 
-    /// Answers the commands in order, one reply for each. The replies and the state after them are a run, in which every
-    /// state between two commands is sound: live blocks are memory of their own.
+    /// Answers the commands in order, one reply for each. The replies and the state after them are a run, in which
+    /// every state between two commands is sound: live blocks are memory of their own.
     ///
     /// Places for all replies are taken first: an error means that there was no memory for them, and nothing ran. What
     /// a run keeps, [`laws`](crate::laws) tell.

@@ -1,4 +1,4 @@
-use Rattle.gpu_alloc.proofs.allocator.GpuAllocator.free.Goals as goal
+use Rattle.gpu_alloc.proofs.allocator.GpuAllocator.take_back.Goals as goal
 
 pub returns-in-Dedicated-clause-freed : goal.returns-in-Dedicated-clause-freed
 returns-in-Dedicated-clause-freed g c = c.dealloc_object.ensures.freed

@@ -1,0 +1,147 @@
+//! How a block goes back, by what its object is held for.
+
+ghost use Rattle.std.specs.Prelude.{◌≡◌, ℕ, ◌<◌, List, length, false};
+ghost use Rattle.gpu_alloc_types.specs.Device.{Event, Chain};
+ghost use Rattle.gpu_alloc.specs.Agreement.{Agrees};
+ghost use Rattle.gpu_alloc.specs.Release.{Frees, ObjectsFreed, GivesBack, without_span};
+ghost use Rattle.gpu_alloc.specs.Sound as Sound;
+ghost use Rattle.gpu_alloc.specs.State.{IsOwned, is_shared, total};
+
+use super::GpuAllocator;
+use super::rows::leaf_in;
+use crate::MemoryBlock;
+use crate::block::Kind;
+use gpu_alloc_base::{BuddyBlock, FreeListBlock, Slot};
+use gpu_alloc_types::{MemoryDevice, MemoryObject};
+use std::alloc::Allocator;
+
+impl<M: MemoryObject, A: Allocator> GpuAllocator<M, A> {
+    /// Takes a block back, by what its object is held for.
+    pub(super) fn take_back<D: MemoryDevice<M>>(&mut self, device: &mut D, block: MemoryBlock<M>)
+        requires owned { IsOwned self.old block }
+        requires agrees { Agrees self.old (D.properties device.old) (D.objects device.old) }
+        ensures freed { (es : List Event) × Chain D.step device.old es device.new × Frees self.old block es self.new }
+        ensures objects { ObjectsFreed self.old block (D.objects device.old) (D.objects device.new) }
+        ensures agrees { Agrees self.new (D.properties device.new) (D.objects device.new) }
+        ensures sound { Sound.IsSound self.new }
+    {
+        match block.kind() {
+            Kind::Dedicated | Kind::Imported => self.dealloc_object(device, block),
+            Kind::BuddyChunk => self.dealloc_in_chunk(device, block),
+            Kind::FreeListChunk(number) => self.dealloc_in_list(device, block, number),
+        }
+    }
+
+    /// Takes back the one block of an object.
+    fn dealloc_object<D: MemoryDevice<M>>(&mut self, device: &mut D, block: MemoryBlock<M>)
+        requires own { is_shared block.kind ≡ false }
+        requires owned { IsOwned self.old block }
+        requires agrees { Agrees self.old (D.properties device.old) (D.objects device.old) }
+        ensures freed { (es : List Event) × Chain D.step device.old es device.new × Frees self.old block es self.new }
+        ensures objects { ObjectsFreed self.old block (D.objects device.old) (D.objects device.new) }
+        ensures agrees { Agrees self.new (D.properties device.new) (D.objects device.new) }
+        ensures sound { Sound.IsSound self.new }
+    {
+        let (key, offset, size) = (block.key(), block.offset(), block.size());
+        let memory = block.into_memory();
+        device.deallocate_memory(&memory);
+        let removed = self.spans.remove(key, memory.object(), offset, size, true);
+        let object = removed.object.unwrap();
+        let heap = self.limits.heap_index(object.memory_type);
+        self.heaps[heap].dealloc(object.counted);
+        self.allocations_remains += 1;
+        self.keeps_sound();
+    }
+
+    /// Takes back a block of a buddy chunk. Where it stands there is what the table of spans says.
+    fn dealloc_in_chunk<D: MemoryDevice<M>>(&mut self, device: &mut D, block: MemoryBlock<M>)
+        requires shared { block.kind ≡ Kind.BuddyChunk }
+        requires owned { IsOwned self.old block }
+        requires agrees { Agrees self.old (D.properties device.old) (D.objects device.old) }
+        ensures freed { (es : List Event) × Chain D.step device.old es device.new × Frees self.old block es self.new }
+        ensures objects { ObjectsFreed self.old block (D.objects device.old) (D.objects device.new) }
+        ensures agrees { Agrees self.new (D.properties device.new) (D.objects device.new) }
+        ensures sound { Sound.IsSound self.new }
+    {
+        let (key, memory_type) = (block.key(), block.memory_type());
+        let (offset, size) = (block.offset(), block.size());
+        let memory = block.into_memory();
+        let object = memory.object();
+        let span = self.spans.find(key, object, offset, size).unwrap();
+        let heap = self.limits.heap_index(memory_type);
+        let gone = self.buddies[memory_type as usize].give_back(
+            device,
+            BuddyBlock::new(memory, leaf_in(span)),
+            &mut self.heaps[heap],
+            &mut self.allocations_remains,
+        );
+        self.spans.remove(key, object, offset, size, gone);
+    }
+
+    /// Takes back a block of a free list's chunk of this number.
+    fn dealloc_in_list<D: MemoryDevice<M>>(
+        &mut self,
+        device: &mut D,
+        block: MemoryBlock<M>,
+        number: u64,
+    )
+        requires listed { block.kind ≡ Kind.FreeListChunk number }
+        requires owned { IsOwned self.old block }
+        requires agrees { Agrees self.old (D.properties device.old) (D.objects device.old) }
+        ensures freed { (es : List Event) × Chain D.step device.old es device.new × Frees self.old block es self.new }
+        ensures objects { ObjectsFreed self.old block (D.objects device.old) (D.objects device.new) }
+        ensures agrees { Agrees self.new (D.properties device.new) (D.objects device.new) }
+        ensures sound { Sound.IsSound self.new }
+    {
+        let memory_type = block.memory_type();
+        self.free_block(block, number);
+        self.give_back(device, memory_type, true);
+        self.keeps_sound();
+    }
+
+    /// Takes a block's span off the table, and its bytes back into its memory type's free list.
+    fn free_block(&mut self, block: MemoryBlock<M>, number: u64)
+        requires listed { block.kind ≡ Kind.FreeListChunk number }
+        requires owned { IsOwned self.old block }
+        ensures freed { self.new ≡ without_span self.old block }
+        ensures known { block.memory_type < length (self.new.properties).memory_types }
+    {
+        let (key, memory_type) = (block.key(), block.memory_type());
+        let (offset, size) = (block.offset(), block.size());
+        let memory = block.into_memory();
+        let slot = Slot {
+            object: memory.object(),
+            chunk: number,
+            offset,
+            size,
+        };
+        self.spans.remove(key, slot.object, offset, size, false);
+        self.free_lists[memory_type as usize].free(FreeListBlock::new(memory, slot));
+    }
+
+    /// Gives a memory type's free-list chunks in which no block is live back to the device, the oldest first, but not
+    /// the one in which the last run lies where this one is kept.
+    pub(super) fn give_back<D: MemoryDevice<M>>(
+        &mut self,
+        device: &mut D,
+        memory_type: u32,
+        keep_last: bool,
+    )
+        requires known { memory_type < length (self.old.properties).memory_types }
+        requires agrees { Agrees self.old (D.properties device.old) (D.objects device.old) }
+        ensures gives { (gone : List ℕ) × (es : List Event) × Chain D.step device.old es device.new
+            × GivesBack self.old memory_type keep_last gone es self.new (D.objects device.old) (D.objects device.new) }
+        ensures agrees { Agrees self.new (D.properties device.new) (D.objects device.new) }
+        ensures total { total self.new ≡ total self.old }
+    {
+        let heap = self.limits.heap_index(memory_type);
+        while let Some(object) = self.free_lists[memory_type as usize].give_back_first(
+            device,
+            keep_last,
+            &mut self.heaps[heap],
+            &mut self.allocations_remains,
+        ) {
+            self.spans.let_go(object);
+        }
+    }
+}
