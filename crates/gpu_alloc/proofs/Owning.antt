@@ -1,11 +1,10 @@
 -- What calls leave of the blocks that a caller has in hand.
-use Rattle.std.proofs.Common.{◌≡◌, ◌≢◌, zero, suc, ◌+◌, ◌-◌, ◌<◌, true, false, cond, List, [], ◌∷◌, ◌++◌, refl, sym, ◌∙◌, ap, subst, arith, Option, Result, Ok, Err, IfOk, ℕ}
+use Rattle.std.proofs.Common.{◌≡◌, ◌≢◌, zero, suc, ◌+◌, ◌-◌, ◌<◌, true, false, cond, List, [], ◌∷◌, ◌++◌, refl, sym, ◌∙◌, ap, subst, arith, Option, Result, Ok, Err, IfOk}
 use Rattle.std.specs.FinMap as map
 use Rattle.std.specs.FinSet as set
-use Rattle.gpu_alloc_types.specs.Device.{Event, Object}
+use Rattle.gpu_alloc_types.specs.Device.{Event}
 use Rattle.gpu_alloc.specs.Allocation.{Allocates, IsGranted}
-use Rattle.gpu_alloc.specs.Owned.{AreTwo, IsBeside, AreOwned, Leaves, Adds, Removes}
-use Rattle.gpu_alloc.specs.Agreement.{Agrees}
+use Rattle.gpu_alloc.specs.Owned.{AreTwo, IsBeside, AreOwned, HoldsNothing, Leaves, Adds, Removes}
 use Rattle.gpu_alloc.specs.Opening.{opened}
 use Rattle.gpu_alloc.specs.Types.Config.{Config}
 use Rattle.gpu_alloc_types.specs.Properties.{Properties}
@@ -160,11 +159,13 @@ none_live live none span there = let some = some_live live span there in omega (
 
 -- An allocator that holds nothing.
 
-pub opened_agrees : (c : Config) (p q : Properties) (objects : ℕ → Option Object) → q ≡ p → Agrees (opened c p) q objects
-opened_agrees c p q objects same = record {
-  properties = same;
-  holds = λ name. wherever (map.get (map.empty {X = HeldObject} {R = nat_cmp}) name) _ (λ h at. let none = map.get-empty {X = HeldObject} nat_cmp name in absurd (cc));
+pub opened_nothing : (c : Config) (p : Properties) → HoldsNothing p (opened c p)
+opened_nothing c p = record {
+  properties = refl;
+  live = set.len-empty span_cmp;
+  held = map.len-empty nat_cmp HeldObject;
+  agrees = λ q same objects. record {
+    properties = same;
+    holds = λ name. wherever (map.get (map.empty {X = HeldObject} {R = nat_cmp}) name) _ (λ h at. let none = map.get-empty {X = HeldObject} nat_cmp name in absurd (cc));
+  };
 }
-
-pub opened_none : (c : Config) (p : Properties) → (set.len ((opened c p).live) ≡ 0) × (map.len ((opened c p).held) ≡ 0)
-opened_none c p = (set.len-empty span_cmp, map.len-empty nat_cmp HeldObject)

@@ -1,7 +1,10 @@
 -- What a call makes of the blocks that a caller has in hand.
-use Rattle.std.specs.Prelude.{◌≡◌, ◌≢◌, ◌⊎◌, ◌+◌, List, [], ◌∷◌, ◌++◌, None}
+use Rattle.std.specs.Prelude.{◌≡◌, ◌≢◌, ◌⊎◌, ℕ, ◌+◌, List, [], ◌∷◌, ◌++◌, Option, None}
 use Rattle.std.specs.FinMap as map
 use Rattle.std.specs.FinSet as set
+use Rattle.gpu_alloc_types.specs.Device.{Object}
+use Rattle.gpu_alloc_types.specs.Properties.{Properties}
+use Rattle.gpu_alloc.specs.Agreement.{Agrees}
 use Rattle.gpu_alloc.specs.State.{HeldObject, State, Block, span_of, AreApart, IsOwned}
 
 -- two blocks that share no byte, and so are of two spans
@@ -49,3 +52,15 @@ pub record Removes (s : State) (b : Block) (new : State) : Type 0 where
   pub count : set.len new.live + 1 ≡ set.len s.live
   pub owned : (c : Block) → IsOwned s c → span_of c ≢ span_of b → IsOwned new c
   pub all : (cs : List Block) → AreOwned s (b ∷ cs) → AreOwned new cs
+
+-- What an allocator that holds nothing has: it agrees with every device that offers these properties.
+pub record HoldsNothing (p : Properties) (s : State) : Type 0 where
+  pub properties : s.properties ≡ p
+  pub live : set.len s.live ≡ 0
+  pub held : map.len s.held ≡ 0
+  pub agrees : (q : Properties) → q ≡ p → (objects : ℕ → Option Object) → Agrees s q objects
+
+-- What a cleanup leaves: nothing is held where nothing is live.
+pub record LeavesNoRest (s new : State) : Type 0 where
+  pub live : new.live ≡ s.live
+  pub held : set.len s.live ≡ 0 → map.len new.held ≡ 0

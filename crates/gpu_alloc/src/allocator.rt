@@ -1,19 +1,19 @@
 //! The allocator.
 
 ghost use Rattle.std.specs.Prelude.{◌≡◌, ◌↔◌, ℕ, ◌+◌, ◌/◌, ◌^◌, ◌<◌, true, length, List, All, IsTrue, IfOk, IfErr};
-ghost use Rattle.std.specs.Prelude.{OnErr, Option, Some, None, cond, false};
+ghost use Rattle.std.specs.Prelude.{OnErr, Some, None, cond, false};
 ghost use Rattle.std.specs.FinMap as map;
 ghost use Rattle.std.specs.FinSet as set;
-ghost use Rattle.gpu_alloc_types.specs.Properties.{Properties, IsUsable, properties_of, heap_size};
+ghost use Rattle.gpu_alloc_types.specs.Properties.{IsUsable, properties_of, heap_size};
 ghost use Rattle.gpu_alloc_types.specs.Flags.{has_bit, usage_bits};
-ghost use Rattle.gpu_alloc_types.specs.Device.{Object, Event, Chain};
+ghost use Rattle.gpu_alloc_types.specs.Device.{Event, Chain};
 ghost use Rattle.gpu_alloc.specs.Agreement.{Agrees};
 ghost use Rattle.gpu_alloc.specs.Allocation.{passing, strategy, unhinted, fits_a_chunk, Tries, TriesBy, TriesAll};
 ghost use Rattle.gpu_alloc.specs.Allocation.{Allocates, ObjectsAfter, ObjectsTried, IsGranted};
 ghost use Rattle.gpu_alloc.specs.Atoms.{KeepsAtoms};
 ghost use Rattle.gpu_alloc.specs.declared.allocator.Strategy.TheVariants.{OwnObject, InBuddyChunk, InFreeList};
 ghost use Rattle.gpu_alloc.specs.Opening.{opened};
-ghost use Rattle.gpu_alloc.specs.Owned.{Leaves, Adds, Removes};
+ghost use Rattle.gpu_alloc.specs.Owned.{HoldsNothing, Leaves, Adds, Removes, LeavesNoRest};
 ghost use Rattle.gpu_alloc.specs.Release.{Frees, ObjectsFreed, Cleans, ObjectsCleaned, IsCleanedUp};
 ghost use Rattle.gpu_alloc.specs.Request.{IsAskable};
 ghost use Rattle.gpu_alloc.specs.Sound as Sound;
@@ -92,9 +92,7 @@ impl<M: MemoryObject, A: Allocator + Copy> GpuAllocator<M, A> {
     ) -> Result<Self, AllocationError>
         requires { IsUsable (properties_of props) }
         ensures opened { IfOk result (λ allocator. allocator ≡ opened config (properties_of props.entry)) }
-        ensures agrees { IfOk result (λ allocator. (p : Properties) (objects : ℕ → Option Object)
-            → p ≡ properties_of props.entry → Agrees allocator p objects) }
-        ensures none { IfOk result (λ allocator. (set.len allocator.live ≡ 0) × (map.len allocator.held ≡ 0)) }
+        ensures empty { IfOk result (HoldsNothing (properties_of props.entry)) }
         ensures sound { IfOk result Sound.IsSound }
         ensures refused { IfErr result (λ e. e ≡ AllocationError.OutOfHostMemory) }
     {
@@ -582,13 +580,12 @@ impl<M: MemoryObject, A: Allocator> GpuAllocator<M, A> {
         ensures objects { ObjectsCleaned self.old (D.objects device.old) (D.objects device.new) }
         ensures agrees { Agrees self.new (D.properties device.new) (D.objects device.new) }
         ensures leaves { Leaves self.old self.new }
-        ensures live { self.new.live ≡ self.old.live }
+        ensures rest { LeavesNoRest self.old self.new }
         ensures total { total self.new ≡ total self.old }
         ensures left { (object : ℕ) (h : HeldObject) → map.get self.new.held object ≡ Some h
             ↔ ((map.get self.old.held object ≡ Some h) × (IsCleanedUp self.old object h → ⊥)) }
         ensures ends { ((span : Span) → IsLive self.old span → ⊥) → (self.new.held ≡ map.empty)
             × ((heap : ℕ) → ledger self.new heap ≡ 0) }
-        ensures empty { set.len self.old.live ≡ 0 → map.len self.new.held ≡ 0 }
         ensures sound { Sound.IsSound self.new }
     {
         let count = self.limits.memory_types.len() as u32;

@@ -1,6 +1,8 @@
 //! Laws of the definitions that contracts cite, and those definitions computed on samples. The functions do nothing.
 
-ghost use Rattle.std.specs.Prelude.{◌≡◌, ℕ, List, [], ◌∷◌, Some, None, true, false};
+ghost use Rattle.std.specs.Prelude.{◌≡◌, ◌≢◌, ℕ, List, [], ◌∷◌, Some, None, true, false};
+ghost use Rattle.std.specs.FinSet as set;
+ghost use Rattle.gpu_alloc.specs.Agreement.{Agrees};
 ghost use Rattle.gpu_alloc.specs.Allocation.{strategy};
 ghost use Rattle.gpu_alloc.specs.Exactness.{AreCanonical, AreFreePieces, AreLongEnough, ArePiecesApart};
 ghost use Rattle.gpu_alloc.specs.Exactness.{AreSpaced, AreFreeRuns, TellPlaces};
@@ -20,10 +22,16 @@ ghost use Rattle.gpu_alloc.specs.Samples.{one_type, over, bytes_for, buddy_confi
 ghost use Rattle.gpu_alloc.specs.BuddySharing.{buddy_size, buddy_question, with_buddy_chunk};
 ghost use Rattle.gpu_alloc_base.specs.Sizes.{minimal_size, final_size, grown_chunk, doubled_chunk};
 ghost use Rattle.gpu_alloc.specs.FirstTypes.{first_types};
-ghost use Rattle.gpu_alloc.specs.State.{State};
+ghost use Rattle.gpu_alloc.specs.Owned.{AreTwo, HoldsNothing};
+ghost use Rattle.gpu_alloc.specs.Sound.{IsSound};
+ghost use Rattle.gpu_alloc.specs.State.{State, Block, Span, span_of, span_cmp, IsOwned};
 ghost use Rattle.gpu_alloc.specs.declared.block.Kind.{Kind};
 ghost use Rattle.gpu_alloc_base.specs.declared.piece.Piece.{Piece};
 ghost use Rattle.gpu_alloc.specs.declared.request.Dedicated.TheVariants.{Required, Preferred};
+
+use crate::GpuAllocator;
+use gpu_alloc_types::{MemoryDevice, MemoryObject};
+use std::alloc::Allocator;
 
 pub use gpu_alloc_base::laws::{
     align_masks_of_powers, free_list_chunk_is_least, next_power_of_two_is_least,
@@ -146,4 +154,31 @@ pub fn strategy_of_samples()
     ensures transient_large { strategy (over 1048576 1 1) (bytes_for 32768 16) None 0 ≡ OwnObject }
     ensures over_the_final_chunk { strategy (over 3200 2 64) (bytes_for 70 16) None 0 ≡ OwnObject }
     ensures in_the_final_chunk { strategy (over 3200 2 64) (bytes_for 60 16) None 0 ≡ InFreeList }
+{}
+
+/// An allocator that holds nothing agrees with every device that has its properties: a caller that opened one over its
+/// device's properties learns it by this call.
+pub fn agrees_at_first<M: MemoryObject, D: MemoryDevice<M>, A: Allocator>(
+    allocator: &GpuAllocator<M, A>,
+    device: &D,
+)
+    requires { HoldsNothing (D.properties device.now) allocator.now }
+    ensures { Agrees allocator.now (D.properties device.now) (D.objects device.now) }
+{
+    let _ = allocator;
+    let _ = device;
+}
+
+/// Two blocks that are owned and of different spans share no byte.
+pub fn owned_blocks_are_apart()
+    ensures { (s : State) (b c : Block) → IsSound s → IsOwned s b → IsOwned s c → span_of b ≢ span_of c → AreTwo b c }
+{}
+
+/// A span that was put in and taken out again leaves the live spans as they were, and one may be taken out before
+/// another is put in.
+pub fn spans_come_and_go()
+    ensures again { (live : set.FinSet span_cmp) (span : Span) → set.contains live span ≡ false
+        → set.remove (set.insert live span) span ≡ live }
+    ensures between { (live : set.FinSet span_cmp) (a b : Span) → a ≢ b
+        → set.remove (set.insert live b) a ≡ set.insert (set.remove live a) b }
 {}

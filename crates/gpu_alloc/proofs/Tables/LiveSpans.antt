@@ -6,7 +6,7 @@ use Rattle.std.specs.Cmp.Lexicographic.{on_texts}
 use Rattle.std.specs.FinMap.{nat_cmp-IsAntisymmetric, slice_cmp-IsAntisymmetric}
 use Rattle.std.specs.Ordering.{eq_by_cmp}
 use Rattle.std.specs.FinMap as map
-use Rattle.std.specs.FinSet.{FinSet, contains, insert, remove, contains-insert, contains-remove}
+use Rattle.std.specs.FinSet.{FinSet, contains, insert, remove, contains-insert, contains-remove, same_set}
 use Rattle.gpu_alloc.specs.Inside.{IsLiveIn, IsOfObject}
 use Rattle.gpu_alloc.specs.Spans.{Table}
 use Rattle.gpu_alloc.specs.State.{Span, span_cmp, span_numbers}
@@ -75,6 +75,27 @@ live_other live own span now = split _ refl (subst IsTrue (live_less live own sp
     split : (b : Bool) → eq_by_cmp span_cmp span own ≡ b → IsTrue (not b && contains live span) → (span ≢ own) × IsTrue (contains live span)
     split true e h = absurd (cc)
     split false e h = ((λ same. let yes = (span_test span own).1 same in absurd (cc)), h)
+
+-- One that comes and goes again leaves the others.
+pub put_taken : (live : FinSet span_cmp) (own : Span) → contains live own ≡ false → remove (insert live own) own ≡ live
+put_taken live own free = same_set span_total span_exact _ _ (λ q. live_less (insert live own) own q ∙ ap (λ x. not (eq_by_cmp span_cmp q own) && x) (live_more live own q) ∙ by q (eq_by_cmp span_cmp q own) refl)
+  where
+    by : (q : Span) (t : Bool) → eq_by_cmp span_cmp q own ≡ t → (not t && (t || contains live q)) ≡ contains live q
+    by q true same = let one = (span_test q own).0 same in sym (ap (contains live) one ∙ free)
+    by q false other = refl
+
+-- One may go before another comes.
+pub taken_before : (live : FinSet span_cmp) (a b : Span) → a ≢ b → remove (insert live b) a ≡ insert (remove live a) b
+taken_before live a b two = same_set span_total span_exact _ _ (λ q.
+    live_less (insert live b) a q ∙ ap (λ x. not (eq_by_cmp span_cmp q a) && x) (live_more live b q)
+    ∙ by q (eq_by_cmp span_cmp q a) (eq_by_cmp span_cmp q b) refl refl
+    ∙ sym (live_more (remove live a) b q ∙ ap (λ x. eq_by_cmp span_cmp q b || x) (live_less live a q)))
+  where
+    by : (q : Span) (t u : Bool) → eq_by_cmp span_cmp q a ≡ t → eq_by_cmp span_cmp q b ≡ u → (not t && (u || contains live q)) ≡ (u || (not t && contains live q))
+    by q true true first second = absurd (two (sym ((span_test q a).0 first) ∙ (span_test q b).0 second))
+    by q true false first second = refl
+    by q false true first second = refl
+    by q false false first second = refl
 
 -- A span that is not live.
 

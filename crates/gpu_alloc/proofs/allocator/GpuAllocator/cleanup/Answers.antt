@@ -63,8 +63,8 @@ returns-clause-left g c object h =
 pub returns-clause-leaves : goal.returns-clause-leaves
 returns-clause-leaves g c = let cleaned = returns-clause-cleaned g c in cleans_leave c.args.self.now cleaned.0 _ cleaned.2 c.keeps_sound.ensures.sound
 
-pub returns-clause-live : goal.returns-clause-live
-returns-clause-live g c = ap (λ (s : State). s.live) (returns-clause-cleaned g c).2.2.1
-
-pub returns-clause-empty : goal.returns-clause-empty
-returns-clause-empty g c none = ap map.len (returns-clause-ends g c (none_live c.args.self.now.live none)).0 ∙ map.len-empty nat_cmp HeldObject
+pub returns-clause-rest : goal.returns-clause-rest
+returns-clause-rest g c = record {
+  live = ap (λ (s : State). s.live) (returns-clause-cleaned g c).2.2.1;
+  held = λ none. ap map.len (returns-clause-ends g c (none_live c.args.self.now.live none)).0 ∙ map.len-empty nat_cmp HeldObject;
+}

@@ -1,0 +1,8 @@
+use Rattle.gpu_alloc.proofs.Tables.LiveSpans.{put_taken, taken_before}
+use Rattle.gpu_alloc.proofs.laws.spans_come_and_go.Goals as goal
+
+pub returns-clause-again : goal.returns-clause-again
+returns-clause-again c = λ live span. put_taken live span
+
+pub returns-clause-between : goal.returns-clause-between
+returns-clause-between c = λ live a b. taken_before live a b

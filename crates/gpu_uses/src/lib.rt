@@ -1,0 +1,11 @@
+//! Programs that call the allocator, each over any device. They are checked with no proof of their own: what their calls
+//! need, the contracts of the calls before them give. A loop's invariant repeats clauses.
+#![tactic(auto)]
+
+pub mod buffers;
+pub mod first_use;
+pub mod frame;
+pub mod opening;
+pub mod staging;
+#[cfg(test)]
+mod tests;
