@@ -57,5 +57,5 @@ module _ (s : State) (p : Properties) (f g : ℕ → Option Object) (agrees : Ag
 
   pub allocates_agrees : (q : Properties) (r : Request) (hint : Option Dedicated) (es : List Event) (answer : Result Block AllocationError) (new : State) → q ≡ p → Allocates s r hint es answer new → ObjectsAfter s answer new f g → Agrees new q g
   allocates_agrees q r hint es (Ok b) new same h objects =
-      subst (λ x. Agrees new x g) (sym same) (of_grant s r hint b new (λ t es known decides. given_agrees b new objects (strategy s r hint t) r t es decides.1) es h)
+      subst (λ x. Agrees new x g) (sym same) (of_grant s r hint b new (λ t es chosen known decides. given_agrees b new objects (strategy s r hint t) r t es decides.1) es h)
   allocates_agrees q r hint es (Err e) new same h objects = agrees_kept s new p q f g agrees (allocates_kept s r hint es (Err e) new h) same objects

@@ -63,7 +63,7 @@ grant_grows InFreeList s r t es b new (inl gives) = grows_like s b _ new gives.s
 grant_grows InFreeList s r t es b new (inr gives) = grows_like s b _ new gives.state (record { live = refl; held = inr (_, gives.place.was_free, refl); properties = refl; config = refl })
 
 pub allocates_grow : (s : State) (r : Request) (hint : Option Dedicated) (es : List Event) (b : Block) (new : State) → Allocates s r hint es (Ok b) new → Grows s b new
-allocates_grow s r hint es b new = of_grant s r hint b new (λ t fs known decides. grant_grows (strategy s r hint t) s r t fs b new decides.1) es
+allocates_grow s r hint es b new = of_grant s r hint b new (λ t fs chosen known decides. grant_grows (strategy s r hint t) s r t fs b new decides.1) es
 
 -- Objects that go.
 

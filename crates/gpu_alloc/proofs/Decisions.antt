@@ -1,6 +1,6 @@
 -- What follows from a decision: nothing changes where it refuses, remaining and held objects are as many as before, and what
 -- holds wherever a candidate gives a block holds of a grant.
-use Rattle.std.proofs.Common.{◌≡◌, inl, inr, ℕ, Bool, true, false, List, [], ◌∷◌, Option, None, Result, Ok, Err, refl, ◌+◌, ◌-◌, ◌<◌, ◌∙◌, ap, arith}
+use Rattle.std.proofs.Common.{◌≡◌, inl, inr, ℕ, Bool, true, false, List, [], ◌∷◌, Option, None, Result, Ok, Err, refl, ◌+◌, ◌-◌, ◌<◌, ◌∙◌, ap, arith, Contains}
 use Rattle.std.specs.Prelude.{All, MatchBool, OnErr, ◌&&◌, ◌==◌, nat_lt, nat_eq, length}
 use Rattle.std.proofs.lemmas.List.Elements.{All-head, All-tail}
 use Rattle.std.specs.FinMap as map
@@ -18,6 +18,7 @@ use Rattle.gpu_alloc.specs.declared.allocator.Strategy.{Strategy}
 use Rattle.gpu_alloc.specs.declared.allocator.Strategy.TheVariants.{OwnObject, InBuddyChunk, InFreeList}
 use Rattle.gpu_alloc.specs.declared.request.Dedicated.{Dedicated}
 use Rattle.gpu_alloc.specs.declared.request.Request.{Request}
+use Rattle.gpu_alloc_base.proofs.Lists.{contains_head, contains_later}
 use Rattle.gpu_alloc_base.proofs.Sums.{len_more}
 use Rattle.gpu_alloc_usage.proofs.Ranking.Candidates.{candidates-within}
 
@@ -93,14 +94,14 @@ module _ (s : State) (r : Request) (hint : Option Dedicated) where
   allocates_kept es (Ok b) new h = tt
   allocates_kept es (Err e) new h = of_allocation es (Err e) new (λ cause refused. refused.2) (all_refused (candidates_of s r) es e new) h
 
-  -- what holds wherever a known memory type gives a block holds of a grant
-  module _ {X : Type 0} (b : Block) (new : State) (gives : (t : ℕ) (es : List Event) → t < length s.properties.memory_types → Decides s r hint t es (Ok b) new → X) where
-    one_gives : (ts : List ℕ) (es : List Event) → All (λ t. t < length s.properties.memory_types) ts → TriesAll s r hint ts es (Ok b) new → X
-    one_gives [] es known tried = absurd (cc)
-    one_gives (t ∷ ts) es known (inl passed) = one_gives ts passed.1 (All-tail (λ t. t < length s.properties.memory_types) t ts known) passed.4
-    one_gives (t ∷ ts) es known (inr decides) = gives t es (All-head (λ t. t < length s.properties.memory_types) t ts known) decides
+  -- what holds wherever a candidate, which is a known memory type, gives a block holds of a grant
+  module _ {X : Type 0} (b : Block) (new : State) (gives : (t : ℕ) (es : List Event) → Contains (candidates_of s r) t → t < length s.properties.memory_types → Decides s r hint t es (Ok b) new → X) where
+    one_gives : (ts : List ℕ) (es : List Event) → ((t : ℕ) → Contains ts t → Contains (candidates_of s r) t) → All (λ t. t < length s.properties.memory_types) ts → TriesAll s r hint ts es (Ok b) new → X
+    one_gives [] es are known tried = absurd (cc)
+    one_gives (t ∷ ts) es are known (inl passed) = one_gives ts passed.1 (λ u has. are u (contains_later t u ts has)) (All-tail (λ t. t < length s.properties.memory_types) t ts known) passed.4
+    one_gives (t ∷ ts) es are known (inr decides) = gives t es (are t (contains_head t ts)) (All-head (λ t. t < length s.properties.memory_types) t ts known) decides
 
     pub of_grant : (es : List Event) → Allocates s r hint es (Ok b) new → X
     of_grant es h =
         of_allocation es (Ok b) new (λ e refused. absurd (let never = refused.1 in cc))
-        (one_gives (candidates_of s r) es (candidates-within s.properties.memory_types (usage_bits r.usage) r.memory_types)) h
+        (one_gives (candidates_of s r) es (λ t has. has) (candidates-within s.properties.memory_types (usage_bits r.usage) r.memory_types)) h

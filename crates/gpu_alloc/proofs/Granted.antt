@@ -1,5 +1,5 @@
 -- What a caller may know of a granted block follows from the decision, by the way in which its candidate is served.
-use Rattle.std.proofs.Common.{◌≡◌, inl, inr, ℕ, ◌+◌, ◌*◌, ◌-◌, ◌%◌, ◌^◌, ◌<◌, ◌≤◌, true, List, length, Option, Some, None, Result, Ok, Err, IsTrue, refl, sym, ◌∙◌, ap, subst, arith}
+use Rattle.std.proofs.Common.{◌≡◌, inl, inr, ℕ, ◌+◌, ◌*◌, ◌-◌, ◌%◌, ◌^◌, ◌<◌, ◌≤◌, true, List, length, Option, Some, None, Result, Ok, Err, IsTrue, Contains, refl, sym, ◌∙◌, ap, subst, arith}
 use Rattle.std.specs.Prelude.{IfOk, max}
 use Rattle.std.proofs.lemmas.Bool.{cases_eq, cases_lt}
 use Rattle.std.proofs.lemmas.Bool.Decides.{nat_tests}
@@ -20,7 +20,7 @@ use Rattle.gpu_alloc_base.proofs.Maps.{own_inserted}
 use Rattle.gpu_alloc_base.proofs.Multiples.{mod_from_multiple, multiple_down, multiple_from_mod, multiple_min, multiple_of_lower, multiple_rest, multiple_times}
 use Rattle.gpu_alloc_base.proofs.PowersOfTwo.{greater_power, next_is_enough, power_of_bit}
 use Rattle.gpu_alloc_buddy.specs.Buddy.{Fits}
-use Rattle.gpu_alloc.specs.Allocation.{Allocates, IsGranted, fits_a_chunk, strategy}
+use Rattle.gpu_alloc.specs.Allocation.{Allocates, IsGranted, fits_a_chunk, strategy, candidates_of}
 use Rattle.gpu_alloc.specs.Atoms.{KeepsAtoms, IsNextListChunk}
 use Rattle.gpu_alloc.specs.BuddySharing.{IsPieceFront, buddy_question, buddy_size, front_of, with_span}
 use Rattle.gpu_alloc.specs.Candidates.{candidate}
@@ -50,6 +50,7 @@ module _ (s : State) (r : Request) (sound : IsSound s) where
       pub aligned : span.offset % (r.align_mask + 1) ≡ 0
       pub whole_atoms : is_shared kind ≡ true → (span.offset % atom_of s.properties t ≡ 0) × (span.size % atom_of s.properties t ≡ 0)
       pub buddy : kind ≡ BuddyChunk → IsPowerOfTwo span.size × IsMultipleOf span.size span.offset
+      pub candidate : Contains (candidates_of s r) t
 
     -- its bytes were free
     in_place : IsSized → 0 < span.size → ((at : ℕ) → IsIn span.offset span.size at → IsFreeByte s t kind span.object at) → IsGranted s r (with_span s span) (granted_block s t kind span)
@@ -62,6 +63,9 @@ module _ (s : State) (r : Request) (sound : IsSound s) where
           buddy = sized.buddy;
           inside = (last.chunk, last.held, omega (arith, some, last.inside));
           unmapped = refl;
+          candidate = sized.candidate;
+          props = refl;
+          atom = refl;
           owned = record { live = live_new s.live span; held = (last.chunk, last.held, last.of_type, last.of_kind) };
           was_free = λ other live. elim (cases_eq other.object span.object) [
             | inl same ↦ inr (ranges_apart other.offset other.size span.offset span.size (sound.nonempty other live) some (λ at also inside. (free at inside).unused other live same also))
@@ -82,11 +86,14 @@ module _ (s : State) (r : Request) (sound : IsSound s) where
           buddy = sized.buddy;
           inside = (h, found, fits);
           unmapped = refl;
+          candidate = sized.candidate;
+          props = refl;
+          atom = refl;
           owned = record { live = subst (λ x. IsTrue (set.contains x span)) (sym live) (live_new s.live span); held = (h, found, refl, refl) };
           was_free = λ other there. inl (λ same. let was = (sound.inside other there).1 in let none = ap (map.get s.held) same ∙ free in absurd (cc));
         }
 
-  module _ (atoms : KeepsAtoms s) (asked : IsAskable s.properties.buffer_device_address r) (t : ℕ) where
+  module _ (atoms : KeepsAtoms s) (asked : IsAskable s.properties.buffer_device_address r) (t : ℕ) (chosen : Contains (candidates_of s r) t) where
     abbrev atom : ℕ
     atom = atom_of s.properties t
 
@@ -104,6 +111,7 @@ module _ (s : State) (r : Request) (sound : IsSound s) where
       aligned = zero-mod (r.align_mask + 1);
       whole_atoms = λ shared. absurd (cc);
       buddy = λ chunk. absurd (cc);
+      candidate = chosen;
     }
 
     -- A block of a buddy chunk.
@@ -124,6 +132,7 @@ module _ (s : State) (r : Request) (sound : IsSound s) where
           mod_from_multiple atom span.size (multiple_of_lower atom (buddy_size s r t) span.size (atoms.atom t) rounded.0 (omega (arith, rounded.1)) (1, of_size ∙ sym (one-mul (buddy_size s r t)))),
         );
         buddy = λ _. subst (λ n. IsPowerOfTwo n × IsMultipleOf n span.offset) (sym of_size) (rounded.0, multiple);
+        candidate = chosen;
       }
 
       front_granted : (span : Span) → IsPieceFront s t (buddy_size s r t) span → IsGranted s r (with_span s span) (granted_block s t BuddyChunk span)
@@ -150,6 +159,7 @@ module _ (s : State) (r : Request) (sound : IsSound s) where
           aligned = mod_from_multiple (r.align_mask + 1) span.offset (multiple_of_lower (r.align_mask + 1) alignment span.offset align greater (omega arith) starts);
           whole_atoms = λ _. (mod_from_multiple atom span.offset first, mod_from_multiple atom span.size (multiple_rest atom span.offset span.size first (subst (IsMultipleOf atom) (sym ends) whole)));
           buddy = λ chunk. absurd (cc);
+          candidate = chosen;
         }
 
     -- a free run ends at whole atoms: where its chunk does, or where a live span begins
@@ -235,4 +245,4 @@ module _ (s : State) (r : Request) (sound : IsSound s) where
   pub allocates_granted : KeepsAtoms s → IsAskable s.properties.buffer_device_address r → (hint : Option Dedicated) (es : List Event) (answer : Result Block AllocationError) (new : State) → Allocates s r hint es answer new → IfOk answer (IsGranted s r new)
   allocates_granted atoms asked hint es (Err e) new h = tt
   allocates_granted atoms asked hint es (Ok b) new h =
-      of_grant s r hint b new (λ t es known decides. granted_by atoms asked t (strategy s r hint t) es b new known (fits_its_list s r hint t) decides.1) es h
+      of_grant s r hint b new (λ t es chosen known decides. granted_by atoms asked t chosen (strategy s r hint t) es b new known (fits_its_list s r hint t) decides.1) es h

@@ -2,9 +2,10 @@
 -- passed answers.
 use Rattle.std.specs.Prelude.{◌≡◌, ◌⊎◌, ℕ, ◌+◌, ◌%◌, ◌/◌, ◌<◌, ◌≤◌, ◌==◌, Bool, true, ◌&&◌, List, [], ◌∷◌, ◌++◌, length}
 use Rattle.std.specs.Prelude.{Option, Some, None, Result, Ok, Err, cond, min, nat_lt, nat_le, nat_eq, MatchBool}
+use Rattle.std.specs.List.{Contains}
 use Rattle.std.specs.FinMap as map
 use Rattle.gpu_alloc_types.specs.Flags.{usage_bits, has_bit}
-use Rattle.gpu_alloc_types.specs.Properties.{Properties, heap_size, atom_of, is_host_visible}
+use Rattle.gpu_alloc_types.specs.Properties.{Properties, heap_size, props_at, atom_of, is_host_visible}
 use Rattle.gpu_alloc_types.specs.Device.{Object, Event}
 use Rattle.gpu_alloc_base.specs.Case as case
 use Rattle.gpu_alloc_base.specs.FreeSpace.{IsMultipleOf, IsPowerOfTwo}
@@ -141,5 +142,9 @@ pub record IsGranted (s : State) (r : Request) (new : State) (b : Block) : Type 
   -- the block lies inside its object
   pub inside : (h : HeldObject) × (map.get new.held b.object ≡ Some h) × (b.offset + b.size ≤ h.counted)
   pub unmapped : b.mapping ≡ None
+  -- its memory type is one of the request's candidates, whose property bits and atom the block has
+  pub candidate : Contains (candidates_of s r) b.memory_type
+  pub props : b.props ≡ props_at s.properties b.memory_type
+  pub atom : b.atom ≡ atom_of s.properties b.memory_type
   pub owned : IsOwned new b
   pub was_free : (span : Span) → IsLive s span → AreApart span (span_of b)

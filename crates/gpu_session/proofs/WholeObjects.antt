@@ -67,7 +67,7 @@ module _ {p : Properties} {objects : ℕ → Option Object} {s : Books} (sound :
 -- A required grant is an object of its own.
 
 own_granted : (s : State) (r : Request) (es : List Event) (b : Block) (new : State) → Allocates s r (Some Required) es (Ok b) new → b.kind ≡ DedicatedObject
-own_granted s r es b new = of_grant s r (Some Required) b new (λ t fs known decides. elim (decides.1) [
+own_granted s r es b new = of_grant s r (Some Required) b new (λ t fs chosen known decides. elim (decides.1) [
   | inl here ↦ absurd (here.place)
   | inr gives ↦ ap (λ (c : Block). c.kind) gives.place.is
 ]) es

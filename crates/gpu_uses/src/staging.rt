@@ -1,6 +1,6 @@
 //! Staging buffers for two devices.
 
-ghost use Rattle.std.specs.Prelude.{◌≡◌, ℕ, ◌+◌, ◌<◌, OnOk, OnErr, IfOk, IsTrue};
+ghost use Rattle.std.specs.Prelude.{◌≡◌, ◌+◌, IfOk, IsTrue};
 ghost use Rattle.gpu_alloc_types.specs.Properties.{IsUsable, properties_of};
 
 use crate::opening::open;
@@ -52,10 +52,10 @@ impl<M: MemoryObject, D: MemoryDevice<M>> StagingPool<M, D> {
         }
     }
 
-    /// Adds a buffer of so many bytes, if there is room. A buffer for which there is no place in the queue goes back.
-    pub fn stage(&mut self, size: u64) -> Result<(), ()>
-        ensures staged { OnOk result (self.new ≡ self.old + 1) }
-        ensures refused { OnErr result (self.new ≡ self.old) }
+    /// Adds a buffer of so many bytes, and tells whether there was room.
+    pub fn stage(&mut self, size: u64) -> bool
+        ensures staged { IsTrue result → self.new ≡ self.old + 1 }
+        ensures refused { (IsTrue result → ⊥) → self.new ≡ self.old }
     {
         let request = Request {
             size,
@@ -63,18 +63,15 @@ impl<M: MemoryObject, D: MemoryDevice<M>> StagingPool<M, D> {
             usage: UsageFlags::TRANSIENT,
             memory_types: u32::MAX,
         };
-        if !request.is_askable(false) {
-            return Err(());
-        }
-        if self.buffers.reserve(1).is_err() {
-            return Err(());
+        if !request.is_askable(false) || self.buffers.reserve(1).is_err() {
+            return false;
         }
         match self.allocator.alloc(&mut self.device, request) {
             Ok(buffer) => {
                 self.buffers.push_back_reserved(buffer);
-                Ok(())
+                true
             }
-            Err(_) => Err(()),
+            Err(_) => false,
         }
     }
 
@@ -120,10 +117,10 @@ pub fn stage_on_both<M: MemoryObject, D: MemoryDevice<M>, N: MemoryObject, E: Me
     far: &mut StagingPool<N, E>,
     size: u64,
 ) -> bool {
-    if near.stage(size).is_err() {
+    if !near.stage(size) {
         return false;
     }
-    if far.stage(size).is_err() {
+    if !far.stage(size) {
         near.retire();
         return false;
     }
