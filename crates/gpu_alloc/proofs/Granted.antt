@@ -1,5 +1,5 @@
 -- What a caller may know of a granted block follows from the decision, by the way in which its candidate is served.
-use Rattle.std.proofs.Common.{◌≡◌, inl, inr, ℕ, ◌+◌, ◌*◌, ◌-◌, ◌%◌, ◌^◌, ◌<◌, ◌≤◌, true, List, length, Option, Some, None, Result, Ok, Err, IsTrue, Contains, refl, sym, ◌∙◌, ap, subst, arith}
+use Rattle.std.proofs.Common.{◌≡◌, inl, inr, ℕ, ◌+◌, ◌*◌, ◌-◌, ◌%◌, ◌^◌, ◌<◌, ◌≤◌, true, List, length, Option, Some, None, Result, Ok, Err, IsTrue, refl, sym, ◌∙◌, ap, subst, arith}
 use Rattle.std.specs.Prelude.{IfOk, max}
 use Rattle.std.proofs.lemmas.Bool.{cases_eq, cases_lt}
 use Rattle.std.proofs.lemmas.Bool.Decides.{nat_tests}
@@ -20,7 +20,7 @@ use Rattle.gpu_alloc_base.proofs.Maps.{own_inserted}
 use Rattle.gpu_alloc_base.proofs.Multiples.{mod_from_multiple, multiple_down, multiple_from_mod, multiple_min, multiple_of_lower, multiple_rest, multiple_times}
 use Rattle.gpu_alloc_base.proofs.PowersOfTwo.{greater_power, next_is_enough, power_of_bit}
 use Rattle.gpu_alloc_buddy.specs.Buddy.{Fits}
-use Rattle.gpu_alloc.specs.Allocation.{Allocates, IsGranted, fits_a_chunk, strategy, candidates_of}
+use Rattle.gpu_alloc.specs.Allocation.{Allocates, IsGranted, fits_a_chunk, strategy, IsCandidate}
 use Rattle.gpu_alloc.specs.Atoms.{KeepsAtoms, IsNextListChunk}
 use Rattle.gpu_alloc.specs.BuddySharing.{IsPieceFront, buddy_question, buddy_size, front_of, with_span}
 use Rattle.gpu_alloc.specs.Candidates.{candidate}
@@ -50,7 +50,7 @@ module _ (s : State) (r : Request) (sound : IsSound s) where
       pub aligned : span.offset % (r.align_mask + 1) ≡ 0
       pub whole_atoms : is_shared kind ≡ true → (span.offset % atom_of s.properties t ≡ 0) × (span.size % atom_of s.properties t ≡ 0)
       pub buddy : kind ≡ BuddyChunk → IsPowerOfTwo span.size × IsMultipleOf span.size span.offset
-      pub candidate : Contains (candidates_of s r) t
+      pub candidate : IsCandidate s r t
 
     -- its bytes were free
     in_place : IsSized → 0 < span.size → ((at : ℕ) → IsIn span.offset span.size at → IsFreeByte s t kind span.object at) → IsGranted s r (with_span s span) (granted_block s t kind span)
@@ -93,7 +93,7 @@ module _ (s : State) (r : Request) (sound : IsSound s) where
           was_free = λ other there. inl (λ same. let was = (sound.inside other there).1 in let none = ap (map.get s.held) same ∙ free in absurd (cc));
         }
 
-  module _ (atoms : KeepsAtoms s) (asked : IsAskable s.properties.buffer_device_address r) (t : ℕ) (chosen : Contains (candidates_of s r) t) where
+  module _ (atoms : KeepsAtoms s) (asked : IsAskable s.properties.buffer_device_address r) (t : ℕ) (chosen : IsCandidate s r t) where
     abbrev atom : ℕ
     atom = atom_of s.properties t
 
@@ -243,6 +243,7 @@ module _ (s : State) (r : Request) (sound : IsSound s) where
   -- The whole allocation.
 
   pub allocates_granted : KeepsAtoms s → IsAskable s.properties.buffer_device_address r → (hint : Option Dedicated) (es : List Event) (answer : Result Block AllocationError) (new : State) → Allocates s r hint es answer new → IfOk answer (IsGranted s r new)
+  unfolding IsCandidate
   allocates_granted atoms asked hint es (Err e) new h = tt
   allocates_granted atoms asked hint es (Ok b) new h =
       of_grant s r hint b new (λ t es chosen known decides. granted_by atoms asked t chosen (strategy s r hint t) es b new known (fits_its_list s r hint t) decides.1) es h

@@ -131,6 +131,10 @@ ObjectsTried s (Ok None) after old new = new ≡ old
 ObjectsTried s (Ok (Some b)) after old new = ObjectsWith s b after old new
 ObjectsTried s (Err e) after old new = new ≡ old
 
+-- the memory type is one of the request's candidates
+unfoldable pub IsCandidate : State → Request → ℕ → Type 0
+IsCandidate s r t = Contains (candidates_of s r) t
+
 -- what a caller may know of a granted block without following the decision
 pub record IsGranted (s : State) (r : Request) (new : State) (b : Block) : Type 0 where
   pub enough : r.size ≤ b.size
@@ -143,7 +147,7 @@ pub record IsGranted (s : State) (r : Request) (new : State) (b : Block) : Type 
   pub inside : (h : HeldObject) × (map.get new.held b.object ≡ Some h) × (b.offset + b.size ≤ h.counted)
   pub unmapped : b.mapping ≡ None
   -- its memory type is one of the request's candidates, whose property bits and atom the block has
-  pub candidate : Contains (candidates_of s r) b.memory_type
+  pub candidate : IsCandidate s r b.memory_type
   pub props : b.props ≡ props_at s.properties b.memory_type
   pub atom : b.atom ≡ atom_of s.properties b.memory_type
   pub owned : IsOwned new b

@@ -63,7 +63,10 @@ impl<M: MemoryObject, D: MemoryDevice<M>> StagingPool<M, D> {
             usage: UsageFlags::TRANSIENT,
             memory_types: u32::MAX,
         };
-        if !request.is_askable(false) || self.buffers.reserve(1).is_err() {
+        if !request.is_askable(false) {
+            return false;
+        }
+        if self.buffers.reserve(1).is_err() {
             return false;
         }
         match self.allocator.alloc(&mut self.device, request) {
