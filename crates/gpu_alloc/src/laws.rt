@@ -30,15 +30,14 @@ ghost use Rattle.gpu_alloc_base.specs.declared.piece.Piece.{Piece};
 ghost use Rattle.gpu_alloc.specs.declared.request.Dedicated.TheVariants.{Required, Preferred};
 
 use crate::GpuAllocator;
-use gpu_alloc_types::{MemoryDevice, MemoryObject};
-use std::alloc::Allocator;
-
 pub use gpu_alloc_base::laws::{
     align_masks_of_powers, free_list_chunk_is_least, next_power_of_two_is_least,
 };
+use gpu_alloc_types::{MemoryDevice, MemoryObject};
 pub use gpu_alloc_usage::laws::{
     candidates_are_exact_and_sorted, ranking_is_exact_and_sorted, rankings_of_samples,
 };
+use std::alloc::Allocator;
 
 /// Pieces that are aligned and apart, of which no two are halves of one range, and which together are the free bytes,
 /// are exactly the longest free ranges of a power of two that start at a multiple of their length: of a buddy

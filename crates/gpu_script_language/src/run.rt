@@ -52,8 +52,7 @@ fn answer<R: Read, A: Allocator + Copy>(alloc: A, input: &mut R) -> Result<Strin
 }
 
 /// What a script answers whose lines are good.
-fn answer_to<A: Allocator + Copy>(alloc: A, script: &Script<A>) -> Result<String<A>, Stop>
-{
+fn answer_to<A: Allocator + Copy>(alloc: A, script: &Script<A>) -> Result<String<A>, Stop> {
     if !script.setup.properties().is_usable() {
         let after = script.lines.saturating_add(1);
         return Err(Stop::BadLine(after, LineError::BadProperties));
@@ -98,8 +97,7 @@ fn run<A: Allocator + Copy>(alloc: A, script: &Script<A>) -> Result<String<A>, A
 fn run_and_finish<A: Allocator + Copy>(
     mut session: SimSession<A>,
     commands: &[Command<A>],
-) -> (Result<Vec<Reply<A>, A>, AllocError>, Sim<A>)
-{
+) -> (Result<Vec<Reply<A>, A>, AllocError>, Sim<A>) {
     let replies = session.run(commands);
     (replies, session.finish())
 }

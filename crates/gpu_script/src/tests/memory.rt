@@ -81,8 +81,7 @@ impl<'a> LocalSession<'a> {
     fn run(
         &mut self,
         script: &Script<&'a LocalHeap>,
-    ) -> Result<Vec<Reply<&'a LocalHeap>, &'a LocalHeap>, AllocError>
-    {
+    ) -> Result<Vec<Reply<&'a LocalHeap>, &'a LocalHeap>, AllocError> {
         self.session.run(script.commands.as_slice())
     }
 
@@ -109,8 +108,7 @@ fn outcome_of(replies: Result<Vec<Reply<&LocalHeap>, &LocalHeap>, AllocError>) -
 }
 
 /// A script whose lines are good.
-fn good_script<'a>(heap: &'a LocalHeap, text: &str) -> Result<Script<&'a LocalHeap>, Fail>
-{
+fn good_script<'a>(heap: &'a LocalHeap, text: &str) -> Result<Script<&'a LocalHeap>, Fail> {
     match parse(heap, text.as_bytes()) {
         Ok(script) => Ok(script),
         Err(_) => Err(Fail::from("a bad script")),
@@ -122,8 +120,7 @@ fn counted<'a>(
     heap: &'a LocalHeap,
     session: &mut LocalSession<'a>,
     counts: &Script<&'a LocalHeap>,
-) -> Result<String<&'a LocalHeap>, AllocError>
-{
+) -> Result<String<&'a LocalHeap>, AllocError> {
     let replies = session.run(counts)?;
     let mut text = String::new(heap);
     for reply in &replies {
@@ -137,8 +134,7 @@ fn session_after<'a>(
     rt: &impl Abort,
     heap: &'a LocalHeap,
     script: &Script<&'a LocalHeap>,
-) -> Result<LocalSession<'a>, Fail>
-{
+) -> Result<LocalSession<'a>, Fail> {
     let mut session = LocalSession::new(rt, heap, script)?;
     let ran = session.run(script).is_ok();
     assert!(rt; ran, "the earlier commands");
@@ -152,8 +148,7 @@ fn run_in_hole<'a>(
     session: &mut LocalSession<'a>,
     script: &Script<&'a LocalHeap>,
     hole: usize,
-) -> Result<Outcome, AllocError>
-{
+) -> Result<Outcome, AllocError> {
     let plugs = plug(alloc, heap, hole)?;
     let replies = session.run(script);
     drop(plugs);
@@ -167,8 +162,7 @@ fn outcome_at<'a>(
     session: &mut LocalSession<'a>,
     command: &Script<&'a LocalHeap>,
     hole: usize,
-) -> Result<Outcome, Fail>
-{
+) -> Result<Outcome, Fail> {
     let counts = good_script(heap, "counts")?;
     let before = counted(heap, session, &counts)?;
     let outcome = run_in_hole(alloc, heap, session, command, hole)?;
