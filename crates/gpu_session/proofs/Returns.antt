@@ -1,5 +1,5 @@
 -- What a return makes of the books.
-use Rattle.std.proofs.Common.{◌≡◌, ◌≢◌, ℕ, Bool, List, length, Option, Some, sym, ◌∙◌, ap, subst}
+use Rattle.std.proofs.Common.{◌≡◌, ◌≢◌, ℕ, Bool, length, Option, Some, sym, ◌∙◌, ap, subst}
 use Rattle.std.specs.FinMap as finite
 use Rattle.std.specs.Ordering.{nat_cmp}
 use Rattle.gpu_alloc_types.specs.Properties.{Properties}
@@ -7,7 +7,7 @@ use Rattle.gpu_alloc_types.specs.Device.{Object}
 use Rattle.gpu_alloc.specs.Agreement.{Agrees}
 use Rattle.gpu_alloc.specs.Owned.{Removes}
 use Rattle.gpu_alloc.specs.Sound as allocator
-use Rattle.gpu_alloc.specs.State.{span_of, Block, State, IsLive, IsOwned}
+use Rattle.gpu_alloc.specs.State.{span_of, Block, State, IsOwned}
 use Rattle.gpu_alloc.proofs.Changes.{apart_differ}
 use Rattle.gpu_alloc.proofs.Tables.LiveSpans.{live_other}
 use Rattle.gpu_session.specs.Sound.{IsBlock, IsSound, IsKept}

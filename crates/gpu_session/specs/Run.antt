@@ -1,5 +1,5 @@
 -- Steps and runs of a session.
-use Rattle.std.specs.Prelude.{◌≡◌, List, [], ◌∷◌}
+use Rattle.std.specs.Prelude.{◌≡◌, List, [], ◌∷◌, ◌++◌}
 use Rattle.gpu_alloc_types.specs.Device.{Event, Chain}
 use Rattle.gpu_session.specs.Books.{SessionState}
 use Rattle.gpu_session.specs.Does.{Does}
@@ -20,3 +20,22 @@ Run {S} Steps old (command ∷ commands) (reply ∷ replies) new =
     (mid : S) × Steps old command reply mid × Run Steps mid commands replies new
 Run Steps old [] (reply ∷ replies) new = ⊥
 Run Steps old (command ∷ commands) [] new = ⊥
+
+-- two runs of these steps, one after the other, are a run of the joined lists
+abbrev pub Joins : {S A : Type 0} → (S → Command A → Reply A → S → Type 0) → Type 0
+Joins {S} {A} Steps =
+    (old mid new : S) (commands later : List (Command A)) (replies answers : List (Reply A))
+    → Run Steps old commands replies mid → Run Steps mid later answers new
+    → Run Steps old (commands ++ later) (replies ++ answers) new
+
+-- this holds of each step
+abbrev pub EachStep : {S A : Type 0} → (S → Command A → Reply A → S → Type 0) → (S → S → Type 0) → Type 0
+EachStep {S} {A} Steps P =
+    (old new : S) (command : Command A) (reply : Reply A) → Steps old command reply new → P old new
+
+-- this holds of each run of these steps
+abbrev pub EachRun : {S A : Type 0} → (S → Command A → Reply A → S → Type 0)
+    → (S → List (Command A) → List (Reply A) → S → Type 0) → Type 0
+EachRun {S} {A} Steps P =
+    (old new : S) (commands : List (Command A)) (replies : List (Reply A))
+    → Run Steps old commands replies new → P old commands replies new

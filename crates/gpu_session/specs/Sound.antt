@@ -40,6 +40,10 @@ pub record AreWholeObjects (objects : ℕ → Option Object) (s : Books) : Type 
   pub distinct : (n m : ℕ) (b c : Block) → n ≢ m → finite.get s.blocks n ≡ Some b → finite.get s.blocks m ≡ Some c
       → b.object ≢ c.object
 
+-- the same of a session's state
+abbrev pub HasWholeObjects : {D : Type 0} → (D → ℕ → Option Object) → SessionState D → Type 0
+HasWholeObjects objects s = AreWholeObjects (objects s.device) s.books
+
 -- what a session's fields keep
 pub record IsKept (p : Properties) (objects : ℕ → Option Object) (s : Books) (heaps : ℕ) (address : Bool) : Type 0 where
   pub sound : IsSound p objects s
@@ -53,6 +57,12 @@ pub record ReturnsAll (s : Books) (es : List Event) : Type 0 where
   pub asked : es ≡ map Deallocated gone
   pub each : (object : ℕ) → Contains gone object ↔ IsSome (finite.get (s.allocator).held object)
   pub once : length gone ≡ finite.len (s.allocator).held
+
+-- a step from a sound state
+abbrev pub StepFromSound : {D A : Type 0} → (D → Event → D → Type 0) → (D → Properties) → (D → ℕ → Option Object)
+    → SessionState D → Command A → Reply A → SessionState D → Type 0
+StepFromSound step properties objects old command reply new =
+    IsSound (properties old.device) (objects old.device) old.books × Step step old command reply new
 
 -- A step from a sound state to a sound state.
 pub record SoundStep {D A : Type 0} (step : D → Event → D → Type 0) (properties : D → Properties)

@@ -1,4 +1,4 @@
-use Rattle.std.proofs.Common.{[], Some, None, refl, sym, ◌∙◌, inl, inr}
+use Rattle.std.proofs.Common.{[], None, refl, sym, ◌∙◌, inl, inr}
 use Rattle.gpu_session.proofs.Conditions.{unnamed, in_use, without_fault}
 use Rattle.gpu_session.proofs.Grants.{grant_is_kept}
 use Rattle.gpu_alloc_base.proofs.Names.{put_by_name}
