@@ -22,7 +22,7 @@ use Rattle.gpu_alloc.specs.declared.request.Request.{Request}
 use Rattle.gpu_alloc_types.specs.Properties.{Properties}
 use Rattle.gpu_alloc_base.proofs.Lists.{contains_head, contains_later, contains_cases, contains_none}
 use Rattle.gpu_alloc_base.proofs.Maps.{one_value}
-use Rattle.gpu_alloc_base.proofs.Names.{here, one_or_two, get_removed-other, get_put-other}
+use Rattle.gpu_alloc_base.proofs.Names.{here, one_or_two, get_removed-other, get_put-other, len_put}
 use Rattle.gpu_alloc.proofs.Decisions.{of_grant}
 use Rattle.gpu_alloc.proofs.FreeLists.Gone.{kept_was}
 use Rattle.gpu_alloc.proofs.Ledgers.{Held}
@@ -39,10 +39,23 @@ pub record Grows (s : State) (b : Block) (new : State) : Type 0 where
 
 -- what was held is held as it was
 still_held : (s : State) (b : Block) (new : State) → HoldsWith s b new → (object : ℕ) (h : HeldObject) → map.get s.held object ≡ Some h → map.get new.held object ≡ Some h
-still_held s b new (inl same) object h at = ap (λ (m : Held). map.get m object) same ∙ at
-still_held s b new (inr (made, free, more)) object h at =
+still_held s b new holds object h at = elim (holds.objects) [
+  | inl same ↦ ap (λ (m : Held). map.get m object) same ∙ at
+  | inr (made, free, more) ↦
     ap (λ (m : Held). map.get m object) more
     ∙ get_put-other s.held b.object made object (λ same. let none : map.get s.held object ≡ None = ap (map.get s.held) same ∙ free in absurd (cc)) ∙ at
+]
+
+-- none more, or one
+holds_as_before : (s : State) (b : Block) (new : State) → new.held ≡ s.held → HoldsWith s b new
+holds_as_before s b new same =
+    let as_many : map.len new.held ≡ map.len s.held = ap (λ (m : Held). map.len m) same in
+    record { objects = inl same; few = omega (arith, as_many) }
+
+holds_one_more : (s : State) (b : Block) (new : State) (h : HeldObject) → map.get s.held b.object ≡ None → new.held ≡ map.insert s.held b.object h → HoldsWith s b new
+holds_one_more s b new h free more =
+    let one_more : map.len new.held ≡ map.len s.held + 1 = ap (λ (m : Held). map.len m) more ∙ len_put s.held b.object h free in
+    record { objects = inr (h, free, more); few = omega (arith, one_more) }
 
 -- so each block that was owned is
 pub granted_kept : (s : State) (b : Block) (new : State) → Grows s b new → (c : Block) → IsOwned s c → IsOwned new c
@@ -56,11 +69,11 @@ grows_like s b like new same grows = subst (Grows s b) (sym same) grows
 
 grant_grows : (w : Strategy) (s : State) (r : Request) (t : ℕ) (es : List Event) (b : Block) (new : State) → case.Decides (candidate w s r t) es (Ok b) new → Grows s b new
 grant_grows OwnObject s r t es b new (inl gives) = absurd gives.place
-grant_grows OwnObject s r t es b new (inr gives) = grows_like s b _ new gives.state (record { live = refl; held = inr (_, gives.place.was_free, refl); properties = refl; config = refl })
-grant_grows InBuddyChunk s r t es b new (inl gives) = grows_like s b _ new gives.state (record { live = refl; held = inl refl; properties = refl; config = refl })
-grant_grows InBuddyChunk s r t es b new (inr gives) = grows_like s b _ new gives.state (record { live = refl; held = inr (_, gives.place.was_free, refl); properties = refl; config = refl })
-grant_grows InFreeList s r t es b new (inl gives) = grows_like s b _ new gives.state (record { live = refl; held = inl refl; properties = refl; config = refl })
-grant_grows InFreeList s r t es b new (inr gives) = grows_like s b _ new gives.state (record { live = refl; held = inr (_, gives.place.was_free, refl); properties = refl; config = refl })
+grant_grows OwnObject s r t es b new (inr gives) = grows_like s b _ new gives.state (record { live = refl; held = holds_one_more s b _ _ gives.place.was_free refl; properties = refl; config = refl })
+grant_grows InBuddyChunk s r t es b new (inl gives) = grows_like s b _ new gives.state (record { live = refl; held = holds_as_before s b _ refl; properties = refl; config = refl })
+grant_grows InBuddyChunk s r t es b new (inr gives) = grows_like s b _ new gives.state (record { live = refl; held = holds_one_more s b _ _ gives.place.was_free refl; properties = refl; config = refl })
+grant_grows InFreeList s r t es b new (inl gives) = grows_like s b _ new gives.state (record { live = refl; held = holds_as_before s b _ refl; properties = refl; config = refl })
+grant_grows InFreeList s r t es b new (inr gives) = grows_like s b _ new gives.state (record { live = refl; held = holds_one_more s b _ _ gives.place.was_free refl; properties = refl; config = refl })
 
 pub allocates_grow : (s : State) (r : Request) (hint : Option Dedicated) (es : List Event) (b : Block) (new : State) → Allocates s r hint es (Ok b) new → Grows s b new
 allocates_grow s r hint es b new = of_grant s r hint b new (λ t fs chosen known decides. grant_grows (strategy s r hint t) s r t fs b new decides.1) es

@@ -1,5 +1,5 @@
 -- What calls leave of the blocks that a caller has in hand.
-use Rattle.std.proofs.Common.{◌≡◌, ◌≢◌, zero, suc, ◌+◌, ◌-◌, ◌<◌, true, false, cond, List, [], ◌∷◌, ◌++◌, refl, sym, ◌∙◌, ap, subst, arith, Option, Result, Ok, Err, IfOk}
+use Rattle.std.proofs.Common.{◌≡◌, ◌≢◌, zero, suc, ◌+◌, ◌-◌, ◌<◌, true, false, cond, List, [], ◌∷◌, ◌++◌, append-nil, refl, sym, ◌∙◌, ap, subst, arith, Option, Result, Ok, Err, IfOk}
 use Rattle.std.specs.FinMap as map
 use Rattle.std.specs.FinSet as set
 use Rattle.gpu_alloc_types.specs.Device.{Event}
@@ -18,7 +18,7 @@ use Rattle.gpu_alloc_base.specs.declared.error.AllocationError.{AllocationError}
 use Rattle.gpu_alloc.proofs.Decisions.{allocates_kept}
 use Rattle.gpu_alloc.specs.State.{HeldObject, State, Block, Span, span_of, span_cmp, AreApart, IsLive, IsOwned}
 use Rattle.gpu_alloc.proofs.Changes.{Grows, allocates_grow, granted_kept, apart_differ, apart_back, still_owned}
-use Rattle.gpu_alloc.proofs.Tables.LiveSpans.{span_total, live_kept, not_live}
+use Rattle.gpu_alloc.proofs.Tables.LiveSpans.{span_total, live_new, live_still, live_kept, not_live, put_taken, taken_before}
 
 -- Two blocks.
 
@@ -42,6 +42,12 @@ all_kept s new kept (c ∷ cs) owned = (kept c owned.0, owned.1, all_kept s new 
 beside_more : (b c : Block) (cs : List Block) → IsBeside c cs → AreTwo c b → IsBeside c (cs ++ b ∷ [])
 beside_more b c [] beside two = (two, tt)
 beside_more b c (d ∷ cs) beside two = (beside.0, beside_more b c cs beside.1 two)
+
+beside_less : (b c : Block) (cs ds : List Block) → IsBeside c (cs ++ b ∷ ds) → AreTwo c b × IsBeside c (cs ++ ds)
+beside_less b c [] ds beside = beside
+beside_less b c (d ∷ cs) ds beside =
+    let rest = beside_less b c cs ds beside.1 in
+    (rest.0, (beside.0, rest.1))
 
 -- A grant.
 
@@ -127,6 +133,12 @@ module _ (s : State) (b : Block) (es : List Event) (new : State) (frees : Frees 
     returned_all [] beside owned = tt
     returned_all (c ∷ cs) beside owned = (returned_kept c owned.0 (λ same. beside.0.differ (sym same)), owned.1, returned_all cs beside.1 owned.2)
 
+    returned_any : (cs ds : List Block) → AreOwned s (cs ++ b ∷ ds) → AreOwned new (cs ++ ds)
+    returned_any [] ds owned = returned_all ds owned.1 owned.2
+    returned_any (c ∷ cs) ds owned =
+        let beside = beside_less b c cs ds owned.1 in
+        (returned_kept c owned.0 beside.0.differ, beside.1, returned_any cs ds owned.2)
+
     pub frees_remove : IsOwned s b → Removes s b new
     frees_remove owned = record {
       properties = ap (λ (t : State). t.properties) frees.2.1;
@@ -134,8 +146,47 @@ module _ (s : State) (b : Block) (es : List Event) (new : State) (frees : Frees 
       live = returned_live;
       count = returned_count owned.live;
       owned = returned_kept;
-      all = λ cs all. returned_all cs all.1 all.2;
+      first = λ cs all. returned_all cs all.1 all.2;
+      last = λ cs all. subst (AreOwned new) (append-nil cs) (returned_any cs [] all);
+      any = returned_any;
     }
+
+-- What was granted and returned.
+
+-- where a set with one more has more of them, that one was not in it
+was_none : (live : set.FinSet span_cmp) (span : Span) → set.len (set.insert live span) ≡ set.len live + 1 → set.contains live span ≡ false
+was_none live span more = elim (set.contains live span) as (λ t. set.contains live span ≡ t → t ≡ false) [
+  | true ↦ λ there.
+      let same : set.len (set.insert live span) ≡ set.len live = set.len-insert span_total live span ∙ ap (λ t. cond t (set.len live) (set.len live + 1)) there in
+      absurd (omega (arith, same, more))
+  | false ↦ λ none. refl
+] refl
+
+-- a granted block's span was not live
+was_free : (s new : State) (b : Block) → Adds s new b → set.contains s.live (span_of b) ≡ false
+was_free s new b adds = was_none s.live (span_of b) (ap (λ (l : set.FinSet span_cmp). set.len l) (sym adds.live) ∙ adds.count)
+
+pub one_cancels : (s more end : State) (b : Block) → Adds s more b → Removes more b end → end.live ≡ s.live
+one_cancels s more end b adds removes =
+    removes.live ∙ ap (λ (l : set.FinSet span_cmp). set.remove l (span_of b)) adds.live
+    ∙ put_taken s.live (span_of b) (was_free s more b adds)
+
+pub two_cancel : (s more most less end : State) (a b : Block) → Adds s more a → Adds more most b → Removes most a less → Removes less b end → end.live ≡ s.live
+two_cancel s more most less end a b first second removes last =
+    last.live
+    ∙ ap (λ (l : set.FinSet span_cmp). set.remove l (span_of b)) (
+        removes.live ∙ ap (λ (l : set.FinSet span_cmp). set.remove l (span_of a)) second.live
+        ∙ taken_before more.live (span_of a) (span_of b) differ
+        ∙ ap (λ (l : set.FinSet span_cmp). set.insert l (span_of b)) (
+            ap (λ (l : set.FinSet span_cmp). set.remove l (span_of a)) first.live
+            ∙ put_taken s.live (span_of a) (was_free s more a first)))
+    ∙ put_taken s.live (span_of b) (not_live s.live (span_of b) (λ there. later (rw (first.live) (live_still s.live (span_of a) (span_of b) there))))
+  where
+    later : set.contains more.live (span_of b) ≡ true → ⊥
+    later there = let none = was_free more most b second in absurd (let n : false ≡ true = sym none ∙ there in cc)
+
+    differ : span_of a ≢ span_of b
+    differ same = later (rw (first.live) (subst (λ x. set.contains (set.insert s.live (span_of a)) x ≡ true) same (live_new s.live (span_of a))))
 
 -- A cleanup.
 

@@ -2,6 +2,7 @@
 -- passed answers.
 use Rattle.std.specs.Prelude.{◌≡◌, ◌⊎◌, ℕ, ◌+◌, ◌%◌, ◌/◌, ◌<◌, ◌≤◌, ◌==◌, Bool, true, ◌&&◌, List, [], ◌∷◌, ◌++◌, length}
 use Rattle.std.specs.Prelude.{Option, Some, None, Result, Ok, Err, cond, min, nat_lt, nat_le, nat_eq, MatchBool}
+use Rattle.std.specs.Int.{bit_at}
 use Rattle.std.specs.List.{Contains}
 use Rattle.std.specs.FinMap as map
 use Rattle.gpu_alloc_types.specs.Flags.{usage_bits, has_bit}
@@ -14,7 +15,7 @@ use Rattle.gpu_alloc_base.specs.Sizes.{up, preferred_threshold, transient_thresh
 use Rattle.gpu_alloc_base.specs.declared.error.AllocationError.{AllocationError}
 use Rattle.gpu_alloc_base.specs.declared.error.AllocationError.TheVariants.{OutOfDeviceMemory, OutOfHostMemory}
 use Rattle.gpu_alloc_base.specs.declared.error.AllocationError.TheVariants.{NoCompatibleMemoryTypes, TooManyObjects}
-use Rattle.gpu_alloc_usage.specs.Ranking.{candidates}
+use Rattle.gpu_alloc_usage.specs.Ranking.{candidates, compatible, implied}
 use Rattle.gpu_alloc.specs.Candidates.{candidate}
 use Rattle.gpu_alloc.specs.Request.{is_required}
 use Rattle.gpu_alloc.specs.State.{HeldObject, Span, Block, span_of, State, IsLive, IsOwned, AreApart, is_shared}
@@ -134,6 +135,16 @@ ObjectsTried s (Err e) after old new = new ≡ old
 -- the memory type is one of the request's candidates
 unfoldable pub IsCandidate : State → Request → ℕ → Type 0
 IsCandidate s r t = Contains (candidates_of s r) t
+
+-- There is such a memory type, the request permits it, and it may serve what the request's usage means.
+pub record ServesRequest (s : State) (r : Request) (t : ℕ) : Type 0 where
+  pub known : t < length s.properties.memory_types
+  pub permitted : bit_at r.memory_types t ≡ 1
+  pub serves : compatible (implied (usage_bits r.usage)) (props_at s.properties t) ≡ true
+
+-- each candidate does
+pub record CandidatesServe : Type 0 where
+  pub each : (s : State) (r : Request) (t : ℕ) → IsCandidate s r t → ServesRequest s r t
 
 -- what a caller may know of a granted block without following the decision
 pub record IsGranted (s : State) (r : Request) (new : State) (b : Block) : Type 0 where

@@ -1,5 +1,5 @@
 -- What a call makes of the blocks that a caller has in hand.
-use Rattle.std.specs.Prelude.{◌≡◌, ◌≢◌, ◌⊎◌, ℕ, ◌+◌, List, [], ◌∷◌, ◌++◌, Option, None}
+use Rattle.std.specs.Prelude.{◌≡◌, ◌≢◌, ◌⊎◌, ℕ, ◌+◌, ◌≤◌, List, [], ◌∷◌, ◌++◌, Option, None}
 use Rattle.std.specs.FinMap as map
 use Rattle.std.specs.FinSet as set
 use Rattle.gpu_alloc_types.specs.Device.{Object}
@@ -29,11 +29,11 @@ pub record Leaves (s new : State) : Type 0 where
   pub owned : (b : Block) → IsOwned s b → IsOwned new b
   pub all : (bs : List Block) → AreOwned s bs → AreOwned new bs
 
--- the held objects are those of before, or those and the block's
-abbrev pub HoldsWith : State → Block → State → Type 0
-HoldsWith s b new =
-    (new.held ≡ s.held)
-    ⊎ ((h : HeldObject) × (map.get s.held b.object ≡ None) × (new.held ≡ map.insert s.held b.object h))
+-- the held objects are those of before, or those and the block's: one more at most
+pub record HoldsWith (s : State) (b : Block) (new : State) : Type 0 where
+  pub objects : (new.held ≡ s.held)
+      ⊎ ((h : HeldObject) × (map.get s.held b.object ≡ None) × (new.held ≡ map.insert s.held b.object h))
+  pub few : map.len new.held ≤ map.len s.held + 1
 
 -- What a grant adds: the block's span to those that are live, and the block to those in hand, which are others.
 pub record Adds (s new : State) (b : Block) : Type 0 where
@@ -51,7 +51,17 @@ pub record Removes (s : State) (b : Block) (new : State) : Type 0 where
   pub live : new.live ≡ set.remove s.live (span_of b)
   pub count : set.len new.live + 1 ≡ set.len s.live
   pub owned : (c : Block) → IsOwned s c → span_of c ≢ span_of b → IsOwned new c
-  pub all : (cs : List Block) → AreOwned s (b ∷ cs) → AreOwned new cs
+  -- of those in hand it may be the first, the last, or any other
+  pub first : (cs : List Block) → AreOwned s (b ∷ cs) → AreOwned new cs
+  pub last : (cs : List Block) → AreOwned s (cs ++ b ∷ []) → AreOwned new cs
+  pub any : (cs ds : List Block) → AreOwned s (cs ++ b ∷ ds) → AreOwned new (cs ++ ds)
+
+-- What was granted and returned leaves the live spans as they were: one block, or two that go in the order in which
+-- they came.
+pub record CancelOut : Type 0 where
+  pub one : (s more end : State) (b : Block) → Adds s more b → Removes more b end → end.live ≡ s.live
+  pub two : (s more most less end : State) (a b : Block) → Adds s more a → Adds more most b → Removes most a less
+      → Removes less b end → end.live ≡ s.live
 
 -- What an allocator that holds nothing has: it agrees with every device that offers these properties.
 pub record HoldsNothing (p : Properties) (s : State) : Type 0 where

@@ -3,7 +3,7 @@
 ghost use Rattle.std.specs.Prelude.{◌≡◌, ◌≢◌, ℕ, List, [], ◌∷◌, Some, None, true, false};
 ghost use Rattle.std.specs.FinSet as set;
 ghost use Rattle.gpu_alloc.specs.Agreement.{Agrees};
-ghost use Rattle.gpu_alloc.specs.Allocation.{strategy};
+ghost use Rattle.gpu_alloc.specs.Allocation.{strategy, CandidatesServe};
 ghost use Rattle.gpu_alloc.specs.Exactness.{AreCanonical, AreFreePieces, AreLongEnough, ArePiecesApart};
 ghost use Rattle.gpu_alloc.specs.Exactness.{AreSpaced, AreFreeRuns, TellPlaces};
 ghost use Rattle.gpu_alloc.specs.declared.allocator.Strategy.TheVariants.{OwnObject, InBuddyChunk, InFreeList};
@@ -22,7 +22,7 @@ ghost use Rattle.gpu_alloc.specs.Samples.{one_type, over, bytes_for, buddy_confi
 ghost use Rattle.gpu_alloc.specs.BuddySharing.{buddy_size, buddy_question, with_buddy_chunk};
 ghost use Rattle.gpu_alloc_base.specs.Sizes.{minimal_size, final_size, grown_chunk, doubled_chunk};
 ghost use Rattle.gpu_alloc.specs.FirstTypes.{first_types};
-ghost use Rattle.gpu_alloc.specs.Owned.{AreTwo, HoldsNothing};
+ghost use Rattle.gpu_alloc.specs.Owned.{AreTwo, CancelOut, HoldsNothing};
 ghost use Rattle.gpu_alloc.specs.Sound.{IsSound};
 ghost use Rattle.gpu_alloc.specs.State.{State, Block, Span, span_of, span_cmp, IsOwned};
 ghost use Rattle.gpu_alloc.specs.declared.block.Kind.{Kind};
@@ -168,16 +168,23 @@ pub fn agrees_at_first<M: MemoryObject, D: MemoryDevice<M>, A: Allocator>(
     let _ = device;
 }
 
+/// Each candidate of a request, which a granted block's memory type is, is a memory type that the request permits and
+/// that may serve what its usage means.
+pub fn candidates_serve_the_request()
+    ensures { CandidatesServe }
+{}
+
 /// Two blocks that are owned and of different spans share no byte.
 pub fn owned_blocks_are_apart()
     ensures { (s : State) (b c : Block) → IsSound s → IsOwned s b → IsOwned s c → span_of b ≢ span_of c → AreTwo b c }
 {}
 
 /// A span that was put in and taken out again leaves the live spans as they were, and one may be taken out before
-/// another is put in.
+/// another is put in. So what was granted and returned leaves them as they were.
 pub fn spans_come_and_go()
     ensures again { (live : set.FinSet span_cmp) (span : Span) → set.contains live span ≡ false
         → set.remove (set.insert live span) span ≡ live }
     ensures between { (live : set.FinSet span_cmp) (a b : Span) → a ≢ b
         → set.remove (set.insert live b) a ≡ set.insert (set.remove live a) b }
+    ensures cancel { CancelOut }
 {}
