@@ -5,5 +5,5 @@ pub mod Grants
 pub mod Openings
 pub mod Returns
 pub mod Runs
-pub mod Totals
+pub mod Steps
 pub mod WholeObjects

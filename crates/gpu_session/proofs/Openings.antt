@@ -10,7 +10,7 @@ use Rattle.gpu_alloc.specs.Opening.{opened}
 use Rattle.gpu_alloc.specs.Sound as allocator
 use Rattle.gpu_alloc.specs.State.{Span, span_cmp, Block}
 use Rattle.gpu_alloc.specs.Types.Config.{Config}
-use Rattle.gpu_session.specs.Sound.{IsKept}
+use Rattle.gpu_session.specs.Sound.{AreWholeObjects, IsKept}
 use Rattle.gpu_alloc_base.proofs.Names.{wherever}
 
 none_at : {X : Type 0} (P : ℕ → X → Type 0) (q : ℕ) → IfSome (finite.get (finite.empty {X = X} {R = nat_cmp}) q) (P q)
@@ -33,3 +33,11 @@ module _ (c : Config) (p : Properties) (objects : ℕ → Option Object) (few : 
     few_heaps = few;
     feature = refl;
   }
+
+-- with no block, each is a whole object
+pub none_is_whole : (c : Config) (p : Properties) (objects : ℕ → Option Object) → AreWholeObjects objects (record { allocator = opened c p; blocks = finite.empty })
+none_is_whole c p objects = record {
+  kind = none_at _;
+  whole = none_at _;
+  distinct = λ n m b d ne at_n at_m. absurd (let none = finite.get-empty {X = Block} nat_cmp n in cc);
+}

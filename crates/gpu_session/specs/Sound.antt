@@ -51,6 +51,11 @@ pub record IsKept (p : Properties) (objects : ℕ → Option Object) (s : Books)
   pub few_heaps : heaps < 2 ^ 32
   pub feature : address ≡ p.buffer_device_address
 
+-- what was given to the allocator stays
+pub record KeepsGiven (s new : State) : Type 0 where
+  pub properties : new.properties ≡ s.properties
+  pub config : new.config ≡ s.config
+
 -- each held object goes back once, and nothing else is asked
 pub record ReturnsAll (s : Books) (es : List Event) : Type 0 where
   pub gone : List ℕ

@@ -11,7 +11,7 @@ ghost use Rattle.gpu_session.specs.Books.{Books, SessionState};
 ghost use Rattle.gpu_session.specs.Does.{IsEachLedger};
 ghost use Rattle.gpu_session.specs.Faults.{fault_of_request};
 ghost use Rattle.gpu_session.specs.Run.{Step, Run};
-ghost use Rattle.gpu_session.specs.Sound.{IsSound, SoundStep, ReturnsAll};
+ghost use Rattle.gpu_session.specs.Sound.{IsSound, KeepsGiven, HasWholeObjects, SoundStep, ReturnsAll};
 
 use crate::{Command, Fault, Ledgers, Reply};
 use gpu_alloc::{Config, Dedicated, DeviceProperties, GpuAllocator, MemoryBlock, Request};
@@ -77,7 +77,8 @@ fn fault_of(request: Request, buffer_device_address: bool) -> Option<Fault>
 }
 
 impl<M: MemoryObject, D: MemoryDevice<M>, A: Allocator + Copy> Session<M, D, A> {
-    /// A session over a device, with nothing held.
+    /// A session over a device, with nothing held. It is sound, and (as no block is live) each live block is a whole
+    /// object.
     ///
     /// The properties have to be usable (`DeviceProperties::is_usable`) and those of the device. Want of host memory
     /// gives the device back as it was.
@@ -94,25 +95,32 @@ impl<M: MemoryObject, D: MemoryDevice<M>, A: Allocator + Copy> Session<M, D, A> 
           books = record { allocator = opened config (properties_of props.entry); blocks = map.empty };
           device = device;
         }) }
+        ensures sound { IfOk result (λ session. IsSound (D.properties device) (D.objects device) session.books) }
+        ensures whole { IfOk result (HasWholeObjects D.objects) }
         ensures given_back { IfErr result (λ e. e.device ≡ device) }
     {
         let heaps = props.memory_heaps.len() as u32;
         let buffer_device_address = props.buffer_device_address;
         match GpuAllocator::new(alloc, config, props) {
-            Ok(allocator) => Ok(Session {
-                alloc,
-                allocator,
-                device,
-                blocks: IndexMap::new(alloc),
-                heaps,
-                buffer_device_address,
-            }),
+            Ok(allocator) => {
+                let session = Session {
+                    alloc,
+                    allocator,
+                    device,
+                    blocks: IndexMap::new(alloc),
+                    heaps,
+                    buffer_device_address,
+                };
+                session.keeps_sound();
+                Ok(session)
+            }
             Err(_) => Err(SessionOpenError { device }),
         }
     }
 
     /// Answers the commands in order, one reply for each. The replies and the state after them are a run, in which
-    /// every state between two commands is sound: live blocks are memory of their own.
+    /// every state between two commands is sound: live blocks are memory of their own. The properties and the
+    /// configuration stay.
     ///
     /// Places for all replies are taken first: an error means that there was no memory for them, and nothing ran. What
     /// a run keeps, [`laws`](crate::laws) tell.
@@ -121,6 +129,7 @@ impl<M: MemoryObject, D: MemoryDevice<M>, A: Allocator + Copy> Session<M, D, A> 
             Run (SoundStep D.step D.properties D.objects) self.old commands.now replies.items self.new) }
         ensures err { OnErr result (self.new ≡ self.old) }
         ensures sound { IsSound (D.properties self.new.device) (D.objects self.new.device) self.new.books }
+        ensures leaves { KeepsGiven (self.old.books).allocator (self.new.books).allocator }
     {
         self.keeps_sound();
         let mut replies = Vec::with_capacity(self.alloc, commands.len())?;

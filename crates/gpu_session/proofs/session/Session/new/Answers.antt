@@ -1,8 +1,13 @@
-use Rattle.gpu_session.proofs.Openings.{opening_is_kept}
+use Rattle.gpu_session.proofs.Openings.{none_is_whole, opening_is_kept}
 use Rattle.gpu_session.proofs.session.Session.new.Goals as goal
 
-pub invariant_of-result : goal.invariant_of-result
-invariant_of-result g c =
+pub invariant_of-session : goal.invariant_of-session
+invariant_of-session g c =
     let sound = rw c.in-Ok.ensures.opened at c.in-Ok.ensures.sound in
     rw (c.in-Ok.ensures.opened, c.new-in-Ok.ensures.empty, c.requires.same)
     (opening_is_kept c.args.config _ (g.D.MemoryDevice.objects c.args.device) c.requires.usable.heaps sound)
+
+pub returns-in-Ok-clause-whole : goal.returns-in-Ok-clause-whole
+returns-in-Ok-clause-whole g c =
+    rw (c.in-Ok.ensures.opened, c.new-in-Ok.ensures.empty)
+    (none_is_whole c.args.config _ (g.D.MemoryDevice.objects c.args.device))
