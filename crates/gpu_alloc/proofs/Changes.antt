@@ -42,8 +42,8 @@ still_held : (s : State) (b : Block) (new : State) → HoldsWith s b new → (ob
 still_held s b new holds object h at = elim (holds.objects) [
   | inl same ↦ ap (λ (m : Held). map.get m object) same ∙ at
   | inr (made, free, more) ↦
-    ap (λ (m : Held). map.get m object) more
-    ∙ get_put-other s.held b.object made object (λ same. let none : map.get s.held object ≡ None = ap (map.get s.held) same ∙ free in absurd (cc)) ∙ at
+      ap (λ (m : Held). map.get m object) more
+      ∙ get_put-other s.held b.object made object (λ same. let none : map.get s.held object ≡ None = ap (map.get s.held) same ∙ free in absurd (cc)) ∙ at
 ]
 
 -- none more, or one

@@ -175,11 +175,11 @@ pub two_cancel : (s more most less end : State) (a b : Block) → Adds s more a 
 two_cancel s more most less end a b first second removes last =
     last.live
     ∙ ap (λ (l : set.FinSet span_cmp). set.remove l (span_of b)) (
-        removes.live ∙ ap (λ (l : set.FinSet span_cmp). set.remove l (span_of a)) second.live
-        ∙ taken_before more.live (span_of a) (span_of b) differ
-        ∙ ap (λ (l : set.FinSet span_cmp). set.insert l (span_of b)) (
-            ap (λ (l : set.FinSet span_cmp). set.remove l (span_of a)) first.live
-            ∙ put_taken s.live (span_of a) (was_free s more a first)))
+    removes.live ∙ ap (λ (l : set.FinSet span_cmp). set.remove l (span_of a)) second.live
+    ∙ taken_before more.live (span_of a) (span_of b) differ
+    ∙ ap (λ (l : set.FinSet span_cmp). set.insert l (span_of b)) (
+    ap (λ (l : set.FinSet span_cmp). set.remove l (span_of a)) first.live
+    ∙ put_taken s.live (span_of a) (was_free s more a first)))
     ∙ put_taken s.live (span_of b) (not_live s.live (span_of b) (λ there. later (rw (first.live) (live_still s.live (span_of a) (span_of b) there))))
   where
     later : set.contains more.live (span_of b) ≡ true → ⊥

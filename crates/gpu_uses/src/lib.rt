@@ -9,3 +9,4 @@ pub mod opening;
 pub mod staging;
 #[cfg(test)]
 mod tests;
+pub mod upload;
