@@ -6,6 +6,7 @@ pub mod buffers;
 pub mod first_use;
 pub mod frame;
 pub mod opening;
+pub mod session;
 pub mod staging;
 #[cfg(test)]
 mod tests;
