@@ -5,7 +5,7 @@ ghost use Rattle.std.specs.FinSet as set;
 ghost use Rattle.gpu_alloc.specs.Agreement.{Agrees};
 ghost use Rattle.gpu_alloc.specs.Request.{IsAskable};
 
-use gpu_alloc::{GpuAllocator, MemoryBlock, Request};
+use gpu_alloc::{AllocationError, GpuAllocator, MemoryBlock, Request};
 use gpu_alloc_types::{MemoryDevice, MemoryObject};
 use std::alloc::{AllocError, Global};
 use std::collections::VecDeque;
@@ -38,4 +38,21 @@ pub fn frame<M: MemoryObject, D: MemoryDevice<M>>(
     blocks.destroy_empty();
     allocator.cleanup(device);
     Ok(got)
+}
+
+/// Takes a block, cleans up while it is in hand, and returns it.
+pub fn trim<M: MemoryObject, D: MemoryDevice<M>>(
+    allocator: &mut GpuAllocator<M>,
+    device: &mut D,
+    request: Request,
+) -> Result<(), AllocationError>
+    requires askable { IsAskable (allocator.old.properties).buffer_device_address request }
+    requires agrees { Agrees allocator.old (D.properties device.old) (D.objects device.old) }
+    ensures agrees { Agrees allocator.new (D.properties device.new) (D.objects device.new) }
+    ensures count { set.len allocator.new.live ≡ set.len allocator.old.live }
+{
+    let block = allocator.alloc(device, request)?;
+    allocator.cleanup(device);
+    allocator.dealloc(device, block);
+    Ok(())
 }
