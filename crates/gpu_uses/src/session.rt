@@ -1,12 +1,15 @@
 //! A list of commands, as one session answers it.
 
-ghost use Rattle.std.specs.Prelude.{◌≡◌};
+ghost use Rattle.std.specs.Prelude.{◌≡◌, All, IfOk};
+ghost use Rattle.gpu_alloc.specs.State.{total};
 ghost use Rattle.gpu_alloc_types.specs.Properties.{IsUsable, properties_of};
+ghost use Rattle.gpu_session.specs.Sound.{HasWholeObjects, IsForRequired};
 
 use gpu_alloc::{Config, DeviceProperties};
 use gpu_alloc_types::{MemoryDevice, MemoryObject};
-use gpu_session::{Command, Session};
-use std::alloc::Global;
+use gpu_session::laws::{required_runs_keep_whole_objects, steps_keep_the_total};
+use gpu_session::{Command, Reply, Session};
+use std::alloc::{AllocError, Global};
 
 /// Answers a list of commands twice over, as far as there is memory for the replies, and gives the device back, which
 /// has the properties that it had.
@@ -29,5 +32,48 @@ pub fn answer_twice<M: MemoryObject, D: MemoryDevice<M>>(
             session.finish()
         }
         Err(refusal) => refusal.device,
+    }
+}
+
+/// Answers a list of commands, after which as many objects are held or may be held as before.
+pub fn answer<M: MemoryObject, D: MemoryDevice<M>>(
+    session: &mut Session<M, D>,
+    commands: &[Command<Global>],
+) -> Result<Vec<Reply<Global>>, AllocError>
+    ensures { total (session.new.books).allocator ≡ total (session.old.books).allocator }
+{
+    match session.run(commands) {
+        Ok(replies) => {
+            steps_keep_the_total::<M, D, Global>();
+            Ok(replies)
+        }
+        Err(refusal) => Err(refusal),
+    }
+}
+
+/// Opens a session and answers a list of requests with the hint `Required` and of returns: each live block is the whole
+/// of an object of its own. Where there is no memory, the device comes back.
+pub fn open_with_whole_objects<M: MemoryObject, D: MemoryDevice<M>>(
+    alloc: Global,
+    props: DeviceProperties<'_>,
+    device: D,
+    commands: &[Command<Global>],
+) -> Result<Session<M, D>, D>
+    requires usable { IsUsable (properties_of props) }
+    requires same { D.properties device ≡ properties_of props }
+    requires required { All IsForRequired commands.now }
+    ensures { IfOk result (HasWholeObjects D.objects) }
+{
+    let mut session = match Session::new(alloc, Config::i_am_potato(), props, device) {
+        Ok(session) => session,
+        Err(refusal) => return Err(refusal.device),
+    };
+    match session.run(commands) {
+        Ok(replies) => {
+            required_runs_keep_whole_objects::<M, D, Global>();
+            drop(replies);
+            Ok(session)
+        }
+        Err(_) => Err(session.finish()),
     }
 }
