@@ -108,6 +108,16 @@ module _ {B S : Type 0} {chunks : S → HeldChunks} {key : B → ℕ} {c : Case 
       rw (gives.state, entered.chunks_are) (omega (arith, more, entered.used, counted))
   answers_bytes es (Err e) new counted refused = rw (refused_keeps c es e new refused) counted
 
+  -- the ledger grows by the size of a chunk at most
+  pub answers_used : (most : ℕ) → (Asks c → c.question.size ≤ most) → (es : List Event) (answer : Result B AllocationError) (new : Account S) → Answers c es answer new → new.heap.used ≤ c.before.heap.used + most
+  answers_used most bound es (Ok b) new (inl gives) =
+      let same = books.in_place b gives.place in
+      rw (gives.state, same.used) (omega arith)
+  answers_used most bound es (Ok b) new (inr gives) =
+      let entered = books.in_new b gives.place in
+      rw (gives.state, entered.used) (omega (arith, bound gives.asks))
+  answers_used most bound es (Err e) new refused = rw (refused_keeps c es e new refused) (omega arith)
+
   pub answers_counted : (es : List Event) (answer : Result B AllocationError) (new : Account S) → IsCounted before c.before.heap c.before.remaining → Answers c es answer new → IsCounted (chunks new.allocator) new.heap new.remaining
   answers_counted es answer new counted answers = record {
     ledger = answers_bytes es answer new counted.ledger answers;

@@ -3,6 +3,7 @@ pub mod Books
 pub mod ChunkSizes
 pub mod ExactPieces
 pub mod FreeRuns
+pub mod InHand
 pub mod Leaves
 pub mod ListSets
 pub mod ListViews

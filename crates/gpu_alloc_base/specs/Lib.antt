@@ -8,6 +8,7 @@ pub mod Errors
 pub mod FreeRuns
 pub mod FreeSpace
 pub mod Heap
+pub mod InHand
 pub mod Leaves
 pub mod NewChunk
 pub mod NewObject

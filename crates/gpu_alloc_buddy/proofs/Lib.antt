@@ -2,6 +2,7 @@ pub mod BuddyAnswers
 pub mod BuddyCalls
 pub mod BuddyGrants
 pub mod BuddyReturns
+pub mod InHand
 pub mod KeptPieces
 pub mod OtherHalves
 pub mod PieceHalves

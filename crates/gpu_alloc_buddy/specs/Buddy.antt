@@ -12,6 +12,8 @@ use Rattle.gpu_alloc_base.specs.Accounts as accounts
 use Rattle.gpu_alloc_base.specs.Accounts.{Account, account, HeldChunks}
 use Rattle.gpu_alloc_base.specs.Case.{Case, Answers}
 use Rattle.gpu_alloc_base.specs.FreeSpace.{IsIn, IsMultipleOf, IsPowerOfTwo, IsPlace, IsFreePiece}
+use Rattle.gpu_alloc_base.specs.InHand as in_hand
+use Rattle.gpu_alloc_base.specs.InHand.{Bytes}
 use Rattle.gpu_alloc_base.specs.NewChunk.{ChunkQuestion}
 use Rattle.gpu_alloc_base.specs.Sizes.{next_power_of_two}
 use Rattle.gpu_alloc_buddy.specs.BuddyState.{Buddy, IsLiveLeaf, IsFreeAt}
@@ -191,3 +193,30 @@ abbrev pub ObjectsFreed : Buddy → Leaf → (ℕ → Option Object) → (ℕ �
 ObjectsFreed b leaf old new =
     ((IsUnusedChunk (without_leaf b leaf) leaf.chunk → ⊥) × (new ≡ old))
     ⊎ (IsUnusedChunk (without_leaf b leaf) leaf.chunk × (new ≡ put old leaf.object None))
+
+-- Blocks in hand.
+
+-- the bytes of a block
+abbrev pub bytes_of : Leaf → Bytes
+bytes_of leaf = record { object = leaf.object; offset = leaf.offset; size = leaf.size }
+
+-- a call leaves each block that was in hand
+abbrev pub Leaves : Buddy → Buddy → Type 0
+Leaves b new = in_hand.Leaves bytes_of b.live new.live
+
+-- a grant adds its block
+abbrev pub Adds : Buddy → Buddy → Leaf → Type 0
+Adds b new leaf = in_hand.Adds bytes_of b.live new.live leaf
+
+-- a return takes its block away, and no other
+abbrev pub Removes : Buddy → Leaf → Buddy → Type 0
+Removes b leaf new = in_hand.Removes bytes_of b.live leaf new.live
+
+-- nothing is held: so it agrees with every device that offers this memory type
+abbrev pub HoldsNothing : ℕ → ℕ → Buddy → Type 0
+HoldsNothing memory_type props b =
+    (b.memory_type ≡ memory_type) × (b.props ≡ props) × in_hand.HoldsNothing memory_type props b.live b.chunks
+
+-- where no block is live, no chunk is held
+abbrev pub LeavesNoRest : Buddy → Type 0
+LeavesNoRest b = in_hand.LeavesNoRest b.live b.chunks

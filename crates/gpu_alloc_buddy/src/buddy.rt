@@ -11,6 +11,7 @@ ghost use Rattle.std.specs.Int.{is_power_of_two};
 ghost use Rattle.gpu_alloc_buddy.specs.Buddy.{Agrees, buddy_case, CallAllocates, CallAnswers, case_of, chunks_with};
 ghost use Rattle.gpu_alloc_buddy.specs.Buddy.{Frees, HasPlace, IsGranted, IsUnusedChunk, ObjectsAfter, ObjectsFreed};
 ghost use Rattle.gpu_alloc_buddy.specs.Buddy.{opened, rounded, TakesPlace, without_leaf};
+ghost use Rattle.gpu_alloc_buddy.specs.Buddy.{Adds, HoldsNothing, Leaves, LeavesNoRest, Removes};
 ghost use Rattle.gpu_alloc_base.specs.Accounts.{account, IsCounted, chunks_and_remaining};
 ghost use Rattle.gpu_alloc_base.specs.Case.{Asks, RefusesFirst};
 ghost use Rattle.gpu_alloc_base.specs.NewChunk.{AsksBlock, ChunkAfter, told_object};
@@ -111,6 +112,7 @@ impl<M: MemoryObject, A: Allocator + Copy> BuddyAllocator<M, A> {
         requires atom_bound { atom_mask + 1 ≤ 2 ^ 62 }
         ensures opened { IfOk result
             (λ b. b ≡ opened minimal_size initial_dedicated_size memory_type (property_bits props) (atom_mask + 1)) }
+        ensures empty { IfOk result (HoldsNothing memory_type (property_bits props)) }
         ensures sound { IfOk result IsSound }
         ensures refused { IfErr result (λ e. e ≡ AllocationError.OutOfHostMemory) }
     {
@@ -176,6 +178,9 @@ impl<M: MemoryObject, A: Allocator> BuddyAllocator<M, A> {
 
         // What follows from it.
         ensures granted { IfOk result (IsGranted self.old (requested size align_mask flags) self.new) }
+        ensures added { IfOk result (Adds self.old self.new) }
+        ensures leaves { Leaves self.old self.new }
+        ensures ledger { heap.new.used ≤ heap.old.used + 2 ^ 64 }
         ensures refused { OnErr result
             ((self.new ≡ self.old) × ((heap.new ≡ heap.old) × (allocations_remains.new ≡ allocations_remains.old))) }
         ensures sound { IsSound self.new }
@@ -240,6 +245,9 @@ impl<M: MemoryObject, A: Allocator> BuddyAllocator<M, A> {
         ensures objects { ObjectsFreed self.old block (D.objects device.old) (D.objects device.new) }
         ensures agrees { Agrees self.new (D.properties device.new) (D.objects device.new) }
         ensures properties { D.properties device.new ≡ D.properties device.old }
+        ensures removed { Removes self.old block self.new }
+        ensures rest { LeavesNoRest self.new }
+        ensures ledger { heap.new.used ≤ heap.old.used }
         ensures sound { IsSound self.new }
         ensures counted { IsCounted self.new.chunks heap.new allocations_remains.new }
         ensures total { chunks_and_remaining self.new.chunks allocations_remains.new

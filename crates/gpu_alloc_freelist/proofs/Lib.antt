@@ -6,6 +6,7 @@ pub mod FreeListRanges
 pub mod FreeListReturns
 pub mod FreeListSizes
 pub mod GoneChunks
+pub mod InHand
 pub mod LiveSlots
 pub mod NumberSearch
 pub mod NumberedRows

@@ -18,6 +18,8 @@ use Rattle.gpu_alloc_base.specs.Case.{Case, Answers}
 use Rattle.gpu_alloc_base.specs.Wanted.{Wanted}
 use Rattle.gpu_alloc_base.specs.Chunks.{Chunk}
 use Rattle.gpu_alloc_base.specs.FreeSpace.{IsIn}
+use Rattle.gpu_alloc_base.specs.InHand as in_hand
+use Rattle.gpu_alloc_base.specs.InHand.{Bytes}
 use Rattle.gpu_alloc_freelist.specs.FreeList.{HasPlace, IsTail, HasNumber, MayGo, IsFirstToGo, with_slot, without_slot}
 use Rattle.gpu_alloc_freelist.specs.FreeList.{without_chunk, with_chunk, first_tail, no_space}
 use Rattle.gpu_alloc_freelist.specs.FreeListState.{Space, Listing, IsLiveSlot, IsFreeIn}
@@ -274,3 +276,38 @@ IsRangeBefore r t = (r.object < t.object) ⊎ ((r.object ≡ t.object) × (r.sta
 abbrev pub AreInOrder : List FreeRange → Type 0
 AreInOrder ranges =
     (i j : ℕ) (d : FreeRange) → i < j → j < length ranges → IsRangeBefore (get_or ranges i d) (get_or ranges j d)
+
+-- Blocks in hand.
+
+-- the bytes of a block
+abbrev pub bytes_of : Slot → Bytes
+bytes_of slot = record { object = slot.object; offset = slot.offset; size = slot.size }
+
+-- what was given to `new` and decides what may be asked, which no call changes
+pub record KeepsSettings (l new : Listing) : Type 0 where
+  pub final_chunk : new.final_chunk ≡ l.final_chunk
+  pub memory_type : new.memory_type ≡ l.memory_type
+  pub props : new.props ≡ l.props
+  pub atom : new.atom ≡ l.atom
+
+-- a call leaves each block that was in hand
+abbrev pub Leaves : Listing → Listing → Type 0
+Leaves l new = in_hand.Leaves bytes_of l.space.live new.space.live
+
+-- a grant adds its block
+abbrev pub Adds : Listing → Listing → Slot → Type 0
+Adds l new slot = in_hand.Adds bytes_of l.space.live new.space.live slot
+
+-- a return takes its block away, and no other
+abbrev pub Removes : Listing → Slot → Listing → Type 0
+Removes l slot new = in_hand.Removes bytes_of l.space.live slot new.space.live
+
+-- nothing is held: so it agrees with every device that offers this memory type
+abbrev pub HoldsNothing : ℕ → ℕ → Listing → Type 0
+HoldsNothing memory_type props l =
+    (l.memory_type ≡ memory_type) × (l.props ≡ props)
+    × in_hand.HoldsNothing memory_type props l.space.live l.space.chunks
+
+-- where no block is live, no chunk is held
+abbrev pub LeavesNoRest : Listing → Type 0
+LeavesNoRest l = in_hand.LeavesNoRest l.space.live l.space.chunks

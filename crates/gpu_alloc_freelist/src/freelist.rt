@@ -13,6 +13,8 @@ ghost use Rattle.gpu_alloc_freelist.specs.FreeListAllocator.{Agrees, AreInOrder,
 ghost use Rattle.gpu_alloc_freelist.specs.FreeListAllocator.{CallGivesBack, CallGivesFirst, chunk_size, Cleans, Frees};
 ghost use Rattle.gpu_alloc_freelist.specs.FreeListAllocator.{IsGranted, IsRunOf, list_case, listing_without};
 ghost use Rattle.gpu_alloc_freelist.specs.FreeListAllocator.{ObjectsAfter, ObjectsCleaned, ObjectsFreed, opened};
+ghost use Rattle.gpu_alloc_freelist.specs.FreeListAllocator.{Adds, HoldsNothing, KeepsSettings, Leaves, LeavesNoRest};
+ghost use Rattle.gpu_alloc_freelist.specs.FreeListAllocator.{Removes};
 ghost use Rattle.gpu_alloc_base.specs.Accounts.{account, IsCounted, chunks_and_remaining};
 ghost use Rattle.gpu_alloc_base.specs.Case.{Asks, RefusesFirst};
 ghost use Rattle.gpu_alloc_freelist.specs.FreeListInside.{IsRounded};
@@ -95,6 +97,7 @@ impl<M: MemoryObject, A: Allocator + Copy> FreeListAllocator<M, A> {
         requires bound { final_chunk_size ≤ 2 ^ 62 }
         ensures opened { result ≡ opened starting_chunk_size final_chunk_size memory_type (property_bits props)
             (atom_mask + 1) }
+        ensures empty { HoldsNothing memory_type (property_bits props) result }
         ensures sound { IsSound result }
     {
         FreeListAllocator {
@@ -180,6 +183,10 @@ impl<M: MemoryObject, A: Allocator> FreeListAllocator<M, A> {
 
         // What follows from it.
         ensures granted { IfOk result (IsGranted self.old (requested size align_mask flags) self.new) }
+        ensures added { IfOk result (Adds self.old self.new) }
+        ensures leaves { Leaves self.old self.new }
+        ensures ledger { heap.new.used ≤ heap.old.used + 2 ^ 64 }
+        ensures settings { KeepsSettings self.old self.new }
         ensures refused { OnErr result
             ((self.new ≡ self.old) × ((heap.new ≡ heap.old) × (allocations_remains.new ≡ allocations_remains.old))) }
         ensures sound { IsSound self.new }
@@ -246,6 +253,9 @@ impl<M: MemoryObject, A: Allocator> FreeListAllocator<M, A> {
         ensures objects { ObjectsFreed self.old block (D.objects device.old) (D.objects device.new) }
         ensures agrees { Agrees self.new (D.properties device.new) (D.objects device.new) }
         ensures properties { D.properties device.new ≡ D.properties device.old }
+        ensures removed { Removes self.old block self.new }
+        ensures ledger { heap.new.used ≤ heap.old.used }
+        ensures settings { KeepsSettings self.old self.new }
         ensures sound { IsSound self.new }
         ensures counted { IsCounted (self.new).space.chunks heap.new allocations_remains.new }
         ensures total { chunks_and_remaining (self.new).space.chunks allocations_remains.new ≡ chunks_and_remaining
@@ -276,6 +286,10 @@ impl<M: MemoryObject, A: Allocator> FreeListAllocator<M, A> {
         ensures objects { ObjectsCleaned self.old (D.objects device.old) (D.objects device.new) }
         ensures agrees { Agrees self.new (D.properties device.new) (D.objects device.new) }
         ensures properties { D.properties device.new ≡ D.properties device.old }
+        ensures leaves { Leaves self.old self.new }
+        ensures rest { LeavesNoRest self.new }
+        ensures ledger { heap.new.used ≤ heap.old.used }
+        ensures settings { KeepsSettings self.old self.new }
         ensures sound { IsSound self.new }
         ensures counted { IsCounted (self.new).space.chunks heap.new allocations_remains.new }
         ensures total { chunks_and_remaining (self.new).space.chunks allocations_remains.new ≡ chunks_and_remaining

@@ -4,8 +4,9 @@ use Rattle.gpu_alloc_base.specs.Accounts.{account}
 use Rattle.gpu_alloc_base.specs.Case.{Answers}
 use Rattle.gpu_alloc_base.specs.Wanted.{wanted}
 use Rattle.gpu_alloc_buddy.specs.Buddy.{buddy_case, rounded}
-use Rattle.gpu_alloc_base.proofs.Books.{answers_total, answers_counted}
+use Rattle.gpu_alloc_base.proofs.Books.{answers_total, answers_counted, answers_used}
 use Rattle.gpu_alloc_buddy.proofs.BuddyAnswers.{rounds, keeps_books, answers_agree, answers_all_granted, answers_sound}
+use Rattle.gpu_alloc_buddy.proofs.InHand.{answers_leave, answers_add, asks_below}
 use Rattle.gpu_alloc_buddy.proofs.buddy.BuddyAllocator.alloc.Goals as goal
 
 pub returns-clause-allocates : goal.returns-clause-allocates
@@ -61,3 +62,26 @@ returns-clause-counted g c =
     let new = account c.alloc_rounded.new.self c.alloc_rounded.new.heap c.alloc_rounded.new.allocations_remains in
     let told = c.alloc_rounded.ensures.answers in
     answers_counted (keeps_books old (2 ^ c.rounded_order-order.result) (allocation_bits c.args.flags)) told.0 c.alloc_rounded.result new c.requires.counted told.2
+
+pub returns-clause-leaves : goal.returns-clause-leaves
+returns-clause-leaves g c =
+    let old = account c.args.self.now c.args.heap.now c.args.allocations_remains.now in
+    let new = account c.alloc_rounded.new.self c.alloc_rounded.new.heap c.alloc_rounded.new.allocations_remains in
+    let told = c.alloc_rounded.ensures.answers in
+    answers_leave old new (2 ^ c.rounded_order-order.result) (allocation_bits c.args.flags) told.0 c.alloc_rounded.result told.2
+
+pub returns-clause-added : goal.returns-clause-added
+returns-clause-added g c =
+    let old = account c.args.self.now c.args.heap.now c.args.allocations_remains.now in
+    let new = account c.alloc_rounded.new.self c.alloc_rounded.new.heap c.alloc_rounded.new.allocations_remains in
+    let told = c.alloc_rounded.ensures.answers in
+    let w = wanted c.args.size c.args.align_mask (allocation_bits c.args.flags) in
+    answers_add old new w (2 ^ c.rounded_order-order.result) (allocation_bits c.args.flags) told.0 c.alloc_rounded.result told.2 (returns-clause-granted g c)
+
+pub returns-clause-ledger : goal.returns-clause-ledger
+returns-clause-ledger g c =
+    let old = account c.args.self.now c.args.heap.now c.args.allocations_remains.now in
+    let new = account c.alloc_rounded.new.self c.alloc_rounded.new.heap c.alloc_rounded.new.allocations_remains in
+    let told = c.alloc_rounded.ensures.answers in
+    answers_used (keeps_books old (2 ^ c.rounded_order-order.result) (allocation_bits c.args.flags)) (2 ^ 64) (asks_below old (2 ^ c.rounded_order-order.result) (allocation_bits c.args.flags) c.rounded_order-order.ensures.sound) told.0
+    c.alloc_rounded.result new told.2

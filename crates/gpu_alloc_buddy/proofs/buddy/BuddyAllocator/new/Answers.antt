@@ -4,6 +4,7 @@ use Rattle.gpu_alloc_types.specs.Flags.{property_bits}
 use Rattle.gpu_alloc_base.specs.Sizes.{next_power_of_two}
 use Rattle.gpu_alloc_buddy.proofs.BuddyGrants.{sound_empty, stored_empty, power_below}
 use Rattle.gpu_alloc_base.proofs.AlignedPowers.{power_up_to}
+use Rattle.gpu_alloc_base.proofs.InHand.{holds_nothing}
 use Rattle.gpu_alloc_base.proofs.PowersOfTwo.{power_of_bit, power_is_next, greater_power}
 use Rattle.gpu_alloc_buddy.proofs.buddy.BuddyAllocator.new.Goals as goal
 
@@ -33,3 +34,6 @@ returns-clause-opened g c =
 
 pub returns-clause-sound : goal.returns-clause-sound
 returns-clause-sound g c = (invariant_of-result g c).0
+
+pub returns-clause-empty : goal.returns-clause-empty
+returns-clause-empty g c = rw (c.new-3.ensures.items, c.new.ensures.empty) (refl, refl, holds_nothing c.args.memory_type (property_bits c.args.props))

@@ -1,6 +1,7 @@
-use Rattle.std.proofs.Common.{◌+◌, arith}
+use Rattle.std.proofs.Common.{◌+◌, refl, arith}
 use Rattle.gpu_alloc_types.specs.Flags.{property_bits}
 use Rattle.gpu_alloc_base.proofs.AlignedPowers.{power_up_to}
+use Rattle.gpu_alloc_base.proofs.InHand.{holds_nothing}
 use Rattle.gpu_alloc_freelist.proofs.FreeListEmpty.{sound_opened}
 use Rattle.gpu_alloc_base.proofs.PowersOfTwo.{power_of_bit}
 use Rattle.gpu_alloc_freelist.proofs.freelist.FreeListAllocator.new.Goals as goal
@@ -13,3 +14,6 @@ invariant_of-result g c =
 
 pub returns-clause-sound : goal.returns-clause-sound
 returns-clause-sound g c = invariant_of-result g c
+
+pub returns-clause-empty : goal.returns-clause-empty
+returns-clause-empty g c = rw c.new.ensures.empty (refl, refl, holds_nothing c.args.memory_type (property_bits c.args.props))

@@ -1,0 +1,61 @@
+-- What a buddy allocator's calls leave of the blocks in hand.
+use Rattle.std.proofs.Common.{◌≡◌, inl, inr, ℕ, ◌≤◌, ◌^◌, List, Result, Ok, Err, IfOk, refl, ap, arith}
+use Rattle.std.proofs.lemmas.Nat.{pow_pos}
+use Rattle.std.specs.FinSet as set
+use Rattle.gpu_alloc_types.specs.Device.{Event}
+use Rattle.gpu_alloc_base.specs.Accounts.{Account}
+use Rattle.gpu_alloc_base.specs.Case.{Answers, Asks}
+use Rattle.gpu_alloc_base.specs.Leaves.{leaf_cmp}
+use Rattle.gpu_alloc_base.specs.Wanted.{Wanted}
+use Rattle.gpu_alloc_base.specs.declared.buddy_block.Leaf.{Leaf}
+use Rattle.gpu_alloc_base.specs.declared.error.AllocationError.{AllocationError}
+use Rattle.gpu_alloc_buddy.specs.Buddy.{Adds, buddy_case, bytes_of, chunk_size, Frees, IsGranted, Leaves, LeavesNoRest, Removes}
+use Rattle.gpu_alloc_buddy.specs.BuddySound.{IsSound}
+use Rattle.gpu_alloc_buddy.specs.BuddyState.{Buddy, IsLiveLeaf}
+use Rattle.gpu_alloc_base.proofs.AlignedPowers.{pow-le}
+use Rattle.gpu_alloc_base.proofs.Books.{refused_keeps}
+use Rattle.gpu_alloc_base.proofs.InHand.{leaves_same, none_in, grant_leaves, grant_adds, return_removes, granted_live, no_chunks}
+use Rattle.gpu_alloc_base.proofs.Leaves.{leaf_total, leaf_exact}
+
+abbrev live_in : Account Buddy → set.FinSet leaf_cmp
+live_in a = a.allocator.live
+
+-- A request.
+
+module _ (a new : Account Buddy) (size flags : ℕ) (es : List Event) where
+  live_more : (leaf : Leaf) → Answers (buddy_case a size flags) es (Ok leaf) new → new.allocator.live ≡ set.insert a.allocator.live leaf
+  live_more leaf answers = granted_live live_in (buddy_case a size flags) (λ b place. refl) (λ b begins. refl) es leaf new answers
+
+  pub answers_leave : (answer : Result Leaf AllocationError) → Answers (buddy_case a size flags) es answer new → Leaves a.allocator new.allocator
+  answers_leave (Ok leaf) answers = grant_leaves leaf_total leaf_exact bytes_of a.allocator.live leaf new.allocator.live (live_more leaf answers)
+  answers_leave (Err e) refused = leaves_same bytes_of a.allocator.live new.allocator.live (ap live_in (refused_keeps (buddy_case a size flags) es e new refused))
+
+-- the block is another than each that was live
+pub answers_add : (a new : Account Buddy) (w : Wanted) (size flags : ℕ) (es : List Event) (answer : Result Leaf AllocationError) → Answers (buddy_case a size flags) es answer new
+    → IfOk answer (IsGranted a.allocator w new.allocator) → IfOk answer (Adds a.allocator new.allocator)
+answers_add a new w size flags es (Ok leaf) answers granted =
+    let some = pow_pos granted.power.0 in
+    grant_adds leaf_total leaf_exact bytes_of a.allocator.live leaf new.allocator.live (live_more a new size flags es leaf answers) (omega (arith, granted.power.1, some)) granted.was_free
+answers_add a new w size flags es (Err e) refused granted = tt
+
+-- a chunk is of less than 2^64 bytes
+pub asks_below : (a : Account Buddy) (size flags : ℕ) → IsSound a.allocator → Asks (buddy_case a size flags) → chunk_size a.allocator size ≤ 2 ^ 64
+asks_below a size flags sound asks = let next = pow-le sound.next_chunk.0 63 sound.next_chunk.1.0 in omega (arith, asks.fits, sound.next_chunk.1.1, next)
+
+-- A return.
+
+live_less : (a : Account Buddy) (leaf : Leaf) (es : List Event) (new : Account Buddy) → Frees a leaf es new → new.allocator.live ≡ set.remove a.allocator.live leaf
+live_less a leaf es new (inl stays) = ap live_in stays.1.1
+live_less a leaf es new (inr goes) = ap live_in goes.1.2.1
+
+pub frees_remove : (a : Account Buddy) (leaf : Leaf) (es : List Event) (new : Account Buddy) → IsLiveLeaf a.allocator leaf → Frees a leaf es new → Removes a.allocator leaf new.allocator
+frees_remove a leaf es new live frees = return_removes leaf_total leaf_exact bytes_of a.allocator.live leaf new.allocator.live (live_less a leaf es new frees) live
+
+-- a chunk is held only for a live block
+pub leaves_no_rest : (b : Buddy) → IsSound b → LeavesNoRest b
+leaves_no_rest b sound = record { held = λ none. no_chunks b.chunks (λ key chunk is. let used = sound.used key chunk is in none_in b.live none used.0 used.1.0) }
+
+-- the ledger does not grow with a return
+pub frees_used : (a : Account Buddy) (leaf : Leaf) (es : List Event) (new : Account Buddy) → Frees a leaf es new → new.heap.used ≤ a.heap.used
+frees_used a leaf es new (inl stays) = rw (stays.1.1) (omega arith)
+frees_used a leaf es new (inr goes) = rw (goes.1.2.1) (omega arith)
