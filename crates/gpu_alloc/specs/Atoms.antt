@@ -12,6 +12,7 @@ pub record IsNextListChunk (s : State) (t : ℕ) : Type 0 where
   pub most : next_list_chunk s t ≤ largest_list_chunk s t
   pub bound : largest_list_chunk s t ≤ 2 ^ 62
 
+-- between calls atoms are powers of two, and chunks of free lists and the blocks in them keep to them
 pub record KeepsAtoms (s : State) : Type 0 where
   -- an atom is a power of two
   pub atom : (t : ℕ) → IsPowerOfTwo (atom_of s.properties t)
