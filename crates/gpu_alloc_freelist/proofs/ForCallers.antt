@@ -1,4 +1,4 @@
--- Lemmas for callers: a tail is in no new chunk, and chunks go one by one, until none may.
+-- Lemmas for callers: chunks go one by one, until none may.
 use Rattle.std.proofs.Common.{◌≡◌, ◌≢◌, ◌⊎◌, inl, inr, ℕ, ◌+◌, ◌-◌, ◌^◌, ◌<◌, ◌≤◌, Bool, List, [], ◌∷◌, ◌++◌, length, get_or, length-append, Option, Some, None, IfSome, refl, sym, ◌∙◌, ap, subst, arith}
 use Rattle.std.specs.Prelude as list
 use Rattle.std.specs.Prelude.{sum_by}
@@ -26,11 +26,6 @@ use Rattle.gpu_alloc_base.proofs.Lists.{contains_none}
 use Rattle.gpu_alloc_base.proofs.Maps.{gone, kept_other, kept_key}
 use Rattle.gpu_alloc_base.proofs.Sums.{sum_by-remove, len_less}
 use Rattle.gpu_alloc_freelist.proofs.GoneChunks.{may_go_before, may_go_then}
-use Rattle.gpu_alloc_freelist.specs.FreeList.{IsTail}
-
--- a tail of a held chunk has not the number of a new one
-pub never_both : (s : Space) (size alignment : ℕ) (slot : Slot) → IsSoundSpace s → IsTail s size alignment slot → slot.chunk ≡ s.latest + 1 → ⊥
-never_both s size alignment slot k tail new = omega (arith, (k.numbers slot.chunk tail.object.0 tail.object.1).1, new)
 
 -- Lists of numbers, with one more at the end.
 

@@ -129,7 +129,7 @@ impl<M: MemoryObject, D: MemoryDevice<M>, A: Allocator + Copy> Session<M, D, A> 
             Run (SoundStep D.step D.properties D.objects) self.old commands.now replies.items self.new) }
         ensures err { OnErr result (self.new ≡ self.old) }
         ensures sound { IsSound (D.properties self.new.device) (D.objects self.new.device) self.new.books }
-        ensures leaves { KeepsGiven (self.old.books).allocator (self.new.books).allocator }
+        ensures given { KeepsGiven (self.old.books).allocator (self.new.books).allocator }
     {
         self.keeps_sound();
         let mut replies = Vec::with_capacity(self.alloc, commands.len())?;

@@ -1,5 +1,5 @@
 //! A device in the host's memory, to test against: it refuses what it was told to refuse, and grants all else that
-//! there is memory for.
+//! there is memory and a name for.
 #![tactic(auto)]
 
 mod sim;
