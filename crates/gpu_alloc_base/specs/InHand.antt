@@ -76,6 +76,6 @@ pub record HoldsNothing {B : Type 0} {R : B → B → Ordering} (memory_type pro
       → Agrees memory_type props chunks p objects
   pub counted : (heap : Heap) (remaining : ℕ) → remaining < 2 ^ 32 → IsCounted chunks heap remaining
 
--- What a call leaves that gives back each chunk without a live block: none where no block is live.
+-- What a call leaves that gives back each chunk without a live block: no chunk where no block is live.
 pub record LeavesNoRest {B : Type 0} {R : B → B → Ordering} (live : set.FinSet R) (chunks : HeldChunks) : Type 0 where
   pub held : set.len live ≡ 0 → map.len chunks ≡ 0

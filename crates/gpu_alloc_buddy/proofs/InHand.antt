@@ -1,15 +1,17 @@
 -- What a buddy allocator's calls leave of the blocks in hand.
-use Rattle.std.proofs.Common.{◌≡◌, inl, inr, ℕ, ◌≤◌, ◌^◌, List, Result, Ok, Err, IfOk, refl, ap, arith}
+use Rattle.std.proofs.Common.{◌≡◌, inl, inr, ℕ, ◌≤◌, ◌^◌, List, Option, Result, Ok, Err, IfOk, refl, ap, arith}
 use Rattle.std.proofs.lemmas.Nat.{pow_pos}
 use Rattle.std.specs.FinSet as set
-use Rattle.gpu_alloc_types.specs.Device.{Event}
+use Rattle.gpu_alloc_types.specs.Device.{Object, Event}
+use Rattle.gpu_alloc_types.specs.Properties.{Properties}
+use Rattle.gpu_alloc_base.specs.InHand.{Offers}
 use Rattle.gpu_alloc_base.specs.Accounts.{Account}
 use Rattle.gpu_alloc_base.specs.Case.{Answers, Asks}
 use Rattle.gpu_alloc_base.specs.Leaves.{leaf_cmp}
 use Rattle.gpu_alloc_base.specs.Wanted.{Wanted}
 use Rattle.gpu_alloc_base.specs.declared.buddy_block.Leaf.{Leaf}
 use Rattle.gpu_alloc_base.specs.declared.error.AllocationError.{AllocationError}
-use Rattle.gpu_alloc_buddy.specs.Buddy.{Adds, buddy_case, bytes_of, chunk_size, Frees, IsGranted, Leaves, LeavesNoRest, Removes}
+use Rattle.gpu_alloc_buddy.specs.Buddy.{Adds, Agrees, buddy_case, bytes_of, chunk_size, Frees, HoldsNothing, IsGranted, Leaves, LeavesNoRest, Removes}
 use Rattle.gpu_alloc_buddy.specs.BuddySound.{IsSound}
 use Rattle.gpu_alloc_buddy.specs.BuddyState.{Buddy, IsLiveLeaf}
 use Rattle.gpu_alloc_base.proofs.AlignedPowers.{pow-le}
@@ -59,3 +61,8 @@ leaves_no_rest b sound = record { held = λ none. no_chunks b.chunks (λ key chu
 pub frees_used : (a : Account Buddy) (leaf : Leaf) (es : List Event) (new : Account Buddy) → Frees a leaf es new → new.heap.used ≤ a.heap.used
 frees_used a leaf es new (inl stays) = rw (stays.1.1) (omega arith)
 frees_used a leaf es new (inr goes) = rw (goes.1.2.1) (omega arith)
+
+-- What holds nothing.
+
+pub nothing_agrees : (memory_type props : ℕ) (b : Buddy) → HoldsNothing memory_type props b → (p : Properties) (objects : ℕ → Option Object) → Offers p memory_type props → Agrees b p objects
+nothing_agrees memory_type props b nothing p objects offers = rw (nothing.0, nothing.1) (nothing.2.agrees p offers objects)

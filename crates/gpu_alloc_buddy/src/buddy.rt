@@ -98,6 +98,9 @@ impl<M: MemoryObject, A: Allocator + Copy> BuddyAllocator<M, A> {
     /// multiples of `atom_mask + 1`, a power of two of at most 2^62.
     ///
     /// `alloc` gives the memory of its lists. The only refusal is `OutOfHostMemory`.
+    ///
+    /// Nothing is held or live yet (`empty`): by [`agrees_at_first`](crate::laws::agrees_at_first) a caller learns that
+    /// the allocator agrees with a device that offers the memory type.
     pub fn new(
         alloc: A,
         minimal_size: u64,
@@ -150,7 +153,11 @@ impl<M: MemoryObject, A: Allocator> BuddyAllocator<M, A> {
     /// be mapped for another reason. A chunk that was made is given back then.
     ///
     /// `heap` has to count no less than the sum of the held chunks, and at most 2^127 bytes; what remains and the
-    /// number of held chunks have to fit 32 bits together. All but the bound of 2^127 bytes is so again after the call.
+    /// number of held chunks have to fit 32 bits together. All but the bound of 2^127 bytes is so again after the call,
+    /// and the ledger grows by 2^64 bytes at most (`ledger`).
+    ///
+    /// Each block that a caller had in hand is live still (`leaves`). The new one is live too, and shares no byte with
+    /// any of them (`added`).
     pub fn alloc<D: MemoryDevice<M>>(
         &mut self,
         device: &mut D,
@@ -228,6 +235,10 @@ impl<M: MemoryObject, A: Allocator> BuddyAllocator<M, A> {
     /// The block has to be live here, by its object, chunk, offset, size and index, and the device the one that this
     /// allocator has served. `heap` has to count no less than the sum of the held chunks; what remains and the number
     /// of held chunks have to fit 32 bits together. Both is so again after the call.
+    ///
+    /// Each other block that a caller has in hand is live still, and may be returned next (`removed`). Where no block
+    /// is live, no chunk is held (`rest`), and [`close`](BuddyAllocator::close) may be called without a test. The
+    /// ledger does not grow (`ledger`).
     pub fn dealloc<D: MemoryDevice<M>>(
         &mut self,
         device: &mut D,

@@ -3,6 +3,7 @@
 #![tactic(auto)]
 
 mod buddy;
+pub mod laws;
 
 pub use buddy::BuddyAllocator;
 pub use gpu_alloc_base::BuddyBlock;

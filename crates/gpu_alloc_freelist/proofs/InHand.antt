@@ -1,9 +1,11 @@
 -- What the calls of a free list's allocator leave of the blocks in hand.
-use Rattle.std.proofs.Common.{◌≡◌, inl, inr, ℕ, ◌<◌, ◌≤◌, ◌^◌, ◌∷◌, [], true, false, List, Some, None, Result, Ok, Err, IfOk, refl, sym, ◌∙◌, ap, subst, arith}
+use Rattle.std.proofs.Common.{◌≡◌, inl, inr, ℕ, ◌<◌, ◌≤◌, ◌^◌, ◌∷◌, [], true, false, List, Option, Some, None, Result, Ok, Err, IfOk, refl, sym, ◌∙◌, ap, subst, arith}
 use Rattle.std.specs.FinMap as map
 use Rattle.std.specs.FinSet as set
 use Rattle.std.specs.List.{Contains}
-use Rattle.gpu_alloc_types.specs.Device.{Event}
+use Rattle.gpu_alloc_types.specs.Device.{Object, Event}
+use Rattle.gpu_alloc_types.specs.Properties.{Properties}
+use Rattle.gpu_alloc_base.specs.InHand.{Offers}
 use Rattle.gpu_alloc_base.specs.Accounts.{Account, account, HeldChunks}
 use Rattle.gpu_alloc_base.specs.Case.{Answers}
 use Rattle.gpu_alloc_base.specs.Chunks.{Chunk}
@@ -11,7 +13,7 @@ use Rattle.gpu_alloc_base.specs.Slots.{slot_cmp}
 use Rattle.gpu_alloc_base.specs.Wanted.{Wanted}
 use Rattle.gpu_alloc_base.specs.declared.error.AllocationError.{AllocationError}
 use Rattle.gpu_alloc_base.specs.declared.free_list_block.Slot.{Slot}
-use Rattle.gpu_alloc_freelist.specs.FreeListAllocator.{Adds, AreGone, bytes_of, chunk_size, Cleans, Frees, IsGranted, KeepsSettings, Leaves, LeavesNoRest, LetsGo, list_case, listing_without, Removes, without_numbers}
+use Rattle.gpu_alloc_freelist.specs.FreeListAllocator.{Adds, Agrees, AreGone, bytes_of, chunk_size, Cleans, Frees, HoldsNothing, IsGranted, KeepsSettings, Leaves, LeavesNoRest, LetsGo, list_case, listing_without, Removes, without_numbers}
 use Rattle.gpu_alloc_freelist.specs.FreeListSound.{IsSound}
 use Rattle.gpu_alloc_freelist.specs.FreeListState.{Listing, IsLiveSlot}
 use Rattle.gpu_alloc_base.proofs.Books.{refused_keeps}
@@ -94,14 +96,22 @@ module _ (a : Account Listing) (es : List Event) (new : Account Listing) (cleans
   cleans_keep = rw (cleans.1.1.1) (record { final_chunk = refl; memory_type = refl; props = refl; atom = refl })
 
   -- each chunk that was held goes, where no block is live
-  pub cleans_all : LeavesNoRest new.allocator
-  cleans_all = record {
-    held = λ none. no_chunks new.allocator.space.chunks (λ key chunk is.
-        let now : map.get (without_numbers a.allocator.space.chunks cleans.0) key ≡ Some chunk = ap (λ (x : Account Listing). map.get x.allocator.space.chunks key) (sym cleans.1.1.1) ∙ is in
-        let was = held_before a.allocator.space.chunks cleans.0 key chunk now in
-        let unused : (slot : Slot) → IsLiveSlot a.allocator.space slot → ⊥ = λ slot live. none_in a.allocator.space.live (ap (λ (l : set.FinSet slot_cmp). set.len l) (sym live_same) ∙ none) slot live in
-        gone_numbers a.allocator.space.chunks cleans.0 key chunk ((cleans.1.0.all key).1 (record { held = rw was refl; unused = λ slot live of. unused slot live }, λ kept last. let no : false ≡ true = kept in cc)) now);
-  }
+  pub cleans_all : LeavesNoRest a.allocator new.allocator
+  cleans_all = (
+    live_same,
+    record {
+      held = λ none. no_chunks new.allocator.space.chunks (λ key chunk is.
+          let now : map.get (without_numbers a.allocator.space.chunks cleans.0) key ≡ Some chunk = ap (λ (x : Account Listing). map.get x.allocator.space.chunks key) (sym cleans.1.1.1) ∙ is in
+          let was = held_before a.allocator.space.chunks cleans.0 key chunk now in
+          let unused : (slot : Slot) → IsLiveSlot a.allocator.space slot → ⊥ = λ slot live. none_in a.allocator.space.live none slot live in
+          gone_numbers a.allocator.space.chunks cleans.0 key chunk ((cleans.1.0.all key).1 (record { held = rw was refl; unused = λ slot live of. unused slot live }, λ kept last. let no : false ≡ true = kept in cc)) now);
+    },
+  )
 
   pub cleans_used : new.heap.used ≤ a.heap.used
   cleans_used = rw (cleans.1.1.1) (omega arith)
+
+-- What holds nothing.
+
+pub nothing_agrees : (memory_type props : ℕ) (l : Listing) → HoldsNothing memory_type props l → (p : Properties) (objects : ℕ → Option Object) → Offers p memory_type props → Agrees l p objects
+nothing_agrees memory_type props l nothing p objects offers = rw (nothing.0, nothing.1) (nothing.2.agrees p offers objects)

@@ -308,6 +308,7 @@ HoldsNothing memory_type props l =
     (l.memory_type ≡ memory_type) × (l.props ≡ props)
     × in_hand.HoldsNothing memory_type props l.space.live l.space.chunks
 
--- where no block is live, no chunk is held
-abbrev pub LeavesNoRest : Listing → Type 0
-LeavesNoRest l = in_hand.LeavesNoRest l.space.live l.space.chunks
+-- what a cleanup leaves: the live blocks, and where there are none, no chunk
+abbrev pub LeavesNoRest : Listing → Listing → Type 0
+LeavesNoRest l new =
+    (new.space.live ≡ l.space.live) × in_hand.LeavesNoRest l.space.live new.space.chunks

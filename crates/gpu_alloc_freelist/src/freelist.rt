@@ -80,6 +80,9 @@ impl<M: MemoryObject, A: Allocator + Copy> FreeListAllocator<M, A> {
     /// original crate asserts the multiples.)
     ///
     /// `alloc` gives the memory of its lists, none of which is taken yet.
+    ///
+    /// Nothing is held or live yet (`empty`): by [`agrees_at_first`](crate::laws::agrees_at_first) a caller learns that
+    /// the allocator agrees with a device that offers the memory type.
     pub fn new(
         alloc: A,
         starting_chunk_size: u64,
@@ -154,7 +157,11 @@ impl<M: MemoryObject, A: Allocator> FreeListAllocator<M, A> {
     /// reason. A chunk that was made is given back then.
     ///
     /// `heap` has to count no less than the sum of the held chunks, and at most 2^127 bytes; what remains and the
-    /// number of held chunks have to fit 32 bits together. All but the bound of 2^127 bytes is so again after the call.
+    /// number of held chunks have to fit 32 bits together. All but the bound of 2^127 bytes is so again after the call,
+    /// and the ledger grows by 2^64 bytes at most (`ledger`).
+    ///
+    /// Each block that a caller had in hand is live still (`leaves`). The new one is live too, and shares no byte with
+    /// any of them (`added`). What may be asked next is what might be asked before (`settings`).
     pub fn alloc<D: MemoryDevice<M>>(
         &mut self,
         device: &mut D,
@@ -236,6 +243,9 @@ impl<M: MemoryObject, A: Allocator> FreeListAllocator<M, A> {
     /// The block has to be live here, by its object, chunk, offset and size, and the device the one that this allocator
     /// has served. `heap` has to count no less than the sum of the held chunks; what remains and the number of held
     /// chunks have to fit 32 bits together. Both is so again after the call.
+    ///
+    /// Each other block that a caller has in hand is live still, and may be returned next (`removed`). The settings
+    /// stay (`settings`), and the ledger does not grow (`ledger`).
     pub fn dealloc<D: MemoryDevice<M>>(
         &mut self,
         device: &mut D,
@@ -271,6 +281,10 @@ impl<M: MemoryObject, A: Allocator> FreeListAllocator<M, A> {
     /// The device has to be the one that this allocator has served. `heap` has to count no less than the sum of the
     /// held chunks; what remains and the number of held chunks have to fit 32 bits together. Both is so again after the
     /// call.
+    ///
+    /// Each block that a caller has in hand is live still (`leaves`). Where no block is live, no chunk is held
+    /// afterwards (`rest`), and [`close`](FreeListAllocator::close) may be called without a test. The settings stay
+    /// (`settings`), and the ledger does not grow (`ledger`).
     pub fn cleanup<D: MemoryDevice<M>>(
         &mut self,
         device: &mut D,
@@ -287,7 +301,7 @@ impl<M: MemoryObject, A: Allocator> FreeListAllocator<M, A> {
         ensures agrees { Agrees self.new (D.properties device.new) (D.objects device.new) }
         ensures properties { D.properties device.new ≡ D.properties device.old }
         ensures leaves { Leaves self.old self.new }
-        ensures rest { LeavesNoRest self.new }
+        ensures rest { LeavesNoRest self.old self.new }
         ensures ledger { heap.new.used ≤ heap.old.used }
         ensures settings { KeepsSettings self.old self.new }
         ensures sound { IsSound self.new }

@@ -3,6 +3,7 @@
 #![tactic(auto)]
 
 mod freelist;
+pub mod laws;
 
 pub use freelist::{FreeList, FreeListAllocator};
 pub use gpu_alloc_base::{FreeListBlock, FreeListRegion};
