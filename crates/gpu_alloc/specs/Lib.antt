@@ -27,6 +27,7 @@ pub use Rattle.gpu_alloc_base.specs.Errors
 pub use Rattle.gpu_alloc_base.specs.FreeRuns
 pub use Rattle.gpu_alloc_base.specs.FreeSpace
 pub use Rattle.gpu_alloc_base.specs.Heap
+pub use Rattle.gpu_alloc_base.specs.InHand
 pub use Rattle.gpu_alloc_base.specs.Leaves
 pub use Rattle.gpu_alloc_base.specs.NewChunk
 pub use Rattle.gpu_alloc_base.specs.NewObject
