@@ -7,6 +7,7 @@ pub mod first_use;
 pub mod frame;
 pub mod opening;
 pub mod session;
+pub mod shared;
 pub mod staging;
 #[cfg(test)]
 mod tests;
