@@ -20,7 +20,7 @@ use Rattle.gpu_alloc_freelist.specs.FreeListState.{Space, Listing, IsLiveSlot, I
 use Rattle.gpu_alloc_base.specs.FreeRuns.{AreFree, IsFreeRun, tail_start}
 use Rattle.gpu_alloc_base.specs.FreeSpace.{IsIn, IsMultipleOf, IsPowerOfTwo}
 use Rattle.gpu_alloc_base.specs.NewChunk.{chunk_question}
-use Rattle.gpu_alloc_freelist.specs.FreeListInside.{IsRounded}
+use Rattle.gpu_alloc_freelist.specs.FreeListInside.{FitsAChunk}
 use Rattle.gpu_alloc_base.specs.AlignMasks.{IsAlignMask}
 use Rattle.gpu_alloc_base.specs.declared.error.AllocationError.{AllocationError}
 use Rattle.gpu_alloc_base.specs.declared.error.AllocationError.TheVariants.{TooManyObjects}
@@ -337,7 +337,7 @@ answers_granted a new w size alignment flags es (Err e) p f g s agrees r answers
 
 -- What is looked for.
 
-pub askable : (l : Listing) (size mask : ℕ) → IsRounded l size mask → IsAskable l size (mask + 1)
+pub askable : (l : Listing) (size mask : ℕ) → FitsAChunk l size mask → IsAskable l size (mask + 1)
 askable l size mask r = record { nonempty = r.nonempty; fits = r.fits; power = power_of_bit (mask + 1) r.alignment.power; aligned = r.aligned }
 
 -- what a request is rounded to

@@ -58,8 +58,8 @@ listing_in space next_chunk final_chunk memory_type props atom = record {
   atom = atom;
 }
 
--- a rounded request: some bytes that fit the largest chunk, at an alignment that is no less than the atom
-pub record IsRounded (l : Listing) (size align_mask : ℕ) : Type 0 where
+-- a largest chunk has room for the request: some bytes, no more than its own, at an alignment no less than the atom
+pub record FitsAChunk (l : Listing) (size align_mask : ℕ) : Type 0 where
   pub nonempty : 0 < size
   pub fits : size ≤ l.final_chunk
   pub alignment : IsAlignMask align_mask

@@ -17,7 +17,7 @@ ghost use Rattle.gpu_alloc_freelist.specs.FreeListAllocator.{Adds, HoldsNothing,
 ghost use Rattle.gpu_alloc_freelist.specs.FreeListAllocator.{Removes};
 ghost use Rattle.gpu_alloc_base.specs.Accounts.{account, IsCounted, chunks_and_remaining};
 ghost use Rattle.gpu_alloc_base.specs.Case.{Asks, RefusesFirst};
-ghost use Rattle.gpu_alloc_freelist.specs.FreeListInside.{IsRounded};
+ghost use Rattle.gpu_alloc_freelist.specs.FreeListInside.{FitsAChunk};
 ghost use Rattle.gpu_alloc_freelist.specs.FreeListSound.{IsSound, IsSoundSpace};
 ghost use Rattle.gpu_alloc_freelist.specs.FreeListState.{Listing, IsLiveSlot};
 ghost use Rattle.gpu_alloc_base.specs.FreeSpace.{IsMultipleOf};
@@ -395,7 +395,7 @@ impl<M: MemoryObject, A: Allocator> FreeListAllocator<M, A> {
         heap: &mut Heap,
         allocations_remains: &mut u32,
     ) -> Result<FreeListBlock<M>, AllocationError>
-        requires rounded { IsRounded self.old size align_mask }
+        requires fits { FitsAChunk self.old size align_mask }
         requires address { IsTrue (has_bit (allocation_bits flags) 1)
             → IsTrue (D.properties device.old).buffer_device_address }
         requires agrees { Agrees self.old (D.properties device.old) (D.objects device.old) }
@@ -429,7 +429,7 @@ impl<M: MemoryObject, A: Allocator> FreeListAllocator<M, A> {
         heap: &mut Heap,
         allocations_remains: &mut u32,
     ) -> Result<FreeListBlock<M>, AllocationError>
-        requires rounded { IsRounded self.old size align_mask }
+        requires fits { FitsAChunk self.old size align_mask }
         requires asks { Asks (list_case (account self.old heap.old allocations_remains.old) size (align_mask + 1)
             (allocation_bits flags)) }
         requires address { IsTrue (has_bit (allocation_bits flags) 1)

@@ -62,8 +62,8 @@ returns-clause-total g c =
     let told = c.alloc_rounded.ensures.answers in
     answers_total (keeps_books (old g c) c.rounded_size-size.result (c.max-align_mask.result + 1) (allocation_bits c.args.flags) c.alloc_rounded.ensures.sound) told.0 c.alloc_rounded.result (new g c) told.2
 
-pub alloc_rounded-requires-clause-rounded : goal.alloc_rounded-requires-clause-rounded
-alloc_rounded-requires-clause-rounded g c = record {
+pub alloc_rounded-requires-clause-fits : goal.alloc_rounded-requires-clause-fits
+alloc_rounded-requires-clause-fits g c = record {
   nonempty = c.rounded_size-size.ensures.nonempty;
   fits = rw (c.rounded_size-size.ensures.is) c.requires.fits;
   alignment = rw (c.max-align_mask.ensures) (greater_mask c.args.align_mask c.self.inside.atom_mask c.requires.alignment c.self.invariant.atom);

@@ -23,7 +23,7 @@ over g a s = listing_in s a.chunk_size a.final_chunk_size a.memory_type (propert
 pub invariant_of-self : goal.invariant_of-self
 invariant_of-self g c =
     let l : Listing = listing_in c.self.inside.freelist.space c.self.inside.chunk_size c.self.inside.final_chunk_size c.self.inside.memory_type (property_bits c.self.inside.props) (c.self.inside.atom_mask + 1) in
-    let rounded = rw (← c.self.view_is) at c.requires.rounded in
+    let rounded = rw (← c.self.view_is) at c.requires.fits in
     let took = rw (c.in-Ok-Some.field-0-is) at c.in-Ok-Some.ensures.takes in
     let asked = askable l c.args.size c.args.align_mask rounded in
     subst (λ s. IsSound (listing_in s c.self.inside.chunk_size c.self.inside.final_chunk_size c.self.inside.memory_type (property_bits c.self.inside.props) (c.self.inside.atom_mask + 1))) (sym took.1)
@@ -121,9 +121,9 @@ take_chunk-requires-clause-counted g c =
     let same : over g c.self.inside c.get_block.new.self.space ≡ c.args.self.now = ap (over g c.self.inside) took.1 ∙ c.self.view_is in
     subst (λ (x : Listing). IsCounted x.space.chunks c.args.heap.now c.args.allocations_remains.now) (sym same) c.requires.counted
 
-pub take_chunk-requires-clause-rounded : goal.take_chunk-requires-clause-rounded
-take_chunk-requires-clause-rounded g c =
-    let rounded = rw (← c.self.view_is) at c.requires.rounded in
+pub take_chunk-requires-clause-fits : goal.take_chunk-requires-clause-fits
+take_chunk-requires-clause-fits g c =
+    let rounded = rw (← c.self.view_is) at c.requires.fits in
     record { nonempty = rounded.nonempty; fits = rounded.fits; alignment = rounded.alignment; aligned = rounded.aligned }
 
 pub returns-clause-answers : goal.returns-clause-answers

@@ -41,7 +41,7 @@ pub invariant_of-self-3 : goal.invariant_of-self-3
 invariant_of-self-3 g c =
     let l : Listing = listing_in c.self.inside.freelist.space c.self.inside.chunk_size c.self.inside.final_chunk_size c.self.inside.memory_type (property_bits c.self.inside.props) (c.self.inside.atom_mask + 1) in
     let object = c.in_ok-block.block.object in
-    let rounded = rw (← c.self.view_is) at c.requires.rounded in
+    let rounded = rw (← c.self.view_is) at c.requires.fits in
     let agrees = rw (← c.self.view_is) at c.requires.agrees in
     let other : IsOther l object = other_objects l (g.D.MemoryDevice.properties c.args.device.now) (g.D.MemoryDevice.objects c.args.device.now) object agrees c.in_ok-block.ensures.objects.0 in
     let asked = askable l c.args.size c.args.align_mask rounded in
@@ -59,12 +59,12 @@ pub invariant_of-self-in_err-block : goal.invariant_of-self-in_err-block
 invariant_of-self-in_err-block g c = rw (c.in_err-block.ensures.refused, c.reserve.ensures.kept) c.self.invariant
 
 pub chunk_size_for-chunk_size-requires-clause-fits : goal.chunk_size_for-chunk_size-requires-clause-fits
-chunk_size_for-chunk_size-requires-clause-fits g c = (rw (← c.self.view_is) at c.requires.rounded).fits
+chunk_size_for-chunk_size-requires-clause-fits g c = (rw (← c.self.view_is) at c.requires.fits).fits
 
 pub get_block_from_new_chunk-requires-clause-askable : goal.get_block_from_new_chunk-requires-clause-askable
 get_block_from_new_chunk-requires-clause-askable g c =
     let agrees = rw (← c.self.view_is) at c.requires.agrees in
-    record { nonempty = omega (arith, c.requires.rounded.nonempty, c.chunk_size_for-chunk_size.ensures.enough); known = agrees.known; address = c.requires.address }
+    record { nonempty = omega (arith, c.requires.fits.nonempty, c.chunk_size_for-chunk_size.ensures.enough); known = agrees.known; address = c.requires.address }
 
 pub get_block_from_new_chunk-requires-clause-visible : goal.get_block_from_new_chunk-requires-clause-visible
 get_block_from_new_chunk-requires-clause-visible g c =
