@@ -1,8 +1,9 @@
 -- The objects that a device holds, what may be asked of it, and what each call does to them.
-use Rattle.std.specs.Prelude.{◌≡◌, ◌⊎◌, ℕ, ◌+◌, ◌<◌, ◌≤◌, ◌==◌, Bool, true, false, cond, List, [], ◌∷◌, length}
-use Rattle.std.specs.Prelude.{slice_get, Option, Some, None, Result, Ok, Err, IsTrue, IfSome, IsSome}
+use Rattle.std.specs.Prelude.{◌≡◌, ◌⊎◌, ℕ, ◌+◌, ◌%◌, ◌<◌, ◌≤◌, ◌==◌, Bool, true, false, cond, List, [], ◌∷◌, length}
+use Rattle.std.specs.Prelude.{slice_get, Option, Some, None, Result, Ok, Err, IsTrue, IfSome, IsSome, All}
 use Rattle.gpu_alloc_types.specs.Flags.{has_bit}
-use Rattle.gpu_alloc_types.specs.Properties.{Properties, is_host_visible, is_coherent}
+use Rattle.gpu_alloc_types.specs.Properties.{Properties, is_host_visible, is_coherent, atom_of}
+use Rattle.gpu_alloc_types.specs.declared.types.MappedMemoryRange.{MappedMemoryRange}
 use Rattle.gpu_alloc_types.specs.declared.types.OutOfMemory.{OutOfMemory}
 use Rattle.gpu_alloc_types.specs.declared.types.DeviceMapError.{DeviceMapError}
 
@@ -64,6 +65,29 @@ pub record IsMappable (p : Properties) (offset size : ℕ) (o : Object) : Type 0
   pub unmapped : o.mapped ≡ None
   pub nonempty : 0 < size
   pub inside : offset + size ≤ o.size
+
+-- some range of it is mapped
+abbrev pub IsMapped : Object → Type 0
+IsMapped o = IsSome o.mapped
+
+-- some bytes of what is mapped of an object
+pub record IsInMapped (offset size : ℕ) (o : Object) : Type 0 where
+  pub nonempty : 0 < size
+  pub inside : (m : ℕ × ℕ) × (o.mapped ≡ Some m) × (m.0 ≤ offset) × (offset + size ≤ m.0 + m.1)
+
+-- some bytes of what is mapped of an object, which start on the atom and end on it or where the object ends
+pub record IsFlushable (p : Properties) (r : Range) (o : Object) : Type 0 where
+  pub mapped : IsInMapped r.offset r.size o
+  pub start : r.offset % atom_of p o.memory_type ≡ 0
+  pub finish : ((r.offset + r.size) % atom_of p o.memory_type ≡ 0) ⊎ (r.offset + r.size ≡ o.size)
+
+-- each range is so of an object that is held
+abbrev pub AreFlushable : Properties → (ℕ → Option Object) → List Range → Type 0
+AreFlushable p objects rs = All (λ r. HeldWith objects r.object (IsFlushable p r)) rs
+
+-- the range that a call names, of an object by the name of the handle
+abbrev pub range_of : {M : Type 0} → (M → ℕ) → MappedMemoryRange M → Range
+range_of name r = record { object = name r.memory.now; offset = r.offset; size = r.size }
 
 -- What the calls do.
 

@@ -1,14 +1,15 @@
 //! A device that holds memory objects, and the handles of its objects.
 
-ghost use Rattle.std.specs.Prelude.{◌≡◌, ℕ, Option, IfOk, IfSome};
+ghost use Rattle.std.specs.Prelude.{◌≡◌, ℕ, Option, IfOk, IfSome, length, map};
 ghost use Rattle.std.specs.Result.{result_map_both};
 ghost use Rattle.gpu_alloc_types.specs.Flags.{allocation_bits};
 ghost use Rattle.gpu_alloc_types.specs.Properties.{Properties};
 ghost use Rattle.gpu_alloc_types.specs.Device.{Object, Event, Row, IsWellFormed, IsAskable, IsHeld, HeldWith};
-ghost use Rattle.gpu_alloc_types.specs.Device.{IsMappable};
-ghost use Rattle.gpu_alloc_types.specs.Device.Event.{Allocated, Deallocated, Mapped};
+ghost use Rattle.gpu_alloc_types.specs.Device.{IsMappable, IsMapped, IsInMapped, AreFlushable, range_of};
+ghost use Rattle.gpu_alloc_types.specs.Device.Event.{Allocated, Deallocated, Mapped, Unmapped, Flushed, Invalidated};
+ghost use Rattle.gpu_alloc_types.specs.Device.Event.{BytesPut, BytesGot};
 
-use crate::{AllocationFlags, DeviceMapError, OutOfMemory};
+use crate::{AllocationFlags, DeviceMapError, MappedMemoryRange, OutOfMemory};
 use std::alloc::AllocError;
 
 /// A handle of a memory object. An object may have many; to let one go tells the device nothing.
@@ -73,6 +74,52 @@ pub trait MemoryDevice<M: MemoryObject> {
         requires { HeldWith (objects self.old) (M.object memory.now) (IsMappable (properties self.old) offset size) }
         ensures { step self.old (Mapped (record { object = M.object memory.now; offset = offset; size = size }) result)
             self.new };
+
+    /// Ends the mapping of an object (Vulkan's `vkUnmapMemory`). It cannot fail, and no byte changes. The device has to
+    /// hold an object of the handle's name, and to have mapped a range of it.
+    fn unmap_memory(&mut self, memory: &M)
+        requires { HeldWith (objects self.old) (M.object memory.now) IsMapped }
+        ensures { step self.old (Unmapped (M.object memory.now)) self.new };
+
+    /// Makes what the host wrote to some ranges visible to the device (Vulkan's `vkFlushMappedMemoryRanges`): the
+    /// host's bytes of each range become the device's. Where it is refused, each of the device's bytes there is that of
+    /// before or the host's, and nothing else has changed.
+    ///
+    /// Each range has to be at least 1 byte of what is mapped of its object. It has to begin at a multiple of the
+    /// atom, and to end at one or where the object ends (the Vulkan specification's rule on `VkMappedMemoryRange`); the
+    /// atom is `non_coherent_atom_size` for host-visible memory that is not coherent, and else 1 byte. There may be no
+    /// range at all.
+    fn flush_memory_ranges(
+        &mut self,
+        ranges: &[MappedMemoryRange<'_, M>],
+    ) -> Result<(), OutOfMemory>
+        requires { AreFlushable (properties self.old) (objects self.old) (map (range_of M.object) ranges.now) }
+        ensures { step self.old (Flushed (map (range_of M.object) ranges.now) result) self.new };
+
+    /// Makes what the device wrote to some ranges visible to the host (Vulkan's `vkInvalidateMappedMemoryRanges`): the
+    /// device's bytes of each range become the host's. Where it is refused, each of the host's bytes there is that of
+    /// before or the device's, and nothing else has changed.
+    ///
+    /// The conditions are those of [`flush_memory_ranges`](MemoryDevice::flush_memory_ranges).
+    fn invalidate_memory_ranges(
+        &mut self,
+        ranges: &[MappedMemoryRange<'_, M>],
+    ) -> Result<(), OutOfMemory>
+        requires { AreFlushable (properties self.old) (objects self.old) (map (range_of M.object) ranges.now) }
+        ensures { step self.old (Invalidated (map (range_of M.object) ranges.now) result) self.new };
+
+    /// Sets bytes of an object from `offset` on as the host sees them, and where its memory is coherent as the device
+    /// sees them too. It cannot fail. There has to be at least 1 byte, and the bytes have to lie in what is mapped of
+    /// the object, of whose name the device has to hold one. (The original crate writes through a pointer.)
+    fn put_bytes(&mut self, memory: &M, offset: u64, bytes: &[u8])
+        requires { HeldWith (objects self.old) (M.object memory.now) (IsInMapped offset (length bytes.now)) }
+        ensures { step self.old (BytesPut (M.object memory.now) offset bytes.now) self.new };
+
+    /// Gives bytes of an object from `offset` on as the host sees them. It cannot fail, and no object changes. The
+    /// conditions are those of [`put_bytes`](MemoryDevice::put_bytes). (The original crate reads through a pointer.)
+    fn get_bytes(&mut self, memory: &M, offset: u64, bytes: &mut [u8])
+        requires { HeldWith (objects self.old) (M.object memory.now) (IsInMapped offset (length bytes.old)) }
+        ensures { step self.old (BytesGot (M.object memory.now) offset bytes.new) self.new };
 
     /// A step does what its row says, and leaves all else as it was.
     ghost row: { (old : Self) (e : Event) (new : Self) → step old e new → Row (properties old) (objects old) e

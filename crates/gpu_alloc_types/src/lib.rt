@@ -11,5 +11,8 @@ mod usage_flags;
 pub use allocation_flags::AllocationFlags;
 pub use device::{MemoryDevice, MemoryObject};
 pub use memory_property_flags::MemoryPropertyFlags;
-pub use types::{DeviceMapError, DeviceProperties, FreeRange, MemoryHeap, MemoryType, OutOfMemory};
+pub use types::{
+    DeviceMapError, DeviceProperties, FreeRange, MappedMemoryRange, MemoryHeap, MemoryType,
+    OutOfMemory,
+};
 pub use usage_flags::UsageFlags;

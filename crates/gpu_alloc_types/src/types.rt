@@ -58,6 +58,19 @@ pub struct FreeRange {
     pub end: u64,
 }
 
+/// A range of what is mapped of a memory object, in bytes (Vulkan's `VkMappedMemoryRange`).
+#[derive(Drop)]
+pub struct MappedMemoryRange<'a, M> {
+    /// A handle of the object.
+    pub memory: &'a M,
+
+    /// Where the range starts in the object, in bytes.
+    pub offset: u64,
+
+    /// Its size, in bytes.
+    pub size: u64,
+}
+
 /// What a device offers.
 #[derive(Clone, Debug, Drop)]
 pub struct DeviceProperties<'a> {
