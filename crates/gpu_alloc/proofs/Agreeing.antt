@@ -8,14 +8,14 @@ use Rattle.std.specs.FinSet as set
 use Rattle.gpu_alloc_types.specs.Properties.{Properties, is_host_visible}
 use Rattle.gpu_alloc_types.specs.Device.{Object, HeldWith, put}
 use Rattle.gpu_alloc_types.specs.Objects.{put-same, put-other}
-use Rattle.gpu_alloc.specs.State.{State, HeldObject, Span, Block, IsLive, span_of, is_shared}
+use Rattle.gpu_alloc_block.specs.State.{State, HeldObject, Span, Block, IsLive, span_of, is_shared}
 use Rattle.gpu_alloc.specs.Release.{without_span}
-use Rattle.gpu_alloc.specs.Agreement.{Agrees, IsThere, IsCounted, IsInside, IsMappedWhole}
+use Rattle.gpu_alloc_block.specs.Agreement.{Agrees, IsThere, IsCounted, IsInside, IsMappedWhole}
 use Rattle.gpu_alloc.specs.Allocation.{IsAsCounted}
 use Rattle.gpu_alloc.specs.BuddySharing.{with_span}
 use Rattle.gpu_alloc_base.specs.NewObject.{HasOneMore}
-use Rattle.gpu_alloc.specs.declared.block.Kind.{Kind}
-use Rattle.gpu_alloc.specs.declared.block.Kind.TheVariants.{Dedicated, Imported, BuddyChunk, FreeListChunk}
+use Rattle.gpu_alloc_block.specs.declared.block.Kind.{Kind}
+use Rattle.gpu_alloc_block.specs.declared.block.Kind.TheVariants.{Dedicated, Imported, BuddyChunk, FreeListChunk}
 use Rattle.gpu_alloc_base.proofs.Maps.{name_test, one_value, own_inserted}
 use Rattle.gpu_alloc.proofs.Tables.LiveSpans.{live_before, live_other}
 

@@ -7,16 +7,16 @@ use Rattle.gpu_alloc_types.specs.Device.{Event, Object, put}
 use Rattle.gpu_alloc_types.specs.Objects.{put-same, put-other}
 use Rattle.gpu_alloc_base.specs.Case as case
 use Rattle.gpu_alloc.specs.Allocation.{Allocates, strategy}
-use Rattle.gpu_alloc.specs.Agreement.{Agrees, IsCounted}
+use Rattle.gpu_alloc_block.specs.Agreement.{Agrees, IsCounted}
 use Rattle.gpu_alloc.specs.Candidates.{candidate}
 use Rattle.gpu_alloc.specs.Owned.{HoldsWith}
 use Rattle.gpu_alloc.specs.Release.{AreAllGone, AreChunksGone, GoesWith, without_all, without_objects}
 use Rattle.gpu_alloc.specs.Sound.{IsSound, LiesIn}
-use Rattle.gpu_alloc.specs.State.{State, Block, HeldObject, Span, span_of, AreApart, IsLive, IsOwned}
+use Rattle.gpu_alloc_block.specs.State.{State, Block, HeldObject, Span, span_of, AreApart, IsLive, IsOwned}
 use Rattle.gpu_alloc.specs.declared.allocator.Strategy.{Strategy}
 use Rattle.gpu_alloc.specs.declared.allocator.Strategy.TheVariants.{OwnObject, InBuddyChunk, InFreeList}
-use Rattle.gpu_alloc.specs.declared.block.Kind.{Kind}
-use Rattle.gpu_alloc.specs.declared.block.Kind.TheVariants.{Dedicated as DedicatedObject, Imported, BuddyChunk, FreeListChunk}
+use Rattle.gpu_alloc_block.specs.declared.block.Kind.{Kind}
+use Rattle.gpu_alloc_block.specs.declared.block.Kind.TheVariants.{Dedicated as DedicatedObject, Imported, BuddyChunk, FreeListChunk}
 use Rattle.gpu_alloc.specs.declared.request.Dedicated.{Dedicated}
 use Rattle.gpu_alloc.specs.declared.request.Request.{Request}
 use Rattle.gpu_alloc_types.specs.Properties.{Properties}

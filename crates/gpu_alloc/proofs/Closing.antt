@@ -12,7 +12,7 @@ use Rattle.gpu_alloc_freelist.specs.FreeListState.{Listing}
 use Rattle.gpu_alloc.specs.Inside.{HasBuddies, HasLists}
 use Rattle.gpu_alloc.specs.Opening.{AreFirstBuddies}
 use Rattle.gpu_alloc.specs.Spans.{Table}
-use Rattle.gpu_alloc.specs.State.{HeldObject}
+use Rattle.gpu_alloc_block.specs.State.{HeldObject}
 use Rattle.gpu_alloc_base.specs.declared.config.Config.{Config}
 use Rattle.gpu_alloc_types.specs.Properties.{Properties}
 use Rattle.gpu_alloc.proofs.Ledgers.{Held}

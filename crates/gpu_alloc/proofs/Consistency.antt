@@ -8,12 +8,12 @@ use Rattle.std.specs.Cmp.{nat_cmp_total}
 use Rattle.std.specs.FinMap as finite
 use Rattle.std.specs.FinSet as set_of
 use Rattle.gpu_alloc_types.specs.Properties.{Properties, heap_at}
-use Rattle.gpu_alloc.specs.State.{HeldObject, Span, share, is_shared}
+use Rattle.gpu_alloc_block.specs.State.{HeldObject, Span, share, is_shared}
 use Rattle.gpu_alloc.specs.Spans.{Table}
 use Rattle.gpu_alloc.specs.Inside.{IsBooked, IsKnown, IsOfObject, IsLiveIn, AreSmall, AreLedgers, offer_of}
 use Rattle.gpu_alloc.specs.Sound.{LiesIn}
-use Rattle.gpu_alloc.specs.declared.block.Kind.{Kind}
-use Rattle.gpu_alloc.specs.declared.block.Kind.TheVariants.{Dedicated, Imported, BuddyChunk, FreeListChunk}
+use Rattle.gpu_alloc_block.specs.declared.block.Kind.{Kind}
+use Rattle.gpu_alloc_block.specs.declared.block.Kind.TheVariants.{Dedicated, Imported, BuddyChunk, FreeListChunk}
 use Rattle.gpu_alloc_base.specs.declared.heap.Heap.{Heap}
 use Rattle.gpu_alloc.proofs.Ledgers.{ledger-bound, Held, small-insert, small-remove}
 use Rattle.gpu_alloc_base.proofs.Sums.{sum_by-insert, sum_by-remove, len_more, len_less}

@@ -13,7 +13,7 @@ use Rattle.gpu_alloc_base.specs.declared.error.AllocationError.TheVariants.{OutO
 use Rattle.gpu_alloc.specs.Allocation.{Allocates, Decides, Refuses, TriesAll, strategy, candidates_of}
 use Rattle.gpu_alloc.specs.Request.{is_required}
 use Rattle.gpu_alloc.specs.Candidates.{candidate}
-use Rattle.gpu_alloc.specs.State.{State, Block, HeldObject, total}
+use Rattle.gpu_alloc_block.specs.State.{State, Block, HeldObject, total}
 use Rattle.gpu_alloc.specs.declared.allocator.Strategy.{Strategy}
 use Rattle.gpu_alloc.specs.declared.allocator.Strategy.TheVariants.{OwnObject, InBuddyChunk, InFreeList}
 use Rattle.gpu_alloc.specs.declared.request.Dedicated.{Dedicated}

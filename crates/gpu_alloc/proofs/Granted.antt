@@ -28,11 +28,11 @@ use Rattle.gpu_alloc.specs.FreeBytes.{IsFreeByte}
 use Rattle.gpu_alloc.specs.FreeListSharing.{IsFreeInChunk, IsListChunk, IsRunTail, largest_list_chunk, latest_number, list_alignment, list_question, list_size, next_list_chunk, tail_of}
 use Rattle.gpu_alloc.specs.Request.{IsAskable}
 use Rattle.gpu_alloc.specs.Sound.{IsSound}
-use Rattle.gpu_alloc.specs.State.{Block, HeldObject, Span, State, granted_block, is_shared, span_of}
+use Rattle.gpu_alloc_block.specs.State.{Block, HeldObject, Span, State, granted_block, is_shared, span_of}
 use Rattle.gpu_alloc.specs.declared.allocator.Strategy.{Strategy}
 use Rattle.gpu_alloc.specs.declared.allocator.Strategy.TheVariants.{OwnObject, InBuddyChunk, InFreeList}
-use Rattle.gpu_alloc.specs.declared.block.Kind.{Kind}
-use Rattle.gpu_alloc.specs.declared.block.Kind.TheVariants.{Dedicated as DedicatedObject, BuddyChunk, FreeListChunk}
+use Rattle.gpu_alloc_block.specs.declared.block.Kind.{Kind}
+use Rattle.gpu_alloc_block.specs.declared.block.Kind.TheVariants.{Dedicated as DedicatedObject, BuddyChunk, FreeListChunk}
 use Rattle.gpu_alloc.specs.declared.request.Dedicated.{Dedicated}
 use Rattle.gpu_alloc.specs.declared.request.Request.{Request}
 use Rattle.gpu_alloc.proofs.Decisions.{of_grant}

@@ -6,7 +6,7 @@ use Rattle.std.proofs.lemmas.Option.{slice_get_read, slice_get_cases}
 use Rattle.std.specs.List.{sum_by, slice_get}
 use Rattle.gpu_alloc_types.specs.Properties.{Properties, IsUsable, heap_at, heap_of}
 use Rattle.gpu_alloc_types.specs.declared.types.MemoryType.{MemoryType}
-use Rattle.gpu_alloc.specs.State.{share}
+use Rattle.gpu_alloc_block.specs.State.{share}
 use Rattle.gpu_alloc.specs.Spans.{Table}
 use Rattle.gpu_alloc_buddy.specs.BuddyState.{Buddy}
 use Rattle.gpu_alloc_freelist.specs.FreeListState.{Listing}

@@ -7,7 +7,7 @@ use Rattle.std.specs.Ordering.{nat_cmp, is_eq}
 use Rattle.std.specs.FinMap as finite
 use Rattle.std.specs.FinMap.Entries.{by_order}
 use Rattle.gpu_alloc_types.specs.Properties.{Properties, heap_at}
-use Rattle.gpu_alloc.specs.State.{HeldObject, share}
+use Rattle.gpu_alloc_block.specs.State.{HeldObject, share}
 use Rattle.gpu_alloc.specs.Inside.{AreSmall}
 use Rattle.gpu_alloc_base.proofs.Maps.{gone}
 use Rattle.gpu_alloc_base.proofs.Sums.{back, not_found}

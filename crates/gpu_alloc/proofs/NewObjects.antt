@@ -6,7 +6,7 @@ use Rattle.gpu_alloc_types.specs.Properties.{Properties, is_host_visible}
 use Rattle.gpu_alloc_base.specs.Chunks.{Chunk, IsNew}
 use Rattle.gpu_alloc_base.specs.NewObject.{HasOneMore}
 use Rattle.gpu_alloc.specs.Allocation.{IsAsCounted}
-use Rattle.gpu_alloc.specs.State.{HeldObject, is_shared}
+use Rattle.gpu_alloc_block.specs.State.{HeldObject, is_shared}
 use Rattle.gpu_alloc_base.proofs.Maps.{one_value}
 
 -- a shared allocator's new chunk is as it is counted

@@ -25,7 +25,7 @@ use Rattle.gpu_alloc.specs.Opening.{first_buddy, AreFirstBuddies, first_listing,
 use Rattle.gpu_alloc_base.specs.Sizes.{minimal_size, initial_size, starting_size, final_size}
 use Rattle.gpu_alloc.specs.FirstTypes.{first_type_state, first_types}
 use Rattle.gpu_alloc.specs.Spans.{Table}
-use Rattle.gpu_alloc.specs.State.{HeldObject, Span, TypeState, span_cmp, share}
+use Rattle.gpu_alloc_block.specs.State.{HeldObject, Span, TypeState, span_cmp, share}
 use Rattle.gpu_alloc_base.specs.declared.config.Config.{Config}
 use Rattle.gpu_alloc_base.specs.declared.heap.Heap.{Heap}
 use Rattle.gpu_alloc.proofs.Ledgers.{Entries, Held}

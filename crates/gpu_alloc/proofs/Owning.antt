@@ -16,22 +16,37 @@ use Rattle.gpu_alloc.specs.declared.request.Dedicated.{Dedicated}
 use Rattle.gpu_alloc.specs.declared.request.Request.{Request}
 use Rattle.gpu_alloc_base.specs.declared.error.AllocationError.{AllocationError}
 use Rattle.gpu_alloc.proofs.Decisions.{allocates_kept}
-use Rattle.gpu_alloc.specs.State.{HeldObject, State, Block, Span, span_of, span_cmp, AreApart, IsLive, IsOwned}
+use Rattle.gpu_alloc_block.specs.InHand.{ShareNoObject}
+use Rattle.gpu_alloc_block.specs.State.{HeldObject, State, Block, Span, span_of, span_cmp, AreApart, IsLive, IsOwned, is_shared}
 use Rattle.gpu_alloc.proofs.Changes.{Grows, allocates_grow, granted_kept, apart_differ, apart_back, still_owned}
 use Rattle.gpu_alloc.proofs.Tables.LiveSpans.{span_total, live_new, live_still, live_kept, not_live, put_taken, taken_before}
 
 -- Two blocks.
 
 pub two_back : (b c : Block) → AreTwo b c → AreTwo c b
-two_back b c two = record { apart = apart_back (span_of b) (span_of c) two.apart; differ = λ same. two.differ (sym same) }
+unfolding ShareNoObject
+two_back b c two = record {
+  apart = apart_back (span_of b) (span_of c) two.apart;
+  differ = λ same. two.differ (sym same);
+  objects = (λ alone same. two.objects.1 alone (sym same), λ alone same. two.objects.0 alone (sym same));
+}
 
--- two live spans that are apart are of two blocks
-pub two_live : (s : State) (b c : Block) → IsSound s → IsOwned s b → AreApart (span_of b) (span_of c) → AreTwo b c
-two_live s b c sound owned apart = record { apart = apart; differ = apart_differ (span_of b) (span_of c) apart (sound.nonempty (span_of b) owned.live) }
+-- a block with an object of its own is of another object than each other live span
+other_object : (s : State) (b : Block) (span : Span) → IsSound s → IsOwned s b → IsLive s span → span_of b ≢ span → is_shared b.kind ≡ false → b.object ≢ span.object
+other_object s b span sound owned live differ own same =
+    differ (sound.alone b.object owned.held.0 owned.held.1 (ap is_shared owned.held.3 ∙ own) (span_of b) span owned.live live refl (sym same))
 
 -- two owned blocks of different spans share no byte
 pub differ_two : (s : State) (b c : Block) → IsSound s → IsOwned s b → IsOwned s c → span_of b ≢ span_of c → AreTwo b c
-differ_two s b c sound owned also differ = record { apart = sound.apart (span_of b) (span_of c) owned.live also.live differ; differ = differ }
+unfolding ShareNoObject
+differ_two s b c sound owned also differ = record {
+  apart = sound.apart (span_of b) (span_of c) owned.live also.live differ;
+  differ = differ;
+  objects = (
+    other_object s b (span_of c) sound owned also.live differ,
+    λ alone same. other_object s c (span_of b) sound also owned.live (λ is. differ (sym is)) alone (sym same),
+  );
+}
 
 -- All blocks of a list.
 
@@ -55,16 +70,19 @@ module _ (s : State) (b : Block) (new : State) (grows : Grows s b new) where
   pub granted_all : (cs : List Block) → AreOwned s cs → AreOwned new cs
   granted_all = all_kept s new (granted_kept s b new grows)
 
-  module _ (sound : IsSound s) (free : (span : Span) → IsLive s span → AreApart span (span_of b)) where
+  module _ (sound : IsSound s) (free : (span : Span) → IsLive s span → AreApart span (span_of b)) (sound_new : IsSound new) (own : IsOwned new b) where
     -- the block is another than each that was owned
     pub granted_other : (c : Block) → IsOwned s c → AreTwo c b
-    granted_other c owned = two_live s c b sound owned (free (span_of c) owned.live)
+    granted_other c owned =
+        differ_two new c b sound_new (granted_kept s b new grows c owned) own
+        (apart_differ (span_of c) (span_of b) (free (span_of c) owned.live) (sound.nonempty (span_of c) owned.live))
 
     -- and goes to them
-    pub granted_more : IsOwned new b → (cs : List Block) → AreOwned s cs → AreOwned new (cs ++ b ∷ [])
-    granted_more own [] owned = (own, tt, tt)
-    granted_more own (c ∷ cs) owned = (granted_kept s b new grows c owned.0, beside_more b c cs owned.1 (granted_other c owned.0), granted_more own cs owned.2)
+    pub granted_more : (cs : List Block) → AreOwned s cs → AreOwned new (cs ++ b ∷ [])
+    granted_more [] owned = (own, tt, tt)
+    granted_more (c ∷ cs) owned = (granted_kept s b new grows c owned.0, beside_more b c cs owned.1 (granted_other c owned.0), granted_more cs owned.2)
 
+  module _ (sound : IsSound s) (free : (span : Span) → IsLive s span → AreApart span (span_of b)) where
     not_yet : set.contains s.live (span_of b) ≡ false
     not_yet = not_live s.live (span_of b) (λ live. apart_differ (span_of b) (span_of b) (free (span_of b) live) (sound.nonempty (span_of b) live) refl)
 
@@ -89,17 +107,18 @@ module _ (s : State) (r : Request) (hint : Option Dedicated) (es : List Event) w
       let grows = allocates_grow s r hint es b new decided in
       record { properties = grows.properties; config = grows.config; owned = granted_kept s b new grows; all = granted_all s b new grows }
 
-  pub allocates_add : IsSound s → (answer : Result Block AllocationError) (new : State) → Allocates s r hint es answer new → IfOk answer (IsGranted s r new) → IfOk answer (Adds s new)
-  allocates_add sound (Err e) new decided granted = tt
-  allocates_add sound (Ok b) new decided granted =
+  pub allocates_add : IsSound s → (answer : Result Block AllocationError) (new : State) → IsSound new → Allocates s r hint es answer new → IfOk answer (IsGranted s r new) → IfOk answer (Adds s new)
+  allocates_add sound (Err e) new sound_new decided granted = tt
+  allocates_add sound (Ok b) new sound_new decided granted =
       let grows = allocates_grow s r hint es b new decided in
+      let other = granted_other s b new grows sound granted.was_free sound_new granted.owned in
       record {
         live = grows.live;
         count = granted_count s b new grows sound granted.was_free;
         held = grows.held;
-        before = granted_other s b new grows sound granted.was_free;
-        after = λ c owned. two_back c b (granted_other s b new grows sound granted.was_free c owned);
-        all = granted_more s b new grows sound granted.was_free granted.owned;
+        before = other;
+        after = λ c owned. two_back c b (other c owned);
+        all = granted_more s b new grows sound granted.was_free sound_new granted.owned;
       }
 
 -- A return.

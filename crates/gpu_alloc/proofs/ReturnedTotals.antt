@@ -5,9 +5,9 @@ use Rattle.std.specs.FinMap as map
 use Rattle.gpu_alloc_types.specs.Device.{Event}
 use Rattle.gpu_alloc.specs.FreeListSharing.{IsListChunk}
 use Rattle.gpu_alloc.specs.Release.{AreChunksGone, Frees, GoesWith, MayGo, without_all, without_span}
-use Rattle.gpu_alloc.specs.State.{Block, HeldObject, IsOwned, State, total}
-use Rattle.gpu_alloc.specs.declared.block.Kind.{Kind}
-use Rattle.gpu_alloc.specs.declared.block.Kind.TheVariants.{Dedicated, Imported, BuddyChunk, FreeListChunk}
+use Rattle.gpu_alloc_block.specs.State.{Block, HeldObject, IsOwned, State, total}
+use Rattle.gpu_alloc_block.specs.declared.block.Kind.{Kind}
+use Rattle.gpu_alloc_block.specs.declared.block.Kind.TheVariants.{Dedicated, Imported, BuddyChunk, FreeListChunk}
 use Rattle.gpu_alloc_base.proofs.Names.{get_removed-other, len_removed}
 use Rattle.gpu_alloc.proofs.Ledgers.{Held}
 

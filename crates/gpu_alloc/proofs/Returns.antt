@@ -3,15 +3,15 @@ use Rattle.std.proofs.Common.{◌≡◌, false, ℕ, ◌+◌, List, [], ◌∷�
 use Rattle.std.proofs.Math.ListN.{set}
 use Rattle.std.specs.FinMap as finite
 use Rattle.std.specs.FinSet as set_of
-use Rattle.gpu_alloc.specs.State.{State, HeldObject, Block, IsOwned, is_shared, span_of}
+use Rattle.gpu_alloc_block.specs.State.{State, HeldObject, Block, IsOwned, is_shared, span_of}
 use Rattle.gpu_alloc.specs.Spans.{Table, held_of, span_at}
 use Rattle.gpu_alloc_buddy.specs.BuddyState.{Buddy}
 use Rattle.gpu_alloc_freelist.specs.FreeListState.{Listing}
 use Rattle.gpu_alloc.specs.Inside.{state_in, properties_in, IsBooked}
 use Rattle.gpu_alloc.specs.Release.{GoesWith, without_span, without_all}
 use Rattle.gpu_alloc.specs.declared.limits.Limits.{Limits}
-use Rattle.gpu_alloc.specs.declared.block.Kind.{Kind}
-use Rattle.gpu_alloc.specs.declared.block.Kind.TheVariants.{Dedicated, Imported, BuddyChunk, FreeListChunk}
+use Rattle.gpu_alloc_block.specs.declared.block.Kind.{Kind}
+use Rattle.gpu_alloc_block.specs.declared.block.Kind.TheVariants.{Dedicated, Imported, BuddyChunk, FreeListChunk}
 use Rattle.gpu_alloc_base.specs.declared.heap.Heap.{Heap}
 use Rattle.gpu_alloc.specs.declared.spans.HeldRow.{HeldRow}
 use Rattle.gpu_alloc.proofs.Consistency.{HoldsFewer, known_object}

@@ -14,8 +14,8 @@ use Rattle.gpu_alloc.specs.FirstTypes.{first_types, first_type_state}
 use Rattle.gpu_alloc.specs.Inside.{state_in, properties_in, types_in, span_of_leaf, leaf_at, span_of_slot, slot_at, IsLiveIn, IsChunkOf, IsNumberedChunk, IsKnown, IsBuddyOf, IsListOf, IsConsistent}
 use Rattle.gpu_alloc.specs.Sound.{IsSound, LiesIn, is_list_chunk}
 use Rattle.gpu_alloc.specs.Spans.{Place, Table}
-use Rattle.gpu_alloc.specs.State.{HeldObject, Span, State, TypeState, AreApart, is_shared}
-use Rattle.gpu_alloc.specs.declared.block.Kind.TheVariants.{BuddyChunk, FreeListChunk}
+use Rattle.gpu_alloc_block.specs.State.{HeldObject, Span, State, TypeState, AreApart, is_shared}
+use Rattle.gpu_alloc_block.specs.declared.block.Kind.TheVariants.{BuddyChunk, FreeListChunk}
 use Rattle.gpu_alloc_base.specs.declared.config.Config.{Config}
 use Rattle.gpu_alloc_base.specs.declared.heap.Heap.{Heap}
 use Rattle.gpu_alloc.specs.declared.limits.Limits.{Limits}

@@ -6,7 +6,7 @@ use Rattle.gpu_alloc_types.specs.Flags.{usage_bits, has_bit, has_all_bits}
 use Rattle.gpu_alloc_types.specs.Properties.{heap_size}
 use Rattle.gpu_alloc.specs.Allocation.{strategy, unhinted, is_small, fits_a_chunk}
 use Rattle.gpu_alloc_base.specs.Sizes.{preferred_threshold, transient_threshold}
-use Rattle.gpu_alloc.specs.State.{State}
+use Rattle.gpu_alloc_block.specs.State.{State}
 use Rattle.gpu_alloc.specs.declared.allocator.Strategy.{Strategy}
 use Rattle.gpu_alloc.specs.declared.allocator.Strategy.TheVariants.{OwnObject, InBuddyChunk, InFreeList}
 use Rattle.gpu_alloc.specs.declared.request.Dedicated.{Dedicated}

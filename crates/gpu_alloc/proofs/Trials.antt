@@ -2,7 +2,7 @@
 use Rattle.std.proofs.Common.{◌≡◌, ℕ, suc, ◌<◌, ◌≤◌, List, [], ◌++◌, length, drop, get_or, Option, Result, Err, refl, subst, inl, inr, append_assoc, append-nil, drop-cons}
 use Rattle.std.proofs.Math.ListN.{drop_of_length-le}
 use Rattle.gpu_alloc_types.specs.Device.{Event, Object}
-use Rattle.gpu_alloc.specs.State.{State, Block}
+use Rattle.gpu_alloc_block.specs.State.{State, Block}
 use Rattle.gpu_alloc_base.specs.Case as case
 use Rattle.gpu_alloc_base.specs.Case.{Case}
 use Rattle.gpu_alloc.specs.Allocation.{passing, IsPassed, Decides, TriesAll, ObjectsTried}

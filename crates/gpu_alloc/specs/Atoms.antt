@@ -3,7 +3,7 @@ use Rattle.std.specs.Prelude.{ℕ, ◌^◌, ◌<◌, ◌≤◌, length}
 use Rattle.gpu_alloc_types.specs.Properties.{atom_of}
 use Rattle.gpu_alloc_base.specs.FreeSpace.{IsMultipleOf, IsPowerOfTwo}
 use Rattle.gpu_alloc.specs.FreeListSharing.{IsListChunk, next_list_chunk, largest_list_chunk}
-use Rattle.gpu_alloc.specs.State.{Span, State, IsLive}
+use Rattle.gpu_alloc_block.specs.State.{Span, State, IsLive}
 
 -- a memory type's next free-list chunk is of some whole atoms, and no larger than the largest
 pub record IsNextListChunk (s : State) (t : ℕ) : Type 0 where

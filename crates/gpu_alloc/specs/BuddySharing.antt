@@ -3,13 +3,13 @@ use Rattle.std.specs.Prelude.{◌≡◌, ℕ, zero, suc, ◌+◌, ◌-◌, ◌*�
 use Rattle.std.specs.FinMap as map
 use Rattle.std.specs.FinSet as set
 use Rattle.gpu_alloc_types.specs.Properties.{heap_size, atom_of, is_host_visible}
-use Rattle.gpu_alloc.specs.declared.block.Kind.TheVariants.{BuddyChunk}
+use Rattle.gpu_alloc_block.specs.declared.block.Kind.TheVariants.{BuddyChunk}
 use Rattle.gpu_alloc.specs.declared.request.Request.{Request}
 use Rattle.gpu_alloc_base.specs.FreeSpace.{IsPlace, IsFreePiece}
 use Rattle.gpu_alloc.specs.FreeBytes.{IsFreeByte}
 use Rattle.gpu_alloc_base.specs.NewChunk.{ChunkQuestion, flags_of}
 use Rattle.gpu_alloc_base.specs.Sizes.{next_power_of_two, minimal_size}
-use Rattle.gpu_alloc.specs.State.{Span, Block, TypeState, State, granted_block}
+use Rattle.gpu_alloc_block.specs.State.{Span, Block, TypeState, State, granted_block}
 
 -- the size of a block for a request: the least power of two that is not below the request's size and alignment, the
 -- atom and the least buddy block

@@ -9,10 +9,10 @@ use Rattle.gpu_alloc.specs.BuddySharing.{buddy_size, buddy_question, buddy_block
 use Rattle.gpu_alloc.specs.BuddySharing.{with_span, with_buddy_chunk}
 use Rattle.gpu_alloc.specs.FreeListSharing.{list_size, list_alignment, list_question, list_block, tail_of}
 use Rattle.gpu_alloc.specs.FreeListSharing.{latest_number, HasListNumber, HasListPlace, IsRunTail, with_list_chunk}
-use Rattle.gpu_alloc.specs.State.{HeldObject, Block, State, granted_block, span_of}
+use Rattle.gpu_alloc_block.specs.State.{HeldObject, Block, State, granted_block, span_of}
 use Rattle.gpu_alloc.specs.declared.allocator.Strategy.{Strategy}
 use Rattle.gpu_alloc.specs.declared.allocator.Strategy.TheVariants.{OwnObject, InBuddyChunk, InFreeList}
-use Rattle.gpu_alloc.specs.declared.block.Kind.TheVariants.{Dedicated as DedicatedObject}
+use Rattle.gpu_alloc_block.specs.declared.block.Kind.TheVariants.{Dedicated as DedicatedObject}
 use Rattle.gpu_alloc.specs.declared.request.Request.{Request}
 
 -- An object of the request's own.

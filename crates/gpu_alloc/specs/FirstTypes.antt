@@ -4,7 +4,7 @@ use Rattle.gpu_alloc_types.specs.Flags.{property_bits}
 use Rattle.gpu_alloc_types.specs.Properties.{Properties, size_of, atom_for}
 use Rattle.gpu_alloc_types.specs.declared.types.MemoryType.{MemoryType}
 use Rattle.gpu_alloc_base.specs.Sizes.{minimal_size, initial_size, starting_size}
-use Rattle.gpu_alloc.specs.State.{TypeState}
+use Rattle.gpu_alloc_block.specs.State.{TypeState}
 use Rattle.gpu_alloc_base.specs.declared.config.Config.{Config}
 
 -- a memory type's chunk sizes at first: no free-list chunk has a number yet

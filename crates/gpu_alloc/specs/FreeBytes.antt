@@ -2,8 +2,8 @@
 use Rattle.std.specs.Prelude.{◌≡◌, ℕ, ◌<◌, Some}
 use Rattle.std.specs.FinMap as map
 use Rattle.gpu_alloc_base.specs.FreeSpace.{IsIn}
-use Rattle.gpu_alloc.specs.State.{HeldObject, Span, State, IsLive}
-use Rattle.gpu_alloc.specs.declared.block.Kind.{Kind}
+use Rattle.gpu_alloc_block.specs.State.{HeldObject, Span, State, IsLive}
+use Rattle.gpu_alloc_block.specs.declared.block.Kind.{Kind}
 
 -- the byte lies in an object of this memory type that is held for this, and in no live span
 pub record IsFreeByte (s : State) (memory_type : ℕ) (kind : Kind) (object at : ℕ) : Type 0 where

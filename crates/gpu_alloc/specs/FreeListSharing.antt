@@ -2,14 +2,14 @@
 use Rattle.std.specs.Prelude.{◌≡◌, ℕ, zero, suc, ◌+◌, ◌-◌, ◌<◌, ◌^◌, List, [], ◌∷◌, Option, Some, None, max, slice_get}
 use Rattle.std.specs.FinMap as map
 use Rattle.gpu_alloc_types.specs.Properties.{heap_size, atom_of, is_host_visible}
-use Rattle.gpu_alloc.specs.declared.block.Kind.TheVariants.{FreeListChunk}
+use Rattle.gpu_alloc_block.specs.declared.block.Kind.TheVariants.{FreeListChunk}
 use Rattle.gpu_alloc_base.specs.declared.region.FreeListRegion.{FreeListRegion}
 use Rattle.gpu_alloc.specs.declared.request.Request.{Request}
 use Rattle.gpu_alloc_base.specs.FreeRuns.{IsListPlace, IsLastWithRoom, tail_start}
 use Rattle.gpu_alloc.specs.FreeBytes.{IsFreeByte}
 use Rattle.gpu_alloc_base.specs.NewChunk.{ChunkQuestion, flags_of}
 use Rattle.gpu_alloc_base.specs.Sizes.{up, final_size, grown_chunk, doubled_chunk}
-use Rattle.gpu_alloc.specs.State.{HeldObject, Span, Block, TypeState, State, granted_block}
+use Rattle.gpu_alloc_block.specs.State.{HeldObject, Span, Block, TypeState, State, granted_block}
 
 -- the size that is looked for, in whole atoms
 abbrev pub list_size : State → Request → ℕ → ℕ

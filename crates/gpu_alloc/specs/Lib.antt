@@ -1,4 +1,3 @@
-pub mod Agreement
 pub mod Allocation
 pub mod Atoms
 pub mod BuddySharing
@@ -16,7 +15,6 @@ pub mod Request
 pub mod Samples
 pub mod Sound
 pub mod Spans
-pub mod State
 pub mod Types
 pub use Rattle.gpu_alloc_base.specs.Accounts
 pub use Rattle.gpu_alloc_base.specs.AlignMasks
@@ -35,6 +33,11 @@ pub use Rattle.gpu_alloc_base.specs.Pieces
 pub use Rattle.gpu_alloc_base.specs.Sizes
 pub use Rattle.gpu_alloc_base.specs.Slots
 pub use Rattle.gpu_alloc_base.specs.Wanted
+pub use Rattle.gpu_alloc_block.specs.Agreement
+pub use Rattle.gpu_alloc_block.specs.Bytes
+pub use Rattle.gpu_alloc_block.specs.Mapped
+pub use Rattle.gpu_alloc_block.specs.Ranges
+pub use Rattle.gpu_alloc_block.specs.State
 pub use Rattle.gpu_alloc_buddy.specs.Buddy
 pub use Rattle.gpu_alloc_buddy.specs.BuddySound
 pub use Rattle.gpu_alloc_buddy.specs.BuddyState

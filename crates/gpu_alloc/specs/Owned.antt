@@ -4,23 +4,9 @@ use Rattle.std.specs.FinMap as map
 use Rattle.std.specs.FinSet as set
 use Rattle.gpu_alloc_types.specs.Device.{Object}
 use Rattle.gpu_alloc_types.specs.Properties.{Properties}
-use Rattle.gpu_alloc.specs.Agreement.{Agrees}
-use Rattle.gpu_alloc.specs.State.{HeldObject, State, Block, span_of, AreApart, IsOwned}
-
--- two blocks that share no byte, and so are of two spans
-pub record AreTwo (b c : Block) : Type 0 where
-  pub apart : AreApart (span_of b) (span_of c)
-  pub differ : span_of b ≢ span_of c
-
--- the block is another than each of these
-abbrev pub IsBeside : Block → List Block → Type 0
-IsBeside b [] = Unit {0}
-IsBeside b (c ∷ cs) = AreTwo b c × IsBeside b cs
-
--- all of these are live here, and no two share a byte
-abbrev pub AreOwned : State → List Block → Type 0
-AreOwned s [] = Unit {0}
-AreOwned s (b ∷ bs) = IsOwned s b × IsBeside b bs × AreOwned s bs
+use Rattle.gpu_alloc_block.specs.Agreement.{Agrees}
+pub use Rattle.gpu_alloc_block.specs.InHand.{AreTwo, ShareNoObject, IsBeside, AreOwned, IsSameBlock}
+use Rattle.gpu_alloc_block.specs.State.{HeldObject, State, Block, span_of, IsOwned}
 
 -- What a call leaves that takes no block back: what was given to `new`, and each block that was owned.
 pub record Leaves (s new : State) : Type 0 where

@@ -5,7 +5,7 @@ use Rattle.gpu_alloc_base.specs.declared.config.Config.{Config}
 use Rattle.gpu_alloc.specs.declared.request.Request.{Request}
 use Rattle.gpu_alloc_base.specs.Config.{potato}
 use Rattle.gpu_alloc.specs.Opening.{opened}
-use Rattle.gpu_alloc.specs.State.{State}
+use Rattle.gpu_alloc_block.specs.State.{State}
 
 -- a device with one memory type in one heap
 abbrev pub one_type : ℕ → ℕ → ℕ → Properties

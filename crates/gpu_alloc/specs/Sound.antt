@@ -1,10 +1,10 @@
 -- What holds of an allocator between calls.
 use Rattle.std.specs.Prelude.{◌≡◌, ◌≢◌, ℕ, ◌+◌, ◌<◌, ◌≤◌, Bool, true, false, Some, IfSome}
 use Rattle.std.specs.FinMap as map
-use Rattle.gpu_alloc.specs.declared.block.Kind.{Kind}
-use Rattle.gpu_alloc.specs.declared.block.Kind.TheVariants.{Dedicated, Imported, BuddyChunk, FreeListChunk}
+use Rattle.gpu_alloc_block.specs.declared.block.Kind.{Kind}
+use Rattle.gpu_alloc_block.specs.declared.block.Kind.TheVariants.{Dedicated, Imported, BuddyChunk, FreeListChunk}
 use Rattle.gpu_alloc.specs.FreeListSharing.{IsListChunk, latest_number}
-use Rattle.gpu_alloc.specs.State.{HeldObject, Span, State, IsLive, AreApart, is_shared}
+use Rattle.gpu_alloc_block.specs.State.{HeldObject, Span, State, IsLive, AreApart, is_shared}
 
 -- whether an object is held for a free list, which may keep a chunk in which nothing is live
 abbrev pub is_list_chunk : Kind → Bool

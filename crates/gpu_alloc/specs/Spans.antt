@@ -6,7 +6,7 @@ use Rattle.std.specs.Ordering.{nat_cmp}
 use Rattle.indexmap.specs.IndexMap.{IndexMap, spare}
 use Rattle.slab.specs.Slab.{Slab, get, slab_len}
 use Rattle.gpu_alloc_base.specs.SlabViews.{map_by, set_by}
-use Rattle.gpu_alloc.specs.State.{HeldObject, Span, span_cmp}
+use Rattle.gpu_alloc_block.specs.State.{HeldObject, Span, span_cmp}
 use Rattle.gpu_alloc.specs.declared.spans.HeldRow.{HeldRow}
 use Rattle.gpu_alloc.specs.declared.spans.LiveSpan.{LiveSpan}
 

@@ -7,3 +7,5 @@ pub use Rattle.gpu_alloc_base.specs.declared.free_list_block.Slot
 pub use Rattle.gpu_alloc_base.specs.declared.heap.Heap
 pub use Rattle.gpu_alloc_base.specs.declared.piece.Piece
 pub use Rattle.gpu_alloc_base.specs.declared.region.FreeListRegion
+pub use Rattle.gpu_alloc_block.specs.declared.block.Kind
+pub use Rattle.gpu_alloc_block.specs.declared.block.Mapping

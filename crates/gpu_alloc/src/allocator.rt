@@ -7,7 +7,7 @@ ghost use Rattle.std.specs.FinSet as set;
 ghost use Rattle.gpu_alloc_types.specs.Properties.{IsUsable, properties_of, heap_size};
 ghost use Rattle.gpu_alloc_types.specs.Flags.{has_bit, usage_bits};
 ghost use Rattle.gpu_alloc_types.specs.Device.{Event, Chain};
-ghost use Rattle.gpu_alloc.specs.Agreement.{Agrees};
+ghost use Rattle.gpu_alloc_block.specs.Agreement.{Agrees, BlockAgrees, KeepsBlocks};
 ghost use Rattle.gpu_alloc.specs.Allocation.{passing, strategy, unhinted, fits_a_chunk, Tries, TriesBy, TriesAll};
 ghost use Rattle.gpu_alloc.specs.Allocation.{Allocates, ObjectsAfter, ObjectsTried, IsGranted};
 ghost use Rattle.gpu_alloc.specs.Atoms.{KeepsAtoms};
@@ -17,13 +17,12 @@ ghost use Rattle.gpu_alloc.specs.Owned.{HoldsNothing, Leaves, Adds, Removes, Lea
 ghost use Rattle.gpu_alloc.specs.Release.{Frees, ObjectsFreed, Cleans, ObjectsCleaned, IsCleanedUp};
 ghost use Rattle.gpu_alloc.specs.Request.{IsAskable};
 ghost use Rattle.gpu_alloc.specs.Sound as Sound;
-ghost use Rattle.gpu_alloc.specs.State.{HeldObject, Span, IsLive, IsOwned, ledger, total};
+ghost use Rattle.gpu_alloc_block.specs.State.{HeldObject, Span, IsLive, IsOwned, ledger, total};
 
 mod by_type;
 mod returning;
 mod rows;
 
-use crate::block::Kind;
 use crate::limits::Limits;
 use crate::request::is_required;
 use crate::spans::{HeldRow, LiveSpan, Spans};
@@ -31,6 +30,7 @@ use crate::{Dedicated, MemoryBlock, MemoryForUsage, Request};
 use by_type::{close_buddies, close_free_lists, empty_buddies, empty_free_lists, unused_heaps};
 use gpu_alloc_base::heap::Heap;
 use gpu_alloc_base::{AllocationError, Config};
+use gpu_alloc_block::Kind;
 use gpu_alloc_buddy::BuddyAllocator;
 use gpu_alloc_freelist::FreeListAllocator;
 use gpu_alloc_types::{DeviceProperties, MemoryDevice, MemoryObject, OutOfMemory, UsageFlags};
@@ -62,7 +62,7 @@ pub struct GpuAllocator<M: MemoryObject, A: Allocator = Global> {
 }
 
 impl<M: MemoryObject, A: Allocator> Model for GpuAllocator<M, A> {
-    ghost use Rattle.gpu_alloc.specs.State.{State};
+    ghost use Rattle.gpu_alloc_block.specs.State.{State};
     ghost use Rattle.gpu_alloc.specs.Codes.{state_code};
 
     ghost Value = { State };
@@ -162,6 +162,9 @@ impl<M: MemoryObject, A: Allocator> GpuAllocator<M, A> {
     /// device decides. A block lies inside its object, and is not mapped. Each question to the device carries
     /// `DEVICE_ADDRESS` exactly where the device has the feature (the original crate's rule).
     ///
+    /// The block agrees with the device afterwards, which its own calls ask for, and so does each block that was owned
+    /// and agreed before.
+    ///
     /// The request has to be askable (`Request::is_askable`, for the device's `buffer_device_address`), and the device
     /// has to be the one that this allocator has served, so that the two agree. The refusals, in the order in which
     /// they are tested (the original crate's): `OutOfDeviceMemory` where the size is over the limit given to `new`;
@@ -188,9 +191,12 @@ impl<M: MemoryObject, A: Allocator> GpuAllocator<M, A> {
 
         // What follows from it.
         ensures granted { IfOk result (IsGranted self.old request self.new) }
+        ensures ready { IfOk result (λ block. BlockAgrees block (D.properties device.new) (D.objects device.new)) }
         ensures added { IfOk result (Adds self.old self.new) }
         ensures refused { OnErr result (self.new ≡ self.old) }
         ensures leaves { Leaves self.old self.new }
+        ensures keeps { KeepsBlocks self.old (D.properties device.old) (D.objects device.old)
+            self.new (D.properties device.new) (D.objects device.new) }
         ensures total { total self.new ≡ total self.old }
         ensures sound { Sound.IsSound self.new }
     {
@@ -224,9 +230,12 @@ impl<M: MemoryObject, A: Allocator> GpuAllocator<M, A> {
 
         // What follows from it.
         ensures granted { IfOk result (IsGranted self.old request self.new) }
+        ensures ready { IfOk result (λ block. BlockAgrees block (D.properties device.new) (D.objects device.new)) }
         ensures added { IfOk result (Adds self.old self.new) }
         ensures refused { OnErr result (self.new ≡ self.old) }
         ensures leaves { Leaves self.old self.new }
+        ensures keeps { KeepsBlocks self.old (D.properties device.old) (D.objects device.old)
+            self.new (D.properties device.new) (D.objects device.new) }
         ensures total { total self.new ≡ total self.old }
         ensures sound { Sound.IsSound self.new }
     {
@@ -553,7 +562,8 @@ impl<M: MemoryObject, A: Allocator> GpuAllocator<M, A> {
     /// ledger of its heap is lowered by its size. Any other chunk stays, and joins what is free in it.
     ///
     /// The block has to be live here (`owns` tells), and the device has to be the one that this allocator has served,
-    /// so that the two agree. It takes no memory and cannot fail.
+    /// so that the two agree. The block may be mapped. It takes no memory and cannot fail. Each other block that stays
+    /// owned agrees with the device afterwards where it did before.
     pub fn dealloc<D: MemoryDevice<M>>(&mut self, device: &mut D, block: MemoryBlock<M>)
         requires owned { IsOwned self.old block }
         requires agrees { Agrees self.old (D.properties device.old) (D.objects device.old) }
@@ -562,6 +572,8 @@ impl<M: MemoryObject, A: Allocator> GpuAllocator<M, A> {
         ensures objects { ObjectsFreed self.old block (D.objects device.old) (D.objects device.new) }
         ensures agrees { Agrees self.new (D.properties device.new) (D.objects device.new) }
         ensures removed { Removes self.old block self.new }
+        ensures keeps { KeepsBlocks self.old (D.properties device.old) (D.objects device.old)
+            self.new (D.properties device.new) (D.objects device.new) }
         ensures total { total self.new ≡ total self.old }
         ensures sound { Sound.IsSound self.new }
     {
@@ -571,8 +583,9 @@ impl<M: MemoryObject, A: Allocator> GpuAllocator<M, A> {
     /// Gives every free-list chunk in which no block is live back to the device: by memory type, and then the oldest
     /// first. For each, one more object may be held, and the ledger of its heap is lowered by its size.
     ///
-    /// Where no block is live, nothing is held afterwards, and every ledger is 0. The device has to be the one that
-    /// this allocator has served, so that the two agree. It takes no memory and cannot fail.
+    /// Where no block is live, nothing is held afterwards, and every ledger is 0. Each block that is owned agrees with
+    /// the device afterwards where it did before. The device has to be the one that this allocator has served, so that
+    /// the two agree. It takes no memory and cannot fail.
     pub fn cleanup<D: MemoryDevice<M>>(&mut self, device: &mut D)
         requires agrees { Agrees self.old (D.properties device.old) (D.objects device.old) }
 
@@ -580,6 +593,8 @@ impl<M: MemoryObject, A: Allocator> GpuAllocator<M, A> {
         ensures objects { ObjectsCleaned self.old (D.objects device.old) (D.objects device.new) }
         ensures agrees { Agrees self.new (D.properties device.new) (D.objects device.new) }
         ensures leaves { Leaves self.old self.new }
+        ensures keeps { KeepsBlocks self.old (D.properties device.old) (D.objects device.old)
+            self.new (D.properties device.new) (D.objects device.new) }
         ensures rest { LeavesNoRest self.old self.new }
         ensures total { total self.new ≡ total self.old }
         ensures left { (object : ℕ) (h : HeldObject) → map.get self.new.held object ≡ Some h

@@ -2,7 +2,7 @@
 
 ghost use Rattle.std.specs.Prelude.{◌≡◌, ◌≢◌, ℕ, List, [], ◌∷◌, Some, None, true, false};
 ghost use Rattle.std.specs.FinSet as set;
-ghost use Rattle.gpu_alloc.specs.Agreement.{Agrees};
+ghost use Rattle.gpu_alloc_block.specs.Agreement.{Agrees, KeptBlocksAgree};
 ghost use Rattle.gpu_alloc.specs.Allocation.{strategy, CandidatesServe};
 ghost use Rattle.gpu_alloc.specs.Exactness.{AreCanonical, AreFreePieces, AreLongEnough, ArePiecesApart};
 ghost use Rattle.gpu_alloc.specs.Exactness.{AreSpaced, AreFreeRuns, TellPlaces};
@@ -24,8 +24,8 @@ ghost use Rattle.gpu_alloc_base.specs.Sizes.{minimal_size, final_size, grown_chu
 ghost use Rattle.gpu_alloc.specs.FirstTypes.{first_types};
 ghost use Rattle.gpu_alloc.specs.Owned.{AreTwo, CancelOut, HoldsNothing};
 ghost use Rattle.gpu_alloc.specs.Sound.{IsSound};
-ghost use Rattle.gpu_alloc.specs.State.{State, Block, Span, span_of, span_cmp, IsOwned};
-ghost use Rattle.gpu_alloc.specs.declared.block.Kind.{Kind};
+ghost use Rattle.gpu_alloc_block.specs.State.{State, Block, Span, span_of, span_cmp, IsOwned};
+ghost use Rattle.gpu_alloc_block.specs.declared.block.Kind.{Kind};
 ghost use Rattle.gpu_alloc_base.specs.declared.piece.Piece.{Piece};
 ghost use Rattle.gpu_alloc.specs.declared.request.Dedicated.TheVariants.{Required, Preferred};
 
@@ -174,7 +174,13 @@ pub fn candidates_serve_the_request()
     ensures { CandidatesServe }
 {}
 
-/// Two blocks that are owned and of different spans share no byte.
+/// A call of the allocator keeps the agreement of each block that stays owned: by this call what the clause `keeps`
+/// says becomes known of each block in hand.
+pub fn kept_blocks_agree()
+    ensures { KeptBlocksAgree }
+{}
+
+/// Two blocks that are owned and of different spans share no byte, nor an object where one of them has its own.
 pub fn owned_blocks_are_apart()
     ensures { (s : State) (b c : Block) → IsSound s → IsOwned s b → IsOwned s c → span_of b ≢ span_of c → AreTwo b c }
 {}

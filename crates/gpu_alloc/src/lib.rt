@@ -2,7 +2,6 @@
 #![tactic(auto)]
 
 mod allocator;
-mod block;
 pub mod buddy;
 pub mod freelist;
 pub mod heap;
@@ -13,11 +12,11 @@ pub mod spans;
 pub mod steps;
 
 pub use allocator::GpuAllocator;
-pub use block::{Mapping, MemoryBlock};
 pub use gpu_alloc_base::{AllocationError, Config, MapError};
+pub use gpu_alloc_block::{Mapping, MemoryBlock};
 pub use gpu_alloc_types::{
-    AllocationFlags, DeviceMapError, DeviceProperties, FreeRange, MemoryDevice, MemoryHeap,
-    MemoryObject, MemoryPropertyFlags, MemoryType, OutOfMemory, UsageFlags,
+    AllocationFlags, DeviceMapError, DeviceProperties, FreeRange, MappedMemoryRange, MemoryDevice,
+    MemoryHeap, MemoryObject, MemoryPropertyFlags, MemoryType, OutOfMemory, UsageFlags,
 };
 pub use gpu_alloc_usage::MemoryForUsage;
 pub use request::{Dedicated, Request};

@@ -7,8 +7,8 @@ use Rattle.gpu_alloc.specs.Agreement.{IsCounted}
 use Rattle.gpu_alloc.specs.Allocation.{Allocates}
 use Rattle.gpu_alloc.specs.Sound.{LiesIn}
 use Rattle.gpu_alloc.specs.State.{Span, span_of, HeldObject, Block, State, is_shared}
-use Rattle.gpu_alloc.specs.declared.block.Kind.{Kind}
-use Rattle.gpu_alloc.specs.declared.block.Kind.TheVariants.{Dedicated as DedicatedObject}
+use Rattle.gpu_alloc_block.specs.declared.block.Kind.{Kind}
+use Rattle.gpu_alloc_block.specs.declared.block.Kind.TheVariants.{Dedicated as DedicatedObject}
 use Rattle.gpu_alloc.specs.declared.request.Request.{Request}
 use Rattle.gpu_alloc.specs.declared.request.Dedicated.TheVariants.{Required}
 use Rattle.gpu_alloc.proofs.Decisions.{of_grant}

@@ -9,8 +9,8 @@ use Rattle.gpu_alloc_types.specs.Properties.{Properties}
 use Rattle.gpu_alloc_buddy.specs.BuddyState.{Buddy}
 use Rattle.gpu_alloc.specs.Inside.{IsChunkOf, IsBuddyOf, HasBuddies}
 use Rattle.gpu_alloc.specs.Spans.{Place, Table}
-use Rattle.gpu_alloc.specs.State.{HeldObject, Span, span_cmp}
-use Rattle.gpu_alloc.specs.declared.block.Kind.TheVariants.{BuddyChunk}
+use Rattle.gpu_alloc_block.specs.State.{HeldObject, Span, span_cmp}
+use Rattle.gpu_alloc_block.specs.declared.block.Kind.TheVariants.{BuddyChunk}
 use Rattle.gpu_alloc_base.specs.declared.config.Config.{Config}
 use Rattle.gpu_alloc.proofs.HeapLists.{each_set}
 use Rattle.gpu_alloc.proofs.Buddies.Links.{IsBeside, linked_beside}

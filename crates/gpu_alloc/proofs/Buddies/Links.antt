@@ -9,7 +9,7 @@ use Rattle.gpu_alloc_buddy.specs.BuddyState.{Buddy, IsLiveLeaf}
 use Rattle.gpu_alloc_base.specs.Chunks.{Chunk}
 use Rattle.gpu_alloc.specs.Inside.{IsLiveIn, IsOfObject, IsChunkOf, IsLinked, chunk_object, span_of_leaf, place_of_leaf, leaf_at}
 use Rattle.gpu_alloc.specs.Spans.{Place, Table}
-use Rattle.gpu_alloc.specs.State.{HeldObject, Span}
+use Rattle.gpu_alloc_block.specs.State.{HeldObject, Span}
 use Rattle.gpu_alloc_base.specs.declared.buddy_block.Leaf.{Leaf}
 use Rattle.gpu_alloc_base.proofs.Leaves.{was_live, still_live, now_live, leaf_removed}
 use Rattle.gpu_alloc_base.proofs.Maps.{one_value, get_put, get_beside, get_left, own_inserted, other_inserted, another_key, kept_other, kept_key}

@@ -8,7 +8,7 @@ use Rattle.std.specs.FinSet as set_of
 use Rattle.gpu_alloc_types.specs.Device.{Event, Object, put}
 use Rattle.gpu_alloc_types.specs.Device.Event.{Deallocated}
 use Rattle.gpu_alloc_types.specs.Properties.{Properties, heap_at}
-use Rattle.gpu_alloc.specs.Agreement as agreement
+use Rattle.gpu_alloc_block.specs.Agreement as agreement
 use Rattle.gpu_alloc_base.specs.Accounts.{Account, account, IsCounted}
 use Rattle.gpu_alloc_buddy.specs.Buddy.{without_leaf, IsUnusedChunk}
 use Rattle.gpu_alloc_buddy.specs.Buddy as buddy
@@ -21,9 +21,9 @@ use Rattle.gpu_alloc.specs.Release.{Frees, ObjectsFreed, GoesWith, IsUnused, wit
 use Rattle.gpu_alloc.specs.FirstTypes.{first_types}
 use Rattle.gpu_alloc.specs.Sound.{is_list_chunk}
 use Rattle.gpu_alloc.specs.Spans.{Table, span_in, place_in, without_old}
-use Rattle.gpu_alloc.specs.State.{HeldObject, Span, span_cmp, span_of, Block, IsOwned, State}
-use Rattle.gpu_alloc.specs.declared.block.Kind.{Kind}
-use Rattle.gpu_alloc.specs.declared.block.Kind.TheVariants.{BuddyChunk}
+use Rattle.gpu_alloc_block.specs.State.{HeldObject, Span, span_cmp, span_of, Block, IsOwned, State}
+use Rattle.gpu_alloc_block.specs.declared.block.Kind.{Kind}
+use Rattle.gpu_alloc_block.specs.declared.block.Kind.TheVariants.{BuddyChunk}
 use Rattle.gpu_alloc_base.specs.declared.buddy_block.Leaf.{Leaf}
 use Rattle.gpu_alloc_base.specs.declared.heap.Heap.{Heap}
 use Rattle.gpu_alloc.specs.declared.limits.Limits.{Limits}

@@ -5,7 +5,7 @@ use Rattle.std.specs.FinMap as map
 use Rattle.gpu_alloc_types.specs.Device.{Object, HeldWith}
 use Rattle.gpu_alloc_types.specs.Flags.{has_bit}
 use Rattle.gpu_alloc_types.specs.Properties.{Properties, heap_at, props_at, is_host_visible}
-use Rattle.gpu_alloc.specs.Agreement as agreement
+use Rattle.gpu_alloc_block.specs.Agreement as agreement
 use Rattle.gpu_alloc_base.specs.Accounts.{IsCounted, chunk_bytes}
 use Rattle.gpu_alloc_buddy.specs.Buddy.{IsFront, BeginsChunk, IsUnusedChunk, without_leaf, sees_chunks}
 use Rattle.gpu_alloc_buddy.specs.Buddy as buddy
@@ -15,7 +15,7 @@ use Rattle.gpu_alloc_base.specs.Chunks.{Chunk}
 use Rattle.gpu_alloc.specs.Inside.{IsChunkOf, IsBooked, chunk_object, span_of_leaf, place_of_leaf, leaf_at}
 use Rattle.gpu_alloc.specs.Release.{IsUnused, without_span}
 use Rattle.gpu_alloc.specs.Spans.{Place}
-use Rattle.gpu_alloc.specs.State.{HeldObject, Span, span_cmp, span_of, Block, State, IsLive, share}
+use Rattle.gpu_alloc_block.specs.State.{HeldObject, Span, span_cmp, span_of, Block, State, IsLive, share}
 use Rattle.gpu_alloc_base.specs.declared.buddy_block.Leaf.{Leaf}
 use Rattle.gpu_alloc_base.specs.declared.heap.Heap.{Heap}
 use Rattle.gpu_alloc_base.proofs.Leaves.{leaf_removed}

@@ -19,8 +19,8 @@ use Rattle.gpu_alloc.specs.Candidates.{buddy_candidate, candidate}
 use Rattle.gpu_alloc.specs.declared.allocator.Strategy.TheVariants.{InBuddyChunk}
 use Rattle.gpu_alloc_base.proofs.ToldTwice.{IsToldAs}
 use Rattle.gpu_alloc.specs.Spans.{Place, Table}
-use Rattle.gpu_alloc.specs.State.{HeldObject, span_cmp, State}
-use Rattle.gpu_alloc.specs.declared.block.Kind.TheVariants.{BuddyChunk}
+use Rattle.gpu_alloc_block.specs.State.{HeldObject, span_cmp, State}
+use Rattle.gpu_alloc_block.specs.declared.block.Kind.TheVariants.{BuddyChunk}
 use Rattle.gpu_alloc_base.specs.declared.buddy_block.Leaf.{Leaf}
 use Rattle.gpu_alloc_base.specs.declared.heap.Heap.{Heap}
 use Rattle.gpu_alloc.specs.declared.request.Request.{Request}

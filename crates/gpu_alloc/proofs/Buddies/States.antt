@@ -5,7 +5,7 @@ use Rattle.gpu_alloc_buddy.specs.BuddyState.{Buddy}
 use Rattle.gpu_alloc_freelist.specs.FreeListState.{Listing}
 use Rattle.gpu_alloc.specs.Inside.{types_in, lists_in}
 use Rattle.gpu_alloc.specs.BuddySharing.{next_chunk_of, with_next_chunk}
-use Rattle.gpu_alloc.specs.State.{TypeState}
+use Rattle.gpu_alloc_block.specs.State.{TypeState}
 
 -- its next chunk will be as large at least
 pub types_set : (types : List TypeState) (buddies : List Buddy) (i : ℕ) (b : Buddy) → i < length buddies → i < length types

@@ -8,7 +8,7 @@ use Rattle.std.specs.FinSet as set_of
 use Rattle.gpu_alloc_types.specs.Device.{Event, Object, put}
 use Rattle.gpu_alloc_types.specs.Device.Event.{Deallocated}
 use Rattle.gpu_alloc_types.specs.Properties.{Properties, heap_at}
-use Rattle.gpu_alloc.specs.Agreement.{Agrees}
+use Rattle.gpu_alloc_block.specs.Agreement.{Agrees}
 use Rattle.gpu_alloc_buddy.specs.BuddyState.{Buddy}
 use Rattle.gpu_alloc_base.specs.Chunks.{Chunk}
 use Rattle.gpu_alloc_freelist.specs.FreeList.{IsWhollyFree, without_chunk}
@@ -21,8 +21,8 @@ use Rattle.gpu_alloc.specs.Inside.{state_in, properties_in, types_in, list_objec
 use Rattle.gpu_alloc.specs.Release.{GivesBack, LetsGo, without_all, without_objects}
 use Rattle.gpu_alloc.specs.FirstTypes.{first_types}
 use Rattle.gpu_alloc.specs.Spans.{Place, Table}
-use Rattle.gpu_alloc.specs.State.{HeldObject, Span, span_cmp, State, total}
-use Rattle.gpu_alloc.specs.declared.block.Kind.TheVariants.{BuddyChunk}
+use Rattle.gpu_alloc_block.specs.State.{HeldObject, Span, span_cmp, State, total}
+use Rattle.gpu_alloc_block.specs.declared.block.Kind.TheVariants.{BuddyChunk}
 use Rattle.gpu_alloc_base.specs.declared.heap.Heap.{Heap}
 use Rattle.gpu_alloc.specs.declared.limits.Limits.{Limits}
 use Rattle.gpu_alloc.proofs.Consistency.{heap_there, booked-let_go}

@@ -12,9 +12,9 @@ use Rattle.gpu_alloc.specs.Inside.{IsNumberedChunk, list_object, span_of_slot, s
 use Rattle.gpu_alloc.specs.FreeListSharing.{IsListChunk, IsFreeInChunk}
 use Rattle.gpu_alloc.specs.Release.{IsUnused, HasLastRun, MayGo, AreChunksGone, AreAllGone, without_all}
 use Rattle.gpu_alloc.specs.Spans.{Place}
-use Rattle.gpu_alloc.specs.State.{HeldObject, Span, span_cmp, State, IsLive}
-use Rattle.gpu_alloc.specs.declared.block.Kind.{Kind}
-use Rattle.gpu_alloc.specs.declared.block.Kind.TheVariants.{Dedicated, Imported, BuddyChunk, FreeListChunk}
+use Rattle.gpu_alloc_block.specs.State.{HeldObject, Span, span_cmp, State, IsLive}
+use Rattle.gpu_alloc_block.specs.declared.block.Kind.{Kind}
+use Rattle.gpu_alloc_block.specs.declared.block.Kind.TheVariants.{Dedicated, Imported, BuddyChunk, FreeListChunk}
 use Rattle.gpu_alloc.proofs.Ledgers.{Held}
 use Rattle.gpu_alloc_base.proofs.Lists.{contains_head, contains_later, contains_cases, contains_none}
 use Rattle.gpu_alloc.proofs.FreeLists.Serving.{ServesList, numbered_held, list_chunk_is, list_chunk_was, same_bytes}

@@ -8,7 +8,7 @@ use Rattle.gpu_alloc_freelist.specs.FreeListState.{Listing}
 use Rattle.gpu_alloc.specs.Inside.{IsNumberedChunk, IsListOf, HasLists}
 use Rattle.gpu_alloc.specs.Sound.{is_list_chunk}
 use Rattle.gpu_alloc.specs.Spans.{Table}
-use Rattle.gpu_alloc.specs.State.{HeldObject}
+use Rattle.gpu_alloc_block.specs.State.{HeldObject}
 use Rattle.gpu_alloc_base.specs.declared.config.Config.{Config}
 use Rattle.gpu_alloc.proofs.Buddies.HasBuddies.{IsOfType}
 use Rattle.gpu_alloc.proofs.HeapLists.{each_set}

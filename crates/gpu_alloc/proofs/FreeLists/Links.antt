@@ -10,8 +10,8 @@ use Rattle.gpu_alloc_freelist.specs.FreeListSound.{LiesInChunk, IsSound}
 use Rattle.gpu_alloc_freelist.specs.FreeListState.{Space, Listing, IsLiveSlot}
 use Rattle.gpu_alloc.specs.Inside.{IsLiveIn, IsOfObject, IsNumberedChunk, IsListLinked, list_object, span_of_slot, slot_at, no_place}
 use Rattle.gpu_alloc.specs.Spans.{Table}
-use Rattle.gpu_alloc.specs.State.{HeldObject, Span}
-use Rattle.gpu_alloc.specs.declared.block.Kind.TheVariants.{FreeListChunk}
+use Rattle.gpu_alloc_block.specs.State.{HeldObject, Span}
+use Rattle.gpu_alloc_block.specs.declared.block.Kind.TheVariants.{FreeListChunk}
 use Rattle.gpu_alloc_base.specs.declared.free_list_block.Slot.{Slot}
 use Rattle.gpu_alloc.proofs.Buddies.Links.{IsBeside}
 use Rattle.gpu_alloc.proofs.Tables.LiveSpans.{live_new, live_still, live_before, live_kept, live_other}

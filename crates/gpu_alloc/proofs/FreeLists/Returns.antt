@@ -12,8 +12,8 @@ use Rattle.gpu_alloc.specs.Inside.{state_in, properties_in, types_in, list_objec
 use Rattle.gpu_alloc.specs.Release.{AreChunksGone, GoesWith, without_span}
 use Rattle.gpu_alloc.specs.FirstTypes.{first_types}
 use Rattle.gpu_alloc.specs.Spans.{Table}
-use Rattle.gpu_alloc.specs.State.{HeldObject, Span, span_of, Block, IsOwned, State}
-use Rattle.gpu_alloc.specs.declared.block.Kind.TheVariants.{FreeListChunk}
+use Rattle.gpu_alloc_block.specs.State.{HeldObject, Span, span_of, Block, IsOwned, State}
+use Rattle.gpu_alloc_block.specs.declared.block.Kind.TheVariants.{FreeListChunk}
 use Rattle.gpu_alloc_base.specs.declared.free_list_block.Slot.{Slot}
 use Rattle.gpu_alloc_base.specs.declared.heap.Heap.{Heap}
 use Rattle.gpu_alloc.specs.declared.limits.Limits.{Limits}

@@ -5,7 +5,7 @@ use Rattle.std.specs.FinMap as map
 use Rattle.gpu_alloc_types.specs.Device.{Object, HeldWith, put}
 use Rattle.gpu_alloc_types.specs.Flags.{has_bit}
 use Rattle.gpu_alloc_types.specs.Properties.{Properties, heap_at, props_at, is_host_visible}
-use Rattle.gpu_alloc.specs.Agreement as agreement
+use Rattle.gpu_alloc_block.specs.Agreement as agreement
 use Rattle.gpu_alloc_base.specs.Chunks.{IsThere, Chunk}
 use Rattle.gpu_alloc_base.specs.Accounts.{IsCounted, chunk_bytes}
 use Rattle.gpu_alloc_freelist.specs.FreeListAllocator.{sees_chunks}
@@ -14,7 +14,7 @@ use Rattle.gpu_alloc_freelist.specs.FreeListState.{Listing, IsLiveSlot}
 use Rattle.gpu_alloc.specs.Inside.{IsNumberedChunk, IsBooked, list_object, slot_at}
 use Rattle.gpu_alloc.specs.FreeListSharing.{list_block}
 use Rattle.gpu_alloc.specs.Spans.{Place}
-use Rattle.gpu_alloc.specs.State.{HeldObject, Span, span_cmp, State, IsLive, share}
+use Rattle.gpu_alloc_block.specs.State.{HeldObject, Span, span_cmp, State, IsLive, share}
 use Rattle.gpu_alloc_base.specs.declared.heap.Heap.{Heap}
 use Rattle.gpu_alloc.proofs.Agreeing.{agrees_returned}
 use Rattle.gpu_alloc.proofs.HeapLists.{ledger_at}

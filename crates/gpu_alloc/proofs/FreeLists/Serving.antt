@@ -18,7 +18,7 @@ use Rattle.gpu_alloc_base.proofs.ToldTwice.{IsToldAs}
 use Rattle.gpu_alloc_base.specs.NewChunk.{flags_of}
 use Rattle.gpu_alloc_base.specs.Sizes.{up, grown_chunk}
 use Rattle.gpu_alloc.specs.Spans.{Place}
-use Rattle.gpu_alloc.specs.State.{span_cmp, State}
+use Rattle.gpu_alloc_block.specs.State.{span_cmp, State}
 use Rattle.gpu_alloc_base.specs.declared.free_list_block.Slot.{Slot}
 use Rattle.gpu_alloc_base.specs.declared.heap.Heap.{Heap}
 use Rattle.gpu_alloc.specs.declared.request.Request.{Request}

@@ -5,7 +5,7 @@ use Rattle.gpu_alloc_buddy.specs.BuddyState.{Buddy}
 use Rattle.gpu_alloc_freelist.specs.FreeListState.{Listing}
 use Rattle.gpu_alloc.specs.Inside.{types_in, lists_in}
 use Rattle.gpu_alloc.specs.FreeListSharing.{list_chunk_of, number_of, with_next_list}
-use Rattle.gpu_alloc.specs.State.{TypeState}
+use Rattle.gpu_alloc_block.specs.State.{TypeState}
 
 -- As a free list changes.
 

@@ -9,8 +9,8 @@ use Rattle.gpu_alloc_freelist.specs.FreeListState.{Listing}
 use Rattle.gpu_alloc.specs.Inside.{state_in, properties_in, types_in, IsConsistent, IsListForType, IsListOf}
 use Rattle.gpu_alloc.specs.FirstTypes.{first_types, first_type_state}
 use Rattle.gpu_alloc.specs.Spans.{Table}
-use Rattle.gpu_alloc.specs.State.{HeldObject}
-use Rattle.gpu_alloc.specs.declared.block.Kind.TheVariants.{BuddyChunk, FreeListChunk}
+use Rattle.gpu_alloc_block.specs.State.{HeldObject}
+use Rattle.gpu_alloc_block.specs.declared.block.Kind.TheVariants.{BuddyChunk, FreeListChunk}
 use Rattle.gpu_alloc_base.specs.declared.heap.Heap.{Heap}
 use Rattle.gpu_alloc.specs.declared.limits.Limits.{Limits}
 use Rattle.gpu_alloc.proofs.FreeLists.Serving.{ServesList}

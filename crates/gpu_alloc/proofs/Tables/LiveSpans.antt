@@ -9,7 +9,7 @@ use Rattle.std.specs.FinMap as map
 use Rattle.std.specs.FinSet.{FinSet, contains, insert, remove, contains-insert, contains-remove, same_set}
 use Rattle.gpu_alloc.specs.Inside.{IsLiveIn, IsOfObject}
 use Rattle.gpu_alloc.specs.Spans.{Table}
-use Rattle.gpu_alloc.specs.State.{Span, span_cmp, span_numbers}
+use Rattle.gpu_alloc_block.specs.State.{Span, span_cmp, span_numbers}
 use Rattle.gpu_alloc_base.proofs.ListSets.{key_test}
 
 -- Spans in their order.

@@ -5,7 +5,7 @@ use Rattle.std.specs.FinSet as set
 use Rattle.slab.specs.Slab.{Slab, get}
 use Rattle.gpu_alloc_base.specs.SlabViews.{map_by, set_by, HasOneKeyEach}
 use Rattle.gpu_alloc.specs.Spans.{Place, span_in, place_in, IsUnder, IsNowhere}
-use Rattle.gpu_alloc.specs.State.{Span, span_cmp}
+use Rattle.gpu_alloc_block.specs.State.{Span, span_cmp}
 use Rattle.gpu_alloc.specs.declared.spans.LiveSpan.{LiveSpan}
 use Rattle.gpu_alloc.proofs.Tables.LiveSpans.{span_total, span_exact}
 use Rattle.gpu_alloc_base.proofs.SlabViews.{IsInserted, once_inserted, in_set, map_there, map_absent}

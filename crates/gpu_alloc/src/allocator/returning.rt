@@ -2,16 +2,16 @@
 
 ghost use Rattle.std.specs.Prelude.{◌≡◌, ℕ, ◌<◌, List, length, false};
 ghost use Rattle.gpu_alloc_types.specs.Device.{Event, Chain};
-ghost use Rattle.gpu_alloc.specs.Agreement.{Agrees};
+ghost use Rattle.gpu_alloc_block.specs.Agreement.{Agrees};
 ghost use Rattle.gpu_alloc.specs.Release.{Frees, ObjectsFreed, GivesBack, without_span};
 ghost use Rattle.gpu_alloc.specs.Sound as Sound;
-ghost use Rattle.gpu_alloc.specs.State.{IsOwned, is_shared, total};
+ghost use Rattle.gpu_alloc_block.specs.State.{IsOwned, is_shared, total};
 
 use super::GpuAllocator;
 use super::rows::leaf_in;
 use crate::MemoryBlock;
-use crate::block::Kind;
 use gpu_alloc_base::{BuddyBlock, FreeListBlock, Slot};
+use gpu_alloc_block::Kind;
 use gpu_alloc_types::{MemoryDevice, MemoryObject};
 use std::alloc::Allocator;
 

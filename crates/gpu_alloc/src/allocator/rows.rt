@@ -7,9 +7,9 @@ ghost use Rattle.gpu_alloc.specs.Inside.{span_of_leaf, place_of_leaf, leaf_at, w
 ghost use Rattle.gpu_alloc.specs.Inside.{with_chunk_of_slot};
 ghost use Rattle.gpu_alloc.specs.Spans.{span_in, place_in};
 
-use crate::block::Kind;
 use crate::spans::{HeldRow, LiveSpan, Spans};
 use gpu_alloc_base::{Leaf, Slot};
+use gpu_alloc_block::Kind;
 use std::alloc::Allocator;
 
 /// Adds the span of a buddy allocator's block, and its chunk where it was not held yet, into room that was made.

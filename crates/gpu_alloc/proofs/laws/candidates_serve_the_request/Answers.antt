@@ -2,7 +2,7 @@ use Rattle.std.proofs.Common.{ℕ}
 use Rattle.gpu_alloc_types.specs.Flags.{usage_bits}
 use Rattle.gpu_alloc_usage.proofs.Ranking.Candidates.{candidates_IsRankingWithin}
 use Rattle.gpu_alloc.specs.Allocation.{IsCandidate, ServesRequest}
-use Rattle.gpu_alloc.specs.State.{State}
+use Rattle.gpu_alloc_block.specs.State.{State}
 use Rattle.gpu_alloc.specs.declared.request.Request.{Request}
 use Rattle.gpu_alloc.proofs.laws.candidates_serve_the_request.Goals as goal
 

@@ -1,5 +1,6 @@
 use Rattle.std.proofs.Common.{Some}
 use Rattle.gpu_alloc.proofs.Agreed.{allocates_agrees, chain_keeps}
+use Rattle.gpu_alloc.proofs.BlocksAgreed.{allocates_agrees_block, allocation_keeps_blocks}
 use Rattle.gpu_alloc.proofs.Decisions.{allocates_kept, allocates_total}
 use Rattle.gpu_alloc.proofs.Granted.{allocates_granted}
 use Rattle.gpu_alloc.proofs.Owning.{allocates_add, allocates_leave}
@@ -24,4 +25,12 @@ pub returns-clause-leaves : goal.returns-clause-leaves
 returns-clause-leaves g c = allocates_leave c.args.self.now c.args.request (Some c.args.dedicated) _ _ _ c.allocate-answer.ensures.decided.2
 
 pub returns-clause-added : goal.returns-clause-added
-returns-clause-added g c = allocates_add c.args.self.now c.args.request (Some c.args.dedicated) _ c.keeps_sound.ensures.sound _ _ c.allocate-answer.ensures.decided.2 (returns-clause-granted g c)
+returns-clause-added g c = allocates_add c.args.self.now c.args.request (Some c.args.dedicated) _ c.keeps_sound.ensures.sound _ _ c.keeps_sound-2.ensures.sound c.allocate-answer.ensures.decided.2 (returns-clause-granted g c)
+
+pub returns-clause-ready : goal.returns-clause-ready
+returns-clause-ready g c = allocates_agrees_block c.args.self.now c.args.request (Some c.args.dedicated) _ _ _ _ _ _ c.keeps_sound-2.ensures.sound (returns-clause-agrees g c) c.allocate-answer.ensures.decided.2 (returns-clause-granted g c) c.allocate-answer.ensures.objects
+
+pub returns-clause-keeps : goal.returns-clause-keeps
+returns-clause-keeps g c =
+    let properties = chain_keeps g.D.MemoryDevice.step g.D.MemoryDevice.properties g.met.D.MemoryDevice.keeps_properties _ _ _ c.allocate-answer.ensures.decided.1 in
+    allocation_keeps_blocks c.args.self.now _ _ _ _ properties _ _ c.allocate-answer.ensures.objects

@@ -1,9 +1,11 @@
 use Rattle.std.proofs.Common.{◌≡◌, length, ◌++◌, ◌∙◌, ap, arith}
 use Rattle.gpu_alloc_types.specs.Chains.{chain_append}
 use Rattle.gpu_alloc.specs.Release.{AreAllGone}
+use Rattle.gpu_alloc.proofs.Agreed.{chain_keeps}
+use Rattle.gpu_alloc.proofs.BlocksAgreed.{cleanup_keeps_blocks}
 use Rattle.gpu_alloc.proofs.FreeLists.Cleanups.{cleaning_goes_on, all_gone, left_is}
 use Rattle.gpu_alloc.proofs.Owning.{cleans_leave, none_live}
-use Rattle.gpu_alloc.specs.State.{HeldObject, State}
+use Rattle.gpu_alloc_block.specs.State.{HeldObject, State}
 use Rattle.std.specs.FinMap as map
 use Rattle.std.specs.Ordering.{nat_cmp}
 use Rattle.gpu_alloc.proofs.allocator.GpuAllocator.cleanup.Given.{Over}
@@ -68,3 +70,9 @@ returns-clause-rest g c = record {
   live = ap (λ (s : State). s.live) (returns-clause-cleaned g c).2.2.1;
   held = λ none. ap map.len (returns-clause-ends g c (none_live c.args.self.now.live none)).0 ∙ map.len-empty nat_cmp HeldObject;
 }
+
+pub returns-clause-keeps : goal.returns-clause-keeps
+returns-clause-keeps g c =
+    let cleaned = returns-clause-cleaned g c in
+    let properties = chain_keeps g.D.MemoryDevice.step g.D.MemoryDevice.properties g.met.D.MemoryDevice.keeps_properties _ _ _ cleaned.1 in
+    cleanup_keeps_blocks c.args.self.now _ _ _ _ properties cleaned.0 _ cleaned.2 (returns-clause-objects g c)

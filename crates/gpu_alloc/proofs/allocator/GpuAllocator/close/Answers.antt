@@ -1,6 +1,6 @@
 use Rattle.std.proofs.Common.{◌∙◌, ap}
 use Rattle.std.specs.FinMap as map
-use Rattle.gpu_alloc.specs.State.{State}
+use Rattle.gpu_alloc_block.specs.State.{State}
 use Rattle.gpu_alloc.proofs.Closing.{chunkless_all, lists_empty}
 use Rattle.gpu_alloc.proofs.allocator.GpuAllocator.close.Goals as goal
 

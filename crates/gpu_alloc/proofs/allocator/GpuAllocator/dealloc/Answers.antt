@@ -1,3 +1,5 @@
+use Rattle.gpu_alloc.proofs.Agreed.{chain_keeps}
+use Rattle.gpu_alloc.proofs.BlocksAgreed.{return_keeps_blocks}
 use Rattle.gpu_alloc.proofs.Owning.{frees_remove}
 use Rattle.gpu_alloc.proofs.ReturnedTotals.{frees_total}
 use Rattle.gpu_alloc.proofs.allocator.GpuAllocator.dealloc.Goals as goal
@@ -7,3 +9,9 @@ returns-clause-removed g c = frees_remove c.args.self.now c.args.block _ _ c.tak
 
 pub returns-clause-total : goal.returns-clause-total
 returns-clause-total g c = frees_total c.args.self.now c.args.block _ _ c.requires.owned c.take_back.ensures.freed.2
+
+pub returns-clause-keeps : goal.returns-clause-keeps
+returns-clause-keeps g c =
+    let freed = c.take_back.ensures.freed in
+    let properties = chain_keeps g.D.MemoryDevice.step g.D.MemoryDevice.properties g.met.D.MemoryDevice.keeps_properties _ _ _ freed.1 in
+    return_keeps_blocks c.args.self.now _ _ _ _ properties c.args.block freed.0 _ freed.2 c.take_back.ensures.objects

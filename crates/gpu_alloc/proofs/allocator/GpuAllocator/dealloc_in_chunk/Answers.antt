@@ -3,7 +3,7 @@ use Rattle.std.specs.FinMap as finite
 use Rattle.std.specs.FinSet as set_of
 use Rattle.gpu_alloc_base.specs.Accounts.{account}
 use Rattle.gpu_alloc.specs.Spans.{span_at, span_in, place_in, without_old}
-use Rattle.gpu_alloc.specs.State.{Span, span_of}
+use Rattle.gpu_alloc_block.specs.State.{Span, span_of}
 use Rattle.gpu_alloc.specs.declared.spans.LiveSpan.{LiveSpan}
 use Rattle.gpu_alloc.proofs.Buddies.Returns.{Given, given_back, agrees_before, counted_first, IsReturned, back}
 use Rattle.gpu_alloc.proofs.Soundness.{sound_is}

@@ -3,10 +3,10 @@ use Rattle.std.proofs.Math.ListN.{set}
 use Rattle.std.specs.FinMap as finite
 use Rattle.std.specs.FinSet as set_of
 use Rattle.gpu_alloc_types.specs.Device.Event.{Deallocated}
-use Rattle.gpu_alloc.specs.Agreement.{Agrees}
+use Rattle.gpu_alloc_block.specs.Agreement.{Agrees}
 use Rattle.gpu_alloc.specs.Inside.{state_in}
 use Rattle.gpu_alloc.specs.Spans.{held_of, span_at}
-use Rattle.gpu_alloc.specs.State.{State, Span, span_of}
+use Rattle.gpu_alloc_block.specs.State.{State, Span, span_of}
 use Rattle.gpu_alloc_base.specs.declared.heap.Heap.{Heap}
 use Rattle.gpu_alloc.proofs.Agreeing.{agrees_returned}
 use Rattle.gpu_alloc.proofs.Consistency.{covers, fits_again}

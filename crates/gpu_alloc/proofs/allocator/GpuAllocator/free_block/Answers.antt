@@ -3,7 +3,7 @@ use Rattle.std.specs.FinMap as finite
 use Rattle.std.specs.FinSet as set_of
 use Rattle.gpu_alloc.specs.Inside.{slot_at}
 use Rattle.gpu_alloc.specs.Spans.{span_at}
-use Rattle.gpu_alloc.specs.State.{Span, span_of}
+use Rattle.gpu_alloc_block.specs.State.{Span, span_of}
 use Rattle.gpu_alloc.proofs.FreeLists.Returns.{listed_block, IsFreed, is_freed}
 use Rattle.gpu_alloc.proofs.allocator.GpuAllocator.free_block.Given.{Over}
 use Rattle.gpu_alloc.proofs.allocator.GpuAllocator.free_block.Goals as goal

@@ -1,11 +1,11 @@
 use Rattle.std.proofs.Common.{[], ◌++◌, refl, sym, ◌∙◌, subst, arith}
 use Rattle.std.proofs.Math.ListN.{set}
 use Rattle.gpu_alloc_types.specs.Chains.{chain_append}
-use Rattle.gpu_alloc.specs.Agreement.{Agrees}
+use Rattle.gpu_alloc_block.specs.Agreement.{Agrees}
 use Rattle.gpu_alloc_base.specs.Accounts.{account}
 use Rattle.gpu_alloc_freelist.specs.FreeListAllocator as list
 use Rattle.gpu_alloc.specs.Inside.{state_in}
-use Rattle.gpu_alloc.specs.State.{State}
+use Rattle.gpu_alloc_block.specs.State.{State}
 use Rattle.gpu_alloc.proofs.FreeLists.Going.{IsGivenBack, giving_begins, heap_in, stops, stops_consistent, goes, goes_fewer, list_agreed, list_counted_still}
 use Rattle.gpu_alloc.proofs.allocator.GpuAllocator.give_back.Given.{Over}
 use Rattle.gpu_alloc.proofs.allocator.GpuAllocator.give_back.Goals as goal

@@ -15,8 +15,8 @@ use Rattle.gpu_alloc.specs.Candidates.{list_candidate}
 use Rattle.gpu_alloc_freelist.specs.FreeListAllocator.{alignment}
 use Rattle.gpu_alloc_base.specs.Wanted.{wanted}
 use Rattle.gpu_alloc.specs.Spans.{Table}
-use Rattle.gpu_alloc.specs.State.{State, HeldObject, Block}
-use Rattle.gpu_alloc.specs.declared.block.Kind.TheVariants.{FreeListChunk}
+use Rattle.gpu_alloc_block.specs.State.{State, HeldObject, Block}
+use Rattle.gpu_alloc_block.specs.declared.block.Kind.TheVariants.{FreeListChunk}
 use Rattle.gpu_alloc_base.specs.declared.free_list_block.Slot.{Slot}
 use Rattle.gpu_alloc_base.proofs.Outcomes.{when_ok}
 use Rattle.gpu_alloc.proofs.Consistency.{heap_there}

@@ -12,7 +12,7 @@ use Rattle.gpu_alloc_base.specs.Case.{Asks}
 use Rattle.gpu_alloc.specs.Inside.{state_in, properties_in}
 use Rattle.gpu_alloc_base.specs.NewChunk.{flags_of, made}
 use Rattle.gpu_alloc.specs.Spans.{Table, span_at}
-use Rattle.gpu_alloc.specs.State.{State, HeldObject, Block}
+use Rattle.gpu_alloc_block.specs.State.{State, HeldObject, Block}
 use Rattle.gpu_alloc_buddy.specs.BuddyState.{Buddy}
 use Rattle.gpu_alloc_freelist.specs.FreeListState.{Listing}
 use Rattle.gpu_alloc_base.specs.declared.heap.Heap.{Heap}

@@ -4,7 +4,7 @@ use Rattle.gpu_alloc_types.specs.Properties.{heap_size}
 use Rattle.gpu_alloc_base.specs.Case as case
 use Rattle.gpu_alloc.specs.Allocation.{strategy, TriesBy, Tries}
 use Rattle.gpu_alloc.specs.Candidates.{candidate}
-use Rattle.gpu_alloc.specs.State.{State, Block}
+use Rattle.gpu_alloc_block.specs.State.{State, Block}
 use Rattle.gpu_alloc.specs.declared.allocator.Strategy.{Strategy}
 use Rattle.gpu_alloc.specs.declared.allocator.Strategy.TheVariants.{OwnObject, InBuddyChunk, InFreeList}
 use Rattle.gpu_alloc_base.specs.declared.error.AllocationError.{AllocationError}

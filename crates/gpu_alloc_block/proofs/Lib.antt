@@ -1,0 +1,7 @@
+pub mod Between
+pub mod Changes
+pub mod Copies
+pub mod Keeping
+pub mod Moving
+pub mod Opened
+pub mod Rounded

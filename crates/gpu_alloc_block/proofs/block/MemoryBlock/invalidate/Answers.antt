@@ -1,0 +1,19 @@
+use Rattle.std.proofs.Common.{◌≡◌, ℕ, true, false, Ok, IfSome, refl, sym, ◌∙◌, ap, subst}
+use Rattle.gpu_alloc_types.specs.Properties.{are_non_coherent}
+use Rattle.gpu_alloc_types.specs.Device.{Object, IsWellFormed, IsInvalidated}
+use Rattle.gpu_alloc_types.specs.declared.types.OutOfMemory.{OutOfMemory}
+use Rattle.gpu_alloc_block.proofs.Changes.{changes_none, some_known}
+use Rattle.gpu_alloc_block.proofs.Moving.{as_invalidated}
+use Rattle.gpu_alloc_block.specs.Ranges.{rounded}
+use Rattle.gpu_alloc_block.proofs.block.MemoryBlock.invalidate.Goals as goal
+
+pub returns-then-not-is_non_coherent-clause-objects : goal.returns-then-not-is_non_coherent-clause-objects
+returns-then-not-is_non_coherent-clause-objects g c =
+    let p = g.D.MemoryDevice.properties c.args.device.now in
+    let objects = g.D.MemoryDevice.objects c.args.device.now in
+    let b = c.args.self.now in
+    let r = rounded b c.args.offset c.args.len in
+    let held = c.requires.ready in
+    let well : IsWellFormed p held.0 = some_known (objects b.object) held.0 (IsWellFormed p) held.1 (g.met.D.MemoryDevice.well_formed c.args.device.now b.object) in
+    let coherent : are_non_coherent b.props ≡ false = sym c.is_non_coherent.ensures ∙ c.if-not-is_non_coherent.true in
+    changes_none objects b.object (IsInvalidated {E = OutOfMemory} (Ok tt) r) held.0 held.1 (as_invalidated p b r held.0 held.2 well coherent)

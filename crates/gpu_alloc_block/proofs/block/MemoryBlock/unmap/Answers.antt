@@ -1,0 +1,31 @@
+use Rattle.std.proofs.Common.{◌≡◌, true, false, not, ◌||◌, Bool, Option, Some, None, is_some, refl, sym, ◌∙◌, ap, subst}
+use Rattle.gpu_alloc_block.proofs.Between.{unmapped_so, keeps_remapped}
+use Rattle.gpu_alloc_block.proofs.Keeping.{agrees_remapped, same_block}
+use Rattle.gpu_alloc_block.specs.Agreement.{BlockAgrees}
+use Rattle.gpu_alloc_block.specs.InHand.{IsSameBlock}
+use Rattle.gpu_alloc_block.proofs.block.MemoryBlock.unmap.Goals as goal
+
+pub returns-clause-agrees : goal.returns-clause-agrees
+unfolding BlockAgrees
+returns-clause-agrees g c =
+    let b = c.args.self.now in
+    let p = g.D.MemoryDevice.properties c.args.device.now in
+    let q = g.D.MemoryDevice.properties c.close.new.device in
+    let f = g.D.MemoryDevice.objects c.args.device.now in
+    let closed = g.D.MemoryDevice.objects c.close.new.device in
+    subst (λ x. BlockAgrees (record x { mapping = None }) q closed) (sym c.self.view_is)
+    (agrees_remapped b None p q f closed c.close.ensures.properties tt (unmapped_so p b f closed c.requires c.close.ensures.objects) c.requires)
+
+pub returns-clause-keeps : goal.returns-clause-keeps
+unfolding BlockAgrees
+returns-clause-keeps g c =
+    let b = c.args.self.now in
+    let p = g.D.MemoryDevice.properties c.args.device.now in
+    let f = g.D.MemoryDevice.objects c.args.device.now in
+    let closed = g.D.MemoryDevice.objects c.close.new.device in
+    keeps_remapped b p (g.D.MemoryDevice.properties c.close.new.device) f closed None c.close.ensures.properties (unmapped_so p b f closed c.requires c.close.ensures.objects)
+
+pub returns-clause-same : goal.returns-clause-same
+unfolding BlockAgrees
+returns-clause-same g c =
+    subst (λ x. IsSameBlock c.args.self.now (record x { mapping = None })) (sym c.self.view_is) (same_block c.args.self.now None)

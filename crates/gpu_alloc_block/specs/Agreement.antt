@@ -1,0 +1,91 @@
+-- When an allocator, or one block, and the device agree.
+use Rattle.std.specs.Prelude.{◌≡◌, ◌≢◌, ◌⊎◌, ℕ, ◌+◌, ◌%◌, ◌<◌, ◌≤◌, true, false, Option, Some, None, IfSome}
+use Rattle.std.specs.FinMap as map
+use Rattle.gpu_alloc_types.specs.Properties.{Properties, is_host_visible, is_non_coherent, props_at, atom_of}
+use Rattle.gpu_alloc_types.specs.Device.{Object, HeldWith}
+use Rattle.gpu_alloc_block.specs.InHand.{AreTwo}
+use Rattle.gpu_alloc_block.specs.Ranges.{own_mapping}
+use Rattle.gpu_alloc_block.specs.declared.block.Mapping.{Mapping}
+use Rattle.gpu_alloc_block.specs.declared.block.Kind.{Kind}
+use Rattle.gpu_alloc_block.specs.declared.block.Kind.TheVariants.{Dedicated, Imported, BuddyChunk, FreeListChunk}
+use Rattle.gpu_alloc_block.specs.State.{HeldObject, Span, State, Block, IsLive, IsOwned, is_shared}
+
+-- a shared object is mapped whole where the host sees it
+abbrev pub IsMappedWhole : Properties → Object → Type 0
+IsMappedWhole p o = is_host_visible p o.memory_type ≡ true → o.mapped ≡ Some (0, o.size)
+
+-- an import lies inside its object, and where it has to be flushed ends on the atom or where the object ends
+pub record IsInside (p : Properties) (span : Span) (o : Object) : Type 0 where
+  pub within : span.offset + span.size ≤ o.size
+  pub finish : is_non_coherent p o.memory_type ≡ true → ((span.offset + span.size) % p.non_coherent_atom_size ≡ 0)
+      ⊎ (span.offset + span.size ≡ o.size)
+
+-- what is counted of an object on the device, by what it is held for
+abbrev pub IsCounted : Kind → State → ℕ → ℕ → Object → Type 0
+IsCounted Dedicated s name counted o = o.size ≡ counted
+IsCounted Imported s name counted o = (span : Span) → IsLive s span → span.object ≡ name → IsInside s.properties span o
+IsCounted BuddyChunk s name counted o = (o.size ≡ counted) × IsMappedWhole s.properties o
+IsCounted (FreeListChunk number) s name counted o = (o.size ≡ counted) × IsMappedWhole s.properties o
+
+pub record IsThere (s : State) (name : ℕ) (h : HeldObject) (o : Object) : Type 0 where
+  pub of_type : o.memory_type ≡ h.memory_type
+  pub of_size : IsCounted h.kind s name h.counted o
+
+-- The device has the properties that the allocator was given, and holds what the allocator holds.
+pub record Agrees (s : State) (p : Properties) (objects : ℕ → Option Object) : Type 0 where
+  pub properties : p ≡ s.properties
+  pub holds : (name : ℕ) → IfSome (map.get s.held name) (λ h. HeldWith objects name (IsThere s name h))
+
+-- The same of one block, whichever allocator it is of.
+
+-- a mapping is of some bytes inside the block
+pub record IsOfBlock (b : Block) (m : Mapping) : Type 0 where
+  pub nonempty : 0 < m.len
+  pub from : b.offset ≤ m.start
+  pub to : m.start + m.len ≤ b.offset + b.size
+
+-- the object that the device holds for a block
+pub record IsBeneath (p : Properties) (b : Block) (o : Object) : Type 0 where
+  pub of_type : o.memory_type ≡ b.memory_type
+  pub inside : b.offset + b.size ≤ o.size
+  -- a dedicated block is its whole object
+  pub whole : b.kind ≡ Dedicated → (b.offset ≡ 0) × (b.size ≡ o.size)
+  -- a shared object is mapped whole where the host sees it, and a block's own exactly where the block is
+  pub shared : is_shared b.kind ≡ true → IsMappedWhole p o
+  pub own : is_shared b.kind ≡ false → o.mapped ≡ own_mapping b
+  -- the block of a shared object starts on the atom, and each ends on it or where the object ends
+  pub start : is_shared b.kind ≡ true → b.offset % b.atom ≡ 0
+  pub finish : ((b.offset + b.size) % b.atom ≡ 0) ⊎ (b.offset + b.size ≡ o.size)
+
+-- The block has the property bits and the atom of its memory type, and the device holds its object so.
+pub record IsHeldFor (b : Block) (p : Properties) (objects : ℕ → Option Object) : Type 0 where
+  pub props : b.props ≡ props_at p b.memory_type
+  pub atom : b.atom ≡ atom_of p b.memory_type
+  pub mapping : IfSome b.mapping (IsOfBlock b)
+  pub there : HeldWith objects b.object (IsBeneath p b)
+
+-- A block agrees with a device that offers these properties and holds these objects.
+unfoldable pub BlockAgrees : Block → Properties → (ℕ → Option Object) → Type 0
+BlockAgrees b p objects = IsHeldFor b p objects
+
+-- What a call of a block keeps, from the one device to the other: the agreement of each allocator that owns the block
+-- or does not hold its object, and of each block of another object; of all of them where the object is shared.
+pub record KeepsAgreement (b : Block) (p : Properties) (old : ℕ → Option Object) (q : Properties)
+    (new : ℕ → Option Object) : Type 0 where
+  pub owner : (s : State) → IsOwned s b → Agrees s p old → Agrees s q new
+  pub stranger : (s : State) → map.get s.held b.object ≡ None → Agrees s p old → Agrees s q new
+  pub others : (c : Block) → c.object ≢ b.object → BlockAgrees c p old → BlockAgrees c q new
+  pub two : (c : Block) → AreTwo b c → BlockAgrees c p old → BlockAgrees c q new
+  pub two_back : (c : Block) → AreTwo c b → BlockAgrees c p old → BlockAgrees c q new
+  pub shared_owner : (s : State) → is_shared b.kind ≡ true → Agrees s p old → Agrees s q new
+  pub shared_others : (c : Block) → is_shared b.kind ≡ true → BlockAgrees c p old → BlockAgrees c q new
+
+-- What a call of an allocator keeps, from the one device to the other: the agreement of each block that stays owned.
+unfoldable pub KeepsBlocks : State → Properties → (ℕ → Option Object) → State → Properties → (ℕ → Option Object) → Type 0
+KeepsBlocks s p old after q new =
+    (b : Block) → IsOwned s b → IsOwned after b → BlockAgrees b p old → BlockAgrees b q new
+
+-- That is what it keeps: whoever has the one fact may have the other.
+pub record KeptBlocksAgree : Type 0 where
+  pub each : (s after : State) (b : Block) (p q : Properties) (old new : ℕ → Option Object)
+      → KeepsBlocks s p old after q new → IsOwned s b → IsOwned after b → BlockAgrees b p old → BlockAgrees b q new

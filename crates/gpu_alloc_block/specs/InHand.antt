@@ -1,0 +1,32 @@
+-- Blocks that a caller has in hand.
+use Rattle.std.specs.Prelude.{◌≡◌, ◌≢◌, false, List, [], ◌∷◌, ◌++◌}
+use Rattle.gpu_alloc_block.specs.State.{State, Block, span_of, AreApart, IsOwned, is_shared}
+
+-- two blocks are of two objects where one of them has its own
+unfoldable pub ShareNoObject : Block → Block → Type 0
+ShareNoObject b c =
+    (is_shared b.kind ≡ false → b.object ≢ c.object) × (is_shared c.kind ≡ false → b.object ≢ c.object)
+
+-- two blocks that share no byte, and so are of two spans
+pub record AreTwo (b c : Block) : Type 0 where
+  pub apart : AreApart (span_of b) (span_of c)
+  pub differ : span_of b ≢ span_of c
+  pub objects : ShareNoObject b c
+
+-- the block is another than each of these
+abbrev pub IsBeside : Block → List Block → Type 0
+IsBeside b [] = Unit {0}
+IsBeside b (c ∷ cs) = AreTwo b c × IsBeside b cs
+
+-- all of these are live here, and no two share a byte
+abbrev pub AreOwned : State → List Block → Type 0
+AreOwned s [] = Unit {0}
+AreOwned s (b ∷ bs) = IsOwned s b × IsBeside b bs × AreOwned s bs
+
+-- the block, with another mapping or none: it is owned where it was, and another than each that it was
+pub record IsSameBlock (b new : Block) : Type 0 where
+  pub same : new ≡ record b { mapping = new.mapping }
+  pub owned : (s : State) → IsOwned s b → IsOwned s new
+  pub two : (c : Block) → AreTwo b c → AreTwo new c
+  pub two_back : (c : Block) → AreTwo c b → AreTwo c new
+  pub all : (s : State) (cs ds : List Block) → AreOwned s (cs ++ b ∷ ds) → AreOwned s (cs ++ new ∷ ds)

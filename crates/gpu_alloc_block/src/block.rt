@@ -1,0 +1,601 @@
+//! A block of memory, which has to be given back.
+
+ghost use Rattle.std.specs.Prelude.{◌≡◌, ℕ, ◌+◌, ◌<◌, ◌≤◌, true, false, None, Some, length, List, [], ◌∷◌, is_some, cond};
+ghost use Rattle.std.specs.Prelude.{IfOk, IfErr, OnOk, OnErr};
+ghost use Rattle.std.specs.Result.{IsOk};
+ghost use Rattle.gpu_alloc_types.specs.Flags.{property_bits};
+ghost use Rattle.gpu_alloc_types.specs.Properties.{are_non_coherent};
+ghost use Rattle.gpu_alloc_types.specs.Device.{Asked, Changes, HeldWith, IsMapped, IsFlushed, IsInvalidated, range_of};
+ghost use Rattle.gpu_alloc_types.specs.Device.Event.{Mapped, Unmapped, Flushed, Invalidated};
+ghost use Rattle.gpu_alloc_block.specs.Agreement.{BlockAgrees, KeepsAgreement};
+ghost use Rattle.gpu_alloc_block.specs.Bytes.{AsksToWrite, EndsWrite, IsWrittenThrough, IsPartlyWritten, WritesWithin};
+ghost use Rattle.gpu_alloc_block.specs.Bytes.{AsksToRead, EndsRead, IsReadThrough, IsPartlyRead, ReadsWithin};
+ghost use Rattle.gpu_alloc_block.specs.Bytes.{ChangesBytes, IsOpen, putting, getting, invalidate_fails, where_non_coherent};
+ghost use Rattle.gpu_alloc_block.specs.InHand.{IsSameBlock};
+ghost use Rattle.gpu_alloc_block.specs.Mapped.{AsksToMap, ObjectsMapped, ObjectsUnmapped, IsClosed, mapping_of, of_own};
+ghost use Rattle.gpu_alloc_block.specs.Mapped.{refusal, unmapping};
+ghost use Rattle.gpu_alloc_block.specs.Ranges.{HasEnd, atom_end, rounded};
+ghost use Rattle.gpu_alloc_block.specs.State.{is_shared};
+
+use gpu_alloc_base::MapError;
+use gpu_alloc_types::{
+    DeviceMapError, MappedMemoryRange, MemoryDevice, MemoryObject, MemoryPropertyFlags, OutOfMemory,
+};
+use std::marker::Model;
+
+/// What an object is held for.
+#[derive(Clone, Copy, Debug, PartialEq, Eq)]
+pub enum Kind {
+    /// One block, which is the whole object.
+    Dedicated,
+
+    /// One block, in an object that the allocator did not make.
+    Imported,
+
+    /// The blocks of a buddy allocator.
+    BuddyChunk,
+
+    /// The blocks of a free list, whose chunks are numbered.
+    FreeListChunk(u64),
+}
+
+impl Kind {
+    /// Whether many blocks may lie in an object that is held so.
+    pub fn is_shared(self) -> bool
+        ensures { result ≡ is_shared self }
+    {
+        match self {
+            Kind::Dedicated | Kind::Imported => false,
+            Kind::BuddyChunk | Kind::FreeListChunk(_) => true,
+        }
+    }
+}
+
+/// What a block has mapped: a range of its object, in bytes.
+#[derive(Clone, Copy, Debug, PartialEq, Eq, Hash)]
+pub struct Mapping {
+    /// Where it starts in the object.
+    pub start: u64,
+
+    /// Its length.
+    pub len: u64,
+}
+
+/// A block of memory: a span of a memory object. It cannot be let go, only given back to its allocator.
+pub struct MemoryBlock<M: MemoryObject> {
+    memory: M,
+    offset: u64,
+    size: u64,
+    memory_type: u32,
+    props: MemoryPropertyFlags,
+    // The least unit of what has to be flushed of it, in bytes. A block's calls see no properties of the device.
+    atom: u64,
+    kind: Kind,
+    mapping: Option<Mapping>,
+    // Under which the table of live spans has it. Contracts don't see it, since the table confirms it.
+    key: usize,
+}
+
+impl<M: MemoryObject> Model for MemoryBlock<M> {
+    ghost use Rattle.gpu_alloc_block.specs.State.{Block};
+    ghost use Rattle.gpu_alloc_block.specs.Codes.{block_code};
+
+    ghost Value = { Block };
+
+    ghost coded = { block_code };
+
+    ghost use Rattle.gpu_alloc_types.specs.Flags.{property_bits};
+
+    ghost view = { λ b. record {
+      object = M.object b.memory;
+      offset = b.offset;
+      size = b.size;
+      memory_type = b.memory_type;
+      props = property_bits b.props;
+      atom = b.atom;
+      kind = b.kind;
+      mapping = b.mapping;
+    } };
+
+    ghost use Rattle.gpu_alloc_block.specs.Ranges.{HasEnd};
+
+    ghost invariant = { λ b. HasEnd b.offset b.size b.atom };
+}
+
+impl<M: MemoryObject> MemoryBlock<M> {
+    /// An unmapped block, whose span stands under a key. It is public for the crate above, whose table of live spans
+    /// confirms each block: users get theirs of a `GpuAllocator`.
+    pub fn new(
+        memory: M,
+        offset: u64,
+        size: u64,
+        memory_type: u32,
+        props: MemoryPropertyFlags,
+        atom: u64,
+        kind: Kind,
+        key: usize,
+    ) -> Self
+        requires { HasEnd offset size atom }
+        ensures { result ≡ record {
+          object = M.object memory;
+          offset = offset;
+          size = size;
+          memory_type = memory_type;
+          props = property_bits props;
+          atom = atom;
+          kind = kind;
+          mapping = None;
+        } }
+    {
+        MemoryBlock {
+            memory,
+            offset,
+            size,
+            memory_type,
+            props,
+            atom,
+            kind,
+            mapping: None,
+            key,
+        }
+    }
+
+    /// Takes the block apart, for its handle. It is public for the crate above, which lets the handle go once the
+    /// block's span is free.
+    pub fn into_memory(self) -> M
+        ensures { M.object result ≡ self.object }
+    {
+        let MemoryBlock {
+            memory,
+            offset: _,
+            size: _,
+            memory_type: _,
+            props: _,
+            atom: _,
+            kind: _,
+            mapping: _,
+            key: _,
+        } = self;
+        memory
+    }
+
+    /// A handle of the block's memory object.
+    pub fn memory(&self) -> &M
+        ensures { M.object result.now ≡ self.now.object }
+    {
+        &self.memory
+    }
+
+    /// Where the block starts in its object, in bytes.
+    pub fn offset(&self) -> u64
+        ensures { result ≡ self.now.offset }
+    {
+        self.offset
+    }
+
+    /// The block's size, in bytes: at least what was asked for.
+    pub fn size(&self) -> u64
+        ensures { result ≡ self.now.size }
+    {
+        self.size
+    }
+
+    /// The properties of its memory type.
+    pub fn props(&self) -> MemoryPropertyFlags
+        ensures { property_bits result ≡ self.now.props }
+    {
+        self.props
+    }
+
+    /// The index of its memory type.
+    pub fn memory_type(&self) -> u32
+        ensures { result ≡ self.now.memory_type }
+    {
+        self.memory_type
+    }
+
+    /// Whether the block is mapped.
+    pub fn is_mapped(&self) -> bool
+        ensures { result ≡ is_some self.now.mapping }
+    {
+        self.mapping.is_some()
+    }
+
+    /// What the block has mapped of its object, in bytes, while it is mapped.
+    pub fn mapping(&self) -> Option<Mapping>
+        ensures { result ≡ self.now.mapping }
+    {
+        self.mapping
+    }
+
+    /// Maps `size` bytes of the block from `offset` on, in bytes from its start, so that the host sees them until
+    /// [`unmap`](MemoryBlock::unmap). It gives where they lie in the block's object.
+    ///
+    /// Where the object is the block's own (the block is dedicated or imported) the device maps it, from the atom in
+    /// which the range begins to the end of the one in which it ends, or where the block ends: these are the bytes that
+    /// a flush of the range needs (the Vulkan specification's rule on `VkMappedMemoryRange`). A shared object was mapped
+    /// whole when it was made, so the device is asked nothing, and a block of it whose memory the host sees is always
+    /// mapped.
+    ///
+    /// The range has to be at least 1 byte and inside the block, and the device has to hold the block's object as the
+    /// allocator left it (`BlockAgrees`, which each grant tells). The refusals: `NonHostVisible` where the host does not
+    /// see the block's memory, then `AlreadyMapped` where the block is mapped; the device is asked nothing then.
+    /// `OutOfDeviceMemory`, `OutOfHostMemory` and `MapFailed` are the device's. After a refusal the block and the
+    /// device's objects are as before.
+    pub fn map<D: MemoryDevice<M>>(
+        &mut self,
+        device: &mut D,
+        offset: u64,
+        size: usize,
+    ) -> Result<Mapping, MapError>
+        requires nonempty { 0 < size }
+        requires inside { offset + size ≤ self.old.size }
+        requires agrees { BlockAgrees self.old (D.properties device.old) (D.objects device.old) }
+
+        ensures asked { Asked D.step device.old device.new (AsksToMap self.old offset size result) }
+        ensures objects { ObjectsMapped self.old (rounded self.old offset size) result (D.objects device.old)
+            (D.objects device.new) }
+        ensures mapping { IfOk result (λ mapping. mapping ≡ mapping_of self.old offset size) }
+        ensures mapped { OnOk result (self.new ≡ record self.old { mapping = Some (mapping_of self.old offset size) }) }
+        ensures refused { OnErr result (self.new ≡ self.old) }
+        ensures sure { refusal self.old ≡ None → is_shared self.old.kind ≡ true → IsOk result }
+        ensures agrees { BlockAgrees self.new (D.properties device.new) (D.objects device.new) }
+        ensures keeps { KeepsAgreement self.old (D.properties device.old) (D.objects device.old)
+            (D.properties device.new) (D.objects device.new) }
+        ensures same { IsSameBlock self.old self.new }
+    {
+        if let Some(refusal) = self.refusal() {
+            return Err(refusal);
+        }
+        let len = size as u64;
+        match self.open(device, offset, len) {
+            Ok(()) => {
+                let start = self.offset + offset;
+                let mapping = Mapping { start, len };
+                self.mapping = Some(mapping);
+                Ok(mapping)
+            }
+            Err(refusal) => Err(MapError::from(refusal)),
+        }
+    }
+
+    /// Ends the block's mapping, and tells whether there was one. The device is asked to end that of the object where
+    /// it is the block's own. No byte changes, and it cannot fail.
+    ///
+    /// The device has to hold the block's object as the allocator and the block's calls left it (`BlockAgrees`).
+    #[tactic(auto, unfolding(crate::specs::Agreement::BlockAgrees))]
+    pub fn unmap<D: MemoryDevice<M>>(&mut self, device: &mut D) -> bool
+        requires { BlockAgrees self.old (D.properties device.old) (D.objects device.old) }
+
+        ensures answer { result ≡ is_some self.old.mapping }
+        ensures unmapped { self.new ≡ record self.old { mapping = None } }
+        ensures asked { Asked D.step device.old device.new (λ es. es ≡ unmapping self.old) }
+        ensures objects { ObjectsUnmapped self.old (D.objects device.old) (D.objects device.new) }
+        ensures agrees { BlockAgrees self.new (D.properties device.new) (D.objects device.new) }
+        ensures keeps { KeepsAgreement self.old (D.properties device.old) (D.objects device.old)
+            (D.properties device.new) (D.objects device.new) }
+        ensures same { IsSameBlock self.old self.new }
+    {
+        if self.mapping.is_none() {
+            return false;
+        }
+        self.close(device);
+        self.mapping = None;
+        true
+    }
+
+    /// Writes bytes to the block from `offset` on, in bytes from its start, so that the device sees them: where the
+    /// memory is non-coherent, the bytes' range is flushed in whole atoms, cut at the block's end (the Vulkan
+    /// specification's rule on `VkMappedMemoryRange`).
+    ///
+    /// The block has to be unmapped. Its object is mapped for the call where it is the block's own, and unmapped after
+    /// it in every case. No bytes at all are written without a question to the device.
+    ///
+    /// The range has to be inside the block, and the device has to hold the block's object as the allocator left it
+    /// (`BlockAgrees`). The refusals: `NonHostVisible` where the host does not see the block's memory, then
+    /// `AlreadyMapped` where the block is mapped; the device is asked nothing then. `OutOfDeviceMemory`,
+    /// `OutOfHostMemory` and `MapFailed` are the device's. After a refused mapping no byte has changed. After a refused
+    /// flush the host's bytes are the data, and each of the device's bytes of the flushed range is that of before or
+    /// the host's. In every case all bytes outside that range are as before.
+    pub fn write_bytes<D: MemoryDevice<M>>(
+        &mut self,
+        device: &mut D,
+        offset: u64,
+        bytes: &[u8],
+    ) -> Result<(), MapError>
+        requires inside { offset + length bytes.now ≤ self.old.size }
+        requires agrees { BlockAgrees self.old (D.properties device.old) (D.objects device.old) }
+
+        ensures asked { OnOk result (Asked D.step device.old device.new (AsksToWrite self.old offset bytes.now)) }
+        ensures written { OnOk result (ChangesBytes self.old (length bytes.now)
+            (IsWrittenThrough self.old offset bytes.now) (D.objects device.old) (D.objects device.new)) }
+        ensures refused { IfErr result (λ e. Asked D.step device.old device.new
+            (EndsWrite self.old offset bytes.now e (D.objects device.old) (D.objects device.new))) }
+        ensures within { Changes (WritesWithin self.old offset (length bytes.now)) (D.objects device.old)
+            self.old.object (D.objects device.new) }
+        ensures empty { refusal self.old ≡ None → length bytes.now ≡ 0 → IsOk result }
+        ensures sure { refusal self.old ≡ None → is_shared self.old.kind ≡ true
+            → are_non_coherent self.old.props ≡ false → IsOk result }
+        ensures block { self.new ≡ self.old }
+        ensures agrees { BlockAgrees self.new (D.properties device.new) (D.objects device.new) }
+        ensures keeps { KeepsAgreement self.old (D.properties device.old) (D.objects device.old)
+            (D.properties device.new) (D.objects device.new) }
+        ensures same { IsSameBlock self.old self.new }
+    {
+        if let Some(refusal) = self.refusal() {
+            return Err(refusal);
+        }
+        if bytes.is_empty() {
+            return Ok(());
+        }
+        match self.open(device, offset, bytes.len() as u64) {
+            Ok(()) => {
+                let answer = self.put(device, offset, bytes);
+                self.close(device);
+                match answer {
+                    Ok(()) => Ok(()),
+                    Err(cause) => Err(MapError::from(cause)),
+                }
+            }
+            Err(cause) => Err(MapError::from(cause)),
+        }
+    }
+
+    /// Reads bytes of the block from `offset` on, in bytes from its start, as the device sees them: where the memory is
+    /// non-coherent, the bytes' range is invalidated before, in whole atoms, cut at the block's end (the Vulkan
+    /// specification's rule on `VkMappedMemoryRange`).
+    ///
+    /// The block has to be unmapped. Its object is mapped for the call where it is the block's own, and unmapped after
+    /// it in every case. No bytes at all are read without a question to the device.
+    ///
+    /// The conditions and the refusals are those of [`write_bytes`](MemoryBlock::write_bytes). After a refusal `bytes`
+    /// is as before. After a refused invalidate each of the host's bytes of its range is that of before or the
+    /// device's. In every case all bytes outside that range, and all bytes of the device, are as before.
+    pub fn read_bytes<D: MemoryDevice<M>>(
+        &mut self,
+        device: &mut D,
+        offset: u64,
+        bytes: &mut [u8],
+    ) -> Result<(), MapError>
+        requires inside { offset + length bytes.old ≤ self.old.size }
+        requires agrees { BlockAgrees self.old (D.properties device.old) (D.objects device.old) }
+
+        ensures asked { OnOk result (Asked D.step device.old device.new (AsksToRead self.old offset bytes.new)) }
+        ensures read { OnOk result (ChangesBytes self.old (length bytes.old)
+            (IsReadThrough self.old offset bytes.new) (D.objects device.old) (D.objects device.new)) }
+        ensures refused { IfErr result (λ e. Asked D.step device.old device.new
+            (EndsRead self.old offset (length bytes.old) e (D.objects device.old) (D.objects device.new))) }
+        ensures bytes { OnErr result (bytes.new ≡ bytes.old) }
+        ensures within { Changes (ReadsWithin self.old offset (length bytes.old)) (D.objects device.old)
+            self.old.object (D.objects device.new) }
+        ensures empty { refusal self.old ≡ None → length bytes.old ≡ 0 → IsOk result }
+        ensures sure { refusal self.old ≡ None → is_shared self.old.kind ≡ true
+            → are_non_coherent self.old.props ≡ false → IsOk result }
+        ensures block { self.new ≡ self.old }
+        ensures agrees { BlockAgrees self.new (D.properties device.new) (D.objects device.new) }
+        ensures keeps { KeepsAgreement self.old (D.properties device.old) (D.objects device.old)
+            (D.properties device.new) (D.objects device.new) }
+        ensures same { IsSameBlock self.old self.new }
+    {
+        if let Some(refusal) = self.refusal() {
+            return Err(refusal);
+        }
+        let len = bytes.len() as u64;
+        if len == 0 {
+            return Ok(());
+        }
+        match self.open(device, offset, len) {
+            Ok(()) => {
+                let answer = self.get(device, offset, bytes);
+                self.close(device);
+                match answer {
+                    Ok(()) => Ok(()),
+                    Err(cause) => Err(MapError::from(cause)),
+                }
+            }
+            Err(cause) => Err(MapError::from(cause)),
+        }
+    }
+
+    /// What its object is held for. It is public for the crate above.
+    pub fn kind(&self) -> Kind
+        ensures { result ≡ self.now.kind }
+    {
+        self.kind
+    }
+
+    /// The key of its span, which the table confirms before it is used. It is public for the crate above.
+    pub fn key(&self) -> usize {
+        self.key
+    }
+
+    /// Why the block itself refuses to be mapped.
+    fn refusal(&self) -> Option<MapError>
+        ensures { result ≡ refusal self.now }
+    {
+        if !self.props.intersects(MemoryPropertyFlags::HOST_VISIBLE) {
+            Some(MapError::NonHostVisible)
+        } else if self.mapping.is_some() {
+            Some(MapError::AlreadyMapped)
+        } else {
+            None
+        }
+    }
+
+    /// Whether what one side writes to the block has to be flushed or invalidated for the other to see it.
+    fn is_non_coherent(&self) -> bool
+        ensures { result ≡ are_non_coherent self.now.props }
+    {
+        let visible = self.props.intersects(MemoryPropertyFlags::HOST_VISIBLE);
+        visible && !self.props.intersects(MemoryPropertyFlags::HOST_COHERENT)
+    }
+
+    /// Where the atom ends that ends at a place of the block's object or behind it, or where the block ends.
+    fn atom_end(&self, place: u64) -> u64
+        ensures { result ≡ atom_end self.now place }
+    {
+        let end = self.offset + self.size;
+        match place.checked_next_multiple_of(self.atom) {
+            Some(next) => next.min(end),
+            None => end,
+        }
+    }
+
+    /// Some bytes of the block in whole atoms of its object, cut where the block ends.
+    fn rounded(&self, offset: u64, len: u64) -> MappedMemoryRange<'_, M>
+        requires { offset + len ≤ self.now.size }
+        ensures { range_of M.object result ≡ rounded self.now offset len }
+    {
+        let start = self.offset + offset;
+        let first = start / self.atom * self.atom;
+        MappedMemoryRange {
+            memory: &self.memory,
+            offset: first,
+            size: self.atom_end(start + len) - first,
+        }
+    }
+
+    /// Maps some bytes in whole atoms where the object is the block's own. A shared one is mapped already.
+    #[tactic(auto, unfolding(crate::specs::Agreement::BlockAgrees))]
+    fn open<D: MemoryDevice<M>>(
+        &self,
+        device: &mut D,
+        offset: u64,
+        len: u64,
+    ) -> Result<(), DeviceMapError>
+        requires nonempty { 0 < len }
+        requires inside { offset + len ≤ self.now.size }
+        requires able { refusal self.now ≡ None }
+        requires agrees { BlockAgrees self.now (D.properties device.old) (D.objects device.old) }
+        ensures asked { Asked D.step device.old device.new
+            (λ es. es ≡ of_own self.now (Mapped (rounded self.now offset len) result ∷ [])) }
+        ensures objects { ObjectsMapped self.now (rounded self.now offset len) result (D.objects device.old)
+            (D.objects device.new) }
+        ensures sure { is_shared self.now.kind ≡ true → IsOk result }
+        ensures ready { OnOk result (HeldWith (D.objects device.new) self.now.object
+            (IsOpen (D.properties device.new) self.now (rounded self.now offset len))) }
+        ensures properties { D.properties device.new ≡ D.properties device.old }
+    {
+        if self.kind.is_shared() {
+            return Ok(());
+        }
+        let range = self.rounded(offset, len);
+        device.map_memory(&self.memory, range.offset, range.size)
+    }
+
+    /// Ends the mapping of the object where it is the block's own.
+    fn close<D: MemoryDevice<M>>(&self, device: &mut D)
+        requires { is_shared self.now.kind ≡ false → HeldWith (D.objects device.old) self.now.object IsMapped }
+        ensures asked { Asked D.step device.old device.new (λ es. es ≡ of_own self.now (Unmapped self.now.object ∷ [])) }
+        ensures objects { IsClosed (is_shared self.now.kind) self.now.object (D.objects device.old)
+            (D.objects device.new) }
+        ensures properties { D.properties device.new ≡ D.properties device.old }
+    {
+        if !self.kind.is_shared() {
+            device.unmap_memory(&self.memory);
+        }
+    }
+
+    /// Makes some bytes of the host's, in whole atoms, the device's too: by a flush where the memory is non-coherent.
+    fn flush<D: MemoryDevice<M>>(
+        &self,
+        device: &mut D,
+        offset: u64,
+        len: u64,
+    ) -> Result<(), OutOfMemory>
+        requires inside { offset + len ≤ self.now.size }
+        requires ready { HeldWith (D.objects device.old) self.now.object
+            (IsOpen (D.properties device.old) self.now (rounded self.now offset len)) }
+        ensures asked { Asked D.step device.old device.new
+            (λ es. es ≡ where_non_coherent self.now (Flushed (rounded self.now offset len ∷ []) result)) }
+        ensures objects { Changes (IsFlushed result (rounded self.now offset len)) (D.objects device.old)
+            self.now.object (D.objects device.new) }
+        ensures cause { OnErr result (are_non_coherent self.now.props ≡ true) }
+        ensures properties { D.properties device.new ≡ D.properties device.old }
+    {
+        if !self.is_non_coherent() {
+            return Ok(());
+        }
+        let range = self.rounded(offset, len);
+        device.flush_memory_ranges(&[range])
+    }
+
+    /// Makes some bytes of the device's, in whole atoms, the host's too: by an invalidate where the memory is
+    /// non-coherent.
+    fn invalidate<D: MemoryDevice<M>>(
+        &self,
+        device: &mut D,
+        offset: u64,
+        len: u64,
+    ) -> Result<(), OutOfMemory>
+        requires inside { offset + len ≤ self.now.size }
+        requires ready { HeldWith (D.objects device.old) self.now.object
+            (IsOpen (D.properties device.old) self.now (rounded self.now offset len)) }
+        ensures asked { Asked D.step device.old device.new
+            (λ es. es ≡ where_non_coherent self.now (Invalidated (rounded self.now offset len ∷ []) result)) }
+        ensures objects { Changes (IsInvalidated result (rounded self.now offset len)) (D.objects device.old)
+            self.now.object (D.objects device.new) }
+        ensures cause { OnErr result (are_non_coherent self.now.props ≡ true) }
+        ensures properties { D.properties device.new ≡ D.properties device.old }
+    {
+        if !self.is_non_coherent() {
+            return Ok(());
+        }
+        let range = self.rounded(offset, len);
+        device.invalidate_memory_ranges(&[range])
+    }
+
+    /// Puts bytes, and makes them the device's too.
+    fn put<D: MemoryDevice<M>>(
+        &self,
+        device: &mut D,
+        offset: u64,
+        bytes: &[u8],
+    ) -> Result<(), OutOfMemory>
+        requires nonempty { 0 < length bytes.now }
+        requires inside { offset + length bytes.now ≤ self.now.size }
+        requires ready { HeldWith (D.objects device.old) self.now.object
+            (IsOpen (D.properties device.old) self.now (rounded self.now offset (length bytes.now))) }
+        ensures asked { Asked D.step device.old device.new (λ es. es ≡ putting self.now offset bytes.now result) }
+        ensures written { OnOk result (Changes (IsWrittenThrough self.now offset bytes.now) (D.objects device.old)
+            self.now.object (D.objects device.new)) }
+        ensures refused { OnErr result (Changes (IsPartlyWritten self.now offset bytes.now) (D.objects device.old)
+            self.now.object (D.objects device.new)) }
+        ensures cause { OnErr result (are_non_coherent self.now.props ≡ true) }
+        ensures properties { D.properties device.new ≡ D.properties device.old }
+    {
+        device.put_bytes(&self.memory, self.offset + offset, bytes);
+        self.flush(device, offset, bytes.len() as u64)
+    }
+
+    /// Gets bytes, once they are those of the device.
+    fn get<D: MemoryDevice<M>>(
+        &self,
+        device: &mut D,
+        offset: u64,
+        bytes: &mut [u8],
+    ) -> Result<(), OutOfMemory>
+        requires nonempty { 0 < length bytes.old }
+        requires inside { offset + length bytes.old ≤ self.now.size }
+        requires ready { HeldWith (D.objects device.old) self.now.object
+            (IsOpen (D.properties device.old) self.now (rounded self.now offset (length bytes.old))) }
+        ensures asked { OnOk result (Asked D.step device.old device.new (λ es. es ≡ getting self.now offset bytes.new)) }
+        ensures failed { IfErr result (λ e. Asked D.step device.old device.new
+            (λ es. es ≡ invalidate_fails (rounded self.now offset (length bytes.old)) e)) }
+        ensures read { OnOk result (Changes (IsReadThrough self.now offset bytes.new) (D.objects device.old)
+            self.now.object (D.objects device.new)) }
+        ensures refused { OnErr result (Changes (IsPartlyRead (rounded self.now offset (length bytes.old)))
+            (D.objects device.old) self.now.object (D.objects device.new)) }
+        ensures bytes { OnErr result (bytes.new ≡ bytes.old) }
+        ensures cause { OnErr result (are_non_coherent self.now.props ≡ true) }
+        ensures properties { D.properties device.new ≡ D.properties device.old }
+    {
+        match self.invalidate(device, offset, bytes.len() as u64) {
+            Ok(()) => {
+                device.get_bytes(&self.memory, self.offset + offset, bytes);
+                Ok(())
+            }
+            Err(cause) => Err(cause),
+        }
+    }
+}
