@@ -1,2 +1,6 @@
+pub mod Asked
+pub mod Copies
 pub mod NumberedEntries
+pub mod Ready
 pub mod SimNames
+pub mod SimSound

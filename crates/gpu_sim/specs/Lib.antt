@@ -1,3 +1,9 @@
+pub mod ByteLaws
+pub mod Bytes
+pub mod Numbered
+pub mod ObjectCode
+pub mod ObjectLaws
+pub mod Objects
 pub mod Question
 pub mod Sim
 pub mod SimCode

@@ -1,42 +1,55 @@
 -- The simulated device, and what its calls do.
-use Rattle.std.specs.Prelude.{◌≡◌, ℕ, ◌+◌, ◌-◌, ◌^◌, ◌<◌, min, cond, List, [], replicate, Option, Some, None}
-use Rattle.std.specs.Prelude.{option_map, Result, Ok, Err}
+use Rattle.std.specs.Prelude.{◌≡◌, ℕ, ◌+◌, ◌-◌, ◌^◌, ◌<◌, ◌≤◌, min, List, [], ◌∷◌, length, take, drop, Option}
+use Rattle.std.specs.Prelude.{Some, None, option_map, IsTrue, Result, Ok, Err}
 use Rattle.std.specs.FinMap as map
 use Rattle.std.specs.FinMap.{FinMap}
 use Rattle.std.specs.Ordering.{nat_cmp}
 use Rattle.gpu_alloc_types.specs.Flags.{allocation_bits}
-use Rattle.gpu_alloc_types.specs.Properties.{Properties, is_host_visible, is_coherent}
-use Rattle.gpu_alloc_types.specs.Device.{Object, Event, Range}
+use Rattle.gpu_alloc_types.specs.Properties.{Properties, is_host_visible}
+use Rattle.gpu_alloc_types.specs.Device.{Object, Event, Range, HeldWith}
 use Rattle.gpu_alloc_types.specs.Device.Event.{Allocated, Deallocated, Mapped, Unmapped, Flushed, Invalidated, BytesPut}
 use Rattle.gpu_alloc_types.specs.Device.Event.{BytesGot}
 use Rattle.gpu_alloc_types.specs.declared.allocation_flags.AllocationFlags.{AllocationFlags}
 use Rattle.gpu_alloc_types.specs.declared.types.DeviceMapError.{DeviceMapError}
 use Rattle.gpu_alloc_types.specs.declared.types.OutOfMemory.{OutOfMemory}
 use Rattle.gpu_alloc_types.specs.declared.types.OutOfMemory.TheVariants.{OutOfHostMemory}
-use Rattle.gpu_sim.specs.declared.sim.object.MappedRange.{MappedRange}
-use Rattle.gpu_sim.specs.declared.sim.object.SimObject.{SimObject}
+use Rattle.gpu_sim.specs.Objects.{ChangesAt, CopiesEach, HasBytes, HasRange, AreWhole, new_object, mapped_as}
+use Rattle.gpu_sim.specs.Objects.{put_by_host, put_by_device, shown}
+use Rattle.gpu_sim.specs.declared.sim.bytes.Direction.{Direction}
+use Rattle.gpu_sim.specs.declared.sim.bytes.Direction.TheVariants.{ToDevice, ToHost}
+use Rattle.gpu_sim.specs.declared.sim.bytes.Part.TheVariants.{Whole, FirstHalf}
 use Rattle.gpu_sim.specs.declared.sim.question.ByKind.{ByKind}
 use Rattle.gpu_sim.specs.declared.sim.question.Cause.{Cause}
 use Rattle.gpu_sim.specs.declared.sim.question.Question.{Question}
-use Rattle.gpu_sim.specs.declared.sim.question.Question.TheVariants.{Allocate, Map}
+use Rattle.gpu_sim.specs.declared.sim.question.Question.TheVariants.{Allocate, Map, Flush, Invalidate}
 use Rattle.gpu_sim.specs.Question.{at, with_at, refusal_of, map_refusal_of}
 
 -- What it offers, the planned refusals by the number of the question, how often each kind was asked, the size, type and
--- flags of the latest question to allocate, the latest name that was used, and the objects by name
+-- flags of the latest question to allocate, the latest range that was asked for in a map, a flush or an invalidate, the
+-- latest name that was used, and the objects by name
 pub record SimState : Type 0 where
   pub properties : Properties
   pub plans : ByKind (FinMap nat_cmp Cause)
   pub asked : ByKind ℕ
   pub last_allocation : Option (ℕ × (ℕ × ℕ))
+  pub last_range : Option Range
   pub last_name : ℕ
-  pub objects : FinMap nat_cmp SimObject
+  pub objects : FinMap nat_cmp Object
 
 abbrev pub as_numbers : ℕ × ℕ × AllocationFlags → ℕ × (ℕ × ℕ)
 as_numbers asked = (asked.0, (asked.1, allocation_bits asked.2))
 
+abbrev pub as_range : ℕ × ℕ × ℕ → Range
+as_range asked = record { object = asked.0; offset = asked.1; size = asked.2 }
+
 -- no object has a name above the latest
-abbrev pub IsNamedUpTo : ℕ → FinMap nat_cmp SimObject → Type 0
+abbrev pub IsNamedUpTo : ℕ → FinMap nat_cmp Object → Type 0
 IsNamedUpTo last objects = (name : ℕ) → last < name → map.get objects name ≡ None
+
+-- what holds of every simulated device
+pub record IsSound (last : ℕ) (p : Properties) (objects : FinMap nat_cmp Object) : Type 0 where
+  pub named : IsNamedUpTo last objects
+  pub whole : AreWhole p objects
 
 -- a device that was asked nothing and told nothing
 abbrev pub fresh : Properties → SimState
@@ -45,6 +58,7 @@ fresh p = record {
   plans = record { allocate = map.empty; map = map.empty; flush = map.empty; invalidate = map.empty };
   asked = record { allocate = 0; map = 0; flush = 0; invalidate = 0 };
   last_allocation = None;
+  last_range = None;
   last_name = 0;
   objects = map.empty;
 }
@@ -66,17 +80,21 @@ asked_to_allocate s size memory_type flags =
     }
 
 -- the device, once it was asked to map and before it answers
-abbrev pub asked_to_map : SimState → SimState
-asked_to_map s = record s { asked = with_at s.asked Map (counted s.asked.map) }
+abbrev pub asked_to_map : SimState → Range → SimState
+asked_to_map s range = record s { asked = with_at s.asked Map (counted s.asked.map); last_range = Some range }
 
--- a new object. Nothing of it is mapped
-pub record IsNew (size memory_type : ℕ) (object : SimObject) : Type 0 where
-  pub of_type : object.memory_type ≡ memory_type
-  pub of_size : object.size ≡ size
-  pub unmapped : object.mapped ≡ None
+-- the last of some ranges, or where there is none the one that was told before
+abbrev pub latest : Option Range → List Range → Option Range
+latest told [] = told
+latest told (r ∷ rs) = latest (Some r) rs
+
+-- the device, once it was asked to flush or to invalidate ranges and before it answers
+abbrev pub asked_to_copy : SimState → Question → List Range → SimState
+asked_to_copy s kind ranges =
+    record s { asked = with_at s.asked kind (counted (at s.asked kind)); last_range = latest s.last_range ranges }
 
 -- an object is made under the next name, which none has
-pub record IsMade (old : SimState) (name : ℕ) (object : SimObject) (new : SimState) : Type 0 where
+pub record IsMade (old : SimState) (name : ℕ) (object : Object) (new : SimState) : Type 0 where
   pub next : name ≡ old.last_name + 1
   pub free : map.get old.objects name ≡ None
   pub held : new ≡ record old { last_name = name; objects = map.insert old.objects name object }
@@ -89,58 +107,69 @@ IsRefusal None error = error ≡ OutOfHostMemory
 -- the answer to a question to allocate that was counted
 abbrev pub Answers : SimState → (size memory_type : ℕ) → Result ℕ OutOfMemory → SimState → Type 0
 Answers old size t (Ok name) new =
-    (cause_now old Allocate ≡ None) × ((object : SimObject) × IsNew size t object × IsMade old name object new)
+    (cause_now old Allocate ≡ None) × IsMade old name (new_object old.properties size t) new
 Answers old size t (Err error) new = IsRefusal (cause_now old Allocate) error × (new ≡ old)
 
--- an object with this range mapped, and else as it was
-pub record IsMappedOver (range : Range) (old new : SimObject) : Type 0 where
-  pub same_type : new.memory_type ≡ old.memory_type
-  pub same_size : new.size ≡ old.size
-  pub mapped : new.mapped ≡ Some (record { offset = range.offset; size = range.size })
+-- the objects are changed so, and nothing else
+abbrev pub WithObjects : SimState → (FinMap nat_cmp Object → Type 0) → SimState → Type 0
+WithObjects old P new = (objects : FinMap nat_cmp Object) × P objects × (new ≡ record old { objects = objects })
 
--- the range of its object is mapped, and no other object has changed
-abbrev pub Maps : SimState → Range → SimState → Type 0
-Maps old range new =
-    (object : SimObject) × (map.get old.objects range.object ≡ Some object)
-    × ((mapped : SimObject) × IsMappedOver range object mapped × (new ≡ record old {
-      objects = map.insert old.objects range.object mapped;
-    }))
+-- the range of the object of that name is this one, or none
+abbrev pub Maps : SimState → ℕ → Option (ℕ × ℕ) → SimState → Type 0
+Maps old name range new = WithObjects old (ChangesAt (HasBytes range) (mapped_as range) old.objects name) new
 
 -- the answer to a question to map that was counted: a refusal exactly where one was planned
 abbrev pub MapAnswers : SimState → Range → Result (Unit {0}) DeviceMapError → SimState → Type 0
-MapAnswers old range (Ok _) new = (cause_now old Map ≡ None) × Maps old range new
+MapAnswers old range (Ok _) new =
+    (cause_now old Map ≡ None) × Maps old range.object (Some (range.offset, range.size)) new
 MapAnswers old range (Err error) new = (option_map map_refusal_of (cause_now old Map) ≡ Some error) × (new ≡ old)
 
+-- The answer to a question to flush or to invalidate that was counted: a refusal exactly where one was planned, after
+-- the first half of each range was copied. Where it is granted all of each is.
+abbrev pub CopyAnswers : Direction → Question → SimState → List Range → Result (Unit {0}) OutOfMemory → SimState
+    → Type 0
+CopyAnswers way kind old ranges (Ok _) new =
+    (cause_now old kind ≡ None) × WithObjects old (CopiesEach way Whole ranges old.objects) new
+CopyAnswers way kind old ranges (Err error) new =
+    (option_map refusal_of (cause_now old kind) ≡ Some error)
+    × WithObjects old (CopiesEach way FirstHalf ranges old.objects) new
+
+-- what the host writes into an object
+abbrev pub Puts : SimState → (name offset : ℕ) → List ℕ → SimState → Type 0
+Puts old name offset bytes new =
+    WithObjects old
+    (ChangesAt (HasRange offset (length bytes)) (put_by_host old.properties offset bytes) old.objects name) new
+
 -- What a call does. What it does not name stays.
+abbrev pub Does : SimState → Event → SimState → Type 0
+Does old (Allocated size t flags answer) new = Answers (asked_to_allocate old size t flags) size t answer new
+Does old (Deallocated name) new = new ≡ record old { objects = map.remove old.objects name }
+Does old (Mapped range answer) new = MapAnswers (asked_to_map old range) range answer new
+Does old (Unmapped name) new = Maps old name None new
+Does old (Flushed ranges answer) new =
+    CopyAnswers ToDevice Flush (asked_to_copy old Flush ranges) ranges answer new
+Does old (Invalidated ranges answer) new =
+    CopyAnswers ToHost Invalidate (asked_to_copy old Invalidate ranges) ranges answer new
+Does old (BytesPut name offset bytes) new = Puts old name offset bytes new
+Does old (BytesGot name offset bytes) new =
+    (new ≡ old) × HeldWith (map.get old.objects) name (λ o. bytes ≡ take (length bytes) (drop offset o.host_bytes))
+
+-- what a call does to a simulated device
 abbrev pub SimStep : SimState → Event → SimState → Type 0
-SimStep old (Allocated size t flags answer) new = Answers (asked_to_allocate old size t flags) size t answer new
-SimStep old (Deallocated name) new = new ≡ record old { objects = map.remove old.objects name }
-SimStep old (Mapped range answer) new = MapAnswers (asked_to_map old) range answer new
-SimStep old (Unmapped name) new = ⊥
-SimStep old (Flushed ranges answer) new = ⊥
-SimStep old (Invalidated ranges answer) new = ⊥
-SimStep old (BytesPut name offset bytes) new = ⊥
-SimStep old (BytesGot name offset bytes) new = ⊥
+SimStep old e new = IsSound old.last_name old.properties old.objects × Does old e new
 
--- The objects, as every device shows them.
-
--- as many bytes as the object is long where the host sees them, and none elsewhere
-abbrev pub bytes_of : Properties → SimObject → ℕ → List ℕ
-bytes_of p object byte = cond (is_host_visible p object.memory_type) (replicate object.size byte) []
-
-abbrev pub offset_and_size : MappedRange → ℕ × ℕ
-offset_and_size range = (range.offset, range.size)
-
--- The host's bytes begin with 00 where they are coherent and else with ee, so that a missing flush or invalidate shows.
--- The device's begin with 00.
-unfoldable pub as_object : Properties → SimObject → Object
-as_object p object = record {
-  memory_type = object.memory_type;
-  size = object.size;
-  mapped = option_map offset_and_size object.mapped;
-  host_bytes = bytes_of p object (cond (is_coherent p object.memory_type) 0 238);
-  device_bytes = bytes_of p object 0;
-}
-
+-- the objects, as every device shows them
 abbrev pub objects_of : SimState → ℕ → Option Object
-objects_of s name = option_map (as_object s.properties) (map.get s.objects name)
+objects_of s = shown s.properties s.objects
+
+-- bytes of an object that a command of the graphics device may write: the host sees the object, and they lie inside it
+pub record IsWritable (p : Properties) (offset size : ℕ) (o : Object) : Type 0 where
+  pub visible : IsTrue (is_host_visible p o.memory_type)
+  pub inside : offset + size ≤ o.size
+
+-- what a command of the graphics device writes into an object
+abbrev pub CommandWrites : SimState → (object offset : ℕ) → List ℕ → SimState → Type 0
+CommandWrites old object offset bytes new =
+    IsSound old.last_name old.properties old.objects
+    × WithObjects old
+    (ChangesAt (HasRange offset (length bytes)) (put_by_device old.properties offset bytes) old.objects object) new

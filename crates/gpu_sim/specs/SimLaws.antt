@@ -1,131 +1,202 @@
 -- What holds of every step of the simulated device, and of its objects.
-use Rattle.std.specs.Prelude.{◌≡◌, ℕ, ◌+◌, ◌≤◌, ◌==◌, Bool, true, false, cond, List, [], length, replicate, Option}
-use Rattle.std.specs.Prelude.{Some, None, option_map, IfSome, IsTrue, Ok, Err, refl}
-use Rattle.std.proofs.Common.{◌∙◌, ap, arith}
-use Rattle.std.proofs.lemmas.Bool.Decides.{nat_tests}
-use Rattle.std.proofs.lemmas.List.{length-replicate}
-use Rattle.std.proofs.Math.Path.{fun_ext}
-use Rattle.std.specs.Cmp.{nat_cmp_total}
+use Rattle.std.specs.Prelude.{◌≡◌, ℕ, ◌+◌, ◌/◌, ◌≤◌, Bool, true, false, cond, List, [], ◌∷◌, length, Option, Some, None}
+use Rattle.std.specs.Prelude.{Ok, Err, IfSome, refl}
 use Rattle.std.specs.FinMap as map
 use Rattle.std.specs.FinMap.{FinMap}
-use Rattle.std.specs.Option.{ForSome}
-use Rattle.std.specs.Ordering.{nat_cmp, eq_by_cmp}
-use Rattle.gpu_alloc_types.specs.Properties.{Properties, is_host_visible, is_coherent}
-use Rattle.gpu_alloc_types.specs.Device.{Object, Event, Range, Row, IsWellFormed, IsFresh, put}
+use Rattle.std.specs.Ordering.{nat_cmp}
+use Rattle.std.proofs.Common.{◌∙◌, ap, arith, subst, sym}
+use Rattle.gpu_alloc_types.specs.Properties.{Properties, is_coherent}
+use Rattle.gpu_alloc_types.specs.Device.{Object, Event, Range, Row, Changes, InTurn, IsWellFormed}
+use Rattle.gpu_alloc_types.specs.Device.{IsMappedOver, IsUnmapped, IsFlushed, IsInvalidated, IsPut, IsPutDevice}
 use Rattle.gpu_alloc_types.specs.Device.Event.{Allocated, Deallocated, Mapped, Unmapped, Flushed, Invalidated, BytesPut}
 use Rattle.gpu_alloc_types.specs.Device.Event.{BytesGot}
-use Rattle.gpu_sim.specs.declared.sim.object.MappedRange.{MappedRange}
-use Rattle.gpu_sim.specs.declared.sim.object.SimObject.{SimObject}
-use Rattle.gpu_sim.specs.Sim.{SimState, SimStep, IsNew, IsMappedOver, as_object, objects_of, bytes_of, offset_and_size}
+use Rattle.gpu_alloc_types.specs.declared.types.OutOfMemory.{OutOfMemory}
+use Rattle.gpu_sim.specs.ByteLaws.{is_copied, is_partly_copied, is_written, slice_get-read}
+use Rattle.gpu_sim.specs.Bytes.{written, size_of_part}
+use Rattle.gpu_sim.specs.ObjectLaws.{alike, decides_well_formed, new_is_whole, mapped_is_whole, copied_is_whole}
+use Rattle.gpu_sim.specs.ObjectLaws.{put_by_device_is_whole, put_by_host_is_whole, whole_at, whole-insert}
+use Rattle.gpu_sim.specs.ObjectLaws.{shown-insert, shown-remove, shown_once_held, shown_passes}
+use Rattle.gpu_sim.specs.Objects.{ChangesAt, CopiesEach, HasBytes, HasRange, IsWhole, AreWhole, shown, shown_if}
+use Rattle.gpu_sim.specs.Objects.{is_well_formed, new_object, mapped_as, copied, put_by_device, put_by_host}
+use Rattle.gpu_sim.specs.Sim.{SimState, SimStep, CommandWrites, objects_of}
+use Rattle.gpu_sim.specs.declared.sim.bytes.Direction.{Direction}
+use Rattle.gpu_sim.specs.declared.sim.bytes.Direction.TheVariants.{ToDevice, ToHost}
+use Rattle.gpu_sim.specs.declared.sim.bytes.Part.{Part}
+use Rattle.gpu_sim.specs.declared.sim.bytes.Part.TheVariants.{Whole, FirstHalf}
 
-same_test : (q name : ℕ) → eq_by_cmp nat_cmp q name ≡ (q == name)
-same_test q name = grind (arith, nat_tests)
+module _ (p : Properties) where
+  -- A change of one object, as every device shows it.
+  module _ (Q : Object → Type 0) (f : Object → Object) (keeps : (o : Object) → IsWhole p o → Q o → IsWhole p (f o))
+      (old : FinMap nat_cmp Object) (name : ℕ) (new : FinMap nat_cmp Object) (c : ChangesAt Q f old name new)
+      (whole : AreWhole p old) where
+    pub change_keeps_whole : AreWhole p new
+    change_keeps_whole =
+        subst (AreWhole p) (sym c.3)
+        (whole-insert p old name (f c.0) whole (keeps c.0 (whole_at p old name c.0 whole c.1) c.2))
 
-map-cond : {X Y : Type 0} (f : X → Y) (b : Bool) (x y : Option X)
-    → option_map f (cond b x y) ≡ cond b (option_map f x) (option_map f y)
-map-cond f true x y = refl
-map-cond f false x y = refl
+    pub shown_change : (P : Object → Object → Type 0) → ((o : Object) → IsWhole p o → Q o → P o (f o))
+        → Changes P (shown p old) name (shown p new)
+    shown_change P does =
+        let w = whole_at p old name c.0 whole c.1 in (
+          c.0,
+          shown_once_held p old name c.0 c.1 w,
+          (
+            f c.0,
+            does c.0 w c.2,
+            ap (shown p) c.3 ∙ shown-insert p old name (f c.0) (keeps c.0 w c.2),
+          ),
+        )
 
-module _ (shown : SimObject → Object) (objects : FinMap nat_cmp SimObject) (name : ℕ) where
-  shown-insert : (object : SimObject) → (λ q. option_map shown (map.get (map.insert objects name object) q)) ≡ put
-      (λ q. option_map shown (map.get objects q)) name (Some (shown object))
-  unfolding put
-  shown-insert object =
-      fun_ext (λ q. rw (map.get-insert nat_cmp_total objects name object q, same_test q name)
-      (map-cond shown (q == name) (Some object) (map.get objects q)))
+  module _ (way : Direction) (part : Part) where
+    keeps_copied : (r : Range) (o : Object) → IsWhole p o → HasRange r.offset r.size o
+        → IsWhole p (copied way r.offset (size_of_part part r.size) o)
+    keeps_copied r o w has = copied_is_whole p o w way r.offset (size_of_part part r.size)
 
-  shown-remove : (λ q. option_map shown (map.get (map.remove objects name) q)) ≡ put
-      (λ q. option_map shown (map.get objects q)) name None
-  unfolding put
-  shown-remove =
-      fun_ext (λ q. rw (map.get-remove nat_cmp_total objects name q, same_test q name)
-      (map-cond shown (q == name) None (map.get objects q)))
+    pub copies_keep_whole : (rs : List Range) (old new : FinMap nat_cmp Object) → CopiesEach way part rs old new
+        → AreWhole p old → AreWhole p new
+    copies_keep_whole [] old new c whole = subst (AreWhole p) (sym c) whole
+    copies_keep_whole (r ∷ rs) old new c whole =
+        copies_keep_whole rs c.0 new c.2
+        (change_keeps_whole (HasRange r.offset r.size) _ (keeps_copied r) old r.object c.0 c.1 whole)
 
-is_fresh : (p : Properties) (size t : ℕ) (object : SimObject) → IsNew size t object
-    → IsFresh size t (as_object p object)
-unfolding as_object
-is_fresh p size t object made =
-    record { of_type = made.of_type; of_size = made.of_size; unmapped = ap (option_map offset_and_size) made.unmapped }
+    shown_copies : (P : Range → Object → Object → Type 0)
+        → ((r : Range) (o : Object) → IsWhole p o → P r o (copied way r.offset (size_of_part part r.size) o))
+        → (rs : List Range) (old new : FinMap nat_cmp Object) → CopiesEach way part rs old new → AreWhole p old
+        → InTurn P rs (shown p old) (shown p new)
+    shown_copies P does [] old new c whole = ap (shown p) c
+    shown_copies P does (r ∷ rs) old new c whole = (
+      shown p c.0,
+      shown_change (HasRange r.offset r.size) _ (keeps_copied r) old r.object c.0 c.1 whole (P r)
+          (λ o w has. does r o w),
+      shown_copies P does rs c.0 new c.2
+          (change_keeps_whole (HasRange r.offset r.size) _ (keeps_copied r) old r.object c.0 c.1 whole),
+    )
 
--- a mapped object is shown as it was, but for its range
-shown_mapped : (p : Properties) (range : Range) (old new : SimObject) → IsMappedOver range old new
-    → as_object p new ≡ record (as_object p old) { mapped = Some (range.offset, range.size) }
-unfolding as_object
-shown_mapped p range old new is = rw (is.same_type, is.same_size, is.mapped) refl
+  -- What a copy, and what a write does, as every device says it.
+  module _ (r : Range) (o : Object) (w : IsWhole p o) where
+    flushed : (x : Unit {0}) → IsFlushed {E = OutOfMemory} (Ok x) r o (copied ToDevice r.offset r.size o)
+    flushed x = (_, is_copied r.offset r.size o.host_bytes o.device_bytes (alike p o w), refl)
+
+    half_flushed : (e : OutOfMemory) → IsFlushed (Err e) r o (copied ToDevice r.offset (r.size / 2) o)
+    half_flushed e =
+        (_, is_partly_copied r.offset (r.size / 2) o.host_bytes o.device_bytes (alike p o w) r.size (omega arith), refl)
+
+    invalidated : (x : Unit {0}) → IsInvalidated {E = OutOfMemory} (Ok x) r o (copied ToHost r.offset r.size o)
+    invalidated x = (_, is_copied r.offset r.size o.device_bytes o.host_bytes (sym (alike p o w)), refl)
+
+    half_invalidated : (e : OutOfMemory) → IsInvalidated (Err e) r o (copied ToHost r.offset (r.size / 2) o)
+    half_invalidated e =
+        let same = sym (alike p o w) in
+        (_, is_partly_copied r.offset (r.size / 2) o.device_bytes o.host_bytes same r.size (omega arith), refl)
+
+  put_device : (coherent : Bool) (offset : ℕ) (bytes to : List ℕ) → offset + length bytes ≤ length to
+      → IsPutDevice coherent offset bytes to (cond coherent (written offset bytes to) to)
+  put_device true offset bytes to fits = is_written offset bytes to fits
+  put_device false offset bytes to fits = refl
+
+  is_put : (offset : ℕ) (bytes : List ℕ) (o : Object) → HasRange offset (length bytes) o
+      → IsPut p offset bytes o (put_by_host p offset bytes o)
+  is_put offset bytes o has = (
+    _,
+    _,
+    is_written offset bytes o.host_bytes has.host,
+    put_device (is_coherent p o.memory_type) offset bytes o.device_bytes has.device,
+    refl,
+  )
 
 pub step_is_row : (old : SimState) (e : Event) (new : SimState) → SimStep old e new
     → Row old.properties (objects_of old) e (objects_of new)
 step_is_row old (Allocated size t flags (Ok name)) new s =
-    let object : SimObject = s.1.0 in
-    let shown : SimObject → Object = as_object old.properties in (
-      ap (option_map shown) s.1.2.free,
+    let p = old.properties in
+    let o = new_object p size t in (
+      ap (shown_if (is_well_formed p)) s.1.1.free,
       (
-        shown object,
-        is_fresh old.properties size t object s.1.1,
-        ap objects_of s.1.2.held ∙ shown-insert shown
-            old.objects name object,
+        o,
+        record { of_type = refl; of_size = refl; unmapped = refl },
+        ap objects_of s.1.1.held ∙ shown-insert p old.objects name o (new_is_whole p size t),
       ),
     )
-step_is_row old (Allocated size t flags (Err error)) new s = ap objects_of s.1
-step_is_row old (Deallocated name) new s = ap objects_of s ∙ shown-remove (as_object old.properties) old.objects name
-step_is_row old (Mapped range (Ok _)) new s =
-    let object : SimObject = s.1.0 in
-    let mapped : SimObject = s.1.2.0 in
-    let shown : SimObject → Object = as_object old.properties in (
-      shown object,
-      ap (option_map shown) s.1.1,
+step_is_row old (Allocated size t flags (Err error)) new s = ap objects_of s.1.1
+step_is_row old (Deallocated name) new s = ap objects_of s.1 ∙ shown-remove old.properties old.objects name
+step_is_row old (Mapped r (Ok x)) new s =
+    let m : Option (ℕ × ℕ) = Some (r.offset, r.size) in
+    subst (λ objects. Changes (IsMappedOver r) (objects_of old) r.object objects) (sym (ap objects_of s.1.1.2))
+    (shown_change old.properties (HasBytes m) (mapped_as m) (λ o w has. mapped_is_whole old.properties o w m has)
+    old.objects r.object s.1.1.0 s.1.1.1 s.0.whole (IsMappedOver r) (λ o w has. refl))
+step_is_row old (Mapped r (Err error)) new s = ap objects_of s.1.1
+step_is_row old (Unmapped name) new s =
+    subst (λ objects. Changes IsUnmapped (objects_of old) name objects) (sym (ap objects_of s.1.2))
+    (shown_change old.properties (HasBytes None) (mapped_as None)
+    (λ o w has. mapped_is_whole old.properties o w None has) old.objects name s.1.0 s.1.1 s.0.whole IsUnmapped
+    (λ o w has. refl))
+step_is_row old (Flushed rs (Ok x)) new s =
+    let P : Range → Object → Object → Type 0 = IsFlushed {E = OutOfMemory} (Ok x) in
+    subst (λ objects. InTurn P rs (objects_of old) objects) (sym (ap objects_of s.1.1.2))
+    (shown_copies old.properties ToDevice Whole P (λ r o w. flushed old.properties r o w x)
+    rs old.objects s.1.1.0 s.1.1.1 s.0.whole)
+step_is_row old (Flushed rs (Err e)) new s =
+    subst (λ objects. InTurn (IsFlushed (Err e)) rs (objects_of old) objects) (sym (ap objects_of s.1.1.2))
+    (shown_copies old.properties ToDevice FirstHalf (IsFlushed (Err e)) (λ r o w. half_flushed old.properties r o w e)
+    rs old.objects s.1.1.0 s.1.1.1 s.0.whole)
+step_is_row old (Invalidated rs (Ok x)) new s =
+    let P : Range → Object → Object → Type 0 = IsInvalidated {E = OutOfMemory} (Ok x) in
+    subst (λ objects. InTurn P rs (objects_of old) objects) (sym (ap objects_of s.1.1.2))
+    (shown_copies old.properties ToHost Whole P (λ r o w. invalidated old.properties r o w x)
+    rs old.objects s.1.1.0 s.1.1.1 s.0.whole)
+step_is_row old (Invalidated rs (Err e)) new s =
+    subst (λ objects. InTurn (IsInvalidated (Err e)) rs (objects_of old) objects) (sym (ap objects_of s.1.1.2))
+    (shown_copies old.properties ToHost FirstHalf (IsInvalidated (Err e))
+    (λ r o w. half_invalidated old.properties r o w e) rs old.objects s.1.1.0 s.1.1.1 s.0.whole)
+step_is_row old (BytesPut name offset bytes) new s =
+    let p = old.properties in
+    subst (λ objects. Changes (IsPut p offset bytes) (objects_of old) name objects) (sym (ap objects_of s.1.2))
+    (shown_change p (HasRange offset (length bytes)) (put_by_host p offset bytes)
+    (λ o w has. put_by_host_is_whole offset bytes p o w has) old.objects name s.1.0 s.1.1 s.0.whole
+    (IsPut p offset bytes) (λ o w has. is_put p offset bytes o has))
+step_is_row old (BytesGot name offset bytes) new s =
+    let held = s.1.1 in (
+      ap objects_of s.1.0,
       (
-        shown mapped,
-        shown_mapped old.properties range object mapped s.1.2.1,
-        ap objects_of s.1.2.2 ∙ shown-insert
-            shown old.objects range.object mapped,
+        held.0,
+        shown_once_held old.properties old.objects name held.0 held.1
+            (whole_at old.properties old.objects name held.0 s.0.whole held.1),
+        slice_get-read offset bytes held.0.host_bytes held.2,
       ),
     )
-step_is_row old (Mapped range (Err error)) new s = ap objects_of s.1
-step_is_row old (Unmapped name) new s = absurd s
-step_is_row old (Flushed ranges answer) new s = absurd s
-step_is_row old (Invalidated ranges answer) new s = absurd s
-step_is_row old (BytesPut name offset bytes) new s = absurd s
-step_is_row old (BytesGot name offset bytes) new s = absurd s
 
 pub step_keeps_properties : (old : SimState) (e : Event) (new : SimState) → SimStep old e new
     → new.properties ≡ old.properties
-step_keeps_properties old (Allocated size t flags (Ok name)) new s = ap (λ sim. sim.properties) s.1.2.held
-step_keeps_properties old (Allocated size t flags (Err error)) new s = ap (λ sim. sim.properties) s.1
-step_keeps_properties old (Deallocated name) new s = ap (λ sim. sim.properties) s
-step_keeps_properties old (Mapped range (Ok _)) new s = ap (λ sim. sim.properties) s.1.2.2
-step_keeps_properties old (Mapped range (Err error)) new s = ap (λ sim. sim.properties) s.1
-step_keeps_properties old (Unmapped name) new s = absurd s
-step_keeps_properties old (Flushed ranges answer) new s = absurd s
-step_keeps_properties old (Invalidated ranges answer) new s = absurd s
-step_keeps_properties old (BytesPut name offset bytes) new s = absurd s
-step_keeps_properties old (BytesGot name offset bytes) new s = absurd s
+step_keeps_properties old (Allocated size t flags (Ok name)) new s = ap (λ sim. sim.properties) s.1.1.held
+step_keeps_properties old (Allocated size t flags (Err error)) new s = ap (λ sim. sim.properties) s.1.1
+step_keeps_properties old (Deallocated name) new s = ap (λ sim. sim.properties) s.1
+step_keeps_properties old (Mapped range (Ok _)) new s = ap (λ sim. sim.properties) s.1.1.2
+step_keeps_properties old (Mapped range (Err error)) new s = ap (λ sim. sim.properties) s.1.1
+step_keeps_properties old (Unmapped name) new s = ap (λ sim. sim.properties) s.1.2
+step_keeps_properties old (Flushed ranges (Ok _)) new s = ap (λ sim. sim.properties) s.1.1.2
+step_keeps_properties old (Flushed ranges (Err error)) new s = ap (λ sim. sim.properties) s.1.1.2
+step_keeps_properties old (Invalidated ranges (Ok _)) new s = ap (λ sim. sim.properties) s.1.1.2
+step_keeps_properties old (Invalidated ranges (Err error)) new s = ap (λ sim. sim.properties) s.1.1.2
+step_keeps_properties old (BytesPut name offset bytes) new s = ap (λ sim. sim.properties) s.1.2
+step_keeps_properties old (BytesGot name offset bytes) new s = ap (λ sim. sim.properties) s.1.0
 
-length-bytes : (seen : Bool) (size byte : ℕ) → length (cond seen (replicate size byte) []) ≡ cond seen size 0
-length-bytes true size byte = length-replicate size byte
-length-bytes false size byte = refl
-
-coherent_bytes : (coherent : Bool) (bytes : ℕ → List ℕ) → IsTrue coherent → bytes (cond coherent 0 238) ≡ bytes 0
-coherent_bytes true bytes is = refl
-coherent_bytes false bytes is = cc
-
-range_inside : (size : ℕ) (mapped : Option MappedRange) → ForSome mapped (λ range. range.offset + range.size ≤ size)
-    → IfSome (option_map offset_and_size mapped) (λ r. r.0 + r.1 ≤ size)
-range_inside size None inside = tt
-range_inside size (Some range) inside = inside range refl
-
-is_well_formed : (p : Properties) (object : SimObject) → IsWellFormed p (as_object p object)
-unfolding as_object
-is_well_formed p object = record {
-  host = length-bytes (is_host_visible p object.memory_type) object.size _;
-  device = length-bytes (is_host_visible p object.memory_type) object.size 0;
-  coherent = coherent_bytes (is_coherent p object.memory_type) (bytes_of p object);
-  range = range_inside object.size object.mapped object.inside;
-}
+passes_well_formed : (p : Properties) (o : Option Object) → IfSome o (λ o. is_well_formed p o ≡ true)
+    → IfSome o (IsWellFormed p)
+passes_well_formed p None is = tt
+passes_well_formed p (Some o) is = (decides_well_formed p o).0 is
 
 pub objects_are_well_formed : (s : SimState) (name : ℕ) → IfSome (objects_of s name) (IsWellFormed s.properties)
 objects_are_well_formed s name =
-    elim (map.get s.objects name) as (λ o. IfSome (option_map (as_object s.properties) o) (IsWellFormed s.properties)) [
-      | None ↦ tt
-      | Some object ↦ is_well_formed s.properties object
-    ]
+    passes_well_formed s.properties (objects_of s name)
+    (shown_passes (is_well_formed s.properties) (map.get s.objects name))
+
+-- what a command writes, as every device shows it
+pub shown_command : (old : SimState) (object offset : ℕ) (bytes : List ℕ) (new : SimState)
+    → CommandWrites old object offset bytes new
+    → Changes (λ o o'. o' ≡ put_by_device old.properties offset bytes o) (objects_of old) object (objects_of new)
+shown_command old object offset bytes new s =
+    let p = old.properties in
+    let P : Object → Object → Type 0 = λ o o'. o' ≡ put_by_device p offset bytes o in
+    subst (λ objects. Changes P (objects_of old) object objects) (sym (ap objects_of s.1.2))
+    (shown_change p (HasRange offset (length bytes)) (put_by_device p offset bytes)
+    (λ o w has. put_by_device_is_whole offset bytes p o w has) old.objects object s.1.0 s.1.1 s.0.whole P
+    (λ o w has. refl))

@@ -1,19 +1,25 @@
 //! The simulated device.
 
-ghost use Rattle.std.specs.Prelude.{◌≡◌, ◌+◌, ◌≤◌, IfOk, IsSomeAnd, OnOk, OnErr, option_map};
+ghost use Rattle.std.specs.Prelude.{◌≡◌, ◌↔◌, true, false, length, IfOk, IsTrue, OnOk, OnErr, option_map};
 ghost use Rattle.std.specs.FinMap as map;
+ghost use Rattle.std.specs.Prelude.{map as list_map};
+ghost use Rattle.gpu_alloc_types.specs.Device.{HeldWith, range_of};
 ghost use Rattle.gpu_alloc_types.specs.Properties.{properties_of};
+ghost use Rattle.gpu_sim.specs.Objects.{new_object};
 ghost use Rattle.gpu_sim.specs.Question.{at, with_plan, CanRefuse};
-ghost use Rattle.gpu_sim.specs.Sim.{as_numbers, fresh, IsMade, Maps};
+ghost use Rattle.gpu_sim.specs.Sim.{as_numbers, as_range, fresh, latest, objects_of, CommandWrites, IsMade, IsWritable};
 
+mod bytes;
 mod memory;
 mod numbered;
 mod object;
 mod properties;
 mod question;
 
+use bytes::{Direction, Part};
 use gpu_alloc_types::{
-    AllocationFlags, DeviceMapError, DeviceProperties, MemoryDevice, MemoryObject, OutOfMemory,
+    AllocationFlags, DeviceMapError, DeviceProperties, MappedMemoryRange, MemoryDevice,
+    MemoryObject, OutOfMemory,
 };
 pub use memory::SimMemory;
 use numbered::Numbered;
@@ -35,13 +41,14 @@ pub struct Sim<A: Allocator + Copy = Global> {
     plans: ByKind<Numbered<Cause, A>>,
     asked: ByKind<u64>,
     last_allocation: Option<(u64, u32, AllocationFlags)>,
+    last_range: Option<(u64, u64, u64)>,
     last_name: u64,
-    objects: Numbered<SimObject, A>,
+    objects: Numbered<SimObject<A>, A>,
 }
 
 impl<A: Allocator + Copy> Model for Sim<A> {
     ghost use Rattle.std.specs.Prelude.{option_map};
-    ghost use Rattle.gpu_sim.specs.Sim.{SimState, as_numbers, IsNamedUpTo};
+    ghost use Rattle.gpu_sim.specs.Sim.{SimState, as_numbers, as_range, IsSound};
     ghost use Rattle.gpu_sim.specs.SimCode.{state_code};
 
     ghost Value = { SimState };
@@ -53,11 +60,12 @@ impl<A: Allocator + Copy> Model for Sim<A> {
       plans = sim.plans;
       asked = sim.asked;
       last_allocation = option_map as_numbers sim.last_allocation;
+      last_range = option_map as_range sim.last_range;
       last_name = sim.last_name;
       objects = sim.objects;
     } };
 
-    ghost invariant = { λ sim. IsNamedUpTo sim.last_name sim.objects };
+    ghost invariant = { λ sim. IsSound sim.last_name sim.properties sim.objects };
 }
 
 impl<A: Allocator + Copy> Sim<A> {
@@ -83,6 +91,7 @@ impl<A: Allocator + Copy> Sim<A> {
                 invalidate: 0,
             },
             last_allocation: None,
+            last_range: None,
             last_name: 0,
             objects: Numbered::new(alloc),
         })
@@ -121,9 +130,52 @@ impl<A: Allocator + Copy> Sim<A> {
         self.last_allocation
     }
 
+    /// The object's name, the offset and the size in bytes of the latest range that was asked for in a map, a flush or
+    /// an invalidate, refused or not.
+    ///
+    /// Of a question with several ranges it is the last of them. One with none leaves it as it was.
+    pub fn last_range(&self) -> Option<(u64, u64, u64)>
+        ensures { option_map as_range result ≡ self.now.last_range }
+    {
+        self.last_range
+    }
+
+    /// Writes bytes into the object of that name from `offset` on, in bytes, as a command of the graphics device does:
+    /// they are the device's, and where the memory is coherent the host's too. It is no question, and takes no memory.
+    ///
+    /// Answers `false`, and all is as before, where no object of that name is held, where the host does not see its
+    /// memory, or where the bytes pass its end. (Bytes that the host does not see are kept nowhere.)
+    pub fn gpu_write(&mut self, object: u64, offset: u64, data: &[u8]) -> bool
+        ensures answer { IsTrue result
+            ↔ HeldWith (objects_of self.old) object (IsWritable self.old.properties offset (length «data».now)) }
+        ensures written { result ≡ true → CommandWrites self.old object offset «data».now self.new }
+        ensures refused { result ≡ false → self.new ≡ self.old }
+    {
+        if !self.can_write(object, offset, data.len() as u64) {
+            return false;
+        }
+        self.objects.write(&self.properties, object, offset, data);
+        true
+    }
+
+    // Whether a command may write so many bytes of the object of that name.
+    fn can_write(&self, object: u64, offset: u64, size: u64) -> bool
+        ensures { IsTrue result ↔ HeldWith (objects_of self.now) object (IsWritable self.now.properties offset size) }
+    {
+        let Some(held) = self.objects.get(object) else {
+            return false;
+        };
+        if !self.properties.is_host_visible(held.memory_type()) {
+            return false;
+        }
+        let length = held.size();
+        offset <= length && size <= length - offset
+    }
+
     // Makes an object under the next name. Where names are spent or no memory is found, all is as before.
-    fn make_object(&mut self, object: SimObject) -> Result<SimMemory<A>, AllocError>
-        ensures ok { IfOk result (λ name. IsMade self.old name object self.new) }
+    fn make_object(&mut self, size: u64, memory_type: u32) -> Result<SimMemory<A>, AllocError>
+        ensures ok { IfOk result
+            (λ name. IsMade self.old name (new_object self.old.properties size memory_type) self.new) }
         ensures err { OnErr result (self.new ≡ self.old) }
     {
         if self.last_name == u64::MAX {
@@ -131,24 +183,10 @@ impl<A: Allocator + Copy> Sim<A> {
         }
         let name = self.last_name + 1;
         let memory = SimMemory::new(self.alloc, name)?;
+        let object = SimObject::new(self.alloc, &self.properties, size, memory_type)?;
         self.objects.insert(name, object)?;
         self.last_name = name;
         Ok(memory)
-    }
-
-    // Maps a range of the object of that name, in the place of one that it has.
-    fn map_object(&mut self, name: u64, range: MappedRange)
-        requires { IsSomeAnd (map.get self.old.objects name) (λ object. range.offset + range.size ≤ object.size) }
-        ensures { Maps self.old (record { object = name; offset = range.offset; size = range.size }) self.new }
-    {
-        if let Some(object) = self.objects.get(name) {
-            let mapped = SimObject {
-                memory_type: object.memory_type,
-                size: object.size,
-                mapped: Some(range),
-            };
-            self.objects.replace(name, mapped);
-        }
     }
 }
 
@@ -173,11 +211,7 @@ impl<A: Allocator + Copy> MemoryDevice<SimMemory<A>> for Sim<A> {
         if let Some(cause) = self.plans.allocate.get(self.asked.allocate) {
             return Err(cause.out_of_memory());
         }
-        match self.make_object(SimObject {
-            memory_type,
-            size,
-            mapped: None,
-        }) {
+        match self.make_object(size, memory_type) {
             Ok(memory) => Ok(memory),
             Err(_) => Err(OutOfMemory::OutOfHostMemory),
         }
@@ -194,11 +228,60 @@ impl<A: Allocator + Copy> MemoryDevice<SimMemory<A>> for Sim<A> {
         size: u64,
     ) -> Result<(), DeviceMapError> {
         self.asked.map = self.asked.map.saturating_add(1);
+        self.last_range = Some((memory.object(), offset, size));
         if let Some(cause) = self.plans.map.get(self.asked.map) {
             return Err(cause.map_error());
         }
-        self.map_object(memory.object(), MappedRange { offset, size });
+        let range = MappedRange { offset, size };
+        self.objects.set_mapped(memory.object(), Some(range));
         Ok(())
+    }
+
+    fn unmap_memory(&mut self, memory: &SimMemory<A>) {
+        self.objects.set_mapped(memory.object(), None);
+    }
+
+    fn flush_memory_ranges(
+        &mut self,
+        ranges: &[MappedMemoryRange<'_, SimMemory<A>>],
+    ) -> Result<(), OutOfMemory> {
+        self.asked.flush = self.asked.flush.saturating_add(1);
+        note_last(&mut self.last_range, ranges);
+        if let Some(cause) = self.plans.flush.get(self.asked.flush) {
+            let refusal = cause.out_of_memory();
+            self.objects
+                .copy_each(ranges, Direction::ToDevice, Part::FirstHalf);
+            return Err(refusal);
+        }
+        self.objects
+            .copy_each(ranges, Direction::ToDevice, Part::Whole);
+        Ok(())
+    }
+
+    fn invalidate_memory_ranges(
+        &mut self,
+        ranges: &[MappedMemoryRange<'_, SimMemory<A>>],
+    ) -> Result<(), OutOfMemory> {
+        self.asked.invalidate = self.asked.invalidate.saturating_add(1);
+        note_last(&mut self.last_range, ranges);
+        if let Some(cause) = self.plans.invalidate.get(self.asked.invalidate) {
+            let refusal = cause.out_of_memory();
+            self.objects
+                .copy_each(ranges, Direction::ToHost, Part::FirstHalf);
+            return Err(refusal);
+        }
+        self.objects
+            .copy_each(ranges, Direction::ToHost, Part::Whole);
+        Ok(())
+    }
+
+    fn put_bytes(&mut self, memory: &SimMemory<A>, offset: u64, bytes: &[u8]) {
+        self.objects
+            .put(&self.properties, memory.object(), offset, bytes);
+    }
+
+    fn get_bytes(&mut self, memory: &SimMemory<A>, offset: u64, bytes: &mut [u8]) {
+        self.objects.read(memory.object(), offset, bytes);
     }
 
     ghost row = { step_is_row };
@@ -206,6 +289,19 @@ impl<A: Allocator + Copy> MemoryDevice<SimMemory<A>> for Sim<A> {
     ghost keeps_properties = { step_keeps_properties };
 
     ghost well_formed = { objects_are_well_formed };
+}
+
+// Notes the last of some ranges. Where there is none, what was told before stays.
+fn note_last<A: Allocator + Copy>(
+    told: &mut Option<(u64, u64, u64)>,
+    ranges: &[MappedMemoryRange<'_, SimMemory<A>>],
+)
+    ensures { option_map as_range told.new
+        ≡ latest (option_map as_range told.old) (list_map (range_of (λ memory. memory)) ranges.now) }
+{
+    if let Some(range) = ranges.last() {
+        *told = Some((range.memory.object(), range.offset, range.size));
+    }
 }
 
 #[cfg(test)]

@@ -1,6 +1,8 @@
 //! Values under numbers.
 
-ghost use Rattle.std.specs.Prelude.{◌≡◌, IsSome, OnOk, OnErr};
+ghost use Rattle.std.specs.Prelude.{◌≡◌, OnOk, OnErr, option_copied};
+ghost use Rattle.std.specs.Option.{option_copied_mut};
+ghost use Rattle.std.specs.Borrow.{sem};
 ghost use Rattle.std.specs.FinMap as map;
 
 use indexmap::IndexMap;
@@ -26,7 +28,9 @@ impl<V, A: Allocator + Copy> Model for Numbered<V, A> {
     ghost view = { λ numbered. map.from_entries numbered.entries.entries };
 }
 
-impl<V: Copy, A: Allocator + Copy> Numbered<V, A> {
+impl<V: Drop, A: Allocator + Copy> Numbered<V, A> {
+    ghost use Rattle.gpu_sim.specs.Numbered.{lends_value};
+
     /// No values. It takes no memory.
     pub(super) fn new(alloc: A) -> Numbered<V, A>
         ensures { result ≡ map.empty }
@@ -44,10 +48,18 @@ impl<V: Copy, A: Allocator + Copy> Numbered<V, A> {
     }
 
     /// The value under a number.
-    pub(super) fn get(&self, number: u64) -> Option<V>
-        ensures { result ≡ map.get self.now number }
+    pub(super) fn get(&self, number: u64) -> Option<&V>
+        ensures { option_copied result ≡ map.get self.now number }
     {
-        self.entries.get(&number).copied()
+        self.entries.get(&number)
+    }
+
+    /// The value under a number, to write.
+    pub(super) fn get_mut(&mut self, number: u64) -> Option<&mut V>
+        ensures* writes_back { sem 𝓛 (lends_value V.row A.row A.Allocator self.entry number result) }
+        ensures value { option_copied_mut result ≡ map.get self.old number }
+    {
+        self.entries.get_mut(&number)
     }
 
     /// Puts a value under a number, in the place of one that is there. Without memory all is as before.
@@ -57,14 +69,6 @@ impl<V: Copy, A: Allocator + Copy> Numbered<V, A> {
     {
         self.entries.insert(number, value)?;
         Ok(())
-    }
-
-    /// Puts a value in the place of the one under a number, which takes no memory.
-    pub(super) fn replace(&mut self, number: u64, value: V)
-        requires { IsSome (map.get self.old number) }
-        ensures { self.new ≡ map.insert self.old number value }
-    {
-        self.entries.insert(number, value).unwrap();
     }
 
     /// Takes the value under a number away, if there is one.

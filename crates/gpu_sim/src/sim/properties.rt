@@ -1,9 +1,9 @@
 //! A copy of what a device offers.
 
 ghost use Rattle.std.specs.Prelude.{◌≡◌, IfOk};
-ghost use Rattle.gpu_alloc_types.specs.Properties.{properties_of};
+ghost use Rattle.gpu_alloc_types.specs.Properties.{properties_of, is_host_visible, is_coherent};
 
-use gpu_alloc_types::{DeviceProperties, MemoryHeap, MemoryType};
+use gpu_alloc_types::{DeviceProperties, MemoryHeap, MemoryPropertyFlags, MemoryType};
 use std::alloc::{AllocError, Allocator, Global};
 use std::marker::Model;
 
@@ -49,5 +49,25 @@ impl<A: Allocator + Copy> OwnedProperties<A> {
             non_coherent_atom_size: props.non_coherent_atom_size,
             buffer_device_address: props.buffer_device_address,
         })
+    }
+
+    /// Whether the host sees memory of that type. It sees none where there is no such type.
+    pub(super) fn is_host_visible(&self, memory_type: u32) -> bool
+        ensures { result ≡ is_host_visible self.now memory_type }
+    {
+        match self.memory_types.get(memory_type as usize) {
+            Some(found) => found.props.intersects(MemoryPropertyFlags::HOST_VISIBLE),
+            None => false,
+        }
+    }
+
+    /// Whether memory of that type is coherent. It isn't where there is no such type.
+    pub(super) fn is_coherent(&self, memory_type: u32) -> bool
+        ensures { result ≡ is_coherent self.now memory_type }
+    {
+        match self.memory_types.get(memory_type as usize) {
+            Some(found) => found.props.intersects(MemoryPropertyFlags::HOST_COHERENT),
+            None => false,
+        }
     }
 }

@@ -5,5 +5,4 @@ use Rattle.gpu_sim.proofs.sim.numbered.Numbered.get.Goals as goal
 
 pub returns : goal.returns
 returns g c =
-    c.copied.ensures ∙ c.get.ensures.value
-    ∙ sym (ap (λ m. get m c.args.number) (sym c.self.view_is) ∙ get_entries _ c.args.number)
+    c.get.ensures.value ∙ sym (ap (λ m. get m c.args.number) (sym c.self.view_is) ∙ get_entries _ c.args.number)

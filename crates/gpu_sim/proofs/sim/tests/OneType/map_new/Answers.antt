@@ -33,12 +33,12 @@ mappable_once_granted old new size flags name nonempty visible s =
 
 mappable_once_refused : (old new : SimState) (range : Range) (answer : Result (Unit {0}) DeviceMapError) (name size : ℕ) → IsErr answer → SimStep old (Mapped range answer) new → IsMappableWhole old name size → IsMappableWhole new name size
 mappable_once_refused old new range (Ok _) name size refused s mappable = absurd (let no : false ≡ true = refused in cc)
-mappable_once_refused old new range (Err error) name size refused s mappable = subst (λ sim. IsMappableWhole sim name size) (sym s.1) mappable
+mappable_once_refused old new range (Err error) name size refused s mappable = subst (λ sim. IsMappableWhole sim name size) (sym s.1.1) mappable
 
 pub map_memory-answer-requires : goal.map_memory-answer-requires
 map_memory-answer-requires g c = mappable_once_granted c.self.inside.sim _ c.args.size c.from_bits_retain-flags.result.bits _ (omega arith) c.self.invariant.1 c.in_ok-memory.ensures
 
 pub map_memory-again-requires : goal.map_memory-again-requires
 map_memory-again-requires g c =
-    mappable_once_refused _ _ _ _ _ c.args.size (sym c.is_err.ensures.value ∙ c.if-is_err.true) c.map_memory-answer.ensures
+    mappable_once_refused c.allocate_memory.new.self _ _ _ _ c.args.size (sym c.is_err.ensures.value ∙ c.if-is_err.true) c.map_memory-answer.ensures
     (mappable_once_granted c.self.inside.sim _ c.args.size c.from_bits_retain-flags.result.bits _ (omega arith) c.self.invariant.1 c.in_ok-memory.ensures)
