@@ -5,28 +5,30 @@ ghost use Rattle.gpu_alloc.specs.Agreement.{Agrees};
 use gpu_alloc::{GpuAllocator, MemoryBlock, Request, UsageFlags};
 use gpu_alloc_types::{MemoryDevice, MemoryObject};
 
-/// A buffer of some bytes that the device uses often, if there is room.
-pub fn buffer<M: MemoryObject, D: MemoryDevice<M>>(
+/// A buffer that holds these bytes, for the device to copy from, if there is room.
+pub fn upload<M: MemoryObject, D: MemoryDevice<M>>(
     allocator: &mut GpuAllocator<M>,
     device: &mut D,
-    size: u64,
+    bytes: &[u8],
 ) -> Option<MemoryBlock<M>>
     requires { Agrees allocator.old (D.properties device.old) (D.objects device.old) }
     ensures { Agrees allocator.new (D.properties device.new) (D.objects device.new) }
 {
     let request = Request {
-        size,
+        size: bytes.len() as u64,
         align_mask: 0,
-        usage: UsageFlags::FAST_DEVICE_ACCESS,
+        usage: UsageFlags::UPLOAD,
         memory_types: u32::MAX,
     };
     if !request.is_askable(false) {
         return None;
     }
-    match allocator.alloc(device, request) {
-        Ok(block) => Some(block),
-        Err(_) => None,
+    let mut block = allocator.alloc(device, request).ok()?;
+    if block.write_bytes(device, 0, bytes).is_err() {
+        allocator.dealloc(device, block);
+        return None;
     }
+    Some(block)
 }
 
 /// Gives a block back, or the block itself where another allocator has to take it.

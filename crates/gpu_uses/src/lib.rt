@@ -3,6 +3,7 @@
 #![tactic(auto)]
 
 pub mod buffers;
+pub mod bytes;
 pub mod first_use;
 pub mod frame;
 pub mod opening;
