@@ -1,3 +1,4 @@
+mod Commands
 mod EmptyMaps
 mod LiveLeaves
 mod LiveSlots

@@ -1,6 +1,6 @@
-//! Tests of `gpu_alloc` that are no rows of blocks: the flag types, texts of errors, configurations as text, rankings,
-//! and the allocators of shared chunks by themselves, over the simulated device. They stand in a crate of their own,
-//! since a crate with tests is proved twice.
+//! Tests of `gpu_alloc` that are no rows of grants: the flag types, texts of errors, configurations as text, rankings,
+//! the allocators of shared chunks by themselves, and the bytes of blocks, over the simulated device. They stand in a
+//! crate of their own, since a crate with tests is proved twice.
 #![tactic(auto)]
 
 #[cfg(test)]

@@ -1,8 +1,10 @@
 //! What no contract says of these, and that the calls succeed.
 
 mod buddy;
+mod bytes;
 mod config;
 mod errors;
 mod flags;
 mod freelist;
+mod pair;
 mod usage;

@@ -1,0 +1,408 @@
+//! An allocator over the simulated device with two blocks, whose bytes the host and the device write and read.
+
+ghost use Rattle.std.specs.Prelude.{◌≡◌, ◌+◌, ◌≤◌, IsTrue};
+ghost use Rattle.gpu_alloc_types.specs.Properties.{IsUsable, properties_of};
+ghost use Rattle.gpu_alloc.specs.Agreement.{Agrees, BlockAgrees, KeepsAgreement, KeepsBlocks};
+ghost use Rattle.gpu_alloc.specs.Owned.{Adds, IsSameBlock, Leaves};
+ghost use Rattle.gpu_sim.specs.Question.{CanRefuse};
+ghost use Rattle.gpu_sim.specs.Sim.{objects_of};
+
+use gpu_alloc::laws::{agrees_at_first, kept_blocks_agree};
+use gpu_alloc::{
+    Config, Dedicated, DeviceProperties, GpuAllocator, MapError, Mapping, MemoryBlock, MemoryHeap,
+    MemoryPropertyFlags, MemoryType, Request, UsageFlags,
+};
+use gpu_sim::{Cause, Question, Sim, SimMemory};
+use std::alloc::{AllocError, Global};
+use std::marker::Model;
+use std::process::Abort;
+use std::test::Fail;
+
+const HEAPS: [MemoryHeap; 1] = [MemoryHeap { size: 1 << 20 }];
+
+/// What a buffer holds before bytes are read into it.
+const UNREAD: u8 = 0xC3;
+
+/// The most bytes that one step reads.
+const MOST: usize = 512;
+
+/// What two blocks are asked for with, each.
+#[derive(Clone, Copy)]
+pub(super) struct Asking {
+    pub(super) props: MemoryPropertyFlags,
+    pub(super) usage: UsageFlags,
+    pub(super) size: u64,
+    pub(super) hint: Dedicated,
+}
+
+/// One of two blocks.
+#[derive(Clone, Copy, PartialEq, Eq)]
+pub(super) enum Which {
+    First,
+    Second,
+}
+
+/// A call of a block, and what it has to answer.
+#[derive(Clone, Copy)]
+pub(super) enum Call<'a> {
+    /// These bytes are written there.
+    Write(u64, &'a [u8], Result<(), MapError>),
+
+    /// So many bytes are read there, and are these.
+    Read(u64, &'a [u8]),
+
+    /// So many bytes are refused to be read there, and the buffer stays as it was.
+    Unread(u64, usize, MapError),
+
+    /// So many bytes are mapped there.
+    Map(u64, usize, Result<Mapping, MapError>),
+
+    /// The mapping is ended, where there is one.
+    Unmap(bool),
+
+    /// That is mapped.
+    Mapped(Option<Mapping>),
+}
+
+/// What is done with two blocks and their device, and what has to come of it.
+#[derive(Clone, Copy)]
+pub(super) enum Step<'a> {
+    /// A block is called.
+    Call(Which, Call<'a>),
+
+    /// The device refuses its next question of that kind.
+    Refuse(Question, Cause),
+
+    /// A command of the device writes these bytes into an object, from an offset on.
+    Command(u64, u64, &'a [u8]),
+
+    /// The device was asked so often to allocate, map, flush and invalidate.
+    Asked([u64; 4]),
+
+    /// The latest range in a question was that of the object with this name: its offset and its size.
+    Range(u64, u64, u64),
+}
+
+/// An allocator over a simulated device, and two blocks of it. Contracts see nothing of them.
+struct Pair {
+    allocator: GpuAllocator<SimMemory>,
+    device: Sim,
+    first: MemoryBlock<SimMemory>,
+    second: MemoryBlock<SimMemory>,
+}
+
+impl Model for Pair {
+    ghost use Rattle.std.specs.Prelude.{ℕ};
+    ghost use Rattle.gpu_alloc_tests.specs.Pair.{ArePair};
+    ghost use Rattle.gpu_sim.specs.Sim.{objects_of};
+
+    ghost Value = { ℕ };
+
+    ghost view = { λ p. 2 };
+
+    ghost invariant = { λ p. ArePair p.allocator p.first p.second (p.device).properties (objects_of p.device) };
+}
+
+impl Pair {
+    /// Two blocks of an allocator by the potato's sizes, over a device with one memory type and an atom of 64 bytes.
+    fn new(rt: &impl Abort, alloc: Global, asking: Asking) -> Result<Pair, Fail> {
+        let types = [MemoryType {
+            heap: 0,
+            props: asking.props,
+        }];
+        let offered = DeviceProperties {
+            memory_types: &types,
+            memory_heaps: &HEAPS,
+            max_memory_allocation_count: 4096,
+            max_memory_allocation_size: 1 << 30,
+            non_coherent_atom_size: 64,
+            buffer_device_address: false,
+        };
+        assert!(rt; offered.is_usable());
+        let device = Sim::new(alloc, again(&offered))?;
+        Pair::open(rt, alloc, offered, device, asking)
+    }
+
+    /// Two blocks of an allocator over a fresh device.
+    fn open(
+        rt: &impl Abort,
+        alloc: Global,
+        offered: DeviceProperties<'_>,
+        device: Sim,
+        asking: Asking,
+    ) -> Result<Pair, Fail>
+        requires usable { IsUsable (properties_of offered) }
+        requires same { device.properties ≡ properties_of offered }
+    {
+        match GpuAllocator::new(alloc, Config::i_am_potato(), offered) {
+            Ok(allocator) => {
+                agrees_at_first(&allocator, &device);
+                Ok(Pair::over(rt, allocator, device, asking))
+            }
+            Err(_) => {
+                drop(device);
+                Err(Fail::from("no memory for an allocator"))
+            }
+        }
+    }
+
+    /// Two blocks of an allocator.
+    fn over(
+        rt: &impl Abort,
+        mut allocator: GpuAllocator<SimMemory>,
+        mut device: Sim,
+        asking: Asking,
+    ) -> Pair
+        requires { Agrees allocator device.properties (objects_of device) }
+    {
+        let first = take(rt, &mut allocator, &mut device, asking);
+        let second = take(rt, &mut allocator, &mut device, asking);
+        kept_blocks_agree();
+        Pair {
+            allocator,
+            device,
+            first,
+            second,
+        }
+    }
+
+    /// Takes one step, and compares what comes of it. The number tells which one it is.
+    fn take_step(&mut self, rt: &impl Abort, at: usize, step: Step<'_>) {
+        match step {
+            Step::Call(which, call) => self.call(rt, at, which, call),
+            Step::Refuse(kind, cause) => self.refuse(rt, kind, cause),
+            Step::Command(object, offset, bytes) => self.command(rt, object, offset, bytes),
+            Step::Asked(counts) => assert_eq!(rt; self.asked(), counts, "step {at}"),
+            Step::Range(object, offset, size) => {
+                let range = self.device.last_range();
+                assert_eq!(rt; range, Some((object, offset, size)), "step {at}");
+            }
+        }
+    }
+
+    /// Calls one of the blocks.
+    fn call(&mut self, rt: &impl Abort, at: usize, which: Which, call: Call<'_>) {
+        match which {
+            Which::First => call_block(rt, &mut self.device, &mut self.first, at, call),
+            Which::Second => call_block(rt, &mut self.device, &mut self.second, at, call),
+        }
+    }
+
+    /// Has the device refuse its next question of a kind.
+    fn refuse(&mut self, rt: &impl Abort, kind: Question, cause: Cause) {
+        let next = self.device.asked(kind).saturating_add(1);
+        let planned = plan(rt, &mut self.device, kind, next, cause);
+        assert_eq!(rt; planned, Ok(()));
+    }
+
+    /// Has a command of the device write bytes into an object.
+    fn command(&mut self, rt: &impl Abort, object: u64, offset: u64, bytes: &[u8]) {
+        let written = self.device.gpu_write(object, offset, bytes);
+        assert!(rt; written);
+    }
+
+    /// How often the device was asked to allocate, map, flush and invalidate.
+    fn asked(&self) -> [u64; 4] {
+        [
+            self.device.asked(Question::Allocate),
+            self.device.asked(Question::Map),
+            self.device.asked(Question::Flush),
+            self.device.asked(Question::Invalidate),
+        ]
+    }
+
+    /// Gives both blocks back as they are, mapped or not, cleans up, and ends the allocator. Nothing is held then.
+    fn end(self, rt: &impl Abort) {
+        let Pair {
+            mut allocator,
+            mut device,
+            first,
+            second,
+        } = self;
+        allocator.dealloc(&mut device, first);
+        allocator.dealloc(&mut device, second);
+        allocator.cleanup(&mut device);
+        assert_eq!(rt; device.objects(), 0);
+        drop(device);
+        assert!(rt; allocator.held_objects() == 0);
+        allocator.close();
+    }
+}
+
+/// Takes the steps in their order with two fresh blocks, and gives these back.
+pub(super) fn play(
+    rt: &impl Abort,
+    alloc: Global,
+    asking: Asking,
+    steps: &[Step<'_>],
+) -> Result<(), Fail> {
+    let mut pair = Pair::new(rt, alloc, asking)?;
+    for (at, step) in steps.iter().enumerate() {
+        pair.take_step(rt, at, *step);
+    }
+    pair.end(rt);
+    Ok(())
+}
+
+/// The same properties once more.
+fn again<'a>(props: &DeviceProperties<'a>) -> DeviceProperties<'a>
+    ensures { properties_of result ≡ properties_of props.now }
+{
+    DeviceProperties {
+        memory_types: props.memory_types,
+        memory_heaps: props.memory_heaps,
+        max_memory_allocation_count: props.max_memory_allocation_count,
+        max_memory_allocation_size: props.max_memory_allocation_size,
+        non_coherent_atom_size: props.non_coherent_atom_size,
+        buffer_device_address: props.buffer_device_address,
+    }
+}
+
+/// A block as it is asked for, beside those in hand.
+fn take(
+    rt: &impl Abort,
+    allocator: &mut GpuAllocator<SimMemory>,
+    device: &mut Sim,
+    asking: Asking,
+) -> MemoryBlock<SimMemory>
+    requires { Agrees allocator.old device.old.properties (objects_of device.old) }
+    ensures agrees { Agrees allocator.new device.new.properties (objects_of device.new) }
+    ensures ready { BlockAgrees result device.new.properties (objects_of device.new) }
+    ensures added { Adds allocator.old allocator.new result }
+    ensures leaves { Leaves allocator.old allocator.new }
+    ensures keeps { KeepsBlocks allocator.old device.old.properties (objects_of device.old)
+        allocator.new device.new.properties (objects_of device.new) }
+{
+    let request = Request {
+        size: asking.size,
+        align_mask: 0,
+        usage: asking.usage,
+        memory_types: 1,
+    };
+    assert!(rt; request.is_askable(false));
+    match allocator.alloc_with_dedicated(device, request, asking.hint) {
+        Ok(block) => block,
+        Err(error) => panic!(rt; "{error}"),
+    }
+}
+
+/// Plans a refusal, of a cause that a question of this kind can have.
+fn plan(
+    rt: &impl Abort,
+    device: &mut Sim,
+    kind: Question,
+    nth: u64,
+    cause: Cause,
+) -> Result<(), AllocError>
+    ensures properties { device.new.properties ≡ device.old.properties }
+    ensures objects { objects_of device.new ≡ objects_of device.old }
+{
+    assert!(rt; can_refuse(kind, cause));
+    device.refuse(kind, nth, cause)
+}
+
+/// Whether a question of this kind can be refused for this cause.
+fn can_refuse(kind: Question, cause: Cause) -> bool
+    ensures { IsTrue result → CanRefuse cause kind }
+{
+    match (kind, cause) {
+        (Question::Map, _) | (_, Cause::Device | Cause::Host) => true,
+        (_, Cause::Failed) => false,
+    }
+}
+
+/// Whether a range lies in a block.
+fn fits(block: &MemoryBlock<SimMemory>, offset: u64, len: usize) -> bool
+    ensures { IsTrue result → offset + len ≤ block.now.size }
+{
+    offset <= block.size() && len as u64 <= block.size() - offset
+}
+
+/// Calls a block, and compares what it answers.
+fn call_block(
+    rt: &impl Abort,
+    device: &mut Sim,
+    block: &mut MemoryBlock<SimMemory>,
+    at: usize,
+    call: Call<'_>,
+)
+    requires ready { BlockAgrees block.old device.old.properties (objects_of device.old) }
+    ensures agrees { BlockAgrees block.new device.new.properties (objects_of device.new) }
+    ensures keeps { KeepsAgreement block.old device.old.properties (objects_of device.old)
+        device.new.properties (objects_of device.new) }
+    ensures same { IsSameBlock block.old block.new }
+{
+    match call {
+        Call::Write(offset, bytes, answer) => {
+            assert!(rt; fits(block, offset, bytes.len()));
+            let given = block.write_bytes(device, offset, bytes);
+            assert_eq!(rt; given, answer, "step {at}");
+        }
+        Call::Read(offset, bytes) => read(rt, device, block, at, offset, bytes),
+        Call::Unread(offset, len, error) => unread(rt, device, block, at, offset, len, error),
+        Call::Map(offset, size, answer) => {
+            assert!(rt; size > 0);
+            assert!(rt; fits(block, offset, size));
+            let given = block.map(device, offset, size);
+            assert_eq!(rt; given, answer, "step {at}");
+        }
+        Call::Unmap(answer) => {
+            let given = block.unmap(device);
+            assert_eq!(rt; given, answer, "step {at}");
+        }
+        Call::Mapped(mapping) => {
+            assert_eq!(rt;
+                (block.mapping(), block.is_mapped()),
+                (mapping, mapping.is_some()),
+                "step {at}"
+            );
+        }
+    }
+}
+
+/// Reads bytes of a block, and compares them.
+fn read(
+    rt: &impl Abort,
+    device: &mut Sim,
+    block: &mut MemoryBlock<SimMemory>,
+    at: usize,
+    offset: u64,
+    bytes: &[u8],
+)
+    requires ready { BlockAgrees block.old device.old.properties (objects_of device.old) }
+    ensures agrees { BlockAgrees block.new device.new.properties (objects_of device.new) }
+    ensures keeps { KeepsAgreement block.old device.old.properties (objects_of device.old)
+        device.new.properties (objects_of device.new) }
+    ensures same { IsSameBlock block.old block.new }
+{
+    assert!(rt; bytes.len() <= MOST);
+    assert!(rt; fits(block, offset, bytes.len()));
+    let mut buffer = [UNREAD; MOST];
+    let given = block.read_bytes(device, offset, &mut buffer[..bytes.len()]);
+    assert_eq!(rt; given, Ok(()), "step {at}");
+    assert_eq!(rt; &buffer[..bytes.len()], bytes, "step {at}");
+}
+
+/// Is refused bytes of a block, and compares the cause. The buffer stays as it was.
+fn unread(
+    rt: &impl Abort,
+    device: &mut Sim,
+    block: &mut MemoryBlock<SimMemory>,
+    at: usize,
+    offset: u64,
+    len: usize,
+    error: MapError,
+)
+    requires ready { BlockAgrees block.old device.old.properties (objects_of device.old) }
+    ensures agrees { BlockAgrees block.new device.new.properties (objects_of device.new) }
+    ensures keeps { KeepsAgreement block.old device.old.properties (objects_of device.old)
+        device.new.properties (objects_of device.new) }
+    ensures same { IsSameBlock block.old block.new }
+{
+    assert!(rt; len <= MOST);
+    assert!(rt; fits(block, offset, len));
+    let mut buffer = [UNREAD; MOST];
+    let given = block.read_bytes(device, offset, &mut buffer[..len]);
+    assert_eq!(rt; given, Err(error), "step {at}");
+    assert!(rt; buffer.iter().all(|byte| *byte == UNREAD), "step {at}");
+}
