@@ -7,6 +7,7 @@ pub mod InHand
 pub mod Leaves
 pub mod ListSets
 pub mod ListViews
+pub mod ListedRanges
 pub mod Lists
 pub mod Maps
 pub mod Multiples
@@ -14,6 +15,7 @@ pub mod Names
 pub mod NewChunks
 pub mod Outcomes
 pub mod PowersOfTwo
+pub mod RangeOrder
 pub mod SameRuns
 pub mod SlabViews
 pub mod Slots

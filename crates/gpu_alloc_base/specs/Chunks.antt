@@ -1,11 +1,16 @@
 -- Chunks: shared objects that an allocator holds.
-use Rattle.std.specs.Prelude.{◌≡◌, ℕ, Bool, Some, None, IsTrue, cond}
+use Rattle.std.specs.Prelude.{◌≡◌, ℕ, Bool, Option, Some, None, IsTrue, cond}
 use Rattle.gpu_alloc_types.specs.Device.{Object}
 
 -- a held chunk: its object's name, and its size
 pub record Chunk : Type 0 where
   pub object : ℕ
   pub size : ℕ
+
+-- what a key or a number says of its chunk's object, 0 where none is held under it
+abbrev pub object_in : Option Chunk → ℕ
+object_in None = 0
+object_in (Some chunk) = chunk.object
 
 -- the device holds a chunk: so large, of the memory type, and mapped whole where the host sees it
 pub record IsThere (memory_type : ℕ) (visible : Bool) (chunk : Chunk) (o : Object) : Type 0 where

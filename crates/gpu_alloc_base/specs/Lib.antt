@@ -13,6 +13,7 @@ pub mod Leaves
 pub mod NewChunk
 pub mod NewObject
 pub mod Pieces
+pub mod RangeOrder
 pub mod Sizes
 pub mod SlabViews
 pub mod Slots

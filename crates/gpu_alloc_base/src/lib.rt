@@ -10,6 +10,7 @@ pub mod heap;
 pub mod laws;
 pub mod new_chunk;
 mod piece;
+pub mod range_order;
 mod region;
 pub mod sizes;
 pub mod steps;

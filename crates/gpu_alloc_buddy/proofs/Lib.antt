@@ -1,6 +1,7 @@
 pub mod BuddyAnswers
 pub mod BuddyCalls
 pub mod BuddyGrants
+pub mod BuddyRanges
 pub mod BuddyReturns
 pub mod InHand
 pub mod KeptPieces

@@ -8,6 +8,7 @@ use Rattle.gpu_alloc_types.specs.Properties.{Properties}
 use Rattle.gpu_alloc_types.specs.Device.{Object, Event, put}
 use Rattle.gpu_alloc_types.specs.declared.allocation_flags.AllocationFlags.{AllocationFlags}
 use Rattle.gpu_alloc_types.specs.Device.Event.{Deallocated}
+use Rattle.gpu_alloc_types.specs.declared.types.FreeRange.{FreeRange}
 use Rattle.gpu_alloc_base.specs.Accounts as accounts
 use Rattle.gpu_alloc_base.specs.Accounts.{Account, account, HeldChunks}
 use Rattle.gpu_alloc_base.specs.Case.{Case, Answers}
@@ -193,6 +194,18 @@ abbrev pub ObjectsFreed : Buddy → Leaf → (ℕ → Option Object) → (ℕ �
 ObjectsFreed b leaf old new =
     ((IsUnusedChunk (without_leaf b leaf) leaf.chunk → ⊥) × (new ≡ old))
     ⊎ (IsUnusedChunk (without_leaf b leaf) leaf.chunk × (new ≡ put old leaf.object None))
+
+-- What is free.
+
+-- the range is a free piece of the chunk of its object
+pub record IsPieceOf (b : Buddy) (r : FreeRange) : Type 0 where
+  pub key : ℕ
+  pub chunk : Chunk
+  pub held : map.get b.chunks key ≡ Some chunk
+  pub object : chunk.object ≡ r.object
+  pub length : ℕ
+  pub end : r.end ≡ r.start + length
+  pub piece : IsFreePiece (IsFreeAt b) key r.start length
 
 -- Blocks in hand.
 

@@ -6,6 +6,7 @@ use Rattle.std.specs.FinSet as set
 use Rattle.std.specs.Ordering.{nat_cmp, eq_by_cmp}
 use Rattle.slab.specs.Slab.{Slab}
 use Rattle.gpu_alloc_types.specs.Flags.{allocation_bits}
+use Rattle.gpu_alloc_types.specs.declared.types.FreeRange.{FreeRange}
 use Rattle.gpu_alloc_base.specs.Accounts.{HeldChunks}
 use Rattle.gpu_alloc_base.specs.NewChunk.{ChunkQuestion}
 use Rattle.gpu_alloc_base.specs.SlabViews.{by_key}
@@ -13,7 +14,7 @@ use Rattle.gpu_alloc_base.specs.Pieces.{AreKept}
 use Rattle.gpu_alloc_buddy.specs.Buddy.{with_chunk, with_leaf}
 use Rattle.gpu_alloc_buddy.specs.BuddyState.{Buddy, IsFreeAt, IsLiveLeaf}
 use Rattle.gpu_alloc_base.specs.Leaves.{leaf_cmp}
-use Rattle.gpu_alloc_base.specs.Chunks.{Chunk}
+use Rattle.gpu_alloc_base.specs.Chunks.{Chunk, object_in}
 use Rattle.gpu_alloc_base.specs.declared.buddy_block.Leaf.{Leaf}
 use Rattle.gpu_alloc_base.specs.declared.piece.Piece.{Piece}
 use Rattle.gpu_alloc_buddy.specs.declared.buddy.AskedChunk.{AskedChunk}
@@ -64,6 +65,11 @@ IsShortestAt pieces order i =
     (i < length pieces)
     × ((d : Piece) → (order ≤ (slice_index_or pieces i d).order)
     × All (λ p. order ≤ p.order → (slice_index_or pieces i d).order ≤ p.order) pieces)
+
+-- a piece as a range of its chunk's object
+abbrev pub range_of : Buddy → Piece → FreeRange
+range_of b p =
+    record { object = object_in (map.get b.chunks p.chunk); start = p.start; end = p.start + 2 ^ p.order }
 
 -- Pieces that are kept are so again, with a chunk more of which a block is the front.
 abbrev pub KeepsPieces : List Piece → List Piece → Leaf → ℕ → Type 0

@@ -1,22 +1,24 @@
 //! The buddy allocator: shared chunks of one memory type, whose blocks are aligned powers of two.
 
 ghost use Rattle.std.specs.Prelude.{◌≡◌, ℕ, ◌+◌, ◌≤◌, ◌<◌, ◌↔◌, ◌^◌, ◌++◌, ◌∷◌, [], IfOk, IfErr, OnOk, OnErr, IfSome};
-ghost use Rattle.std.specs.Prelude.{IsSome, IsTrue, Some, None, vec_len, vec_capacity};
+ghost use Rattle.std.specs.Prelude.{Contains, IsSome, IsTrue, Some, None, vec_len, vec_capacity};
 ghost use Rattle.std.specs.FinMap as map;
 ghost use Rattle.std.specs.FinSet as set;
 ghost use Rattle.gpu_alloc_types.specs.Flags.{allocation_bits, property_bits, has_bit};
 ghost use Rattle.gpu_alloc_types.specs.Device.{Asked, IsAskable};
 ghost use Rattle.gpu_alloc_types.specs.Properties.{is_host_visible};
+ghost use Rattle.gpu_alloc_types.specs.declared.types.FreeRange.{FreeRange as Range};
 ghost use Rattle.std.specs.Int.{is_power_of_two};
 ghost use Rattle.gpu_alloc_buddy.specs.Buddy.{Agrees, buddy_case, CallAllocates, CallAnswers, case_of, chunks_with};
 ghost use Rattle.gpu_alloc_buddy.specs.Buddy.{Frees, HasPlace, IsGranted, IsUnusedChunk, ObjectsAfter, ObjectsFreed};
 ghost use Rattle.gpu_alloc_buddy.specs.Buddy.{opened, rounded, TakesPlace, without_leaf};
-ghost use Rattle.gpu_alloc_buddy.specs.Buddy.{Adds, HoldsNothing, Leaves, LeavesNoRest, Removes};
+ghost use Rattle.gpu_alloc_buddy.specs.Buddy.{Adds, HoldsNothing, IsPieceOf, Leaves, LeavesNoRest, Removes};
 ghost use Rattle.gpu_alloc_base.specs.Accounts.{account, IsCounted, chunks_and_remaining};
 ghost use Rattle.gpu_alloc_base.specs.Case.{Asks, RefusesFirst};
 ghost use Rattle.gpu_alloc_base.specs.NewChunk.{AsksBlock, ChunkAfter, told_object};
+ghost use Rattle.gpu_alloc_base.specs.RangeOrder.{AreInOrder};
 ghost use Rattle.gpu_alloc_base.specs.Wanted.{requested, wanted};
-ghost use Rattle.gpu_alloc_buddy.specs.BuddyInside.{chunks_in, KeepsPieces, question_of};
+ghost use Rattle.gpu_alloc_buddy.specs.BuddyInside.{chunks_in, KeepsPieces, question_of, range_of};
 ghost use Rattle.gpu_alloc_buddy.specs.BuddySound.{IsSound};
 ghost use Rattle.gpu_alloc_buddy.specs.BuddyState.{IsLiveLeaf};
 ghost use Rattle.slab.specs.Slab.{get, Updates, HasRoomFor, slab_len};
@@ -27,13 +29,16 @@ mod space;
 
 use gpu_alloc_base::heap::Heap;
 use gpu_alloc_base::new_chunk::new_chunk_with_handle;
+use gpu_alloc_base::range_order::put_in_order;
 use gpu_alloc_base::sizes::next_order;
 use gpu_alloc_base::{AllocationError, BuddyBlock, Leaf, Piece};
-use gpu_alloc_types::{AllocationFlags, MemoryDevice, MemoryObject, MemoryPropertyFlags};
+use gpu_alloc_types::{
+    AllocationFlags, FreeRange, MemoryDevice, MemoryObject, MemoryPropertyFlags,
+};
 use pieces::{bytes, order_of, put_back, shortest, split, take_front};
 use slab::Slab;
 use space::{forget, leaf_of, make_room};
-use std::alloc::{Allocator, Global};
+use std::alloc::{AllocError, Allocator, Global};
 use std::marker::Model;
 
 /// A held chunk: a handle of its object, and its size as a power of two.
@@ -129,6 +134,23 @@ impl<M: MemoryObject, A: Allocator + Copy> BuddyAllocator<M, A> {
             props,
             atom: atom_mask + 1,
         })
+    }
+
+    /// The free pieces of the held chunks: the longest ranges of a power of two of bytes, at a multiple of their length,
+    /// that lie in a chunk and in no live block, by the name of their object, then by start. Each is in bytes of its
+    /// object.
+    ///
+    /// The only refusal is want of host memory. Nothing changes.
+    pub fn free_ranges(&self) -> Result<Vec<FreeRange, A>, AllocError>
+        ensures pieces { IfOk result (λ ranges. (r : Range) → Contains ranges.items r ↔ IsPieceOf self.now r) }
+        ensures order { IfOk result (λ ranges. AreInOrder ranges.items) }
+    {
+        let mut ranges = Vec::with_capacity(*self.pieces.allocator(), self.pieces.len())?;
+        for &piece in self.pieces.as_slice() {
+            ranges.push_reserved(self.range_of(piece));
+        }
+        put_in_order(&mut ranges);
+        Ok(ranges)
     }
 }
 
@@ -378,6 +400,19 @@ impl<M: MemoryObject, A: Allocator> BuddyAllocator<M, A> {
             return Err(AllocationError::TooManyObjects);
         }
         self.take_chunk(device, order, flags, heap, allocations_remains)
+    }
+
+    /// A free piece as a range of its object.
+    fn range_of(&self, piece: Piece) -> FreeRange
+        requires held { IsSome (map.get self.now.chunks piece.chunk) }
+        requires bounded { (piece.order ≤ 63) × (piece.start + 2 ^ piece.order ≤ 2 ^ 63) }
+        ensures { result ≡ range_of self.now piece }
+    {
+        FreeRange {
+            object: self.chunks[piece.chunk].memory.object(),
+            start: piece.start,
+            end: piece.start + bytes(piece.order),
+        }
     }
 
     /// Whether some free piece is as long as that.

@@ -16,7 +16,7 @@ use Rattle.gpu_alloc_base.specs.Accounts as accounts
 use Rattle.gpu_alloc_base.specs.Accounts.{Account, account}
 use Rattle.gpu_alloc_base.specs.Case.{Case, Answers}
 use Rattle.gpu_alloc_base.specs.Wanted.{Wanted}
-use Rattle.gpu_alloc_base.specs.Chunks.{Chunk}
+use Rattle.gpu_alloc_base.specs.Chunks.{Chunk, object_in}
 use Rattle.gpu_alloc_base.specs.FreeSpace.{IsIn}
 use Rattle.gpu_alloc_base.specs.InHand as in_hand
 use Rattle.gpu_alloc_base.specs.InHand.{Bytes}
@@ -119,11 +119,7 @@ pub record AreGone (s : Space) (keep_last : Bool) (gone : List ℕ) : Type 0 whe
   pub rising : AreRisingNumbers gone
   pub all : (number : ℕ) → Contains gone number ↔ MayGo s keep_last number
 
--- what a number says of its chunk, 0 where none is held under it
-abbrev pub object_in : Option Chunk → ℕ
-object_in None = 0
-object_in (Some chunk) = chunk.object
-
+-- what a number says of its chunk's size, 0 where none is held under it
 abbrev pub size_in : Option Chunk → ℕ
 size_in None = 0
 size_in (Some chunk) = chunk.size
@@ -267,15 +263,6 @@ pub record IsRunOf (s : Space) (r : FreeRange) : Type 0 where
   pub held : map.get s.chunks number ≡ Some chunk
   pub object : chunk.object ≡ r.object
   pub run : IsFreeRun (IsFreeIn s) number r.start r.end
-
--- the one is of an object with a lesser name, or of the same one and starts before the other
-abbrev pub IsRangeBefore : FreeRange → FreeRange → Type 0
-IsRangeBefore r t = (r.object < t.object) ⊎ ((r.object ≡ t.object) × (r.start < t.start))
-
--- by object, then by start, and none twice
-abbrev pub AreInOrder : List FreeRange → Type 0
-AreInOrder ranges =
-    (i j : ℕ) (d : FreeRange) → i < j → j < length ranges → IsRangeBefore (get_or ranges i d) (get_or ranges j d)
 
 -- Blocks in hand.
 

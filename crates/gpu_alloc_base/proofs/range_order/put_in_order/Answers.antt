@@ -1,0 +1,17 @@
+use Rattle.std.proofs.Common.{rules, ◌≡◌}
+use Rattle.std.proofs.lemmas.Fn.{always_returns_same}
+use Rattle.std.proofs.lemmas.List.Sorted.{IsPermutation-sym, Contains-permutation}
+use Rattle.gpu_alloc_base.proofs.RangeOrder.{by_start, in_order}
+use Rattle.gpu_alloc_base.proofs.range_order.put_in_order.Goals as goal
+
+pub returns-clause-same : goal.returns-clause-same
+returns-clause-same g c r =
+    let old = c.args.ranges.now.items in
+    let new = c.sort_unstable_by_key.new.self.items in
+    let perm = c.sort_unstable_by_key.ensures.permutation in
+    (Contains-permutation new old r (IsPermutation-sym old new perm), Contains-permutation old new r perm)
+
+pub returns-clause-order : goal.returns-clause-order
+returns-clause-order g c =
+    in_order c.args.ranges.now.items c.sort_unstable_by_key.new.self.items c.requires c.sort_unstable_by_key.ensures.permutation
+    (c.sort_unstable_by_key.ensures.sorted by_start (always_returns_same _ (λ a r. r ≡ by_start a.0.now) _ (λ a r q k. search rules)))
