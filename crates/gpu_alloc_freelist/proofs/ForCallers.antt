@@ -14,13 +14,12 @@ use Rattle.gpu_alloc_types.specs.Device.{Object, Event, HeldWith, put}
 use Rattle.gpu_alloc_types.specs.Device.Event.{Deallocated}
 use Rattle.gpu_alloc_types.specs.Objects.{put-other}
 use Rattle.gpu_alloc_types.specs.Properties.{Properties}
-use Rattle.gpu_alloc_base.specs.Chunks.{IsThere, Chunk}
+use Rattle.gpu_alloc_base.specs.Chunks.{IsThere, Chunk, object_in}
 use Rattle.gpu_alloc_freelist.specs.FreeList.{MayGo, IsFirstToGo, without_chunk}
 use Rattle.gpu_alloc_base.specs.Accounts.{Account, account, IsCounted, chunks_and_remaining}
-use Rattle.gpu_alloc_freelist.specs.FreeListAllocator.{LetsGo, GivesBack, Agrees, object_in, size_in, object_of, size_of, without_numbers, without_objects_of, sees_chunks}
+use Rattle.gpu_alloc_freelist.specs.FreeListAllocator.{LetsGo, GivesBack, Agrees, size_in, object_of, size_of, without_numbers, without_objects_of, sees_chunks}
 use Rattle.gpu_alloc_freelist.specs.FreeListSound.{IsSound, IsSoundSpace}
 use Rattle.gpu_alloc_freelist.specs.FreeListState.{Listing, Space}
-use Rattle.gpu_alloc_base.specs.declared.free_list_block.Slot.{Slot}
 use Rattle.gpu_alloc_base.specs.declared.heap.Heap.{Heap}
 use Rattle.gpu_alloc_base.proofs.Lists.{contains_none}
 use Rattle.gpu_alloc_base.proofs.Maps.{gone, kept_other, kept_key}

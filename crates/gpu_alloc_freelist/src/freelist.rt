@@ -9,7 +9,7 @@ ghost use Rattle.gpu_alloc_types.specs.Device.{Asked};
 ghost use Rattle.gpu_alloc_types.specs.declared.types.FreeRange.{FreeRange as Range};
 ghost use Rattle.gpu_alloc_base.specs.Wanted.{requested, wanted};
 ghost use Rattle.gpu_alloc_freelist.specs.FreeList.{without_slot};
-ghost use Rattle.gpu_alloc_freelist.specs.FreeListAllocator.{Agrees, AreInOrder, CallAllocates, CallAnswers, case_of};
+ghost use Rattle.gpu_alloc_freelist.specs.FreeListAllocator.{Agrees, CallAllocates, CallAnswers, case_of};
 ghost use Rattle.gpu_alloc_freelist.specs.FreeListAllocator.{CallGivesBack, CallGivesFirst, chunk_size, Cleans, Frees};
 ghost use Rattle.gpu_alloc_freelist.specs.FreeListAllocator.{IsGranted, IsRunOf, list_case, listing_without};
 ghost use Rattle.gpu_alloc_freelist.specs.FreeListAllocator.{ObjectsAfter, ObjectsCleaned, ObjectsFreed, opened};
@@ -22,12 +22,14 @@ ghost use Rattle.gpu_alloc_freelist.specs.FreeListSound.{IsSound, IsSoundSpace};
 ghost use Rattle.gpu_alloc_freelist.specs.FreeListState.{Listing, IsLiveSlot};
 ghost use Rattle.gpu_alloc_base.specs.FreeSpace.{IsMultipleOf};
 ghost use Rattle.gpu_alloc_base.specs.AlignMasks.{IsAlignMask};
+ghost use Rattle.gpu_alloc_base.specs.RangeOrder.{AreInOrder};
 ghost use Rattle.gpu_alloc_base.specs.Sizes.{up};
 
 mod list;
 mod regions;
 
 use gpu_alloc_base::heap::Heap;
+use gpu_alloc_base::range_order::put_in_order;
 use gpu_alloc_base::sizes::next_power_of_two;
 use gpu_alloc_base::steps::Steps;
 use gpu_alloc_base::{AllocationError, FreeListBlock};
@@ -130,7 +132,7 @@ impl<M: MemoryObject, A: Allocator + Copy> FreeListAllocator<M, A> {
                 end: region.end,
             });
         }
-        ranges.sort_unstable_by_key(|range| (range.object, range.start));
+        put_in_order(&mut ranges);
         Ok(ranges)
     }
 }

@@ -10,10 +10,10 @@ use Rattle.gpu_alloc_types.specs.Device.Event.{Deallocated}
 use Rattle.gpu_alloc_types.specs.Properties.{Properties, heap_at}
 use Rattle.gpu_alloc_block.specs.Agreement.{Agrees}
 use Rattle.gpu_alloc_buddy.specs.BuddyState.{Buddy}
-use Rattle.gpu_alloc_base.specs.Chunks.{Chunk}
+use Rattle.gpu_alloc_base.specs.Chunks.{Chunk, object_in}
 use Rattle.gpu_alloc_freelist.specs.FreeList.{IsWhollyFree, without_chunk}
 use Rattle.gpu_alloc_base.specs.Accounts.{Account, account, IsCounted}
-use Rattle.gpu_alloc_freelist.specs.FreeListAllocator.{account_without_chunk, GivesFirst, AreGone, object_in, size_in, object_of, size_of, without_numbers, without_objects_of}
+use Rattle.gpu_alloc_freelist.specs.FreeListAllocator.{account_without_chunk, GivesFirst, AreGone, size_in, object_of, size_of, without_numbers, without_objects_of}
 use Rattle.gpu_alloc_freelist.specs.FreeListAllocator as list
 use Rattle.gpu_alloc_freelist.specs.FreeListSound.{IsSound}
 use Rattle.gpu_alloc_freelist.specs.FreeListState.{Listing}

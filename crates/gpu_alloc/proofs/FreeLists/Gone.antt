@@ -4,9 +4,9 @@ use Rattle.std.proofs.lemmas.List.{get_or-map, length-map}
 use Rattle.std.proofs.lemmas.List.Elements.{Contains-append_cases, Contains-get_or}
 use Rattle.std.specs.FinMap as finite
 use Rattle.std.specs.FinSet as set
-use Rattle.gpu_alloc_base.specs.Chunks.{Chunk}
+use Rattle.gpu_alloc_base.specs.Chunks.{Chunk, object_in}
 use Rattle.gpu_alloc_freelist.specs.FreeList as list
-use Rattle.gpu_alloc_freelist.specs.FreeListAllocator.{AreGone, object_in, object_of}
+use Rattle.gpu_alloc_freelist.specs.FreeListAllocator.{AreGone, object_of}
 use Rattle.gpu_alloc_freelist.specs.FreeListState.{Listing}
 use Rattle.gpu_alloc.specs.Inside.{IsNumberedChunk, list_object, span_of_slot, slot_at}
 use Rattle.gpu_alloc.specs.FreeListSharing.{IsListChunk, IsFreeInChunk}

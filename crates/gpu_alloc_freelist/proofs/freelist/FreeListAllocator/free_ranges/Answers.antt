@@ -1,14 +1,21 @@
-use Rattle.std.proofs.Common.{rules, ◌≡◌, ◌+◌, map, sym, ap, subst, arith}
-use Rattle.std.proofs.lemmas.Fn.{always_returns_same}
+use Rattle.std.proofs.Common.{◌≡◌, ◌+◌, ◌↔◌, map, get_or, Contains, sym, ◌∙◌, ap, subst, arith}
+use Rattle.std.specs.FinMap as map_of
+use Rattle.std.specs.List.{IsDistinct}
 use Rattle.std.proofs.lemmas.List.Elements.{Contains-get_or}
-use Rattle.std.specs.List.Sorted.{IsPermutation}
 use Rattle.gpu_alloc_types.specs.Flags.{property_bits}
+use Rattle.gpu_alloc_base.specs.FreeRuns.{IsFreeRun}
+use Rattle.gpu_alloc_base.specs.RangeOrder.{same_start}
+use Rattle.gpu_alloc_freelist.specs.FreeListAllocator.{object_of}
 use Rattle.gpu_alloc_freelist.specs.FreeListInside.{listing_in}
-use Rattle.gpu_alloc_freelist.specs.FreeListState.{Listing}
+use Rattle.gpu_alloc_freelist.specs.FreeListState.{Listing, IsFreeIn}
 use Rattle.gpu_alloc_base.specs.declared.region.FreeListRegion.{FreeListRegion}
-use Rattle.gpu_alloc_freelist.proofs.FreeListRanges.{range_of, is_held, one_more, all_listed, same_runs, by_key, in_order}
-use Rattle.gpu_alloc_freelist.proofs.freelist.FreeListAllocator.free_ranges.Given.{Over}
+use Rattle.gpu_alloc_base.proofs.ListedRanges.{told_name, one_more, all_listed}
+use Rattle.gpu_alloc_freelist.proofs.FreeListRanges.{range_of, is_held, all_runs, runs_apart}
 use Rattle.gpu_alloc_freelist.proofs.freelist.FreeListAllocator.free_ranges.Goals as goal
+
+-- no region
+abbrev none : FreeListRegion
+none = record { chunk = 0; start = 0; end = 0 }
 
 pub loop-region-init : goal.loop-region-init
 loop-region-init g c = let made = c.in_ok-ranges.ensures in (made.items, (made.len, made.capacity))
@@ -16,33 +23,38 @@ loop-region-init g c = let made = c.in_ok-ranges.ensures in (made.items, (made.l
 pub chunk-requires : goal.chunk-requires
 chunk-requires g c =
     let regions = c.regions-regions.result.now in
-    is_held c.self.inside.freelist.space _ ((c.regions-regions.ensures.runs _).0 (Contains-get_or regions c.loop-region.region-index (record { chunk = 0; start = 0; end = 0 }) c.loop-region-test.true))
+    is_held c.self.inside.freelist.space _ ((c.regions-regions.ensures.runs _).0 (Contains-get_or regions c.loop-region.region-index none c.loop-region-test.true))
 
 pub push_reserved-requires : goal.push_reserved-requires
 push_reserved-requires g c = omega (arith, c.loop-region.invariant.1.0, c.loop-region.invariant.1.1, c.loop-region-test.true)
 
 pub loop-region-preserved : goal.loop-region-preserved
 loop-region-preserved g c =
-    let t = c.self.inside.freelist.space in
+    let s = c.self.inside.freelist.space in
     let regions = c.regions-regions.result.now in
     let i = c.loop-region.region-index in
-    let d : FreeListRegion = record { chunk = 0; start = 0; end = 0 } in
-    let held = is_held t _ ((c.regions-regions.ensures.runs _).0 (Contains-get_or regions i d c.loop-region-test.true)) in (
-      one_more t c.args.self.now.space (ap (λ (l : Listing). l.space) c.self.view_is) regions i c.object.result d c.loop-region-test.true held (rw c.chunk.ensures (sym c.object.ensures)) c.loop-region.ranges.items c.push_reserved.new.self.items c.loop-region.invariant.0 c.push_reserved.ensures.items,
+    let region = get_or regions i none in
+    let held = is_held s region ((c.regions-regions.ensures.runs region).0 (Contains-get_or regions i none c.loop-region-test.true)) in
+    let name : object_of s region.chunk ≡ c.object.result = told_name (map_of.get s.chunks region.chunk) c.object.result held (rw c.chunk.ensures (sym c.object.ensures)) in
+    let same = ap (λ (l : Listing). object_of l.space region.chunk) c.self.view_is in (
+      one_more (range_of c.args.self.now.space) regions i none _ c.loop-region.ranges.items c.push_reserved.new.self.items c.loop-region-test.true
+          (λ k. record { object = (sym same ∙ name) k; start = region.start; end = region.end }) c.loop-region.invariant.0 c.push_reserved.ensures.items,
       (omega (arith, c.push_reserved.ensures.len, c.loop-region.invariant.1.0), omega (arith, c.push_reserved.ensures.capacity, c.loop-region.invariant.1.1)),
     )
 
--- the sorted list has the ranges of all regions
-permuted : (g : Over) (c : goal.After-sort_unstable_by_key g) → IsPermutation (map (range_of c.self.inside.freelist.space) c.regions-regions.result.now) c.sort_unstable_by_key.new.self.items
-permuted g c =
-    let all = all_listed c.self.inside.freelist.space c.args.self.now.space (ap (λ (l : Listing). l.space) c.self.view_is) c.regions-regions.result.now c.loop-region.region-index c.loop-region.ranges.items (omega (arith, c.loop-region-test.false)) c.loop-region.invariant.0 in
-    subst (λ xs. IsPermutation xs c.sort_unstable_by_key.new.self.items) all c.sort_unstable_by_key.ensures.permutation
+pub put_in_order-requires : goal.put_in_order-requires
+put_in_order-requires g c =
+    let is = all_listed (range_of c.args.self.now.space) c.regions-regions.result.now c.loop-region.region-index c.loop-region.ranges.items (omega (arith, c.loop-region-test.false)) c.loop-region.invariant.0 in
+    let apart = runs_apart (listing_in c.self.inside.freelist.space c.self.inside.chunk_size c.self.inside.final_chunk_size c.self.inside.memory_type (property_bits c.self.inside.props) (c.self.inside.atom_mask + 1)) c.self.invariant
+    c.regions-regions.result.now c.regions-regions.ensures.runs c.regions-regions.ensures.rising in
+    subst (IsDistinct same_start) (ap (λ (l : Listing). map (range_of l.space) c.regions-regions.result.now) c.self.view_is ∙ sym is) apart
 
 pub returns-clause-runs : goal.returns-clause-runs
-returns-clause-runs g c = rw (← c.self.view_is) (same_runs c.self.inside.freelist.space c.regions-regions.result.now c.regions-regions.ensures.runs c.sort_unstable_by_key.new.self.items (permuted g c))
-
-pub returns-clause-order : goal.returns-clause-order
-returns-clause-order g c =
-    let sorted = c.sort_unstable_by_key.ensures.sorted by_key (always_returns_same _ (λ a r. r ≡ by_key a.0.now) _ (λ a r q k. search rules)) in
-    in_order (listing_in c.self.inside.freelist.space c.self.inside.chunk_size c.self.inside.final_chunk_size c.self.inside.memory_type (property_bits c.self.inside.props) (c.self.inside.atom_mask + 1)) c.self.invariant
-    c.regions-regions.result.now c.regions-regions.ensures.runs c.regions-regions.ensures.rising c.sort_unstable_by_key.new.self.items (permuted g c) sorted
+returns-clause-runs g c r =
+    let is = all_listed (range_of c.args.self.now.space) c.regions-regions.result.now c.loop-region.region-index c.loop-region.ranges.items (omega (arith, c.loop-region-test.false)) c.loop-region.invariant.0 in
+    let runs = subst (λ (l : Listing). (q : FreeListRegion) → Contains c.regions-regions.result.now q ↔ IsFreeRun (IsFreeIn l.space) q.chunk q.start q.end) c.self.view_is c.regions-regions.ensures.runs in
+    let exact = all_runs c.args.self.now.space c.regions-regions.result.now runs r in
+    let same = c.put_in_order.ensures.same r in (
+      (λ has. exact.0 (subst (λ xs. Contains xs r) is (same.0 has))),
+      (λ run. same.1 (subst (λ xs. Contains xs r) (sym is) (exact.1 run))),
+    )

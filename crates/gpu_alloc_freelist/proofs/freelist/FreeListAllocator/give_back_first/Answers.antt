@@ -3,7 +3,8 @@ use Rattle.gpu_alloc_types.specs.Device.{put}
 use Rattle.gpu_alloc_types.specs.Device.Event.{Deallocated}
 use Rattle.gpu_alloc_types.specs.Flags.{property_bits}
 use Rattle.gpu_alloc_base.specs.Accounts.{Account, IsCounted, account}
-use Rattle.gpu_alloc_freelist.specs.FreeListAllocator.{Agrees, account_without_chunk, object_in, size_in, size_of}
+use Rattle.gpu_alloc_base.specs.Chunks.{object_in}
+use Rattle.gpu_alloc_freelist.specs.FreeListAllocator.{Agrees, account_without_chunk, size_in, size_of}
 use Rattle.gpu_alloc_freelist.specs.FreeListInside.{listing_in}
 use Rattle.gpu_alloc_freelist.specs.FreeListState.{Listing, Space}
 use Rattle.gpu_alloc_freelist.specs.declared.freelist.FreeListAllocator.TheInside.{Inside}
