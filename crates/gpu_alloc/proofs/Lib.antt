@@ -7,6 +7,7 @@ pub mod Changes
 pub mod Closing
 pub mod Consistency
 pub mod FreeLists
+pub mod FreeRanges
 pub mod Decisions
 pub mod Granted
 pub mod Grants

@@ -7,6 +7,7 @@ pub mod Exactness
 pub mod FirstTypes
 pub mod FreeBytes
 pub mod FreeListSharing
+pub mod FreeRanges
 pub mod Inside
 pub mod Opening
 pub mod Owned
@@ -30,6 +31,7 @@ pub use Rattle.gpu_alloc_base.specs.Leaves
 pub use Rattle.gpu_alloc_base.specs.NewChunk
 pub use Rattle.gpu_alloc_base.specs.NewObject
 pub use Rattle.gpu_alloc_base.specs.Pieces
+pub use Rattle.gpu_alloc_base.specs.RangeOrder
 pub use Rattle.gpu_alloc_base.specs.Sizes
 pub use Rattle.gpu_alloc_base.specs.Slots
 pub use Rattle.gpu_alloc_base.specs.Wanted

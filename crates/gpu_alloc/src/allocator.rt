@@ -20,6 +20,7 @@ ghost use Rattle.gpu_alloc.specs.Sound as Sound;
 ghost use Rattle.gpu_alloc_block.specs.State.{HeldObject, Span, IsLive, IsOwned, ledger, total};
 
 mod by_type;
+mod ranges;
 mod returning;
 mod rows;
 

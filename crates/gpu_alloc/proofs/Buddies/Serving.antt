@@ -48,7 +48,7 @@ module _ (F G : ℕ → ℕ → Type 0) (x y : ℕ) (to : (at : ℕ) → F x at 
   }
 
 -- a place has a first byte
-first_byte : (F : ℕ → ℕ → Type 0) (x start length : ℕ) → IsPlace F x start length → F x start
+pub first_byte : (F : ℕ → ℕ → Type 0) (x start length : ℕ) → IsPlace F x start length → F x start
 first_byte F x start length place =
     let some : 0 < 2 ^ place.power.0 = pow_pos place.power.0 in
     place.free start (record { from = omega arith; to = omega (arith, some, place.power.1) })
@@ -99,14 +99,14 @@ module _ (s : State) (places : map.FinMap span_cmp Place) (room index : ℕ) (b 
   place_in_chunk : (key start length : ℕ) (chunk : Chunk) → map.get b.chunks key ≡ Some chunk → IsPlace (IsFreeByte s index BuddyChunk) chunk.object start length → IsPlace (IsFreeAt b) key start length
   place_in_chunk key start length chunk is = place_to (IsFreeByte s index BuddyChunk) (IsFreeAt b) chunk.object key (λ at. free_at key at chunk is) start length
 
-  piece_in_object : (key start length : ℕ) (chunk : Chunk) → map.get b.chunks key ≡ Some chunk → IsFreePiece (IsFreeAt b) key start length → IsFreePiece (IsFreeByte s index BuddyChunk) chunk.object start length
+  pub piece_in_object : (key start length : ℕ) (chunk : Chunk) → map.get b.chunks key ≡ Some chunk → IsFreePiece (IsFreeAt b) key start length → IsFreePiece (IsFreeByte s index BuddyChunk) chunk.object start length
   piece_in_object key start length chunk is = piece_to (IsFreeAt b) (IsFreeByte s index BuddyChunk) key chunk.object (λ at. free_byte key at chunk is) (λ at. free_at key at chunk is) start length
 
-  piece_in_chunk : (key start length : ℕ) (chunk : Chunk) → map.get b.chunks key ≡ Some chunk → IsFreePiece (IsFreeByte s index BuddyChunk) chunk.object start length → IsFreePiece (IsFreeAt b) key start length
+  pub piece_in_chunk : (key start length : ℕ) (chunk : Chunk) → map.get b.chunks key ≡ Some chunk → IsFreePiece (IsFreeByte s index BuddyChunk) chunk.object start length → IsFreePiece (IsFreeAt b) key start length
   piece_in_chunk key start length chunk is = piece_to (IsFreeByte s index BuddyChunk) (IsFreeAt b) chunk.object key (λ at. free_at key at chunk is) (λ at. free_byte key at chunk is) start length
 
   -- an object with a free byte is a chunk
-  chunk_with : (object at : ℕ) → IsFreeByte s index BuddyChunk object at → (key : ℕ) × (chunk : Chunk) × ((map.get b.chunks key ≡ Some chunk) × (object ≡ chunk.object))
+  pub chunk_with : (object at : ℕ) → IsFreeByte s index BuddyChunk object at → (key : ℕ) × (chunk : Chunk) × ((map.get b.chunks key ≡ Some chunk) × (object ≡ chunk.object))
   chunk_with object at free =
       let there = serves.of.linked.objects object free.chunk (record { held = free.held; of_kind = free.of_kind; of_type = free.of_type ∙ sym serves.of.for_type.memory_type }) in
       (there.0, record { object = object; size = free.chunk.counted }, (there.1, refl))

@@ -1,0 +1,49 @@
+//! What is free in a memory type's shared chunks.
+
+ghost use Rattle.std.specs.Prelude.{◌≡◌, ◌↔◌, ◌<◌, Contains, length, IfOk, IfErr};
+ghost use Rattle.gpu_alloc.specs.FreeRanges.{IsFreeRangeOf};
+ghost use Rattle.gpu_alloc_base.specs.RangeOrder.{AreInOrder};
+ghost use Rattle.gpu_alloc_types.specs.declared.types.FreeRange.{FreeRange as Range};
+
+use super::GpuAllocator;
+use gpu_alloc_base::AllocationError;
+use gpu_alloc_base::range_order::put_in_order;
+use gpu_alloc_types::{FreeRange, MemoryObject};
+use std::alloc::{AllocError, Allocator};
+
+impl<M: MemoryObject, A: Allocator + Copy> GpuAllocator<M, A> {
+    /// The free ranges of a memory type's shared chunks, by the name of their object, then by start. Each is in bytes
+    /// of its object.
+    ///
+    /// Of a buddy chunk these are the free pieces: the longest ranges of a power of two of bytes, at a multiple of
+    /// their length, that lie in no live block. Of a free list's chunk they are the free runs: the longest ranges that
+    /// lie in none. An object of one block has none.
+    ///
+    /// The memory type has to be there. The only refusal is `OutOfHostMemory`. Nothing changes.
+    pub fn free_ranges(&self, memory_type: u32) -> Result<Vec<FreeRange, A>, AllocationError>
+        requires { memory_type < length (self.now.properties).memory_types }
+        ensures exact { IfOk result
+            (λ ranges. (r : Range) → Contains ranges.items r ↔ IsFreeRangeOf self.now memory_type r) }
+        ensures order { IfOk result (λ ranges. AreInOrder ranges.items) }
+        ensures refused { IfErr result (λ e. e ≡ AllocationError.OutOfHostMemory) }
+    {
+        match self.pieces_and_runs(memory_type) {
+            Ok(ranges) => Ok(ranges),
+            Err(_) => Err(AllocationError::OutOfHostMemory),
+        }
+    }
+
+    /// The free pieces of the buddy chunks and the free runs of the free list, as one list.
+    fn pieces_and_runs(&self, memory_type: u32) -> Result<Vec<FreeRange, A>, AllocError>
+        requires { memory_type < length (self.now.properties).memory_types }
+        ensures exact { IfOk result
+            (λ ranges. (r : Range) → Contains ranges.items r ↔ IsFreeRangeOf self.now memory_type r) }
+        ensures order { IfOk result (λ ranges. AreInOrder ranges.items) }
+    {
+        let mut ranges = self.buddies[memory_type as usize].free_ranges()?;
+        let runs = self.free_lists[memory_type as usize].free_ranges()?;
+        ranges.extend_from_slice(runs.as_slice())?;
+        put_in_order(&mut ranges);
+        Ok(ranges)
+    }
+}
