@@ -11,7 +11,7 @@ use Rattle.gpu_alloc_buddy.specs.BuddyState.{Buddy}
 use Rattle.gpu_alloc_freelist.specs.FreeListState.{Listing}
 use Rattle.gpu_alloc.specs.Inside.{state_in}
 use Rattle.gpu_alloc.specs.Spans.{Table}
-use Rattle.gpu_alloc_block.specs.State.{State, HeldObject, Block}
+use Rattle.gpu_alloc_block.specs.State.{State, HeldObject, Block, span_of}
 use Rattle.gpu_alloc.specs.declared.limits.Limits.{Limits}
 use Rattle.gpu_alloc_block.specs.declared.block.Kind.TheVariants.{Dedicated as DedicatedObject}
 use Rattle.gpu_alloc_base.specs.declared.heap.Heap.{Heap}
@@ -22,11 +22,11 @@ use Rattle.gpu_alloc.proofs.HeapLists.{state_kept}
 abbrev pub own_object : ℕ → ℕ → HeldObject
 own_object size memory_type = record { memory_type = memory_type; counted = size; kind = DedicatedObject }
 
--- what the fields stand for then
-pub state_held : {A : Type 0} (l : Limits A) (heaps : List Heap) (buddies : List Buddy) (lists : List Listing) (i : ℕ) (h old : Heap) (t now : Table) (remaining object size memory_type : ℕ) → old ≡ get_or heaps i old → h.size ≡ old.size
-    → now.held ≡ finite.insert t.held object (own_object size memory_type) → now.live ≡ set_of.insert t.live (record { object = object; offset = 0; size = size })
-    → state_in l (set heaps i h) buddies lists now (remaining - 1) ≡ holding (state_in l heaps buddies lists t remaining) (own_object size memory_type) (whole_block (state_in l heaps buddies lists t remaining) object size memory_type)
-state_held l heaps buddies lists i h old t now remaining object size memory_type at same held live =
+-- what the fields stand for where an object is held with a block in it
+pub state_held : {A : Type 0} (l : Limits A) (heaps : List Heap) (buddies : List Buddy) (lists : List Listing) (i : ℕ) (h old : Heap) (t now : Table) (remaining : ℕ) (object : HeldObject) (b : Block) → old ≡ get_or heaps i old → h.size ≡ old.size
+    → now.held ≡ finite.insert t.held b.object object → now.live ≡ set_of.insert t.live (span_of b)
+    → state_in l (set heaps i h) buddies lists now (remaining - 1) ≡ holding (state_in l heaps buddies lists t remaining) object b
+state_held l heaps buddies lists i h old t now remaining object b at same held live =
     state_kept l heaps buddies lists i h old now (remaining - 1) at same
     ∙ (λ k. record (state_in l heaps buddies lists t remaining) { held = held k; live = live k; remaining = remaining - 1 })
 

@@ -13,6 +13,7 @@ pub mod Granted
 pub mod Grants
 pub mod HandedOn
 pub mod HeapLists
+pub mod Imports
 pub mod Ledgers
 pub mod NewObjects
 pub mod Opened

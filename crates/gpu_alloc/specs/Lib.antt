@@ -8,6 +8,7 @@ pub mod FirstTypes
 pub mod FreeBytes
 pub mod FreeListSharing
 pub mod FreeRanges
+pub mod Importing
 pub mod Inside
 pub mod Opening
 pub mod Owned

@@ -1,7 +1,7 @@
 //! The allocator.
 
 ghost use Rattle.std.specs.Prelude.{◌≡◌, ◌↔◌, ℕ, ◌+◌, ◌/◌, ◌^◌, ◌<◌, true, length, List, All, IsTrue, IfOk, IfErr};
-ghost use Rattle.std.specs.Prelude.{OnErr, Some, None, cond, false};
+ghost use Rattle.std.specs.Prelude.{OnErr, Some, None, cond, false, is_some};
 ghost use Rattle.std.specs.FinMap as map;
 ghost use Rattle.std.specs.FinSet as set;
 ghost use Rattle.gpu_alloc_types.specs.Properties.{IsUsable, properties_of, heap_size};
@@ -20,6 +20,7 @@ ghost use Rattle.gpu_alloc.specs.Sound as Sound;
 ghost use Rattle.gpu_alloc_block.specs.State.{HeldObject, Span, IsLive, IsOwned, ledger, total};
 
 mod by_type;
+mod importing;
 mod ranges;
 mod returning;
 mod rows;
@@ -653,11 +654,27 @@ impl<M: MemoryObject, A: Allocator> GpuAllocator<M, A> {
         self.allocations_remains
     }
 
+    /// From now on this many more objects may be held, however many are. Together with the objects that are held
+    /// (`held_objects`) it has to be a number of 32 bits, so that each of them can be returned.
+    pub fn set_remaining_allocations(&mut self, remaining: u32)
+        requires { remaining + map.len self.old.held < 2 ^ 32 }
+        ensures { self.new ≡ record self.old { remaining = remaining } }
+    {
+        self.allocations_remains = remaining;
+    }
+
     /// How many objects are held.
     pub fn held_objects(&self) -> u32
         ensures { result ≡ map.len self.now.held }
     {
         self.spans.len() as u32
+    }
+
+    /// Whether an object of this name is held, as a block's own, as an import or as a chunk.
+    pub fn holds(&self, object: u64) -> bool
+        ensures { result ≡ is_some (map.get self.now.held object) }
+    {
+        self.spans.held(object).is_some()
     }
 
     /// A heap's ledger: how many bytes the held objects of its memory types count. It may be more than the heap's size,

@@ -1,0 +1,88 @@
+use Rattle.std.proofs.Common.{◌≡◌, ℕ, ◌-◌, ◌<◌, ◌^◌, None, refl, sym, ap, ◌∙◌, arith, subst, length, vec_len}
+use Rattle.std.proofs.Math.ListN.{set}
+use Rattle.std.proofs.lemmas.Grind.{common_steps}
+use Rattle.std.specs.FinMap as finite
+use Rattle.std.specs.FinSet as set_of
+use Rattle.gpu_alloc_types.specs.Properties.{props_at}
+use Rattle.gpu_alloc.specs.Candidates.{holding}
+use Rattle.gpu_alloc.specs.Importing.{Imports, imported_block, imported_object}
+use Rattle.gpu_alloc.specs.Inside.{state_in}
+use Rattle.gpu_alloc.specs.Spans.{Table}
+use Rattle.gpu_alloc_block.specs.State.{State, HeldObject, Block, Span, span_of}
+use Rattle.gpu_alloc_base.specs.declared.heap.Heap.{Heap}
+use Rattle.gpu_alloc.proofs.Consistency.{HoldsMore, heap_there, ledger-room}
+use Rattle.gpu_alloc.proofs.Grants.{state_held}
+use Rattle.gpu_alloc.proofs.HeapLists.{properties_kept}
+use Rattle.gpu_alloc.proofs.Imports.{imports}
+use Rattle.gpu_alloc.proofs.OwnObjects.{consistent-room, consistent-held}
+use Rattle.gpu_alloc.proofs.allocator.GpuAllocator.take_over.Given.{Over}
+use Rattle.gpu_alloc.proofs.allocator.GpuAllocator.take_over.Goals as goal
+
+pub invariant_of-self : goal.invariant_of-self
+invariant_of-self g c = consistent-room _ _ _ _ _ _ _ _ c.reserve.ensures.kept c.self.invariant
+
+pub index_mut-requires : goal.index_mut-requires
+index_mut-requires g c =
+    let known = rw (← c.self.view_is) at c.requires.known in
+    let n : vec_len c.self.inside.heaps ≡ length c.self.inside.heaps.items = grind (arith, common_steps) in
+    omega (arith, n, c.heap_index-heap.ensures, heap_there _ _ _ _ c.self.invariant.books refl c.args.memory_type known)
+
+pub alloc-requires : goal.alloc-requires
+alloc-requires g c =
+    let known = rw (← c.self.view_is) at c.requires.known in
+    let small : c.args.size < 2 ^ 64 = omega (arith, c.requires.ends) in
+    ledger-room _ _ _ _ c.self.invariant.books refl c.args.memory_type _ _ c.index_mut.result.now known c.heap_index-heap.ensures c.index_mut.ensures.value small
+
+-- What is known where there was room: the state before, the new row and block, and what follows from the steps.
+
+abbrev before : (g : Over) → goal.After-new g → State
+before g c = state_in c.self.inside.limits c.self.inside.heaps.items c.self.inside.buddies.items c.self.inside.free_lists.items c.self.inside.spans c.self.inside.allocations_remains
+
+abbrev object : (g : Over) → goal.After-new g → HeldObject
+object g c = imported_object c.args.memory_type c.args.size
+
+abbrev block : (g : Over) → goal.After-new g → Block
+block g c = imported_block (before g c) (g.M.MemoryObject.object c.args.memory) c.args.memory_type c.args.offset c.args.size
+
+-- the name of the handle that came
+name : (g : Over) (c : goal.After-new g) → c.object.result ≡ (block g c).object
+name g c = c.object.ensures
+
+some : (g : Over) (c : goal.After-new g) → 0 < c.self.inside.allocations_remains
+some g c = subst (λ s. 0 < s.remaining) (sym c.self.view_is) c.requires.remains
+
+free : (g : Over) (c : goal.After-new g) → finite.get (before g c).held (block g c).object ≡ None
+free g c = ap (λ (s : State). finite.get s.held (block g c).object) c.self.view_is ∙ c.requires.unheld
+
+more : (g : Over) (c : goal.After-new g) → HoldsMore _ _ _ _ c.self.invariant.books refl c.insert-key.new.self (object g c) (span_of (block g c))
+more g c =
+    let known = rw (← c.self.view_is) at c.requires.known in
+    let small : c.args.size < 2 ^ 64 = omega (arith, c.requires.ends) in
+    record {
+      with = record { nonempty = c.requires.nonempty; small = small; known = known; lies = λ own. refl };
+      free = free g c;
+      held = c.insert-key.ensures.held ∙ (λ k. finite.insert (c.reserve.ensures.kept k).held (name g c k) (object g c));
+      live = c.insert-key.ensures.live ∙ (λ k. set_of.insert (c.reserve.ensures.kept k).live (record (span_of (block g c)) { object = name g c k }));
+    }
+
+state_is : (g : Over) (c : goal.After-new g)
+    → state_in c.self.inside.limits (set c.self.inside.heaps.items c.heap_index-heap.result c.alloc.new.self) c.self.inside.buddies.items c.self.inside.free_lists.items c.insert-key.new.self (c.self.inside.allocations_remains - 1)
+    ≡ holding (before g c) (object g c) (block g c)
+state_is g c =
+    state_held c.self.inside.limits _ c.self.inside.buddies.items c.self.inside.free_lists.items _ _ c.index_mut.result.now c.self.inside.spans c.insert-key.new.self _ (object g c) (block g c) c.index_mut.ensures.value (ap (λ (h : Heap). h.size) c.alloc.ensures)
+    (more g c).held (more g c).live
+
+block_is : (g : Over) (c : goal.After-new g) → c.new.result ≡ block g c
+block_is g c =
+    let bits = c.requires.props ∙ ap (λ (s : State). props_at s.properties c.args.memory_type) (sym c.self.view_is) in
+    c.new.ensures ∙ (λ k. record (block g c) { props = bits k; atom = c.atom-atom.ensures k })
+
+pub invariant_of-self-2 : goal.invariant_of-self-2
+invariant_of-self-2 g c =
+    rw (properties_kept c.self.inside.limits c.self.inside.heaps.items c.heap_index-heap.result c.alloc.new.self c.index_mut.result.now c.index_mut.ensures.value (ap (λ (h : Heap). h.size) c.alloc.ensures))
+    (consistent-held _ _ _ _ _ c.self.inside.spans _ c.self.invariant refl c.insert-key.new.self (object g c) (span_of (block g c)) refl (more g c) _
+    (c.insert-key.ensures.places ∙ (λ k. finite.insert (c.reserve.ensures.kept k).places (record (span_of (block g c)) { object = name g c k }) (record { chunk = 0; index = 0 }))) c.index_mut.result.now _ _ (some g c)
+    c.heap_index-heap.ensures c.index_mut.ensures.value (ap (λ (h : Heap). h.used) c.alloc.ensures))
+
+pub returns-clause-imported : goal.returns-clause-imported
+returns-clause-imported g c = rw (← c.self.view_is) (imports (before g c) _ _ _ _ _ c.new.result (block_is g c) (state_is g c))

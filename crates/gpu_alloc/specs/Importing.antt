@@ -1,0 +1,45 @@
+-- What an import adds, and when allocator and device agree afterwards.
+use Rattle.std.specs.Prelude.{◌≡◌, ◌⊎◌, ℕ, ◌+◌, ◌%◌, ◌<◌, ◌≤◌, true, Option, None}
+use Rattle.gpu_alloc_types.specs.Device.{Object, HeldWith}
+use Rattle.gpu_alloc_types.specs.Properties.{Properties, is_non_coherent}
+use Rattle.gpu_alloc_block.specs.Agreement.{Agrees, BlockAgrees}
+use Rattle.gpu_alloc_block.specs.State.{HeldObject, Block, State, granted_block, IsOwned}
+use Rattle.gpu_alloc_block.specs.declared.block.Kind.TheVariants.{Imported}
+use Rattle.gpu_alloc.specs.Candidates.{holding}
+
+-- an import as a held object: it counts as many bytes as its caller gave
+abbrev pub imported_object : (memory_type size : ℕ) → HeldObject
+imported_object memory_type size = record { memory_type = memory_type; counted = size; kind = Imported }
+
+-- an unmapped block of an import: exactly the span that was given
+abbrev pub imported_block : State → (object memory_type offset size : ℕ) → Block
+imported_block s object t offset size =
+    granted_block s t Imported (record { object = object; offset = offset; size = size })
+
+-- The block is the given span of the object, which is held for it from then on. All else is as before.
+pub record Imports (s : State) (object memory_type offset size : ℕ) (new : State) (b : Block) : Type 0 where
+  pub block : b ≡ imported_block s object memory_type offset size
+  pub state : new ≡ holding s (imported_object memory_type size) b
+  pub owned : IsOwned new b
+
+-- An object on the device that may be imported: of the memory type, unmapped, with the range inside it, which ends on
+-- the atom or where the object ends where the memory type has to be flushed.
+pub record IsImportable (p : Properties) (memory_type offset size : ℕ) (o : Object) : Type 0 where
+  pub of_type : o.memory_type ≡ memory_type
+  pub unmapped : o.mapped ≡ None
+  pub within : offset + size ≤ o.size
+  pub finish : is_non_coherent p memory_type ≡ true → ((offset + size) % p.non_coherent_atom_size ≡ 0)
+      ⊎ (offset + size ≡ o.size)
+
+-- the device holds such an object, and agrees with the allocator
+pub record IsReadyForImport (s : State) (p : Properties) (objects : ℕ → Option Object)
+    (object memory_type offset size : ℕ) : Type 0 where
+  pub agrees : Agrees s p objects
+  pub held : HeldWith objects object (IsImportable p memory_type offset size)
+
+-- Whatever the device: where it was ready for the import, the allocator agrees with it afterwards, and so does the
+-- block.
+unfoldable pub ImportAgrees : State → (object memory_type offset size : ℕ) → State → Block → Type 0
+ImportAgrees s object t offset size new b =
+    (p : Properties) (objects : ℕ → Option Object) → IsReadyForImport s p objects object t offset size
+    → Agrees new p objects × BlockAgrees b p objects

@@ -1,0 +1,116 @@
+//! Memory objects that the allocator did not make.
+
+ghost use Rattle.std.specs.Prelude.{◌≡◌, ◌+◌, ◌^◌, ◌<◌, None, length, IfOk, IfErr, OnErr};
+ghost use Rattle.std.specs.FinMap as map;
+ghost use Rattle.gpu_alloc_types.specs.Flags.{property_bits};
+ghost use Rattle.gpu_alloc_types.specs.Properties.{props_at};
+ghost use Rattle.gpu_alloc.specs.Importing.{Imports, ImportAgrees};
+ghost use Rattle.gpu_alloc.specs.Owned.{Leaves, Adds};
+ghost use Rattle.gpu_alloc.specs.Sound as Sound;
+ghost use Rattle.gpu_alloc_block.specs.State.{total};
+
+use super::GpuAllocator;
+use crate::MemoryBlock;
+use crate::spans::{HeldRow, LiveSpan};
+use gpu_alloc_block::Kind;
+use gpu_alloc_types::{MemoryObject, MemoryPropertyFlags};
+use std::alloc::Allocator;
+
+impl<M: MemoryObject, A: Allocator> GpuAllocator<M, A> {
+    /// Takes over a memory object that another made, and gives the block of `size` bytes from `offset` on in it. The
+    /// allocator holds the object from then on: one fewer may be held, and the ledger of its heap rises by `size`,
+    /// however large the object is. The block is not mapped. `dealloc` takes it back, and gives the object back to the
+    /// device.
+    ///
+    /// The device is not asked. So that the allocator agrees with it afterwards, and so does the block, it has to hold
+    /// the object, of this memory type and unmapped, with the bytes inside it; where the host sees the memory type and
+    /// it is not coherent, they have to end at a multiple of `non_coherent_atom_size` or where the object ends (the
+    /// Vulkan specification's rule on `VkMappedMemoryRange`, which the block's flushes keep to).
+    ///
+    /// The memory type has to be one that is there, and `props` its properties. One object more may be held
+    /// (`remaining_allocations`), none of the object's name is (`holds`), `size` is at least 1, and `offset + size` is
+    /// a number of 64 bits. The only refusal is want of host memory: the object comes back, and all is as before.
+    pub fn import_memory(
+        &mut self,
+        memory: M,
+        memory_type: u32,
+        props: MemoryPropertyFlags,
+        offset: u64,
+        size: u64,
+    ) -> Result<MemoryBlock<M>, M>
+        requires known { memory_type < length (self.old.properties).memory_types }
+        requires props { property_bits props ≡ props_at self.old.properties memory_type }
+        requires remains { 0 < self.old.remaining }
+        requires unheld { map.get self.old.held (M.object memory) ≡ None }
+        requires nonempty { 0 < size }
+        requires ends { offset + size < 2 ^ 64 }
+
+        // The answer and the new state.
+        ensures imported { IfOk result (Imports self.old (M.object memory) memory_type offset size self.new) }
+        ensures refused { OnErr result (self.new ≡ self.old) }
+        ensures handed_back { IfErr result (λ handed. handed ≡ memory) }
+
+        // What follows from it.
+        ensures agrees { IfOk result (ImportAgrees self.old (M.object memory) memory_type offset size self.new) }
+        ensures added { IfOk result (Adds self.old self.new) }
+        ensures leaves { Leaves self.old self.new }
+        ensures total { total self.new ≡ total self.old }
+        ensures sound { Sound.IsSound self.new }
+    {
+        self.keeps_sound();
+        let answer = self.take_over(memory, memory_type, props, offset, size);
+        self.keeps_sound();
+        answer
+    }
+
+    /// Holds an object for the one block in it, or hands it back.
+    fn take_over(
+        &mut self,
+        memory: M,
+        memory_type: u32,
+        props: MemoryPropertyFlags,
+        offset: u64,
+        size: u64,
+    ) -> Result<MemoryBlock<M>, M>
+        requires known { memory_type < length (self.old.properties).memory_types }
+        requires props { property_bits props ≡ props_at self.old.properties memory_type }
+        requires remains { 0 < self.old.remaining }
+        requires unheld { map.get self.old.held (M.object memory) ≡ None }
+        requires nonempty { 0 < size }
+        requires ends { offset + size < 2 ^ 64 }
+        ensures imported { IfOk result (Imports self.old (M.object memory) memory_type offset size self.new) }
+        ensures refused { OnErr result (self.new ≡ self.old) }
+        ensures handed_back { IfErr result (λ handed. handed ≡ memory) }
+    {
+        if self.spans.reserve().is_err() {
+            return Err(memory);
+        }
+        let object = HeldRow {
+            memory_type,
+            counted: size,
+            kind: Kind::Imported,
+        };
+        let span = LiveSpan {
+            object: memory.object(),
+            offset,
+            size,
+            chunk: 0,
+            index: 0,
+        };
+        let key = self.spans.insert(span, Some(object));
+        let heap = self.limits.heap_index(memory_type);
+        self.heaps[heap].alloc(object.counted);
+        self.allocations_remains -= 1;
+        let atom = self.limits.atom(memory_type);
+        Ok(MemoryBlock::new(
+            memory,
+            span.offset,
+            span.size,
+            object.memory_type,
+            props,
+            atom,
+            object.kind,
+            key,
+        ))
+    }
+}
