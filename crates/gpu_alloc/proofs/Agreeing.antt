@@ -56,7 +56,7 @@ there_more s now f name h o q (Some x) false e same older there was =
     let other : q ≢ name = grind (arith, nat_tests) in
     (was.0, put-other f name (Some o) q other ∙ was.1, there_kept s now q x was.0 same (older other) was.2)
 
-agrees_more : (s now : State) (p : Properties) (f : ℕ → Option Object) (name : ℕ) (h : HeldObject) (o : Object) → Agrees s p f → now.properties ≡ s.properties
+pub agrees_more : (s now : State) (p : Properties) (f : ℕ → Option Object) (name : ℕ) (h : HeldObject) (o : Object) → Agrees s p f → now.properties ≡ s.properties
     → now.held ≡ finite.insert s.held name h → ((q : ℕ) → q ≢ name → IsOlder s now q) → IsThere now name h o → Agrees now p (put f name (Some o))
 agrees_more s now p f name h o a same held older there = record {
   properties = a.properties ∙ sym same;
@@ -69,7 +69,7 @@ agrees_more s now p f name h o a same held older there = record {
 -- A block more.
 
 -- the spans of another object are no more than before
-older_but : (s now : State) (own : Span) → now.live ≡ set.insert s.live own → (name : ℕ) → name ≢ own.object → IsOlder s now name
+pub older_but : (s now : State) (own : Span) → now.live ≡ set.insert s.live own → (name : ℕ) → name ≢ own.object → IsOlder s now name
 older_but s now own more name other span live named = elim (live_before s.live own span (subst (λ x. IsTrue (set.contains x span)) more live)) [
   | inl new ↦ absurd (other (sym named ∙ ap (λ (x : Span). x.object) new))
   | inr was ↦ was

@@ -52,7 +52,7 @@ holds_as_before s b new same =
     let as_many : map.len new.held ≡ map.len s.held = ap (λ (m : Held). map.len m) same in
     record { objects = inl same; few = omega (arith, as_many) }
 
-holds_one_more : (s : State) (b : Block) (new : State) (h : HeldObject) → map.get s.held b.object ≡ None → new.held ≡ map.insert s.held b.object h → HoldsWith s b new
+pub holds_one_more : (s : State) (b : Block) (new : State) (h : HeldObject) → map.get s.held b.object ≡ None → new.held ≡ map.insert s.held b.object h → HoldsWith s b new
 holds_one_more s b new h free more =
     let one_more : map.len new.held ≡ map.len s.held + 1 = ap (λ (m : Held). map.len m) more ∙ len_put s.held b.object h free in
     record { objects = inr (h, free, more); few = omega (arith, one_more) }

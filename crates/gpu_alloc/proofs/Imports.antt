@@ -1,12 +1,23 @@
 -- What an import adds, and that allocator, block and device agree after it.
-use Rattle.std.proofs.Common.{◌≡◌, ℕ, IsTrue, refl, sym, subst}
+use Rattle.std.proofs.Common.{◌≡◌, ◌≢◌, ◌⊎◌, inl, inr, ℕ, ◌+◌, ◌-◌, ◌%◌, ◌<◌, Bool, true, false, cond, Option, Some, None, Result, Ok, Err, IfOk, OnErr, refl, sym, ◌∙◌, ap, subst, arith}
+use Rattle.std.proofs.Math.Nat.{mod-one}
 use Rattle.std.specs.FinMap as map
 use Rattle.std.specs.FinSet as set
-use Rattle.gpu_alloc_block.specs.State.{Block, State, IsOwned, span_of}
+use Rattle.gpu_alloc_types.specs.Device.{Object}
+use Rattle.gpu_alloc_types.specs.Objects.{put-kept}
+use Rattle.gpu_alloc_types.specs.Properties.{Properties, atom_of, is_non_coherent, props_at}
+use Rattle.gpu_alloc_block.specs.Agreement.{Agrees, BlockAgrees, IsHeldFor, IsInside, IsThere}
+use Rattle.gpu_alloc_block.specs.State.{AreApart, Block, IsLive, IsOwned, Span, State, span_of, total}
 use Rattle.gpu_alloc.specs.Candidates.{holding}
-use Rattle.gpu_alloc.specs.Importing.{Imports, imported_block, imported_object}
+use Rattle.gpu_alloc.specs.Importing.{ImportAgrees, Imports, IsReadyForImport, imported_block, imported_object}
+use Rattle.gpu_alloc.specs.Owned.{Adds, Leaves}
+use Rattle.gpu_alloc.specs.Sound.{IsSound}
 use Rattle.gpu_alloc_base.proofs.Maps.{own_inserted}
-use Rattle.gpu_alloc.proofs.Tables.LiveSpans.{live_new}
+use Rattle.gpu_alloc_base.proofs.Names.{len_put}
+use Rattle.gpu_alloc.proofs.Agreeing.{IsOlder, agrees_more, older_but}
+use Rattle.gpu_alloc.proofs.Changes.{Grows, holds_one_more}
+use Rattle.gpu_alloc.proofs.Owning.{grant_adds, grant_leaves, left_as_it_was}
+use Rattle.gpu_alloc.proofs.Tables.LiveSpans.{live_before, live_new}
 
 module _ (s : State) (object memory_type offset size : ℕ) where
   owned : IsOwned (holding s (imported_object memory_type size) (imported_block s object memory_type offset size)) (imported_block s object memory_type offset size)
@@ -18,3 +29,113 @@ module _ (s : State) (object memory_type offset size : ℕ) where
   pub imports : (new : State) (b : Block) → b ≡ imported_block s object memory_type offset size → new ≡ holding s (imported_object memory_type size) (imported_block s object memory_type offset size)
       → Imports s object memory_type offset size new b
   imports new b is held = rw (is, held) (record { block = refl; state = refl; owned = owned })
+
+-- What the state then has.
+
+module _ (s : State) (object memory_type offset size : ℕ) (new : State) (b : Block) (is : Imports s object memory_type offset size new b) where
+  -- the name is the block's object's
+  named : b.object ≡ object
+  named = ap (λ (x : Block). x.object) is.block
+
+  -- one object and one span more
+  pub import_grows : map.get s.held object ≡ None → Grows s b new
+  import_grows free = record {
+    live = ap (λ (t : State). t.live) is.state;
+    held = holds_one_more s b new (imported_object memory_type size) (ap (map.get s.held) named ∙ free) (ap (λ (t : State). t.held) is.state);
+    properties = ap (λ (t : State). t.properties) is.state;
+    config = ap (λ (t : State). t.config) is.state;
+  }
+
+  -- no live span is of the object
+  unused : IsSound s → map.get s.held object ≡ None → (span : Span) → IsLive s span → span.object ≢ object
+  unused sound free span live same = let was = (sound.inside span live).1 in let none = ap (map.get s.held) same ∙ free in absurd (cc)
+
+  pub import_apart : IsSound s → map.get s.held object ≡ None → (span : Span) → IsLive s span → AreApart span (span_of b)
+  import_apart sound free span live = inl (λ same. unused sound free span live (same ∙ named))
+
+  pub import_total : map.get s.held object ≡ None → 0 < s.remaining → total new ≡ total s
+  import_total free some =
+      let held : map.len new.held ≡ map.len s.held + 1 = ap (λ (t : State). map.len t.held) is.state ∙ len_put s.held b.object (imported_object memory_type size) (ap (map.get s.held) named ∙ free) in
+      let fewer : new.remaining ≡ s.remaining - 1 = ap (λ (t : State). t.remaining) is.state in
+      omega (arith, held, fewer, some)
+
+  -- What agrees then.
+
+  module _ (sound : IsSound s) (free : map.get s.held object ≡ None) (p : Properties) (objects : ℕ → Option Object) (ready : IsReadyForImport s p objects object memory_type offset size) where
+    abbrev o : Object
+    o = ready.held.0
+
+    of_properties : p ≡ new.properties
+    of_properties = ready.agrees.properties ∙ ap (λ (t : State). t.properties) (sym is.state)
+
+    -- the one live span of the object is the block's
+    new_span : (span : Span) → IsLive new span → span.object ≡ object → span ≡ record { object = object; offset = offset; size = size }
+    new_span span live same = elim (live_before s.live (span_of b) span (subst (λ (t : State). IsLive t span) is.state live)) [
+      | inl this ↦ this ∙ ap span_of is.block
+      | inr was ↦ absurd (unused sound free span was same)
+    ]
+
+    inside : IsInside p (record { object = object; offset = offset; size = size }) o
+    inside = record { within = ready.held.2.within; finish = λ flushed. ready.held.2.finish (ap (is_non_coherent p) (sym ready.held.2.of_type) ∙ flushed) }
+
+    there : IsThere new object (imported_object memory_type size) o
+    there = record {
+      of_type = ready.held.2.of_type;
+      of_size = λ span live same. subst (λ q. IsInside q span o) of_properties (subst (λ x. IsInside p x o) (sym (new_span span live same)) inside);
+    }
+
+    pub import_agrees : Agrees new p objects
+    import_agrees =
+        let held : new.held ≡ map.insert s.held object (imported_object memory_type size) = ap (λ (t : State). t.held) is.state ∙ ap (λ n. map.insert s.held n (imported_object memory_type size)) named in
+        let older : (q : ℕ) → q ≢ object → IsOlder s new q = λ q other. older_but s new (span_of b) (ap (λ (t : State). t.live) is.state) q (λ same. other (same ∙ named)) in
+        subst (Agrees new p) (put-kept objects object (Some o) ready.held.1)
+        (agrees_more s new p objects object (imported_object memory_type size) o ready.agrees (ap (λ (t : State). t.properties) is.state) held older there)
+
+    -- the end is on the atom, which is 1 where nothing is flushed
+    finish : (flushed : Bool) (n end : ℕ) → (flushed ≡ true → (end % n ≡ 0) ⊎ (end ≡ o.size)) → (end % cond flushed n 1 ≡ 0) ⊎ (end ≡ o.size)
+    finish true n end ends = ends refl
+    finish false n end ends = inl (mod-one end)
+
+    pub import_ready : BlockAgrees b p objects
+    unfolding BlockAgrees
+    import_ready = subst (λ x. IsHeldFor x p objects) (sym (is.block)) (record {
+      props = ap (λ q. props_at q memory_type) (sym ready.agrees.properties);
+      atom = ap (λ q. atom_of q memory_type) (sym ready.agrees.properties);
+      mapping = tt;
+      there = (
+        o,
+        ready.held.1,
+        record {
+          of_type = ready.held.2.of_type;
+          inside = ready.held.2.within;
+          whole = λ own. absurd (cc);
+          shared = λ own. absurd (cc);
+          own = λ _. ready.held.2.unmapped;
+          start = λ own. absurd (cc);
+          finish = subst (λ q. ((offset + size) % atom_of q memory_type ≡ 0) ⊎ (offset + size ≡ o.size)) ready.agrees.properties (finish (is_non_coherent p memory_type) p.non_coherent_atom_size (offset + size) ready.held.2.finish);
+        },
+      );
+    })
+
+  pub imports_agree : IsSound s → map.get s.held object ≡ None → ImportAgrees s object memory_type offset size new b
+  unfolding ImportAgrees
+  imports_agree sound free = λ p objects ready. (import_agrees sound free p objects ready, import_ready sound free p objects ready)
+
+-- By the answer: where it was refused, nothing changed.
+module _ {E : Type 0} (s : State) (object memory_type offset size : ℕ) (new : State) (free : map.get s.held object ≡ None) where
+  pub answer_leaves : (answer : Result Block E) → IfOk answer (Imports s object memory_type offset size new) → OnErr answer (new ≡ s) → Leaves s new
+  answer_leaves (Ok b) is kept = grant_leaves s b new (import_grows s object memory_type offset size new b is free)
+  answer_leaves (Err e) is kept = left_as_it_was s new kept
+
+  pub answer_total : (answer : Result Block E) → IfOk answer (Imports s object memory_type offset size new) → OnErr answer (new ≡ s) → 0 < s.remaining → total new ≡ total s
+  answer_total (Ok b) is kept some = import_total s object memory_type offset size new b is free some
+  answer_total (Err e) is kept some = ap total kept
+
+  pub answer_adds : (answer : Result Block E) → IfOk answer (Imports s object memory_type offset size new) → IsSound s → IsSound new → IfOk answer (Adds s new)
+  answer_adds (Ok b) is sound sound_new =
+      grant_adds s b new (import_grows s object memory_type offset size new b is free) sound (import_apart s object memory_type offset size new b is sound free) sound_new is.owned
+  answer_adds (Err e) is sound sound_new = tt
+
+  pub answer_agrees : (answer : Result Block E) → IfOk answer (Imports s object memory_type offset size new) → IsSound s → IfOk answer (ImportAgrees s object memory_type offset size new)
+  answer_agrees (Ok b) is sound = imports_agree s object memory_type offset size new b is sound free
+  answer_agrees (Err e) is sound = tt

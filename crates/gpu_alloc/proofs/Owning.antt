@@ -89,10 +89,27 @@ module _ (s : State) (b : Block) (new : State) (grows : Grows s b new) where
     pub granted_count : set.len new.live ≡ set.len s.live + 1
     granted_count = ap (λ (l : set.FinSet span_cmp). set.len l) grows.live ∙ set.len-insert span_total s.live (span_of b) ∙ ap (λ t. cond t (set.len s.live) (set.len s.live + 1)) not_yet
 
+  -- What a grant leaves and adds.
+
+  pub grant_leaves : Leaves s new
+  grant_leaves = record { properties = grows.properties; config = grows.config; owned = granted_kept s b new grows; all = granted_all }
+
+  pub grant_adds : IsSound s → ((span : Span) → IsLive s span → AreApart span (span_of b)) → IsSound new → IsOwned new b → Adds s new b
+  grant_adds sound free sound_new own =
+      let other = granted_other sound free sound_new own in
+      record {
+        live = grows.live;
+        count = granted_count sound free;
+        held = grows.held;
+        before = other;
+        after = λ c owned. two_back c b (other c owned);
+        all = granted_more sound free sound_new own;
+      }
+
 -- What an allocation leaves and adds.
 
 -- where nothing changed, everything is left
-left_as_it_was : (s new : State) → new ≡ s → Leaves s new
+pub left_as_it_was : (s new : State) → new ≡ s → Leaves s new
 left_as_it_was s new same = record {
   properties = ap (λ (t : State). t.properties) same;
   config = ap (λ (t : State). t.config) same;
@@ -103,23 +120,11 @@ left_as_it_was s new same = record {
 module _ (s : State) (r : Request) (hint : Option Dedicated) (es : List Event) where
   pub allocates_leave : (answer : Result Block AllocationError) (new : State) → Allocates s r hint es answer new → Leaves s new
   allocates_leave (Err e) new decided = left_as_it_was s new (allocates_kept s r hint es (Err e) new decided)
-  allocates_leave (Ok b) new decided =
-      let grows = allocates_grow s r hint es b new decided in
-      record { properties = grows.properties; config = grows.config; owned = granted_kept s b new grows; all = granted_all s b new grows }
+  allocates_leave (Ok b) new decided = grant_leaves s b new (allocates_grow s r hint es b new decided)
 
   pub allocates_add : IsSound s → (answer : Result Block AllocationError) (new : State) → IsSound new → Allocates s r hint es answer new → IfOk answer (IsGranted s r new) → IfOk answer (Adds s new)
   allocates_add sound (Err e) new sound_new decided granted = tt
-  allocates_add sound (Ok b) new sound_new decided granted =
-      let grows = allocates_grow s r hint es b new decided in
-      let other = granted_other s b new grows sound granted.was_free sound_new granted.owned in
-      record {
-        live = grows.live;
-        count = granted_count s b new grows sound granted.was_free;
-        held = grows.held;
-        before = other;
-        after = λ c owned. two_back c b (other c owned);
-        all = granted_more s b new grows sound granted.was_free sound_new granted.owned;
-      }
+  allocates_add sound (Ok b) new sound_new decided granted = grant_adds s b new (allocates_grow s r hint es b new decided) sound granted.was_free sound_new granted.owned
 
 -- A return.
 
