@@ -144,7 +144,7 @@ module _ (s : State) (r : Request) (hint : Option Dedicated) (es : List Event) (
 -- A block that stays owned.
 
 -- a block agrees as long as the device has its object so
-block_kept : (b : Block) (p q : Properties) (f g : ℕ → Option Object) → q ≡ p → g b.object ≡ f b.object → BlockAgrees b p f → BlockAgrees b q g
+pub block_kept : (b : Block) (p q : Properties) (f g : ℕ → Option Object) → q ≡ p → g b.object ≡ f b.object → BlockAgrees b p f → BlockAgrees b q g
 unfolding BlockAgrees
 block_kept b p q f g same object is = record {
   props = is.props ∙ ap (λ x. props_at x b.memory_type) (sym same);

@@ -1,20 +1,20 @@
 -- What an import adds, and that allocator, block and device agree after it.
-use Rattle.std.proofs.Common.{◌≡◌, ◌≢◌, ◌⊎◌, inl, inr, ℕ, ◌+◌, ◌-◌, ◌%◌, ◌<◌, Bool, true, false, cond, Option, Some, None, Result, Ok, Err, IfOk, OnErr, refl, sym, ◌∙◌, ap, subst, arith}
+use Rattle.std.proofs.Common.{◌≡◌, ◌≢◌, ◌⊎◌, inl, inr, ℕ, ◌+◌, ◌-◌, ◌%◌, ◌<◌, ◌≤◌, Bool, true, false, cond, Option, Some, None, IfSome, Result, Ok, Err, IfOk, OnErr, refl, sym, ◌∙◌, ap, subst, arith}
 use Rattle.std.proofs.Math.Nat.{mod-one}
 use Rattle.std.specs.FinMap as map
-use Rattle.std.specs.FinSet as set
-use Rattle.gpu_alloc_types.specs.Device.{Object}
-use Rattle.gpu_alloc_types.specs.Objects.{put-kept}
+use Rattle.gpu_alloc_types.specs.Device.{HeldWith, IsFresh, Object, put}
+use Rattle.gpu_alloc_types.specs.Objects.{put-kept, put-other, put-same}
 use Rattle.gpu_alloc_types.specs.Properties.{Properties, atom_of, is_non_coherent, props_at}
 use Rattle.gpu_alloc_block.specs.Agreement.{Agrees, BlockAgrees, IsHeldFor, IsInside, IsThere}
-use Rattle.gpu_alloc_block.specs.State.{AreApart, Block, IsLive, IsOwned, Span, State, span_of, total}
+use Rattle.gpu_alloc_block.specs.State.{AreApart, Block, HeldObject, IsLive, IsOwned, Span, State, span_of, total}
 use Rattle.gpu_alloc.specs.Candidates.{holding}
-use Rattle.gpu_alloc.specs.Importing.{ImportAgrees, Imports, IsReadyForImport, imported_block, imported_object}
+use Rattle.gpu_alloc.specs.Importing.{ImportAgrees, Imports, IsImportable, IsReadyForImport, LeavesAgreement, imported_block, imported_object}
 use Rattle.gpu_alloc.specs.Owned.{Adds, Leaves}
 use Rattle.gpu_alloc.specs.Sound.{IsSound}
 use Rattle.gpu_alloc_base.proofs.Maps.{own_inserted}
 use Rattle.gpu_alloc_base.proofs.Names.{len_put}
 use Rattle.gpu_alloc.proofs.Agreeing.{IsOlder, agrees_more, older_but}
+use Rattle.gpu_alloc.proofs.BlocksAgreed.{block_kept}
 use Rattle.gpu_alloc.proofs.Changes.{Grows, holds_one_more}
 use Rattle.gpu_alloc.proofs.Owning.{grant_adds, grant_leaves, left_as_it_was}
 use Rattle.gpu_alloc.proofs.Tables.LiveSpans.{live_before, live_new}
@@ -139,3 +139,41 @@ module _ {E : Type 0} (s : State) (object memory_type offset size : ℕ) (new : 
   pub answer_agrees : (answer : Result Block E) → IfOk answer (Imports s object memory_type offset size new) → IsSound s → IfOk answer (ImportAgrees s object memory_type offset size new)
   answer_agrees (Ok b) is sound = imports_agree s object memory_type offset size new b is sound free
   answer_agrees (Err e) is sound = tt
+
+-- A device made an object for its caller.
+module _ (p q : Properties) (old new : ℕ → Option Object) (name memory_type size : ℕ) (same : q ≡ p) (free : old name ≡ None) (o : Object) (fresh : IsFresh size memory_type o) (more : new ≡ put old name (Some o)) where
+  -- what it held it holds
+  at_other : (n : ℕ) (x : Object) → old n ≡ Some x → new n ≡ old n
+  at_other n x at = ap (λ (f : ℕ → Option Object). f n) more ∙ put-other old name (Some o) n (λ is. let none = ap old is ∙ free in absurd (cc))
+
+  held_beside : (s : State) (n : ℕ) (v : Option HeldObject) → IfSome v (λ h. HeldWith old n (IsThere s n h)) → IfSome v (λ h. HeldWith new n (IsThere s n h))
+  held_beside s n None was = tt
+  held_beside s n (Some h) was = (was.0, at_other n was.0 was.1 ∙ was.1, was.2)
+
+  agrees_beside : (s : State) → Agrees s p old → Agrees s q new
+  agrees_beside s is = record { properties = same ∙ is.properties; holds = λ n. held_beside s n (map.get s.held n) (is.holds n) }
+
+  block_beside : (b : Block) → BlockAgrees b p old → BlockAgrees b q new
+  unfolding BlockAgrees
+  block_beside b is = block_kept b p q old new same (at_other b.object is.there.0 is.there.1) is
+
+  importable : (offset len : ℕ) → offset + len ≤ size → (is_non_coherent q memory_type ≡ true → ((offset + len) % q.non_coherent_atom_size ≡ 0) ⊎ (offset + len ≡ size))
+      → HeldWith new name (IsImportable q memory_type offset len)
+  importable offset len fits ends = (
+    o,
+    ap (λ (f : ℕ → Option Object). f name) more ∙ put-same old name (Some o),
+    record {
+      of_type = fresh.of_type;
+      unmapped = fresh.unmapped;
+      within = omega (arith, fits, fresh.of_size);
+      finish = λ flushed. subst (λ n. ((offset + len) % q.non_coherent_atom_size ≡ 0) ⊎ (offset + len ≡ n)) (sym fresh.of_size) (ends flushed);
+    },
+  )
+
+  pub object_beside : LeavesAgreement p old q new name memory_type size
+  object_beside = record {
+    allocators = agrees_beside;
+    blocks = block_beside;
+    whole = importable 0 size (omega arith) (λ _. inr (omega arith));
+    part = importable;
+  }

@@ -19,6 +19,7 @@ pub mod NewObjects
 pub mod Opened
 pub mod OwnObjects
 pub mod Owning
+pub mod Remaining
 pub mod ReturnedTotals
 pub mod Returns
 pub mod Soundness

@@ -1,5 +1,5 @@
 -- What an import adds, and when allocator and device agree afterwards.
-use Rattle.std.specs.Prelude.{◌≡◌, ◌⊎◌, ℕ, ◌+◌, ◌%◌, ◌<◌, ◌≤◌, true, Option, None}
+use Rattle.std.specs.Prelude.{◌≡◌, ◌⊎◌, ℕ, ◌+◌, ◌%◌, ◌≤◌, true, Option, None}
 use Rattle.gpu_alloc_types.specs.Device.{Object, HeldWith}
 use Rattle.gpu_alloc_types.specs.Properties.{Properties, is_non_coherent}
 use Rattle.gpu_alloc_block.specs.Agreement.{Agrees, BlockAgrees}
@@ -43,3 +43,24 @@ unfoldable pub ImportAgrees : State → (object memory_type offset size : ℕ) �
 ImportAgrees s object t offset size new b =
     (p : Properties) (objects : ℕ → Option Object) → IsReadyForImport s p objects object t offset size
     → Agrees new p objects × BlockAgrees b p objects
+
+-- That is so: whoever has the one fact may have the others.
+pub record ImportsAgree : Type 0 where
+  pub allocator : (s new : State) (b : Block) (object memory_type offset size : ℕ) (p : Properties)
+      (objects : ℕ → Option Object) → ImportAgrees s object memory_type offset size new b → Agrees s p objects
+      → HeldWith objects object (IsImportable p memory_type offset size) → Agrees new p objects
+  pub block : (s new : State) (b : Block) (object memory_type offset size : ℕ) (p : Properties)
+      (objects : ℕ → Option Object) → ImportAgrees s object memory_type offset size new b → Agrees s p objects
+      → HeldWith objects object (IsImportable p memory_type offset size) → BlockAgrees b p objects
+
+-- What a device's call leaves that makes an object for its caller: each allocator and each block agree with it as
+-- before, and the object may be imported, whole or in part.
+pub record LeavesAgreement (p : Properties) (old : ℕ → Option Object) (q : Properties) (new : ℕ → Option Object)
+    (name memory_type size : ℕ) : Type 0 where
+  pub allocators : (s : State) → Agrees s p old → Agrees s q new
+  pub blocks : (b : Block) → BlockAgrees b p old → BlockAgrees b q new
+  pub whole : HeldWith new name (IsImportable q memory_type 0 size)
+  pub part : (offset len : ℕ) → offset + len ≤ size
+      → (is_non_coherent q memory_type ≡ true → ((offset + len) % q.non_coherent_atom_size ≡ 0)
+      ⊎ (offset + len ≡ size))
+      → HeldWith new name (IsImportable q memory_type offset len)

@@ -13,7 +13,7 @@ ghost use Rattle.gpu_alloc.specs.Allocation.{Allocates, ObjectsAfter, ObjectsTri
 ghost use Rattle.gpu_alloc.specs.Atoms.{KeepsAtoms};
 ghost use Rattle.gpu_alloc.specs.declared.allocator.Strategy.TheVariants.{OwnObject, InBuddyChunk, InFreeList};
 ghost use Rattle.gpu_alloc.specs.Opening.{opened};
-ghost use Rattle.gpu_alloc.specs.Owned.{HoldsNothing, Leaves, Adds, Removes, LeavesNoRest};
+ghost use Rattle.gpu_alloc.specs.Owned.{HoldsNothing, Leaves, Adds, Removes, LeavesNoRest, StaysAgreed};
 ghost use Rattle.gpu_alloc.specs.Release.{Frees, ObjectsFreed, Cleans, ObjectsCleaned, IsCleanedUp};
 ghost use Rattle.gpu_alloc.specs.Request.{IsAskable};
 ghost use Rattle.gpu_alloc.specs.Sound as Sound;
@@ -658,9 +658,15 @@ impl<M: MemoryObject, A: Allocator> GpuAllocator<M, A> {
     /// (`held_objects`) it has to be a number of 32 bits, so that each of them can be returned.
     pub fn set_remaining_allocations(&mut self, remaining: u32)
         requires { remaining + map.len self.old.held < 2 ^ 32 }
-        ensures { self.new ≡ record self.old { remaining = remaining } }
+        ensures set { self.new ≡ record self.old { remaining = remaining } }
+
+        // What follows from it.
+        ensures leaves { Leaves self.old self.new }
+        ensures agrees { StaysAgreed self.old self.new }
+        ensures sound { Sound.IsSound self.new }
     {
         self.allocations_remains = remaining;
+        self.keeps_sound();
     }
 
     /// How many objects are held.

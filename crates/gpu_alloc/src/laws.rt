@@ -1,7 +1,8 @@
 //! Laws of the definitions that contracts cite, and those definitions computed on samples. The functions do nothing.
 
-ghost use Rattle.std.specs.Prelude.{◌≡◌, ◌≢◌, ℕ, List, [], ◌∷◌, Some, None, true, false};
+ghost use Rattle.std.specs.Prelude.{◌≡◌, ◌≢◌, ℕ, List, [], ◌∷◌, Some, None, true, false, Ok};
 ghost use Rattle.std.specs.FinSet as set;
+ghost use Rattle.gpu_alloc_types.specs.Device.Event.{Allocated};
 ghost use Rattle.gpu_alloc_block.specs.Agreement.{Agrees, KeptBlocksAgree};
 ghost use Rattle.gpu_alloc.specs.Allocation.{strategy, CandidatesServe};
 ghost use Rattle.gpu_alloc.specs.Exactness.{AreCanonical, AreFreePieces, AreLongEnough, ArePiecesApart};
@@ -18,6 +19,7 @@ ghost use Rattle.gpu_alloc_base.specs.FreeRuns.{tail_start};
 ghost use Rattle.gpu_alloc.specs.FreeListSharing.{IsFreeInChunk, HasListPlace, list_size, list_alignment};
 ghost use Rattle.gpu_alloc.specs.FreeListSharing.{list_question};
 ghost use Rattle.gpu_alloc_base.specs.declared.region.FreeListRegion.{FreeListRegion};
+ghost use Rattle.gpu_alloc.specs.Importing.{ImportsAgree, LeavesAgreement};
 ghost use Rattle.gpu_alloc.specs.Samples.{one_type, over, bytes_for, buddy_config};
 ghost use Rattle.gpu_alloc.specs.BuddySharing.{buddy_size, buddy_question, with_buddy_chunk};
 ghost use Rattle.gpu_alloc_base.specs.Sizes.{minimal_size, final_size, grown_chunk, doubled_chunk};
@@ -179,6 +181,23 @@ pub fn candidates_serve_the_request()
 pub fn kept_blocks_agree()
     ensures { KeptBlocksAgree }
 {}
+
+/// An import leaves allocator and block in agreement with the device: by this call what the clause `agrees` of
+/// `import_memory` says becomes known of each device that was ready for the import.
+pub fn imports_agree()
+    ensures { ImportsAgree }
+{}
+
+/// A device that makes an object for its caller (`allocate_memory`) leaves each allocator and each block in agreement,
+/// and the object may be imported: by this call it becomes known of the device's latest call.
+pub fn made_objects_may_be_imported<M: MemoryObject, D: MemoryDevice<M>>(device: &D)
+    ensures { (old : D) (size memory_type flags name : ℕ)
+        → D.step old (Allocated size memory_type flags (Ok name)) device.now
+        → LeavesAgreement (D.properties old) (D.objects old) (D.properties device.now) (D.objects device.now)
+        name memory_type size }
+{
+    let _ = device;
+}
 
 /// Two blocks that are owned and of different spans share no byte, nor an object where one of them has its own.
 pub fn owned_blocks_are_apart()

@@ -1,14 +1,13 @@
-use Rattle.std.proofs.Common.{◌≡◌, ℕ, ◌-◌, ◌<◌, ◌^◌, None, refl, sym, ap, ◌∙◌, arith, subst, length, vec_len}
+use Rattle.std.proofs.Common.{◌≡◌, ◌-◌, ◌<◌, ◌^◌, None, refl, sym, ap, ◌∙◌, arith, subst, length, vec_len}
 use Rattle.std.proofs.Math.ListN.{set}
 use Rattle.std.proofs.lemmas.Grind.{common_steps}
 use Rattle.std.specs.FinMap as finite
 use Rattle.std.specs.FinSet as set_of
 use Rattle.gpu_alloc_types.specs.Properties.{props_at}
 use Rattle.gpu_alloc.specs.Candidates.{holding}
-use Rattle.gpu_alloc.specs.Importing.{Imports, imported_block, imported_object}
+use Rattle.gpu_alloc.specs.Importing.{imported_block, imported_object}
 use Rattle.gpu_alloc.specs.Inside.{state_in}
-use Rattle.gpu_alloc.specs.Spans.{Table}
-use Rattle.gpu_alloc_block.specs.State.{State, HeldObject, Block, Span, span_of}
+use Rattle.gpu_alloc_block.specs.State.{State, HeldObject, Block, span_of}
 use Rattle.gpu_alloc_base.specs.declared.heap.Heap.{Heap}
 use Rattle.gpu_alloc.proofs.Consistency.{HoldsMore, heap_there, ledger-room}
 use Rattle.gpu_alloc.proofs.Grants.{state_held}

@@ -1,0 +1,36 @@
+-- What stays where only the number changes of objects that may still be held.
+use Rattle.std.proofs.Common.{◌≡◌, ℕ, List, [], ◌∷◌, Option, Some, None, IfSome, refl, sym, subst}
+use Rattle.std.specs.FinMap as finite
+use Rattle.gpu_alloc_types.specs.Device.{HeldWith, Object}
+use Rattle.gpu_alloc_types.specs.Properties.{Properties}
+use Rattle.gpu_alloc_block.specs.Agreement.{Agrees, IsThere}
+use Rattle.gpu_alloc_block.specs.State.{Block, HeldObject, IsOwned, State}
+use Rattle.gpu_alloc.specs.Owned.{AreOwned, Leaves, StaysAgreed}
+use Rattle.gpu_alloc.proofs.Agreeing.{there_kept}
+
+module _ (s : State) (remaining : ℕ) where
+  abbrev now : State
+  now = record s { remaining = remaining }
+
+  owned : (b : Block) → IsOwned s b → IsOwned now b
+  owned b is = record { live = is.live; held = is.held }
+
+  all : (bs : List Block) → AreOwned s bs → AreOwned now bs
+  all [] are = tt
+  all (b ∷ bs) are = (owned b are.0, are.1, all bs are.2)
+
+  leaves : Leaves s now
+  leaves = record { properties = refl; config = refl; owned = owned; all = all }
+
+  held : (name : ℕ) (objects : ℕ → Option Object) (v : Option HeldObject) → IfSome v (λ h. HeldWith objects name (IsThere s name h)) → IfSome v (λ h. HeldWith objects name (IsThere now name h))
+  held name objects None was = tt
+  held name objects (Some h) was = (was.0, was.1, there_kept s now name h was.0 refl (λ span live of_it. live) was.2)
+
+  agrees : (p : Properties) (objects : ℕ → Option Object) → Agrees s p objects → Agrees now p objects
+  agrees p objects is = record { properties = is.properties; holds = λ name. held name objects (finite.get s.held name) (is.holds name) }
+
+pub remaining_leaves : (s new : State) (remaining : ℕ) → new ≡ record s { remaining = remaining } → Leaves s new
+remaining_leaves s new remaining is = subst (Leaves s) (sym is) (leaves s remaining)
+
+pub remaining_agrees : (s new : State) (remaining : ℕ) → new ≡ record s { remaining = remaining } → StaysAgreed s new
+remaining_agrees s new remaining is = subst (StaysAgreed s) (sym is) (record { each = agrees s remaining })
