@@ -8,12 +8,12 @@ use Rattle.gpu_alloc_types.specs.Properties.{Properties, atom_of, is_non_coheren
 use Rattle.gpu_alloc_block.specs.Agreement.{Agrees, BlockAgrees, IsHeldFor, IsInside, IsThere}
 use Rattle.gpu_alloc_block.specs.State.{AreApart, Block, HeldObject, IsLive, IsOwned, Span, State, span_of, total}
 use Rattle.gpu_alloc.specs.Candidates.{holding}
-use Rattle.gpu_alloc.specs.Importing.{ImportAgrees, Imports, IsImportable, IsReadyForImport, LeavesAgreement, imported_block, imported_object}
+use Rattle.gpu_alloc.specs.Importing.{ImportAgrees, Imports, IsImportable, IsReadyForImport, LeavesAgreement, LeavesOthers, imported_block, imported_object}
 use Rattle.gpu_alloc.specs.Owned.{Adds, Leaves}
 use Rattle.gpu_alloc.specs.Sound.{IsSound}
 use Rattle.gpu_alloc_base.proofs.Maps.{own_inserted}
 use Rattle.gpu_alloc_base.proofs.Names.{len_put}
-use Rattle.gpu_alloc.proofs.Agreeing.{IsOlder, agrees_more, older_but}
+use Rattle.gpu_alloc.proofs.Agreeing.{IsOlder, agrees_more, not_held, older_but}
 use Rattle.gpu_alloc.proofs.BlocksAgreed.{block_kept}
 use Rattle.gpu_alloc.proofs.Changes.{Grows, holds_one_more}
 use Rattle.gpu_alloc.proofs.Owning.{grant_adds, grant_leaves, left_as_it_was}
@@ -174,6 +174,23 @@ module _ (p q : Properties) (old new : ℕ → Option Object) (name memory_type 
   object_beside = record {
     allocators = agrees_beside;
     blocks = block_beside;
+    unheld = λ s is. not_held s p old name is free;
     whole = importable 0 size (omega arith) (λ _. inr (omega arith));
     part = importable;
+  }
+
+-- A device took an object back.
+module _ (p q : Properties) (old new : ℕ → Option Object) (name : ℕ) (same : q ≡ p) (fewer : new ≡ put old name None) where
+  -- what it held under another name it holds
+  still_at : (n : ℕ) → n ≢ name → new n ≡ old n
+  still_at n other = ap (λ (f : ℕ → Option Object). f n) fewer ∙ put-other old name None n other
+
+  held_still : (s : State) (n : ℕ) (v : Option HeldObject) → map.get s.held n ≡ v → map.get s.held name ≡ None → IfSome v (λ h. HeldWith old n (IsThere s n h)) → IfSome v (λ h. HeldWith new n (IsThere s n h))
+  held_still s n None at free was = tt
+  held_still s n (Some h) at free was = (was.0, still_at n (λ is. let none = ap (map.get s.held) is ∙ free in absurd (cc)) ∙ was.1, was.2)
+
+  pub others_left : LeavesOthers p old q new name
+  others_left = record {
+    allocators = λ s free is. record { properties = same ∙ is.properties; holds = λ n. held_still s n (map.get s.held n) refl free (is.holds n) };
+    blocks = λ s b free owned is. block_kept b p q old new same (still_at b.object (λ named. let none = ap (map.get s.held) named ∙ free in let held = owned.held.1 in absurd (cc))) is;
   }

@@ -1,5 +1,6 @@
 -- What an import adds, and when allocator and device agree afterwards.
 use Rattle.std.specs.Prelude.{◌≡◌, ◌⊎◌, ℕ, ◌+◌, ◌%◌, ◌≤◌, true, Option, None}
+use Rattle.std.specs.FinMap as map
 use Rattle.gpu_alloc_types.specs.Device.{Object, HeldWith}
 use Rattle.gpu_alloc_types.specs.Properties.{Properties, is_non_coherent}
 use Rattle.gpu_alloc_block.specs.Agreement.{Agrees, BlockAgrees}
@@ -54,13 +55,21 @@ pub record ImportsAgree : Type 0 where
       → HeldWith objects object (IsImportable p memory_type offset size) → BlockAgrees b p objects
 
 -- What a device's call leaves that makes an object for its caller: each allocator and each block agree with it as
--- before, and the object may be imported, whole or in part.
+-- before, and the object, whose name is new to each such allocator, may be imported, whole or in part.
 pub record LeavesAgreement (p : Properties) (old : ℕ → Option Object) (q : Properties) (new : ℕ → Option Object)
     (name memory_type size : ℕ) : Type 0 where
   pub allocators : (s : State) → Agrees s p old → Agrees s q new
   pub blocks : (b : Block) → BlockAgrees b p old → BlockAgrees b q new
+  pub unheld : (s : State) → Agrees s p old → map.get s.held name ≡ None
   pub whole : HeldWith new name (IsImportable q memory_type 0 size)
-  pub part : (offset len : ℕ) → offset + len ≤ size
-      → (is_non_coherent q memory_type ≡ true → ((offset + len) % q.non_coherent_atom_size ≡ 0)
-      ⊎ (offset + len ≡ size))
+  pub part : (offset len : ℕ) → offset + len ≤ size → (is_non_coherent q memory_type ≡ true
+      → ((offset + len) % q.non_coherent_atom_size ≡ 0) ⊎ (offset + len ≡ size))
       → HeldWith new name (IsImportable q memory_type offset len)
+
+-- What a device's call leaves that takes an object back: each allocator that does not hold it agrees as before, and so
+-- does each block that such an allocator owns.
+pub record LeavesOthers (p : Properties) (old : ℕ → Option Object) (q : Properties) (new : ℕ → Option Object)
+    (name : ℕ) : Type 0 where
+  pub allocators : (s : State) → map.get s.held name ≡ None → Agrees s p old → Agrees s q new
+  pub blocks : (s : State) (b : Block) → map.get s.held name ≡ None → IsOwned s b → BlockAgrees b p old
+      → BlockAgrees b q new

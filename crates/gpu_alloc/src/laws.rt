@@ -2,7 +2,7 @@
 
 ghost use Rattle.std.specs.Prelude.{◌≡◌, ◌≢◌, ℕ, List, [], ◌∷◌, Some, None, true, false, Ok};
 ghost use Rattle.std.specs.FinSet as set;
-ghost use Rattle.gpu_alloc_types.specs.Device.Event.{Allocated};
+ghost use Rattle.gpu_alloc_types.specs.Device.Event.{Allocated, Deallocated};
 ghost use Rattle.gpu_alloc_block.specs.Agreement.{Agrees, KeptBlocksAgree};
 ghost use Rattle.gpu_alloc.specs.Allocation.{strategy, CandidatesServe};
 ghost use Rattle.gpu_alloc.specs.Exactness.{AreCanonical, AreFreePieces, AreLongEnough, ArePiecesApart};
@@ -19,7 +19,7 @@ ghost use Rattle.gpu_alloc_base.specs.FreeRuns.{tail_start};
 ghost use Rattle.gpu_alloc.specs.FreeListSharing.{IsFreeInChunk, HasListPlace, list_size, list_alignment};
 ghost use Rattle.gpu_alloc.specs.FreeListSharing.{list_question};
 ghost use Rattle.gpu_alloc_base.specs.declared.region.FreeListRegion.{FreeListRegion};
-ghost use Rattle.gpu_alloc.specs.Importing.{ImportsAgree, LeavesAgreement};
+ghost use Rattle.gpu_alloc.specs.Importing.{ImportsAgree, LeavesAgreement, LeavesOthers};
 ghost use Rattle.gpu_alloc.specs.Samples.{one_type, over, bytes_for, buddy_config};
 ghost use Rattle.gpu_alloc.specs.BuddySharing.{buddy_size, buddy_question, with_buddy_chunk};
 ghost use Rattle.gpu_alloc_base.specs.Sizes.{minimal_size, final_size, grown_chunk, doubled_chunk};
@@ -195,6 +195,15 @@ pub fn made_objects_may_be_imported<M: MemoryObject, D: MemoryDevice<M>>(device:
         → D.step old (Allocated size memory_type flags (Ok name)) device.now
         → LeavesAgreement (D.properties old) (D.objects old) (D.properties device.now) (D.objects device.now)
         name memory_type size }
+{
+    let _ = device;
+}
+
+/// A device that takes an object back which an allocator does not hold (`deallocate_memory`) leaves that allocator and
+/// its blocks in agreement: by this call it becomes known of the device's latest call.
+pub fn objects_of_others_may_go<M: MemoryObject, D: MemoryDevice<M>>(device: &D)
+    ensures { (old : D) (name : ℕ) → D.step old (Deallocated name) device.now
+        → LeavesOthers (D.properties old) (D.objects old) (D.properties device.now) (D.objects device.now) name }
 {
     let _ = device;
 }

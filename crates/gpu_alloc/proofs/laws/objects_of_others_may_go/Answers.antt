@@ -1,0 +1,5 @@
+use Rattle.gpu_alloc.proofs.Imports.{others_left}
+use Rattle.gpu_alloc.proofs.laws.objects_of_others_may_go.Goals as goal
+
+pub returns : goal.returns
+returns g c = λ old name gone. others_left _ _ _ _ name (g.met.D.MemoryDevice.keeps_properties _ _ _ gone) (g.met.D.MemoryDevice.row _ _ _ gone)
