@@ -8,7 +8,7 @@ use Rattle.gpu_alloc_types.specs.Properties.{Properties, atom_of, is_non_coheren
 use Rattle.gpu_alloc_block.specs.Agreement.{Agrees, BlockAgrees, IsHeldFor, IsInside, IsThere}
 use Rattle.gpu_alloc_block.specs.State.{AreApart, Block, HeldObject, IsLive, IsOwned, Span, State, span_of, total}
 use Rattle.gpu_alloc.specs.Candidates.{holding}
-use Rattle.gpu_alloc.specs.Importing.{ImportAgrees, Imports, IsImportable, IsReadyForImport, LeavesAgreement, LeavesOthers, imported_block, imported_object}
+use Rattle.gpu_alloc.specs.Importing.{ImportAgrees, Imports, IsImportable, LeavesAgreement, LeavesOthers, MayBeImported, imported_block, imported_object}
 use Rattle.gpu_alloc.specs.Owned.{Adds, Leaves}
 use Rattle.gpu_alloc.specs.Sound.{IsSound}
 use Rattle.gpu_alloc_base.proofs.Maps.{own_inserted}
@@ -61,12 +61,12 @@ module _ (s : State) (object memory_type offset size : ℕ) (new : State) (b : B
 
   -- What agrees then.
 
-  module _ (sound : IsSound s) (free : map.get s.held object ≡ None) (p : Properties) (objects : ℕ → Option Object) (ready : IsReadyForImport s p objects object memory_type offset size) where
+  module _ (sound : IsSound s) (free : map.get s.held object ≡ None) (p : Properties) (objects : ℕ → Option Object) (agrees : Agrees s p objects) (held : HeldWith objects object (IsImportable p memory_type offset size)) where
     abbrev o : Object
-    o = ready.held.0
+    o = held.0
 
     of_properties : p ≡ new.properties
-    of_properties = ready.agrees.properties ∙ ap (λ (t : State). t.properties) (sym is.state)
+    of_properties = agrees.properties ∙ ap (λ (t : State). t.properties) (sym is.state)
 
     -- the one live span of the object is the block's
     new_span : (span : Span) → IsLive new span → span.object ≡ object → span ≡ record { object = object; offset = offset; size = size }
@@ -76,20 +76,20 @@ module _ (s : State) (object memory_type offset size : ℕ) (new : State) (b : B
     ]
 
     inside : IsInside p (record { object = object; offset = offset; size = size }) o
-    inside = record { within = ready.held.2.within; finish = λ flushed. ready.held.2.finish (ap (is_non_coherent p) (sym ready.held.2.of_type) ∙ flushed) }
+    inside = record { within = held.2.within; finish = λ flushed. held.2.finish (ap (is_non_coherent p) (sym held.2.of_type) ∙ flushed) }
 
     there : IsThere new object (imported_object memory_type size) o
     there = record {
-      of_type = ready.held.2.of_type;
+      of_type = held.2.of_type;
       of_size = λ span live same. subst (λ q. IsInside q span o) of_properties (subst (λ x. IsInside p x o) (sym (new_span span live same)) inside);
     }
 
     pub import_agrees : Agrees new p objects
     import_agrees =
-        let held : new.held ≡ map.insert s.held object (imported_object memory_type size) = ap (λ (t : State). t.held) is.state ∙ ap (λ n. map.insert s.held n (imported_object memory_type size)) named in
+        let more : new.held ≡ map.insert s.held object (imported_object memory_type size) = ap (λ (t : State). t.held) is.state ∙ ap (λ n. map.insert s.held n (imported_object memory_type size)) named in
         let older : (q : ℕ) → q ≢ object → IsOlder s new q = λ q other. older_but s new (span_of b) (ap (λ (t : State). t.live) is.state) q (λ same. other (same ∙ named)) in
-        subst (Agrees new p) (put-kept objects object (Some o) ready.held.1)
-        (agrees_more s new p objects object (imported_object memory_type size) o ready.agrees (ap (λ (t : State). t.properties) is.state) held older there)
+        subst (Agrees new p) (put-kept objects object (Some o) held.1)
+        (agrees_more s new p objects object (imported_object memory_type size) o agrees (ap (λ (t : State). t.properties) is.state) more older there)
 
     -- the end is on the atom, which is 1 where nothing is flushed
     finish : (flushed : Bool) (n end : ℕ) → (flushed ≡ true → (end % n ≡ 0) ⊎ (end ≡ o.size)) → (end % cond flushed n 1 ≡ 0) ⊎ (end ≡ o.size)
@@ -99,27 +99,27 @@ module _ (s : State) (object memory_type offset size : ℕ) (new : State) (b : B
     pub import_ready : BlockAgrees b p objects
     unfolding BlockAgrees
     import_ready = subst (λ x. IsHeldFor x p objects) (sym (is.block)) (record {
-      props = ap (λ q. props_at q memory_type) (sym ready.agrees.properties);
-      atom = ap (λ q. atom_of q memory_type) (sym ready.agrees.properties);
+      props = ap (λ q. props_at q memory_type) (sym agrees.properties);
+      atom = ap (λ q. atom_of q memory_type) (sym agrees.properties);
       mapping = tt;
       there = (
         o,
-        ready.held.1,
+        held.1,
         record {
-          of_type = ready.held.2.of_type;
-          inside = ready.held.2.within;
+          of_type = held.2.of_type;
+          inside = held.2.within;
           whole = λ own. absurd (cc);
           shared = λ own. absurd (cc);
-          own = λ _. ready.held.2.unmapped;
+          own = λ _. held.2.unmapped;
           start = λ own. absurd (cc);
-          finish = subst (λ q. ((offset + size) % atom_of q memory_type ≡ 0) ⊎ (offset + size ≡ o.size)) ready.agrees.properties (finish (is_non_coherent p memory_type) p.non_coherent_atom_size (offset + size) ready.held.2.finish);
+          finish = subst (λ q. ((offset + size) % atom_of q memory_type ≡ 0) ⊎ (offset + size ≡ o.size)) agrees.properties (finish (is_non_coherent p memory_type) p.non_coherent_atom_size (offset + size) held.2.finish);
         },
       );
     })
 
   pub imports_agree : IsSound s → map.get s.held object ≡ None → ImportAgrees s object memory_type offset size new b
-  unfolding ImportAgrees
-  imports_agree sound free = λ p objects ready. (import_agrees sound free p objects ready, import_ready sound free p objects ready)
+  unfolding ImportAgrees MayBeImported
+  imports_agree sound free = λ p objects agrees held. (import_agrees sound free p objects agrees held, import_ready sound free p objects agrees held)
 
 -- By the answer: where it was refused, nothing changed.
 module _ {E : Type 0} (s : State) (object memory_type offset size : ℕ) (new : State) (free : map.get s.held object ≡ None) where
@@ -157,26 +157,21 @@ module _ (p q : Properties) (old new : ℕ → Option Object) (name memory_type 
   unfolding BlockAgrees
   block_beside b is = block_kept b p q old new same (at_other b.object is.there.0 is.there.1) is
 
-  importable : (offset len : ℕ) → offset + len ≤ size → (is_non_coherent q memory_type ≡ true → ((offset + len) % q.non_coherent_atom_size ≡ 0) ⊎ (offset + len ≡ size))
-      → HeldWith new name (IsImportable q memory_type offset len)
-  importable offset len fits ends = (
-    o,
-    ap (λ (f : ℕ → Option Object). f name) more ∙ put-same old name (Some o),
-    record {
-      of_type = fresh.of_type;
-      unmapped = fresh.unmapped;
-      within = omega (arith, fits, fresh.of_size);
-      finish = λ flushed. subst (λ n. ((offset + len) % q.non_coherent_atom_size ≡ 0) ⊎ (offset + len ≡ n)) (sym fresh.of_size) (ends flushed);
-    },
-  )
+  importable : IsImportable q memory_type 0 size o
+  importable = record {
+    of_type = fresh.of_type;
+    unmapped = fresh.unmapped;
+    within = omega (arith, fresh.of_size);
+    finish = λ flushed. inr (omega (arith, fresh.of_size));
+  }
 
   pub object_beside : LeavesAgreement p old q new name memory_type size
+  unfolding MayBeImported
   object_beside = record {
     allocators = agrees_beside;
     blocks = block_beside;
     unheld = λ s is. not_held s p old name is free;
-    whole = importable 0 size (omega arith) (λ _. inr (omega arith));
-    part = importable;
+    whole = (o, ap (λ (f : ℕ → Option Object). f name) more ∙ put-same old name (Some o), importable);
   }
 
 -- A device took an object back.

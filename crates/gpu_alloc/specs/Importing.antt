@@ -32,39 +32,34 @@ pub record IsImportable (p : Properties) (memory_type offset size : ℕ) (o : Ob
   pub finish : is_non_coherent p memory_type ≡ true → ((offset + size) % p.non_coherent_atom_size ≡ 0)
       ⊎ (offset + size ≡ o.size)
 
--- the device holds such an object, and agrees with the allocator
-pub record IsReadyForImport (s : State) (p : Properties) (objects : ℕ → Option Object)
-    (object memory_type offset size : ℕ) : Type 0 where
-  pub agrees : Agrees s p objects
-  pub held : HeldWith objects object (IsImportable p memory_type offset size)
+-- a device that offers these properties holds such an object under the name
+unfoldable pub MayBeImported : Properties → (ℕ → Option Object) → (object memory_type offset size : ℕ) → Type 0
+MayBeImported p objects object t offset size = HeldWith objects object (IsImportable p t offset size)
 
--- Whatever the device: where it was ready for the import, the allocator agrees with it afterwards, and so does the
--- block.
+-- Whatever the device: where it agreed with the allocator and held such an object, the allocator agrees with it
+-- afterwards, and so does the block.
 unfoldable pub ImportAgrees : State → (object memory_type offset size : ℕ) → State → Block → Type 0
 ImportAgrees s object t offset size new b =
-    (p : Properties) (objects : ℕ → Option Object) → IsReadyForImport s p objects object t offset size
-    → Agrees new p objects × BlockAgrees b p objects
+    (p : Properties) (objects : ℕ → Option Object) → Agrees s p objects
+    → MayBeImported p objects object t offset size → Agrees new p objects × BlockAgrees b p objects
 
 -- That is so: whoever has the one fact may have the others.
 pub record ImportsAgree : Type 0 where
   pub allocator : (s new : State) (b : Block) (object memory_type offset size : ℕ) (p : Properties)
       (objects : ℕ → Option Object) → ImportAgrees s object memory_type offset size new b → Agrees s p objects
-      → HeldWith objects object (IsImportable p memory_type offset size) → Agrees new p objects
+      → MayBeImported p objects object memory_type offset size → Agrees new p objects
   pub block : (s new : State) (b : Block) (object memory_type offset size : ℕ) (p : Properties)
       (objects : ℕ → Option Object) → ImportAgrees s object memory_type offset size new b → Agrees s p objects
-      → HeldWith objects object (IsImportable p memory_type offset size) → BlockAgrees b p objects
+      → MayBeImported p objects object memory_type offset size → BlockAgrees b p objects
 
 -- What a device's call leaves that makes an object for its caller: each allocator and each block agree with it as
--- before, and the object, whose name is new to each such allocator, may be imported, whole or in part.
+-- before, the name is new to each such allocator, and the whole of the object may be imported.
 pub record LeavesAgreement (p : Properties) (old : ℕ → Option Object) (q : Properties) (new : ℕ → Option Object)
     (name memory_type size : ℕ) : Type 0 where
   pub allocators : (s : State) → Agrees s p old → Agrees s q new
   pub blocks : (b : Block) → BlockAgrees b p old → BlockAgrees b q new
   pub unheld : (s : State) → Agrees s p old → map.get s.held name ≡ None
-  pub whole : HeldWith new name (IsImportable q memory_type 0 size)
-  pub part : (offset len : ℕ) → offset + len ≤ size → (is_non_coherent q memory_type ≡ true
-      → ((offset + len) % q.non_coherent_atom_size ≡ 0) ⊎ (offset + len ≡ size))
-      → HeldWith new name (IsImportable q memory_type offset len)
+  pub whole : MayBeImported q new name memory_type 0 size
 
 -- What a device's call leaves that takes an object back: each allocator that does not hold it agrees as before, and so
 -- does each block that such an allocator owns.

@@ -1,7 +1,9 @@
 //! Laws of the definitions that contracts cite, and those definitions computed on samples. The functions do nothing.
 
-ghost use Rattle.std.specs.Prelude.{◌≡◌, ◌≢◌, ℕ, List, [], ◌∷◌, Some, None, true, false, Ok};
+ghost use Rattle.std.specs.Prelude.{◌≡◌, ◌≢◌, ◌↔◌, ℕ, Option, List, [], ◌∷◌, Some, None, true, false, Ok};
 ghost use Rattle.std.specs.FinSet as set;
+ghost use Rattle.gpu_alloc_types.specs.Properties.{Properties};
+ghost use Rattle.gpu_alloc_types.specs.Device.{Object, HeldWith};
 ghost use Rattle.gpu_alloc_types.specs.Device.Event.{Allocated, Deallocated};
 ghost use Rattle.gpu_alloc_block.specs.Agreement.{Agrees, KeptBlocksAgree};
 ghost use Rattle.gpu_alloc.specs.Allocation.{strategy, CandidatesServe};
@@ -19,7 +21,7 @@ ghost use Rattle.gpu_alloc_base.specs.FreeRuns.{tail_start};
 ghost use Rattle.gpu_alloc.specs.FreeListSharing.{IsFreeInChunk, HasListPlace, list_size, list_alignment};
 ghost use Rattle.gpu_alloc.specs.FreeListSharing.{list_question};
 ghost use Rattle.gpu_alloc_base.specs.declared.region.FreeListRegion.{FreeListRegion};
-ghost use Rattle.gpu_alloc.specs.Importing.{ImportsAgree, LeavesAgreement, LeavesOthers};
+ghost use Rattle.gpu_alloc.specs.Importing.{ImportsAgree, IsImportable, LeavesAgreement, LeavesOthers, MayBeImported};
 ghost use Rattle.gpu_alloc.specs.Samples.{one_type, over, bytes_for, buddy_config};
 ghost use Rattle.gpu_alloc.specs.BuddySharing.{buddy_size, buddy_question, with_buddy_chunk};
 ghost use Rattle.gpu_alloc_base.specs.Sizes.{minimal_size, final_size, grown_chunk, doubled_chunk};
@@ -183,13 +185,21 @@ pub fn kept_blocks_agree()
 {}
 
 /// An import leaves allocator and block in agreement with the device: by this call what the clause `agrees` of
-/// `import_memory` says becomes known of each device that was ready for the import.
+/// `import_memory` says becomes known of each device that agreed and held an object that may be imported.
 pub fn imports_agree()
     ensures { ImportsAgree }
 {}
 
+/// Which objects may be imported: those of the memory type that are not mapped and have the bytes inside, which end on
+/// the atom or where the object ends where the memory type has to be flushed.
+pub fn which_objects_may_be_imported()
+    ensures { (p : Properties) (objects : ℕ → Option Object) (object memory_type offset size : ℕ)
+        → HeldWith objects object (IsImportable p memory_type offset size)
+        ↔ MayBeImported p objects object memory_type offset size }
+{}
+
 /// A device that makes an object for its caller (`allocate_memory`) leaves each allocator and each block in agreement,
-/// and the object may be imported: by this call it becomes known of the device's latest call.
+/// and the whole of the object may be imported: by this call it becomes known of the device's latest call.
 pub fn made_objects_may_be_imported<M: MemoryObject, D: MemoryDevice<M>>(device: &D)
     ensures { (old : D) (size memory_type flags name : ℕ)
         → D.step old (Allocated size memory_type flags (Ok name)) device.now

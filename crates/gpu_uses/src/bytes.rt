@@ -14,7 +14,7 @@ use gpu_alloc_types::{MemoryDevice, MemoryObject};
 use std::alloc::Global;
 
 /// Writes bytes at a block's start. What the device refuses is left at that.
-fn fill<M: MemoryObject, D: MemoryDevice<M>>(
+pub(crate) fn fill<M: MemoryObject, D: MemoryDevice<M>>(
     device: &mut D,
     block: &mut MemoryBlock<M>,
     bytes: &[u8],

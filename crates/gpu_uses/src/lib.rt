@@ -6,6 +6,7 @@ pub mod buffers;
 pub mod bytes;
 pub mod first_use;
 pub mod frame;
+pub mod imports;
 pub mod opening;
 pub mod session;
 pub mod shared;
