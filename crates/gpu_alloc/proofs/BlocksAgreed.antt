@@ -126,7 +126,7 @@ module _ (s new : State) (r : Request) (b : Block) (q : Properties) (f g : ℕ �
             whole = whole;
             shared = λ shared. subst (λ p. IsMappedWhole p o) (sym agrees.properties) (shared_mapped h.kind new b.object h.counted o (ap is_shared kind ∙ shared) there.2.of_size);
             own = λ own. own_unmapped h o lies.1 kind there.1 own ∙ ap (option_map (mapped_range b)) (sym granted.unmapped);
-            start = λ shared. (atoms shared).0;
+            atoms = λ shared. ((atoms shared).0, sum_whole b.atom b.offset b.size (atoms shared).0 (atoms shared).1);
             finish = ends b.kind b.atom b.offset b.size o.size made.no_import whole atoms;
           },
         );

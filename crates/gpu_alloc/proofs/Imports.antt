@@ -111,7 +111,7 @@ module _ (s : State) (object memory_type offset size : ℕ) (new : State) (b : B
           whole = λ own. absurd (cc);
           shared = λ own. absurd (cc);
           own = λ _. held.2.unmapped;
-          start = λ own. absurd (cc);
+          atoms = λ own. absurd (cc);
           finish = subst (λ q. ((offset + size) % atom_of q memory_type ≡ 0) ⊎ (offset + size ≡ o.size)) agrees.properties (finish (is_non_coherent p memory_type) p.non_coherent_atom_size (offset + size) held.2.finish);
         },
       );

@@ -51,7 +51,7 @@ beneath_same p c o new of_type of_size mapping is = record {
   whole = λ dedicated. rw of_size (is.whole dedicated);
   shared = λ shared. mapped_whole p o new of_type of_size mapping (is.shared shared);
   own = λ own. mapping ∙ is.own own;
-  start = is.start;
+  atoms = is.atoms;
   finish = rw of_size is.finish;
 }
 
@@ -154,7 +154,7 @@ beneath_remapped p b m o new re is = record {
   whole = λ dedicated. rw (re.shape.same_size) (is.whole dedicated);
   shared = λ shared. mapped_whole p o new re.shape.same_type re.shape.same_size (re.shape.same_mapping shared) (is.shared shared);
   own = re.own;
-  start = is.start;
+  atoms = is.atoms;
   finish = rw (re.shape.same_size) is.finish;
 }
 

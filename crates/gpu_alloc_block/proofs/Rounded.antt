@@ -1,11 +1,16 @@
 -- Ranges of a block in whole atoms.
-use Rattle.std.proofs.Common.{◌≡◌, ◌⊎◌, inl, inr, ℕ, zero, suc, ◌+◌, ◌-◌, ◌*◌, ◌/◌, ◌%◌, ◌<◌, ◌≤◌, ◌==◌, ◌^◌, min, refl, sym, ◌∙◌, ap, subst, arith}
-use Rattle.std.proofs.Math.Nat.{div-mul-le_self, lt-div-mul-add, mod-lt, mod-eq_of_lt, mod_self, mul-mod_left}
-use Rattle.std.proofs.lemmas.Nat.{div-add-mod', div-mul-add}
+use Rattle.std.proofs.Common.{◌≡◌, ◌≢◌, ◌⊎◌, true, Option, inl, inr, ℕ, zero, suc, ◌+◌, ◌-◌, ◌*◌, ◌/◌, ◌%◌, ◌<◌, ◌≤◌, ◌==◌, ◌^◌, min, refl, sym, ◌∙◌, ap, subst, arith}
+use Rattle.std.proofs.Math.Nat.{div-mul-le_self, lt-div-mul-add, mod-lt, mod-eq_of_lt, mod_self, zero-mod, mul-le-mul_right, mul-mod_left}
+use Rattle.std.proofs.lemmas.Nat.{div-add-mod', div-mul-add, le-div}
 use Rattle.std.specs.Int.{next_multiple_of}
 use Rattle.gpu_alloc_base.specs.Sizes.{down, up}
+use Rattle.gpu_alloc_block.specs.Agreement.{BlockAgrees, LiesInBlock}
 use Rattle.gpu_alloc_block.specs.Ranges.{HasEnd, rounded, whole_atoms, atom_start, atom_end}
-use Rattle.gpu_alloc_block.specs.State.{Block}
+use Rattle.gpu_alloc_block.specs.State.{Block, is_shared}
+use Rattle.gpu_alloc_block.specs.declared.block.Kind.{Kind}
+use Rattle.gpu_alloc_block.specs.declared.block.Kind.TheVariants.{Dedicated, Imported, BuddyChunk, FreeListChunk}
+use Rattle.gpu_alloc_types.specs.Device.{Object}
+use Rattle.gpu_alloc_types.specs.Properties.{Properties}
 
 -- Multiples of an atom.
 
@@ -84,6 +89,18 @@ module _ (b : Block) (offset len : ℕ) (some : 0 < b.atom) (within : offset + l
   pub rounded_inside : (rounded b offset len).offset + (rounded b offset len).size ≤ b.offset + b.size
   rounded_inside = omega (arith, rounded_end)
 
+  -- it begins where the bytes do, or less than one atom before
+  pub rounded_near : start < (rounded b offset len).offset + b.atom
+  rounded_near = lt-div-mul-add some
+
+  -- it begins inside the block where that begins on the atom
+  pub rounded_from_block : b.offset % b.atom ≡ 0 → b.offset ≤ (rounded b offset len).offset
+  rounded_from_block whole =
+      let sum : b.offset / b.atom * b.atom + b.offset % b.atom ≡ b.offset = div-add-mod' b.offset b.atom in
+      let parts : b.offset / b.atom ≤ start / b.atom = le-div (b.offset / b.atom) start b.atom some (omega (arith, sum)) in
+      let most = mul-le-mul_right b.atom parts in
+      omega (arith, sum, whole, most)
+
   -- it begins on the atom, and ends there or where the block ends
   pub rounded_start : (rounded b offset len).offset % b.atom ≡ 0
   rounded_start = mul-mod_left (start / b.atom) b.atom
@@ -99,3 +116,24 @@ module _ (b : Block) (offset len : ℕ) (some : 0 < b.atom) (within : offset + l
 
   pub rounded_some : 0 < len → 0 < (rounded b offset len).size
   rounded_some nonempty = omega (arith, rounded_covers.0, rounded_covers.1, nonempty)
+
+-- In a block that agrees with a device, which starts on the atom unless it is an import.
+
+starts : (k : Kind) (offset atom : ℕ) → (k ≡ Dedicated → offset ≡ 0) → (is_shared k ≡ true → offset % atom ≡ 0)
+    → k ≢ Imported → offset % atom ≡ 0
+starts Dedicated offset atom whole atoms other = ap (λ n. n % atom) (whole refl) ∙ zero-mod atom
+starts Imported offset atom whole atoms other = absurd (other refl)
+starts BuddyChunk offset atom whole atoms other = atoms refl
+starts (FreeListChunk number) offset atom whole atoms other = atoms refl
+
+pub lies_in_block : (b : Block) (p : Properties) (objects : ℕ → Option Object) (offset len : ℕ) → 0 < b.atom
+    → BlockAgrees b p objects → offset + len ≤ b.size → LiesInBlock b (rounded b offset len)
+unfolding BlockAgrees
+lies_in_block b p objects offset len some agrees within =
+    let is = agrees.there.2 in
+    let near = rounded_near b offset len some within in record {
+      start = λ other. rounded_from_block b offset len some within
+          (starts b.kind b.offset b.atom (λ own. (is.whole own).0) (λ shared. (is.atoms shared).0) other);
+      near = omega (arith, near);
+      finish = rounded_inside b offset len some within;
+    }

@@ -2,7 +2,7 @@
 use Rattle.std.specs.Prelude.{◌≡◌, ◌≢◌, ◌⊎◌, ℕ, ◌+◌, ◌%◌, ◌<◌, ◌≤◌, true, false, Option, Some, None, IfSome}
 use Rattle.std.specs.FinMap as map
 use Rattle.gpu_alloc_types.specs.Properties.{Properties, is_host_visible, is_non_coherent, props_at, atom_of}
-use Rattle.gpu_alloc_types.specs.Device.{Object, HeldWith}
+use Rattle.gpu_alloc_types.specs.Device.{Object, HeldWith, Range}
 use Rattle.gpu_alloc_block.specs.InHand.{AreTwo}
 use Rattle.gpu_alloc_block.specs.Ranges.{own_mapping}
 use Rattle.gpu_alloc_block.specs.declared.block.Mapping.{Mapping}
@@ -53,8 +53,8 @@ pub record IsBeneath (p : Properties) (b : Block) (o : Object) : Type 0 where
   -- a shared object is mapped whole where the host sees it, and a block's own exactly where the block is
   pub shared : is_shared b.kind ≡ true → IsMappedWhole p o
   pub own : is_shared b.kind ≡ false → o.mapped ≡ own_mapping b
-  -- the block of a shared object starts on the atom, and each ends on it or where the object ends
-  pub start : is_shared b.kind ≡ true → b.offset % b.atom ≡ 0
+  -- the block of a shared object starts and ends on the atom, and each ends on it or where the object ends
+  pub atoms : is_shared b.kind ≡ true → (b.offset % b.atom ≡ 0) × ((b.offset + b.size) % b.atom ≡ 0)
   pub finish : ((b.offset + b.size) % b.atom ≡ 0) ⊎ (b.offset + b.size ≡ o.size)
 
 -- The block has the property bits and the atom of its memory type, and the device holds its object so.
@@ -67,6 +67,13 @@ pub record IsHeldFor (b : Block) (p : Properties) (objects : ℕ → Option Obje
 -- A block agrees with a device that offers these properties and holds these objects.
 unfoldable pub BlockAgrees : Block → Properties → (ℕ → Option Object) → Type 0
 BlockAgrees b p objects = IsHeldFor b p objects
+
+-- A range of a block's object that ends inside the block and begins inside it: an import's alone may begin before it, by
+-- less than one atom.
+pub record LiesInBlock (b : Block) (r : Range) : Type 0 where
+  pub start : b.kind ≢ Imported → b.offset ≤ r.offset
+  pub near : b.offset < r.offset + b.atom
+  pub finish : r.offset + r.size ≤ b.offset + b.size
 
 -- What a call of a block keeps, from the one device to the other: the agreement of each allocator that owns the block
 -- or does not hold its object, and of each block of another object; of all of them where the object is shared.

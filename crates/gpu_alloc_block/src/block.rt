@@ -61,7 +61,8 @@ pub struct Mapping {
     pub len: u64,
 }
 
-/// A block of memory: a span of a memory object. It cannot be let go, only given back to its allocator.
+/// A block of memory: a span of a memory object. It cannot be dropped: it is given back to its allocator. (What takes a
+/// block apart without that is [`into_memory`](MemoryBlock::into_memory), which is for the crate above alone.)
 pub struct MemoryBlock<M: MemoryObject> {
     memory: M,
     offset: u64,
@@ -141,7 +142,7 @@ impl<M: MemoryObject> MemoryBlock<M> {
     }
 
     /// Takes the block apart, for its handle. It is public for the crate above, which lets the handle go once the
-    /// block's span is free.
+    /// block's span is free: it gives nothing back, so a user never calls it.
     pub fn into_memory(self) -> M
         ensures { M.object result ≡ self.object }
     {
@@ -214,8 +215,8 @@ impl<M: MemoryObject> MemoryBlock<M> {
     /// Where the object is the block's own (the block is dedicated or imported) the device maps it, from the atom in
     /// which the range begins to the end of the one in which it ends, or where the block ends: these are the bytes that
     /// a flush of the range needs (the Vulkan specification's rule on `VkMappedMemoryRange`). A shared object was mapped
-    /// whole when it was made, so the device is asked nothing, and a block of it whose memory the host sees is always
-    /// mapped.
+    /// whole when it was made, so the device is asked nothing, and an unmapped block of it that the host sees can always
+    /// be mapped.
     ///
     /// The range has to be at least 1 byte and inside the block, and the device has to hold the block's object as the
     /// allocator left it (`BlockAgrees`, which each grant tells). The refusals: `NonHostVisible` where the host does not
@@ -239,6 +240,7 @@ impl<M: MemoryObject> MemoryBlock<M> {
         ensures mapped { OnOk result (self.new ≡ record self.old { mapping = Some (mapping_of self.old offset size) }) }
         ensures refused { OnErr result (self.new ≡ self.old) }
         ensures sure { refusal self.old ≡ None → is_shared self.old.kind ≡ true → IsOk result }
+        ensures properties { D.properties device.new ≡ D.properties device.old }
         ensures agrees { BlockAgrees self.new (D.properties device.new) (D.objects device.new) }
         ensures keeps { KeepsAgreement self.old (D.properties device.old) (D.objects device.old)
             (D.properties device.new) (D.objects device.new) }
@@ -271,6 +273,7 @@ impl<M: MemoryObject> MemoryBlock<M> {
         ensures unmapped { self.new ≡ record self.old { mapping = None } }
         ensures asked { Asked D.step device.old device.new (λ es. es ≡ unmapping self.old) }
         ensures objects { ObjectsUnmapped self.old (D.objects device.old) (D.objects device.new) }
+        ensures properties { D.properties device.new ≡ D.properties device.old }
         ensures agrees { BlockAgrees self.new (D.properties device.new) (D.objects device.new) }
         ensures keeps { KeepsAgreement self.old (D.properties device.old) (D.objects device.old)
             (D.properties device.new) (D.objects device.new) }
@@ -296,7 +299,7 @@ impl<M: MemoryObject> MemoryBlock<M> {
     /// `AlreadyMapped` where the block is mapped; the device is asked nothing then. `OutOfDeviceMemory`,
     /// `OutOfHostMemory` and `MapFailed` are the device's. After a refused mapping no byte has changed. After a refused
     /// flush the host's bytes are the data, and each of the device's bytes of the flushed range is that of before or
-    /// the host's. In every case all bytes outside that range are as before.
+    /// the host's. In every case all bytes outside that range are as before, and of the host's all but the data's own.
     pub fn write_bytes<D: MemoryDevice<M>>(
         &mut self,
         device: &mut D,
@@ -317,6 +320,7 @@ impl<M: MemoryObject> MemoryBlock<M> {
         ensures sure { refusal self.old ≡ None → is_shared self.old.kind ≡ true
             → are_non_coherent self.old.props ≡ false → IsOk result }
         ensures block { self.new ≡ self.old }
+        ensures properties { D.properties device.new ≡ D.properties device.old }
         ensures agrees { BlockAgrees self.new (D.properties device.new) (D.objects device.new) }
         ensures keeps { KeepsAgreement self.old (D.properties device.old) (D.objects device.old)
             (D.properties device.new) (D.objects device.new) }
@@ -372,6 +376,7 @@ impl<M: MemoryObject> MemoryBlock<M> {
         ensures sure { refusal self.old ≡ None → is_shared self.old.kind ≡ true
             → are_non_coherent self.old.props ≡ false → IsOk result }
         ensures block { self.new ≡ self.old }
+        ensures properties { D.properties device.new ≡ D.properties device.old }
         ensures agrees { BlockAgrees self.new (D.properties device.new) (D.objects device.new) }
         ensures keeps { KeepsAgreement self.old (D.properties device.old) (D.objects device.old)
             (D.properties device.new) (D.objects device.new) }
@@ -409,6 +414,13 @@ impl<M: MemoryObject> MemoryBlock<M> {
         self.key
     }
 
+    /// Nothing is done: its contract tells what every block keeps.
+    pub(crate) fn keeps_end(&self)
+        ensures { HasEnd self.now.offset self.now.size self.now.atom }
+    {
+        let _ = &self.key;
+    }
+
     /// Why the block itself refuses to be mapped.
     fn refusal(&self) -> Option<MapError>
         ensures { result ≡ refusal self.now }
@@ -430,7 +442,8 @@ impl<M: MemoryObject> MemoryBlock<M> {
         visible && !self.props.intersects(MemoryPropertyFlags::HOST_COHERENT)
     }
 
-    /// Where the atom ends that ends at a place of the block's object or behind it, or where the block ends.
+    /// The end of the first atom that ends at this place of the block's object or behind it, or the block's end where
+    /// that comes first.
     fn atom_end(&self, place: u64) -> u64
         ensures { result ≡ atom_end self.now place }
     {

@@ -2,5 +2,6 @@
 #![tactic(auto)]
 
 mod block;
+pub mod laws;
 
 pub use block::{Kind, Mapping, MemoryBlock};

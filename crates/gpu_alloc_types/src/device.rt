@@ -109,8 +109,8 @@ pub trait MemoryDevice<M: MemoryObject> {
         ensures { step self.old (Invalidated (map (range_of M.object) ranges.now) result) self.new };
 
     /// Sets bytes of an object from `offset` on as the host sees them, and where its memory is coherent as the device
-    /// sees them too. It cannot fail. There has to be at least 1 byte, and the bytes have to lie in what is mapped of
-    /// the object, of whose name the device has to hold one. (The original crate writes through a pointer.)
+    /// sees them too. It cannot fail. The device has to hold an object of the handle's name, there has to be at least 1
+    /// byte, and the bytes have to lie in what is mapped of it. (The original crate writes through a pointer.)
     fn put_bytes(&mut self, memory: &M, offset: u64, bytes: &[u8])
         requires { HeldWith (objects self.old) (M.object memory.now) (IsInMapped offset (length bytes.now)) }
         ensures { step self.old (BytesPut (M.object memory.now) offset bytes.now) self.new };

@@ -21,7 +21,7 @@ pub(super) enum Part {
     /// All of it.
     Whole,
 
-    /// Half of its bytes, the first, without the one in the middle.
+    /// The first half of its bytes, rounded down.
     FirstHalf,
 }
 
