@@ -2,18 +2,21 @@
 use Rattle.std.proofs.Common.{◌≡◌, ◌≢◌, ◌⊎◌, inl, inr, ℕ, ◌+◌, ◌-◌, ◌%◌, ◌<◌, ◌≤◌, Bool, true, false, cond, Option, Some, None, IfSome, Result, Ok, Err, IfOk, OnErr, refl, sym, ◌∙◌, ap, subst, arith}
 use Rattle.std.proofs.Math.Nat.{mod-one}
 use Rattle.std.specs.FinMap as map
-use Rattle.gpu_alloc_types.specs.Device.{HeldWith, IsFresh, Object, put}
+use Rattle.std.specs.Result.{result_map_both}
+use Rattle.gpu_alloc_types.specs.Device.{HeldWith, IsFresh, Object, Row, put}
+use Rattle.gpu_alloc_types.specs.Device.Event.{Allocated}
+use Rattle.gpu_alloc_types.specs.declared.types.OutOfMemory.{OutOfMemory}
 use Rattle.gpu_alloc_types.specs.Objects.{put-kept, put-other, put-same}
 use Rattle.gpu_alloc_types.specs.Properties.{Properties, atom_of, is_non_coherent, props_at}
 use Rattle.gpu_alloc_block.specs.Agreement.{Agrees, BlockAgrees, IsHeldFor, IsInside, IsThere}
 use Rattle.gpu_alloc_block.specs.State.{AreApart, Block, HeldObject, IsLive, IsOwned, Span, State, span_of, total}
 use Rattle.gpu_alloc.specs.Candidates.{holding}
-use Rattle.gpu_alloc.specs.Importing.{ImportAgrees, Imports, IsImportable, LeavesAgreement, LeavesOthers, MayBeImported, imported_block, imported_object}
+use Rattle.gpu_alloc.specs.Importing.{ImportAgrees, Imports, IsImportable, MayBeImported, imported_block, imported_object}
 use Rattle.gpu_alloc.specs.Owned.{Adds, Leaves}
 use Rattle.gpu_alloc.specs.Sound.{IsSound}
 use Rattle.gpu_alloc_base.proofs.Maps.{own_inserted}
 use Rattle.gpu_alloc_base.proofs.Names.{len_put}
-use Rattle.gpu_alloc.proofs.Agreeing.{IsOlder, agrees_more, not_held, older_but}
+use Rattle.gpu_alloc.proofs.Agreeing.{IsOlder, agrees_kept, agrees_more, not_held, older_but}
 use Rattle.gpu_alloc.proofs.BlocksAgreed.{block_kept}
 use Rattle.gpu_alloc.proofs.Changes.{Grows, holds_one_more}
 use Rattle.gpu_alloc.proofs.Owning.{grant_adds, grant_leaves, left_as_it_was}
@@ -165,14 +168,39 @@ module _ (p q : Properties) (old new : ℕ → Option Object) (name memory_type 
     finish = λ flushed. inr (omega (arith, fresh.of_size));
   }
 
-  pub object_beside : LeavesAgreement p old q new name memory_type size
+  pub whole_importable : MayBeImported q new name memory_type 0 size
   unfolding MayBeImported
-  object_beside = record {
-    allocators = agrees_beside;
-    blocks = block_beside;
-    unheld = λ s is. not_held s p old name is free;
-    whole = (o, ap (λ (f : ℕ → Option Object). f name) more ∙ put-same old name (Some o), importable);
-  }
+  whole_importable = (o, ap (λ (f : ℕ → Option Object). f name) more ∙ put-same old name (Some o), importable)
+
+-- What a device's call leaves that was asked for an object.
+pub record LeavesAgreement {M : Type 0} (p : Properties) (old : ℕ → Option Object) (q : Properties) (new : ℕ → Option Object) (memory_type size : ℕ) (name : M → ℕ) (answer : Result M OutOfMemory) : Type 0 where
+  pub allocators : (s : State) → Agrees s p old → Agrees s q new
+  pub blocks : (b : Block) → BlockAgrees b p old → BlockAgrees b q new
+  pub unheld : (s : State) → Agrees s p old → IfOk answer (λ memory. map.get s.held (name memory) ≡ None)
+  pub whole : IfOk answer (λ memory. MayBeImported q new (name memory) memory_type 0 size)
+
+pub asked_left : {M : Type 0} {p q : Properties} {old new : ℕ → Option Object} (name : M → ℕ) (answer : Result M OutOfMemory) → q ≡ p → (size memory_type flags : ℕ)
+    → Row p old (Allocated size memory_type flags (result_map_both name (λ e. e) answer)) new → LeavesAgreement p old q new memory_type size name answer
+asked_left {M} {p} {q} {old} {new} name (Ok memory) same size t flags row = record {
+  allocators = agrees_beside p q old new (name memory) t size same row.0 row.1.0 row.1.1 row.1.2;
+  blocks = block_beside p q old new (name memory) t size same row.0 row.1.0 row.1.1 row.1.2;
+  unheld = λ s is. not_held s p old (name memory) is row.0;
+  whole = whole_importable p q old new (name memory) t size same row.0 row.1.0 row.1.1 row.1.2;
+}
+asked_left {M} {p} {q} {old} {new} name (Err e) same size t flags row = record {
+  allocators = λ s is. agrees_kept s s p q old new is refl same row;
+  blocks = λ b is. block_kept b p q old new same (ap (λ (f : ℕ → Option Object). f b.object) row) is;
+  unheld = λ s is. tt;
+  whole = tt;
+}
+
+-- What a device's call leaves that takes an object back: each allocator that does not hold it agrees as before, and so
+-- does each block that such an allocator owns.
+pub record LeavesOthers (p : Properties) (old : ℕ → Option Object) (q : Properties) (new : ℕ → Option Object)
+    (name : ℕ) : Type 0 where
+  pub allocators : (s : State) → map.get s.held name ≡ None → Agrees s p old → Agrees s q new
+  pub blocks : (s : State) (b : Block) → map.get s.held name ≡ None → IsOwned s b → BlockAgrees b p old
+      → BlockAgrees b q new
 
 -- A device took an object back.
 module _ (p q : Properties) (old new : ℕ → Option Object) (name : ℕ) (same : q ≡ p) (fewer : new ≡ put old name None) where

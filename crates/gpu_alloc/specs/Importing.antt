@@ -1,7 +1,10 @@
 -- What an import adds, and when allocator and device agree afterwards.
-use Rattle.std.specs.Prelude.{◌≡◌, ◌⊎◌, ℕ, ◌+◌, ◌%◌, ◌≤◌, true, Option, None}
+use Rattle.std.specs.Prelude.{◌≡◌, ◌⊎◌, ℕ, ◌+◌, ◌%◌, ◌≤◌, true, Option, None, Result, IfOk}
 use Rattle.std.specs.FinMap as map
-use Rattle.gpu_alloc_types.specs.Device.{Object, HeldWith}
+use Rattle.std.specs.Result.{result_map_both}
+use Rattle.gpu_alloc_types.specs.declared.types.OutOfMemory.{OutOfMemory}
+use Rattle.gpu_alloc_types.specs.Device.{Object, Event, HeldWith}
+use Rattle.gpu_alloc_types.specs.Device.Event.{Allocated, Deallocated}
 use Rattle.gpu_alloc_types.specs.Properties.{Properties, is_non_coherent}
 use Rattle.gpu_alloc_block.specs.Agreement.{Agrees, BlockAgrees}
 use Rattle.gpu_alloc_block.specs.State.{HeldObject, Block, State, granted_block, IsOwned}
@@ -52,19 +55,30 @@ pub record ImportsAgree : Type 0 where
       (objects : ℕ → Option Object) → ImportAgrees s object memory_type offset size new b → Agrees s p objects
       → MayBeImported p objects object memory_type offset size → BlockAgrees b p objects
 
--- What a device's call leaves that makes an object for its caller: each allocator and each block agree with it as
--- before, the name is new to each such allocator, and the whole of the object may be imported.
-pub record LeavesAgreement (p : Properties) (old : ℕ → Option Object) (q : Properties) (new : ℕ → Option Object)
-    (name memory_type size : ℕ) : Type 0 where
-  pub allocators : (s : State) → Agrees s p old → Agrees s q new
-  pub blocks : (b : Block) → BlockAgrees b p old → BlockAgrees b q new
-  pub unheld : (s : State) → Agrees s p old → map.get s.held name ≡ None
-  pub whole : MayBeImported q new name memory_type 0 size
+-- A device's calls for its caller, which are no calls of an allocator.
 
--- What a device's call leaves that takes an object back: each allocator that does not hold it agrees as before, and so
--- does each block that such an allocator owns.
-pub record LeavesOthers (p : Properties) (old : ℕ → Option Object) (q : Properties) (new : ℕ → Option Object)
-    (name : ℕ) : Type 0 where
-  pub allocators : (s : State) → map.get s.held name ≡ None → Agrees s p old → Agrees s q new
-  pub blocks : (s : State) (b : Block) → map.get s.held name ≡ None → IsOwned s b → BlockAgrees b p old
-      → BlockAgrees b q new
+module _ (s : State) {D : Type 0} (step : D → Event → D → Type 0) (properties : D → Properties)
+    (objects : D → ℕ → Option Object) (now : D) where
+  -- It was asked for an object: the allocator and each block agree with it as before. Where it made one, the name is
+  -- new to such an allocator, and the whole of the object may be imported.
+  pub record MadeObjects {M : Type 0} (name : M → ℕ) (answer : Result M OutOfMemory) : Type 0 where
+    pub allocator : (old : D) (size memory_type flags : ℕ)
+        → step old (Allocated size memory_type flags (result_map_both name (λ e. e) answer)) now
+        → Agrees s (properties old) (objects old) → Agrees s (properties now) (objects now)
+    pub blocks : (old : D) (size memory_type flags : ℕ) (b : Block)
+        → step old (Allocated size memory_type flags (result_map_both name (λ e. e) answer)) now
+        → BlockAgrees b (properties old) (objects old) → BlockAgrees b (properties now) (objects now)
+    pub unheld : (old : D) (size memory_type flags : ℕ)
+        → step old (Allocated size memory_type flags (result_map_both name (λ e. e) answer)) now
+        → Agrees s (properties old) (objects old) → IfOk answer (λ memory. map.get s.held (name memory) ≡ None)
+    pub whole : (old : D) (size memory_type flags : ℕ)
+        → step old (Allocated size memory_type flags (result_map_both name (λ e. e) answer)) now
+        → IfOk answer (λ memory. MayBeImported (properties now) (objects now) (name memory) memory_type 0 size)
+
+  -- It took an object back that the allocator does not hold: the allocator agrees as before, and so does each block
+  -- that it owns.
+  pub record ObjectsOfOthers : Type 0 where
+    pub allocator : (old : D) (name : ℕ) → step old (Deallocated name) now → map.get s.held name ≡ None
+        → Agrees s (properties old) (objects old) → Agrees s (properties now) (objects now)
+    pub blocks : (old : D) (name : ℕ) (b : Block) → step old (Deallocated name) now → map.get s.held name ≡ None
+        → IsOwned s b → BlockAgrees b (properties old) (objects old) → BlockAgrees b (properties now) (objects now)

@@ -1,10 +1,9 @@
 //! Laws of the definitions that contracts cite, and those definitions computed on samples. The functions do nothing.
 
-ghost use Rattle.std.specs.Prelude.{◌≡◌, ◌≢◌, ◌↔◌, ℕ, Option, List, [], ◌∷◌, Some, None, true, false, Ok};
+ghost use Rattle.std.specs.Prelude.{◌≡◌, ◌≢◌, ◌↔◌, ℕ, Option, List, [], ◌∷◌, Some, None, true, false};
 ghost use Rattle.std.specs.FinSet as set;
 ghost use Rattle.gpu_alloc_types.specs.Properties.{Properties};
 ghost use Rattle.gpu_alloc_types.specs.Device.{Object, HeldWith};
-ghost use Rattle.gpu_alloc_types.specs.Device.Event.{Allocated, Deallocated};
 ghost use Rattle.gpu_alloc_block.specs.Agreement.{Agrees, KeptBlocksAgree};
 ghost use Rattle.gpu_alloc.specs.Allocation.{strategy, CandidatesServe};
 ghost use Rattle.gpu_alloc.specs.Exactness.{AreCanonical, AreFreePieces, AreLongEnough, ArePiecesApart};
@@ -21,7 +20,8 @@ ghost use Rattle.gpu_alloc_base.specs.FreeRuns.{tail_start};
 ghost use Rattle.gpu_alloc.specs.FreeListSharing.{IsFreeInChunk, HasListPlace, list_size, list_alignment};
 ghost use Rattle.gpu_alloc.specs.FreeListSharing.{list_question};
 ghost use Rattle.gpu_alloc_base.specs.declared.region.FreeListRegion.{FreeListRegion};
-ghost use Rattle.gpu_alloc.specs.Importing.{ImportsAgree, IsImportable, LeavesAgreement, LeavesOthers, MayBeImported};
+ghost use Rattle.gpu_alloc.specs.Importing.{ImportsAgree, IsImportable, MadeObjects, MayBeImported};
+ghost use Rattle.gpu_alloc.specs.Importing.{ObjectsOfOthers};
 ghost use Rattle.gpu_alloc.specs.Samples.{one_type, over, bytes_for, buddy_config};
 ghost use Rattle.gpu_alloc.specs.BuddySharing.{buddy_size, buddy_question, with_buddy_chunk};
 ghost use Rattle.gpu_alloc_base.specs.Sizes.{minimal_size, final_size, grown_chunk, doubled_chunk};
@@ -38,7 +38,7 @@ pub use gpu_alloc_base::laws::{
     align_masks_of_powers, free_list_chunk_is_least, next_power_of_two_is_least,
 };
 pub use gpu_alloc_block::laws::rounded_ranges_lie_in_their_block;
-use gpu_alloc_types::{MemoryDevice, MemoryObject};
+use gpu_alloc_types::{MemoryDevice, MemoryObject, OutOfMemory};
 pub use gpu_alloc_usage::laws::{
     candidates_are_exact_and_sorted, ranking_is_exact_and_sorted, rankings_of_samples,
 };
@@ -199,23 +199,30 @@ pub fn which_objects_may_be_imported()
         ↔ MayBeImported p objects object memory_type offset size }
 {}
 
-/// A device that makes an object for its caller (`allocate_memory`) leaves each allocator and each block in agreement,
-/// and the whole of the object may be imported: by this call it becomes known of the device's latest call.
-pub fn made_objects_may_be_imported<M: MemoryObject, D: MemoryDevice<M>>(device: &D)
-    ensures { (old : D) (size memory_type flags name : ℕ)
-        → D.step old (Allocated size memory_type flags (Ok name)) device.now
-        → LeavesAgreement (D.properties old) (D.objects old) (D.properties device.now) (D.objects device.now)
-        name memory_type size }
+/// A device that was asked for an object by its caller (`allocate_memory`), whatever its answer was, leaves an allocator
+/// and each block in agreement; the name of what it made is new to the allocator, and the whole of it may be imported.
+/// By this call it becomes known of the device's latest call.
+pub fn made_objects_may_be_imported<M: MemoryObject, D: MemoryDevice<M>, A: Allocator>(
+    allocator: &GpuAllocator<M, A>,
+    device: &D,
+    answer: &Result<M, OutOfMemory>,
+)
+    ensures { MadeObjects allocator.now D.step D.properties D.objects device.now M.object answer.now }
 {
+    let _ = allocator;
     let _ = device;
+    let _ = answer;
 }
 
 /// A device that takes an object back which an allocator does not hold (`deallocate_memory`) leaves that allocator and
 /// its blocks in agreement: by this call it becomes known of the device's latest call.
-pub fn objects_of_others_may_go<M: MemoryObject, D: MemoryDevice<M>>(device: &D)
-    ensures { (old : D) (name : ℕ) → D.step old (Deallocated name) device.now
-        → LeavesOthers (D.properties old) (D.objects old) (D.properties device.now) (D.objects device.now) name }
+pub fn objects_of_others_may_go<M: MemoryObject, D: MemoryDevice<M>, A: Allocator>(
+    allocator: &GpuAllocator<M, A>,
+    device: &D,
+)
+    ensures { ObjectsOfOthers allocator.now D.step D.properties D.objects device.now }
 {
+    let _ = allocator;
     let _ = device;
 }
 

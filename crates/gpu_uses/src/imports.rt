@@ -1,17 +1,19 @@
 //! A memory object that the caller has the device make, imported beside a block of the allocator's own.
 
-ghost use Rattle.std.specs.Prelude.{◌≡◌, ◌≤◌, ◌<◌, length, IfSome, [], ◌∷◌};
+ghost use Rattle.std.specs.Prelude.{◌≡◌, ◌≤◌, ◌<◌, length, IfSome, IfOk, IfErr, OnErr, None, [], ◌∷◌};
+ghost use Rattle.std.specs.FinMap as map;
 ghost use Rattle.std.specs.FinSet as set;
 ghost use Rattle.gpu_alloc_types.specs.Flags.{property_bits};
 ghost use Rattle.gpu_alloc_types.specs.Properties.{IsUsable, properties_of, props_at};
 ghost use Rattle.gpu_alloc.specs.Agreement.{Agrees, BlockAgrees};
-ghost use Rattle.gpu_alloc.specs.Importing.{IsImportable};
-ghost use Rattle.gpu_alloc.specs.Owned.{AreOwned};
+ghost use Rattle.gpu_alloc.specs.Importing.{MayBeImported};
+ghost use Rattle.gpu_alloc.specs.Owned.{Adds, AreOwned};
 
 use crate::bytes::fill;
 use crate::opening::open;
 use gpu_alloc::laws::{
     imports_agree, kept_blocks_agree, made_objects_may_be_imported, objects_of_others_may_go,
+    which_objects_may_be_imported,
 };
 use gpu_alloc::{
     AllocationError, AllocationFlags, DeviceProperties, GpuAllocator, MemoryBlock,
@@ -20,46 +22,78 @@ use gpu_alloc::{
 use gpu_alloc_types::{MemoryDevice, MemoryObject};
 use std::alloc::Global;
 
-/// Has the device make an object, and imports the whole of it, while another block is in hand. Where there is no room
-/// for it the object goes back.
-fn import_new<M: MemoryObject, D: MemoryDevice<M>>(
-    allocator: &mut GpuAllocator<M>,
+/// An object that the device makes, if it does so, while a block is in hand.
+fn make<M: MemoryObject, D: MemoryDevice<M>>(
+    allocator: &GpuAllocator<M>,
     device: &mut D,
     first: &MemoryBlock<M>,
     memory_type: u32,
-    props: MemoryPropertyFlags,
     size: u64,
-) -> Option<MemoryBlock<M>>
-    requires known { memory_type < length (allocator.old.properties).memory_types }
-    requires props { property_bits props ≡ props_at allocator.old.properties memory_type }
+) -> Option<M>
+    requires known { memory_type < length (allocator.now.properties).memory_types }
     requires some { 0 < size }
-    requires agrees { Agrees allocator.old (D.properties device.old) (D.objects device.old) }
-    requires owned { AreOwned allocator.old (first.now ∷ []) }
+    requires agrees { Agrees allocator.now (D.properties device.old) (D.objects device.old) }
     requires first { BlockAgrees first.now (D.properties device.old) (D.objects device.old) }
-    ensures agrees { Agrees allocator.new (D.properties device.new) (D.objects device.new) }
+    ensures agrees { Agrees allocator.now (D.properties device.new) (D.objects device.new) }
     ensures first { BlockAgrees first.now (D.properties device.new) (D.objects device.new) }
-    ensures still { AreOwned allocator.new (first.now ∷ []) }
-    ensures owned { IfSome result (λ block. AreOwned allocator.new (first.now ∷ block ∷ [])) }
-    ensures ready { IfSome result (λ block. BlockAgrees block (D.properties device.new) (D.objects device.new)) }
-    ensures size { IfSome result (λ block. block.size ≡ size) }
+    ensures unheld { IfSome result (λ memory. map.get allocator.now.held (M.object memory) ≡ None) }
+    ensures whole { IfSome result (λ memory. MayBeImported (D.properties device.new) (D.objects device.new)
+        (M.object memory) memory_type 0 size) }
 {
     let _ = first;
-    if allocator.remaining_allocations() == 0 {
-        return None;
-    }
-    let memory = device
-        .allocate_memory(size, memory_type, AllocationFlags::empty())
-        .ok()?;
-    made_objects_may_be_imported(device);
-    match allocator.import_memory(memory, memory_type, props, 0, size) {
-        Ok(block) => {
-            imports_agree();
-            Some(block)
-        }
-        Err(memory) => {
-            device.deallocate_memory(&memory);
-            objects_of_others_may_go(device);
-            None
-        }
-    }
+    let answer = device.allocate_memory(size, memory_type, AllocationFlags::empty());
+    made_objects_may_be_imported(allocator, device, &answer);
+    answer.ok()
+}
+
+/// Imports the whole of an object of the device's.
+fn import_whole<M: MemoryObject, D: MemoryDevice<M>>(
+    allocator: &mut GpuAllocator<M>,
+    device: &D,
+    memory: M,
+    memory_type: u32,
+    props: MemoryPropertyFlags,
+    size: u64,
+) -> Result<MemoryBlock<M>, M>
+    requires known { memory_type < length (allocator.old.properties).memory_types }
+    requires props { property_bits props ≡ props_at allocator.old.properties memory_type }
+    requires remains { 0 < allocator.old.remaining }
+    requires unheld { map.get allocator.old.held (M.object memory) ≡ None }
+    requires some { 0 < size }
+    requires agrees { Agrees allocator.old (D.properties device.now) (D.objects device.now) }
+    requires whole { MayBeImported (D.properties device.now) (D.objects device.now) (M.object memory) memory_type 0 size }
+    ensures agrees { IfOk result (λ _. Agrees allocator.new (D.properties device.now) (D.objects device.now)) }
+    ensures ready { IfOk result (λ block. BlockAgrees block (D.properties device.now) (D.objects device.now)) }
+    ensures added { IfOk result (Adds allocator.old allocator.new) }
+    ensures size { IfOk result (λ block. block.size ≡ size) }
+    ensures refused { OnErr result (allocator.new ≡ allocator.old) }
+    ensures handed_back { IfErr result (λ handed. handed ≡ memory) }
+{
+    let _ = device;
+    let block = allocator.import_memory(memory, memory_type, props, 0, size)?;
+    imports_agree();
+    Ok(block)
+}
+
+/// Gives an object back to the device that an allocator does not hold.
+fn take_back<M: MemoryObject, D: MemoryDevice<M>>(
+    allocator: &GpuAllocator<M>,
+    device: &mut D,
+    first: &MemoryBlock<M>,
+    memory: M,
+    memory_type: u32,
+    size: u64,
+)
+    requires unheld { map.get allocator.now.held (M.object memory) ≡ None }
+    requires whole { MayBeImported (D.properties device.old) (D.objects device.old) (M.object memory) memory_type 0 size }
+    requires owned { AreOwned allocator.now (first.now ∷ []) }
+    requires agrees { Agrees allocator.now (D.properties device.old) (D.objects device.old) }
+    requires first { BlockAgrees first.now (D.properties device.old) (D.objects device.old) }
+    ensures agrees { Agrees allocator.now (D.properties device.new) (D.objects device.new) }
+    ensures first { BlockAgrees first.now (D.properties device.new) (D.objects device.new) }
+{
+    let _ = first;
+    which_objects_may_be_imported();
+    device.deallocate_memory(&memory);
+    objects_of_others_may_go(allocator, device);
 }

@@ -1,7 +1,14 @@
-use Rattle.gpu_alloc.proofs.Imports.{object_beside}
+use Rattle.gpu_alloc.proofs.Imports.{asked_left}
 use Rattle.gpu_alloc.proofs.laws.made_objects_may_be_imported.Goals as goal
 
 pub returns : goal.returns
-returns g c = λ old size t flags name made.
-    let row = g.met.D.MemoryDevice.row _ _ _ made in
-    object_beside _ _ _ _ name t size (g.met.D.MemoryDevice.keeps_properties _ _ _ made) row.0 row.1.0 row.1.1 row.1.2
+returns g c =
+    let name = g.M.MemoryObject.object in
+    let answer = c.args.answer.now in
+    let s = c.args.allocator.now in
+    record {
+      allocator = λ old size t flags made. (asked_left name answer (g.met.D.MemoryDevice.keeps_properties _ _ _ made) size t flags (g.met.D.MemoryDevice.row _ _ _ made)).allocators s;
+      blocks = λ old size t flags b made. (asked_left name answer (g.met.D.MemoryDevice.keeps_properties _ _ _ made) size t flags (g.met.D.MemoryDevice.row _ _ _ made)).blocks b;
+      unheld = λ old size t flags made. (asked_left name answer (g.met.D.MemoryDevice.keeps_properties _ _ _ made) size t flags (g.met.D.MemoryDevice.row _ _ _ made)).unheld s;
+      whole = λ old size t flags made. (asked_left name answer (g.met.D.MemoryDevice.keeps_properties _ _ _ made) size t flags (g.met.D.MemoryDevice.row _ _ _ made)).whole;
+    }

@@ -2,4 +2,9 @@ use Rattle.gpu_alloc.proofs.Imports.{others_left}
 use Rattle.gpu_alloc.proofs.laws.objects_of_others_may_go.Goals as goal
 
 pub returns : goal.returns
-returns g c = λ old name gone. others_left _ _ _ _ name (g.met.D.MemoryDevice.keeps_properties _ _ _ gone) (g.met.D.MemoryDevice.row _ _ _ gone)
+returns g c =
+    let s = c.args.allocator.now in
+    record {
+      allocator = λ old name gone. (others_left _ _ _ _ name (g.met.D.MemoryDevice.keeps_properties _ _ _ gone) (g.met.D.MemoryDevice.row _ _ _ gone)).allocators s;
+      blocks = λ old name b gone. (others_left _ _ _ _ name (g.met.D.MemoryDevice.keeps_properties _ _ _ gone) (g.met.D.MemoryDevice.row _ _ _ gone)).blocks s b;
+    }
