@@ -1,13 +1,16 @@
 //! A memory object that the caller has the device make, imported beside a block of the allocator's own.
 
-ghost use Rattle.std.specs.Prelude.{◌≡◌, ◌≤◌, ◌<◌, length, IfSome, IfOk, IfErr, OnErr, None, [], ◌∷◌};
+ghost use Rattle.std.specs.Prelude.{◌≡◌, ◌+◌, ◌≤◌, ◌<◌, length, IfSome, IfOk, IfErr, OnErr, MatchOption};
+ghost use Rattle.std.specs.Prelude.{None, [], ◌∷◌};
 ghost use Rattle.std.specs.FinMap as map;
 ghost use Rattle.std.specs.FinSet as set;
 ghost use Rattle.gpu_alloc_types.specs.Flags.{property_bits};
 ghost use Rattle.gpu_alloc_types.specs.Properties.{IsUsable, properties_of, props_at};
 ghost use Rattle.gpu_alloc.specs.Agreement.{Agrees, BlockAgrees};
 ghost use Rattle.gpu_alloc.specs.Importing.{MayBeImported};
-ghost use Rattle.gpu_alloc.specs.Owned.{Adds, AreOwned};
+ghost use Rattle.gpu_alloc.specs.Owned.{Adds, AreOwned, Leaves};
+ghost use Rattle.gpu_alloc.specs.Request.{IsAskable};
+ghost use Rattle.gpu_alloc.specs.State.{IsOwned};
 
 use crate::bytes::fill;
 use crate::opening::open;
@@ -17,7 +20,7 @@ use gpu_alloc::laws::{
 };
 use gpu_alloc::{
     AllocationError, AllocationFlags, DeviceProperties, GpuAllocator, MemoryBlock,
-    MemoryPropertyFlags, Request,
+    MemoryPropertyFlags, MemoryType, Request,
 };
 use gpu_alloc_types::{MemoryDevice, MemoryObject};
 use std::alloc::Global;
@@ -65,6 +68,8 @@ fn import_whole<M: MemoryObject, D: MemoryDevice<M>>(
     ensures agrees { IfOk result (λ _. Agrees allocator.new (D.properties device.now) (D.objects device.now)) }
     ensures ready { IfOk result (λ block. BlockAgrees block (D.properties device.now) (D.objects device.now)) }
     ensures added { IfOk result (Adds allocator.old allocator.new) }
+    ensures owned { IfOk result (IsOwned allocator.new) }
+    ensures leaves { Leaves allocator.old allocator.new }
     ensures size { IfOk result (λ block. block.size ≡ size) }
     ensures refused { OnErr result (allocator.new ≡ allocator.old) }
     ensures handed_back { IfErr result (λ handed. handed ≡ memory) }
@@ -96,4 +101,159 @@ fn take_back<M: MemoryObject, D: MemoryDevice<M>>(
     which_objects_may_be_imported();
     device.deallocate_memory(&memory);
     objects_of_others_may_go(allocator, device);
+}
+
+/// Has the device make an object, and imports the whole of it, while a block is in hand. Where the allocator has no room
+/// for it, the object goes back.
+fn import_new<M: MemoryObject, D: MemoryDevice<M>>(
+    allocator: &mut GpuAllocator<M>,
+    device: &mut D,
+    first: &MemoryBlock<M>,
+    memory_type: u32,
+    props: MemoryPropertyFlags,
+    size: u64,
+) -> Option<MemoryBlock<M>>
+    requires known { memory_type < length (allocator.old.properties).memory_types }
+    requires props { property_bits props ≡ props_at allocator.old.properties memory_type }
+    requires some { 0 < size }
+    requires agrees { Agrees allocator.old (D.properties device.old) (D.objects device.old) }
+    requires owned { AreOwned allocator.old (first.now ∷ []) }
+    requires first { BlockAgrees first.now (D.properties device.old) (D.objects device.old) }
+    ensures agrees { Agrees allocator.new (D.properties device.new) (D.objects device.new) }
+    ensures first { BlockAgrees first.now (D.properties device.new) (D.objects device.new) }
+    ensures ready { IfSome result (λ block. BlockAgrees block (D.properties device.new) (D.objects device.new)) }
+    ensures size { IfSome result (λ block. block.size ≡ size) }
+    ensures added { MatchOption result (allocator.new ≡ allocator.old) (Adds allocator.old allocator.new) }
+    ensures owned { MatchOption result (AreOwned allocator.new (first.now ∷ []))
+        (λ block. AreOwned allocator.new (block ∷ first.now ∷ [])) }
+{
+    if allocator.remaining_allocations() == 0 {
+        return None;
+    }
+    let memory = make(allocator, device, first, memory_type, size)?;
+    match import_whole(allocator, device, memory, memory_type, props, size) {
+        Ok(block) => Some(block),
+        Err(memory) => {
+            take_back(allocator, device, first, memory, memory_type, size);
+            None
+        }
+    }
+}
+
+/// Writes the same bytes to two blocks.
+fn write_both<M: MemoryObject, D: MemoryDevice<M>>(
+    allocator: &GpuAllocator<M>,
+    device: &mut D,
+    first: &mut MemoryBlock<M>,
+    second: &mut MemoryBlock<M>,
+    bytes: &[u8],
+)
+    requires agrees { Agrees allocator.now (D.properties device.old) (D.objects device.old) }
+    requires owned { AreOwned allocator.now (second.old ∷ first.old ∷ []) }
+    requires first { BlockAgrees first.old (D.properties device.old) (D.objects device.old) }
+    requires second { BlockAgrees second.old (D.properties device.old) (D.objects device.old) }
+    requires fit { length bytes.now ≤ first.old.size }
+    requires fit_too { length bytes.now ≤ second.old.size }
+    ensures agrees { Agrees allocator.now (D.properties device.new) (D.objects device.new) }
+    ensures owned { AreOwned allocator.now (second.new ∷ first.new ∷ []) }
+{
+    let _ = allocator;
+    fill(device, first, bytes);
+    fill(device, second, bytes);
+}
+
+/// Returns the second of two blocks.
+fn return_second<M: MemoryObject, D: MemoryDevice<M>>(
+    allocator: &mut GpuAllocator<M>,
+    device: &mut D,
+    first: &MemoryBlock<M>,
+    second: MemoryBlock<M>,
+)
+    requires agrees { Agrees allocator.old (D.properties device.old) (D.objects device.old) }
+    requires owned { AreOwned allocator.old (second ∷ first.now ∷ []) }
+    ensures agrees { Agrees allocator.new (D.properties device.new) (D.objects device.new) }
+    ensures owned { AreOwned allocator.new (first.now ∷ []) }
+    ensures count { set.len allocator.new.live + 1 ≡ set.len allocator.old.live }
+{
+    let _ = first;
+    allocator.dealloc(device, second);
+}
+
+/// Takes a block as a request asks, imports an object of as many bytes beside it, writes bytes to both, and returns both.
+pub fn import_beside<M: MemoryObject, D: MemoryDevice<M>>(
+    allocator: &mut GpuAllocator<M>,
+    device: &mut D,
+    request: Request,
+    memory_type: u32,
+    props: MemoryPropertyFlags,
+    bytes: &[u8],
+) -> Result<(), AllocationError>
+    requires askable { IsAskable (allocator.old.properties).buffer_device_address request }
+    requires known { memory_type < length (allocator.old.properties).memory_types }
+    requires props { property_bits props ≡ props_at allocator.old.properties memory_type }
+    requires fit { length bytes.now ≤ request.size }
+    requires agrees { Agrees allocator.old (D.properties device.old) (D.objects device.old) }
+    ensures agrees { Agrees allocator.new (D.properties device.new) (D.objects device.new) }
+    ensures count { set.len allocator.new.live ≡ set.len allocator.old.live }
+{
+    let mut first = allocator.alloc(device, request)?;
+    match import_new(allocator, device, &first, memory_type, props, request.size) {
+        Some(mut second) => {
+            write_both(allocator, device, &mut first, &mut second, bytes);
+            return_second(allocator, device, &first, second);
+            allocator.dealloc(device, first);
+        }
+        None => allocator.dealloc(device, first),
+    }
+    Ok(())
+}
+
+/// Imports an object beside a block, where the request may be asked and there is such a memory type.
+fn try_beside<M: MemoryObject, D: MemoryDevice<M>>(
+    allocator: &mut GpuAllocator<M>,
+    device: &mut D,
+    request: Request,
+    memory_type: u32,
+    types: &[MemoryType],
+    bytes: &[u8],
+) -> Result<(), AllocationError>
+    requires fit { length bytes.now ≤ request.size }
+    requires types { types.now ≡ (allocator.old.properties).memory_types }
+    requires agrees { Agrees allocator.old (D.properties device.old) (D.objects device.old) }
+    ensures agrees { Agrees allocator.new (D.properties device.new) (D.objects device.new) }
+    ensures count { set.len allocator.new.live ≡ set.len allocator.old.live }
+{
+    let index = memory_type as usize;
+    if !request.is_askable(false) || index >= types.len() {
+        return Ok(());
+    }
+    import_beside(
+        allocator,
+        device,
+        request,
+        memory_type,
+        types[index].props,
+        bytes,
+    )
+}
+
+/// Opens an allocator over a device, imports an object beside a block and uses the bytes of both, cleans up and closes.
+pub fn open_import_and_close<M: MemoryObject, D: MemoryDevice<M>>(
+    alloc: Global,
+    props: DeviceProperties<'_>,
+    device: &mut D,
+    request: Request,
+    memory_type: u32,
+    bytes: &[u8],
+) -> Result<(), AllocationError>
+    requires usable { IsUsable (properties_of props) }
+    requires same { D.properties device.old ≡ properties_of props }
+    requires fit { length bytes.now ≤ request.size }
+{
+    let types = props.memory_types;
+    let mut allocator: GpuAllocator<M> = open(alloc, props, device)?;
+    let answer = try_beside(&mut allocator, device, request, memory_type, types, bytes);
+    allocator.cleanup(device);
+    allocator.close();
+    answer
 }
