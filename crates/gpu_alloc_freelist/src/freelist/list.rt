@@ -12,7 +12,7 @@ ghost use Rattle.gpu_alloc_types.specs.Properties.{is_host_visible};
 ghost use Rattle.gpu_alloc_types.specs.Device.{Asked, IsAskable};
 ghost use Rattle.gpu_alloc_freelist.specs.FreeList.{TakesTail, IsFirstToGo, MayGo, HasNumber, HasPlace, with_slot};
 ghost use Rattle.gpu_alloc_freelist.specs.FreeList.{without_slot, with_chunk, without_chunk, first_tail, no_space};
-ghost use Rattle.gpu_alloc_freelist.specs.FreeListInside.{by_number, IsWholeRegion, MayBeTaken, IsFirstWhole};
+ghost use Rattle.gpu_alloc_freelist.specs.FreeListInside.{AreNumbered, by_number, IsWholeRegion, MayBeTaken, IsFirstWhole};
 ghost use Rattle.gpu_alloc_freelist.specs.FreeListInside.{same_slot, slot_set};
 ghost use Rattle.gpu_alloc_freelist.specs.FreeListSound.{IsSoundSpace};
 ghost use Rattle.gpu_alloc_freelist.specs.FreeListState.{IsLiveSlot, IsFreeIn};
@@ -356,21 +356,23 @@ impl<M: MemoryObject, A: Allocator> FreeList<M, A> {
 
 /// Where a held chunk stands.
 fn chunk_at<M: MemoryObject>(chunks: &[ListChunk<M>], number: u64) -> usize
-    requires { IsSome (map.get (by_number (λ c. c.number) (λ c. c.size) chunks.now) number) }
+    requires rising { AreNumbered (λ c. c.number) chunks.now }
+    requires held { IsSome (map.get (by_number (λ c. c.number) (λ c. c.size) chunks.now) number) }
     ensures within { result < length chunks.now }
     ensures number { IfSome (slice_get chunks.now result) (λ c. c.number ≡ number) }
     ensures size { IfSome (slice_get chunks.now result)
         (λ c. map.get (by_number (λ c. c.number) (λ c. c.size) chunks.now) number ≡ Some c.size) }
 {
-    match chunks.iter().position(|chunk| chunk.number == number) {
-        Some(at) => at,
-        None => unreachable!(),
+    match chunks.binary_search_by_key(&number, |chunk| chunk.number) {
+        Ok(at) => at,
+        Err(_) => unreachable!(),
     }
 }
 
 /// Whether a run is a whole chunk.
 fn is_whole<M: MemoryObject>(chunks: &[ListChunk<M>], region: FreeListRegion) -> bool
-    requires { IsSome (map.get (by_number (λ c. c.number) (λ c. c.size) chunks.now) region.chunk) }
+    requires rising { AreNumbered (λ c. c.number) chunks.now }
+    requires held { IsSome (map.get (by_number (λ c. c.number) (λ c. c.size) chunks.now) region.chunk) }
     ensures { IsTrue result ↔ IsWholeRegion (by_number (λ c. c.number) (λ c. c.size) chunks.now) region }
 {
     region.start == 0 && chunks[chunk_at(chunks, region.chunk)].size == region.end
@@ -382,7 +384,8 @@ fn first_whole<M: MemoryObject>(
     chunks: &[ListChunk<M>],
     keep_last: bool,
 ) -> Option<usize>
-    requires { (r : Region) → Contains regions.now r
+    requires rising { AreNumbered (λ c. c.number) chunks.now }
+    requires held { (r : Region) → Contains regions.now r
         → IsSome (map.get (by_number (λ c. c.number) (λ c. c.size) chunks.now) r.chunk) }
     ensures some { IfSome result
         (λ i. (d : Region)

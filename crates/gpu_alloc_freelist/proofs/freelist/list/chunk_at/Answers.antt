@@ -1,21 +1,21 @@
-use Rattle.std.proofs.Common.{◌≡◌, ◌≢◌, rules}
-use borrow.Author.Tests.{tests}
-use Rattle.std.proofs.lemmas.Iterator.{YieldsList-from_slice, IsFirst-from_position}
-use Rattle.gpu_alloc_freelist.proofs.NumberSearch.{no_number, holds_there, first_says}
+use Rattle.std.proofs.Common.{rules}
+use Rattle.std.proofs.lemmas.List.Sorted.{answers_always}
+use Rattle.gpu_alloc_freelist.proofs.NumberSearch.{no_number, found_number, found_says}
 use Rattle.gpu_alloc_freelist.proofs.freelist.list.chunk_at.Goals as goal
+
+-- the closure gives a chunk's number
 
 pub unreachable-requires : goal.unreachable-requires
 unreachable-requires g c =
-    let rows = c.args.chunks.now in
-    let none = IsFirst-from_position _ _ _ (λ row. row.number ≡ c.args.number) (λ row. row.number ≢ c.args.number) c.in-None.ensures.ran (YieldsList-from_slice rows cc) (λ x q k. search (rules, tests)) (λ x q k. search (rules, tests)) in
-    no_number (λ row. row.number) (λ row. row.size) rows c.args.number none c.requires
+    let missed = c.in-Err.ensures.position (λ row. row.number) (answers_always _ _ _ (λ f a r q called. search rules)) in
+    no_number (λ row. row.number) (λ row. row.size) c.args.chunks.now c.requires.rising c.args.number _ missed c.requires.held
 
-pub returns : goal.returns
-returns g c =
-    let rows = c.args.chunks.now in
-    let first = IsFirst-from_position _ _ _ (λ row. row.number ≡ c.args.number) (λ row. row.number ≢ c.args.number) c.in-Some.ensures.ran (YieldsList-from_slice rows cc) (λ x q k. search (rules, tests)) (λ x q k. search (rules, tests)) in
-    record {
-      within = first.0;
-      number = holds_there (λ row. row.number ≡ c.args.number) rows c.in-Some.at first.0 first.1;
-      size = first_says (λ row. row.number) (λ row. row.size) rows c.args.number c.in-Some.at first.0 first.1 first.2;
-    }
+pub returns-clause-number : goal.returns-clause-number
+returns-clause-number g c =
+    let equal = c.in-Ok.ensures.position (λ row. row.number) (answers_always _ _ _ (λ f a r q called. search rules)) in
+    found_number (λ row. row.number) (λ row. row.size) c.args.chunks.now c.requires.rising c.args.number c.in-Ok.at c.in-Ok.ensures.bound equal
+
+pub returns-clause-size : goal.returns-clause-size
+returns-clause-size g c =
+    let equal = c.in-Ok.ensures.position (λ row. row.number) (answers_always _ _ _ (λ f a r q called. search rules)) in
+    found_says (λ row. row.number) (λ row. row.size) c.args.chunks.now c.requires.rising c.args.number c.in-Ok.at c.in-Ok.ensures.bound equal

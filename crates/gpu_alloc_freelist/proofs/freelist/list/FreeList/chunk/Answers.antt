@@ -13,8 +13,11 @@ use Rattle.gpu_alloc_freelist.proofs.freelist.list.FreeList.chunk.Goals as goal
 abbrev seen : (g : Over) → ListChunk g.row.M.Denot → Chunk
 seen g chunk = record { object = g.M.MemoryObject.object chunk.memory; size = chunk.size }
 
-pub chunk_at-chunk-requires : goal.chunk_at-chunk-requires
-chunk_at-chunk-requires g c =
+pub chunk_at-chunk-requires-clause-rising : goal.chunk_at-chunk-requires-clause-rising
+chunk_at-chunk-requires-clause-rising g c = rw (c.as_slice.ensures.value) c.self.invariant.0
+
+pub chunk_at-chunk-requires-clause-held : goal.chunk_at-chunk-requires-clause-held
+chunk_at-chunk-requires-clause-held g c =
     rw (c.as_slice.ensures.value) (
     number_found (λ (x : ListChunk g.row.M.Denot). x.number) c.self.inside.chunks.items c.self.invariant.0 (seen g) (λ (x : ListChunk g.row.M.Denot). x.size) c.args.number
     (rw (← c.self.view_is) at c.requires))

@@ -12,8 +12,11 @@ use Rattle.gpu_alloc_freelist.proofs.freelist.list.FreeList.take_whole.Goals as 
 abbrev seen : (g : Over) → ListChunk g.row.M.Denot → Chunk
 seen g chunk = record { object = g.M.MemoryObject.object chunk.memory; size = chunk.size }
 
-pub first_whole-requires : goal.first_whole-requires
-first_whole-requires g c =
+pub first_whole-requires-clause-rising : goal.first_whole-requires-clause-rising
+first_whole-requires-clause-rising g c = rw (c.as_slice-2.ensures.value) c.self.invariant.0
+
+pub first_whole-requires-clause-held : goal.first_whole-requires-clause-held
+first_whole-requires-clause-held g c =
     rw (c.as_slice.ensures.value, c.as_slice-2.ensures.value) (sized_regions (λ chunk. chunk.number) (seen g) c.self.inside.chunks.items c.self.invariant.0 c.self.inside.latest c.self.invariant.1)
 
 pub returns-in_err-index-clause-none : goal.returns-in_err-index-clause-none
