@@ -68,6 +68,7 @@ fn import_whole<M: MemoryObject, D: MemoryDevice<M>>(
     ensures agrees { IfOk result (λ _. Agrees allocator.new (D.properties device.now) (D.objects device.now)) }
     ensures ready { IfOk result (λ block. BlockAgrees block (D.properties device.now) (D.objects device.now)) }
     ensures added { IfOk result (Adds allocator.old allocator.new) }
+    ensures properties { allocator.new.properties ≡ allocator.old.properties }
     ensures owned { IfOk result (IsOwned allocator.new) }
     ensures leaves { Leaves allocator.old allocator.new }
     ensures size { IfOk result (λ block. block.size ≡ size) }
@@ -124,6 +125,7 @@ fn import_new<M: MemoryObject, D: MemoryDevice<M>>(
     ensures ready { IfSome result (λ block. BlockAgrees block (D.properties device.new) (D.objects device.new)) }
     ensures size { IfSome result (λ block. block.size ≡ size) }
     ensures added { MatchOption result (allocator.new ≡ allocator.old) (Adds allocator.old allocator.new) }
+    ensures properties { allocator.new.properties ≡ allocator.old.properties }
     ensures owned { MatchOption result (AreOwned allocator.new (first.now ∷ []))
         (λ block. AreOwned allocator.new (block ∷ first.now ∷ [])) }
 {
@@ -179,7 +181,17 @@ fn return_second<M: MemoryObject, D: MemoryDevice<M>>(
     allocator.dealloc(device, second);
 }
 
+/// How many free ranges a memory type's shared chunks have, where there is memory for the list of them.
+fn count_free<M: MemoryObject>(allocator: &GpuAllocator<M>, memory_type: u32) -> Option<usize>
+    requires { memory_type < length (allocator.now.properties).memory_types }
+{
+    let ranges = allocator.free_ranges(memory_type).ok()?;
+    Some(ranges.len())
+}
+
 /// Takes a block as a request asks, imports an object of as many bytes beside it, writes bytes to both, and returns both.
+/// It tells how many free ranges there were beside them, or none where no object was imported or no memory was found for
+/// the list of them.
 pub fn import_beside<M: MemoryObject, D: MemoryDevice<M>>(
     allocator: &mut GpuAllocator<M>,
     device: &mut D,
@@ -187,7 +199,7 @@ pub fn import_beside<M: MemoryObject, D: MemoryDevice<M>>(
     memory_type: u32,
     props: MemoryPropertyFlags,
     bytes: &[u8],
-) -> Result<(), AllocationError>
+) -> Result<Option<usize>, AllocationError>
     requires askable { IsAskable (allocator.old.properties).buffer_device_address request }
     requires known { memory_type < length (allocator.old.properties).memory_types }
     requires props { property_bits props ≡ props_at allocator.old.properties memory_type }
@@ -200,12 +212,16 @@ pub fn import_beside<M: MemoryObject, D: MemoryDevice<M>>(
     match import_new(allocator, device, &first, memory_type, props, request.size) {
         Some(mut second) => {
             write_both(allocator, device, &mut first, &mut second, bytes);
+            let free = count_free(allocator, memory_type);
             return_second(allocator, device, &first, second);
             allocator.dealloc(device, first);
+            Ok(free)
         }
-        None => allocator.dealloc(device, first),
+        None => {
+            allocator.dealloc(device, first);
+            Ok(None)
+        }
     }
-    Ok(())
 }
 
 /// Imports an object beside a block, where the request may be asked and there is such a memory type.
@@ -216,7 +232,7 @@ fn try_beside<M: MemoryObject, D: MemoryDevice<M>>(
     memory_type: u32,
     types: &[MemoryType],
     bytes: &[u8],
-) -> Result<(), AllocationError>
+) -> Result<Option<usize>, AllocationError>
     requires fit { length bytes.now ≤ request.size }
     requires types { types.now ≡ (allocator.old.properties).memory_types }
     requires agrees { Agrees allocator.old (D.properties device.old) (D.objects device.old) }
@@ -225,7 +241,7 @@ fn try_beside<M: MemoryObject, D: MemoryDevice<M>>(
 {
     let index = memory_type as usize;
     if !request.is_askable(false) || index >= types.len() {
-        return Ok(());
+        return Ok(None);
     }
     import_beside(
         allocator,
@@ -245,7 +261,7 @@ pub fn open_import_and_close<M: MemoryObject, D: MemoryDevice<M>>(
     request: Request,
     memory_type: u32,
     bytes: &[u8],
-) -> Result<(), AllocationError>
+) -> Result<Option<usize>, AllocationError>
     requires usable { IsUsable (properties_of props) }
     requires same { D.properties device.old ≡ properties_of props }
     requires fit { length bytes.now ≤ request.size }
