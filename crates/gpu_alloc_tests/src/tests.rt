@@ -7,4 +7,5 @@ mod errors;
 mod flags;
 mod freelist;
 mod pair;
+mod ranges;
 mod usage;

@@ -9,7 +9,8 @@ ghost use Rattle.gpu_sim.specs.Question.{CanRefuse};
 use gpu_alloc::buddy::{BuddyAllocator, BuddyBlock};
 use gpu_alloc::heap::Heap;
 use gpu_alloc::{
-    AllocationError, AllocationFlags, DeviceProperties, MemoryHeap, MemoryPropertyFlags, MemoryType,
+    AllocationError, AllocationFlags, DeviceProperties, FreeRange, MemoryHeap, MemoryPropertyFlags,
+    MemoryType,
 };
 use gpu_alloc_types::MemoryObject;
 use gpu_sim::{Cause, Question, Sim, SimMemory};
@@ -164,6 +165,22 @@ impl Chunks {
         assert_eq!(rt; self.heap.size(), 1 << 20);
     }
 
+    /// Compares the free ranges, all of the first object, each by its start and its end.
+    fn compare_ranges(&self, rt: &impl Abort, ranges: &[(u64, u64)]) {
+        let Ok(found) = self.allocator.free_ranges() else {
+            panic!(rt; "no memory");
+        };
+        assert_eq!(rt; found.len(), ranges.len());
+        for (range, (start, end)) in found.iter().zip(ranges) {
+            let wanted = FreeRange {
+                object: 1,
+                start: *start,
+                end: *end,
+            };
+            assert_eq!(rt; *range, wanted);
+        }
+    }
+
     /// Ends the allocator, which holds nothing.
     fn end(self, rt: &impl Abort) {
         let Chunks {
@@ -256,6 +273,27 @@ fn a_chunk_that_cannot_be_mapped_is_given_back(rt: HostRuntime) -> Result<(), Fa
 /// Where a block lies: the name of its object, its offset and its size.
 fn place_of(block: &BuddyBlock<SimMemory>) -> (u64, u64, u64) {
     (block.memory().object(), block.offset(), block.size())
+}
+
+/// What is free of a chunk with a block of 128 bytes at its start, from 512 bytes on.
+const LARGE: [(u64, u64); 4] = [(512, 1024), (1024, 2048), (2048, 4096), (4096, 8192)];
+
+/// What is free is told in order, and a half that comes back is not joined with a neighbour that is no half of one range
+/// with it. If not, a caller would see other pieces than those that blocks are taken from.
+#[test]
+fn free_pieces_are_told_in_order(rt: HostRuntime) -> Result<(), Fail> {
+    let mut chunks = Chunks::new(rt.alloc(), MemoryPropertyFlags::DEVICE_LOCAL, 4096)?;
+    chunks.compare_ranges(&rt, &[]);
+    let first = chunks.take(&rt, 100);
+    let second = chunks.take(&rt, 200);
+    let [a, b, c, d] = LARGE;
+    chunks.compare_ranges(&rt, &[(128, 256), a, b, c, d]);
+    chunks.give_back(second);
+    chunks.compare_ranges(&rt, &[(128, 256), (256, 512), a, b, c, d]);
+    chunks.give_back(first);
+    chunks.compare_ranges(&rt, &[]);
+    chunks.end(&rt);
+    Ok(())
 }
 
 #[test]
