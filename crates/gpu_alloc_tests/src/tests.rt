@@ -6,6 +6,7 @@ mod config;
 mod errors;
 mod flags;
 mod freelist;
+mod imports;
 mod pair;
 mod ranges;
 mod usage;
