@@ -1,5 +1,5 @@
 -- What an import adds, and that allocator, block and device agree after it.
-use Rattle.std.proofs.Common.{◌≡◌, ◌≢◌, ◌⊎◌, inl, inr, ℕ, ◌+◌, ◌-◌, ◌%◌, ◌<◌, ◌≤◌, Bool, true, false, cond, Option, Some, None, IfSome, Result, Ok, Err, IfOk, OnErr, refl, sym, ◌∙◌, ap, subst, arith}
+use Rattle.std.proofs.Common.{◌≡◌, ◌≢◌, ◌⊎◌, ◌↔◌, inl, inr, ℕ, ◌+◌, ◌-◌, ◌%◌, ◌<◌, ◌≤◌, Bool, true, false, cond, Option, Some, None, IfSome, Result, Ok, Err, IfOk, OnErr, refl, sym, ◌∙◌, ap, subst, arith}
 use Rattle.std.proofs.Math.Nat.{mod-one}
 use Rattle.std.specs.FinMap as map
 use Rattle.std.specs.Result.{result_map_both}
@@ -217,3 +217,31 @@ module _ (p q : Properties) (old new : ℕ → Option Object) (name : ℕ) (same
     allocators = λ s free is. record { properties = same ∙ is.properties; holds = λ n. held_still s n (map.get s.held n) refl free (is.holds n) };
     blocks = λ s b free owned is. block_kept b p q old new same (still_at b.object (λ named. let none = ap (map.get s.held) named ∙ free in let held = owned.held.1 in absurd (cc))) is;
   }
+
+-- Which objects may be imported.
+module _ (p : Properties) (objects : ℕ → Option Object) where
+  pub as_far : (object memory_type offset size from len : ℕ) → MayBeImported p objects object memory_type offset size → from + len ≡ offset + size → MayBeImported p objects object memory_type from len
+  unfolding MayBeImported
+  as_far object t offset size from len may same = (
+    may.0,
+    may.1,
+    record {
+      of_type = may.2.of_type;
+      unmapped = may.2.unmapped;
+      within = omega (arith, may.2.within, same);
+      finish = λ flushed. subst (λ n. (n % p.non_coherent_atom_size ≡ 0) ⊎ (n ≡ may.0.size)) (sym same) (may.2.finish flushed);
+    },
+  )
+
+  pub less_far : (object memory_type offset size from len : ℕ) → MayBeImported p objects object memory_type offset size → from + len ≤ offset + size → (from + len) % p.non_coherent_atom_size ≡ 0
+      → MayBeImported p objects object memory_type from len
+  unfolding MayBeImported
+  less_far object t offset size from len may less whole = (
+    may.0,
+    may.1,
+    record { of_type = may.2.of_type; unmapped = may.2.unmapped; within = omega (arith, may.2.within, less); finish = λ flushed. inl whole },
+  )
+
+  pub which_exactly : (object memory_type offset size : ℕ) → HeldWith objects object (IsImportable p memory_type offset size) ↔ MayBeImported p objects object memory_type offset size
+  unfolding MayBeImported
+  which_exactly object t offset size = (λ is. is, λ is. is)

@@ -1,5 +1,5 @@
 -- What an import adds, and when allocator and device agree afterwards.
-use Rattle.std.specs.Prelude.{◌≡◌, ◌⊎◌, ℕ, ◌+◌, ◌%◌, ◌≤◌, true, Option, None, Result, IfOk}
+use Rattle.std.specs.Prelude.{◌≡◌, ◌⊎◌, ◌↔◌, ℕ, ◌+◌, ◌%◌, ◌≤◌, true, Option, None, Result, IfOk}
 use Rattle.std.specs.FinMap as map
 use Rattle.std.specs.Result.{result_map_both}
 use Rattle.gpu_alloc_types.specs.declared.types.OutOfMemory.{OutOfMemory}
@@ -54,6 +54,19 @@ pub record ImportsAgree : Type 0 where
   pub block : (s new : State) (b : Block) (object memory_type offset size : ℕ) (p : Properties)
       (objects : ℕ → Option Object) → ImportAgrees s object memory_type offset size new b → Agrees s p objects
       → MayBeImported p objects object memory_type offset size → BlockAgrees b p objects
+
+-- Which objects may be imported: exactly these. Where the range starts is left open, so one that ends where another
+-- does may be imported as that one may, and so may one that ends before it on the atom.
+pub record WhichMayBeImported : Type 0 where
+  pub exactly : (p : Properties) (objects : ℕ → Option Object) (object memory_type offset size : ℕ)
+      → HeldWith objects object (IsImportable p memory_type offset size)
+      ↔ MayBeImported p objects object memory_type offset size
+  pub as_far : (p : Properties) (objects : ℕ → Option Object) (object memory_type offset size from len : ℕ)
+      → MayBeImported p objects object memory_type offset size → from + len ≡ offset + size
+      → MayBeImported p objects object memory_type from len
+  pub less_far : (p : Properties) (objects : ℕ → Option Object) (object memory_type offset size from len : ℕ)
+      → MayBeImported p objects object memory_type offset size → from + len ≤ offset + size
+      → (from + len) % p.non_coherent_atom_size ≡ 0 → MayBeImported p objects object memory_type from len
 
 -- A device's calls for its caller, which are no calls of an allocator.
 

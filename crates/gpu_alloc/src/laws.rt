@@ -1,9 +1,7 @@
 //! Laws of the definitions that contracts cite, and those definitions computed on samples. The functions do nothing.
 
-ghost use Rattle.std.specs.Prelude.{◌≡◌, ◌≢◌, ◌↔◌, ℕ, Option, List, [], ◌∷◌, Some, None, true, false};
+ghost use Rattle.std.specs.Prelude.{◌≡◌, ◌≢◌, ℕ, List, [], ◌∷◌, Some, None, true, false};
 ghost use Rattle.std.specs.FinSet as set;
-ghost use Rattle.gpu_alloc_types.specs.Properties.{Properties};
-ghost use Rattle.gpu_alloc_types.specs.Device.{Object, HeldWith};
 ghost use Rattle.gpu_alloc_block.specs.Agreement.{Agrees, KeptBlocksAgree};
 ghost use Rattle.gpu_alloc.specs.Allocation.{strategy, CandidatesServe};
 ghost use Rattle.gpu_alloc.specs.Exactness.{AreCanonical, AreFreePieces, AreLongEnough, ArePiecesApart};
@@ -20,8 +18,8 @@ ghost use Rattle.gpu_alloc_base.specs.FreeRuns.{tail_start};
 ghost use Rattle.gpu_alloc.specs.FreeListSharing.{IsFreeInChunk, HasListPlace, list_size, list_alignment};
 ghost use Rattle.gpu_alloc.specs.FreeListSharing.{list_question};
 ghost use Rattle.gpu_alloc_base.specs.declared.region.FreeListRegion.{FreeListRegion};
-ghost use Rattle.gpu_alloc.specs.Importing.{ImportsAgree, IsImportable, MadeObjects, MayBeImported};
-ghost use Rattle.gpu_alloc.specs.Importing.{ObjectsOfOthers};
+ghost use Rattle.gpu_alloc.specs.Importing.{ImportsAgree, MadeObjects};
+ghost use Rattle.gpu_alloc.specs.Importing.{ObjectsOfOthers, WhichMayBeImported};
 ghost use Rattle.gpu_alloc.specs.Samples.{one_type, over, bytes_for, buddy_config};
 ghost use Rattle.gpu_alloc.specs.BuddySharing.{buddy_size, buddy_question, with_buddy_chunk};
 ghost use Rattle.gpu_alloc_base.specs.Sizes.{minimal_size, final_size, grown_chunk, doubled_chunk};
@@ -192,11 +190,11 @@ pub fn imports_agree()
 {}
 
 /// Which objects may be imported: those of the memory type that are not mapped and have the bytes inside, which end on
-/// the atom or where the object ends where the memory type has to be flushed.
+/// the atom or where the object ends where the memory type has to be flushed. By this call it becomes known of every
+/// device; and that a range which ends where another one does, or before it on the atom, may be imported where that one
+/// may.
 pub fn which_objects_may_be_imported()
-    ensures { (p : Properties) (objects : ℕ → Option Object) (object memory_type offset size : ℕ)
-        → HeldWith objects object (IsImportable p memory_type offset size)
-        ↔ MayBeImported p objects object memory_type offset size }
+    ensures { WhichMayBeImported }
 {}
 
 /// A device that was asked for an object by its caller (`allocate_memory`), whatever its answer was, leaves an allocator

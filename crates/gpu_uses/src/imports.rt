@@ -15,7 +15,7 @@ ghost use Rattle.gpu_alloc.specs.State.{IsOwned};
 use crate::bytes::fill;
 use crate::opening::open;
 use gpu_alloc::laws::{
-    imports_agree, kept_blocks_agree, made_objects_may_be_imported, objects_of_others_may_go,
+    imports_agree, made_objects_may_be_imported, objects_of_others_may_go,
     which_objects_may_be_imported,
 };
 use gpu_alloc::{

@@ -1,6 +1,5 @@
-use Rattle.gpu_alloc.specs.Importing.{MayBeImported}
+use Rattle.gpu_alloc.proofs.Imports.{as_far, less_far, which_exactly}
 use Rattle.gpu_alloc.proofs.laws.which_objects_may_be_imported.Goals as goal
 
 pub returns : goal.returns
-unfolding MayBeImported
-returns c = λ p objects object t offset size. (λ is. is, λ is. is)
+returns c = record { exactly = which_exactly; as_far = as_far; less_far = less_far }
