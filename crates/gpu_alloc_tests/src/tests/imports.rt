@@ -156,8 +156,11 @@ impl Yard {
         let types = [memory_type];
         let offered = offering(&types, atom);
         assert!(rt; offered.is_usable());
+        if offered.memory_heaps.is_empty() || offered.memory_types.is_empty() {
+            panic!(rt; "no memory type");
+        }
         let blocks = Vec::with_capacity(alloc, 8)?;
-        match Sim::new(alloc, offering(&types, atom)) {
+        match Sim::new(alloc, again(&offered)) {
             Ok(device) => Yard::over(alloc, offered, device, blocks),
             Err(e) => {
                 blocks.destroy_empty();
@@ -337,6 +340,20 @@ fn offering<'a>(memory_types: &'a [MemoryType], atom: u64) -> DeviceProperties<'
     }
 }
 
+/// The same properties once more.
+fn again<'a>(props: &DeviceProperties<'a>) -> DeviceProperties<'a>
+    ensures { properties_of result ≡ properties_of props.now }
+{
+    DeviceProperties {
+        memory_types: props.memory_types,
+        memory_heaps: props.memory_heaps,
+        max_memory_allocation_count: props.max_memory_allocation_count,
+        max_memory_allocation_size: props.max_memory_allocation_size,
+        non_coherent_atom_size: props.non_coherent_atom_size,
+        buffer_device_address: props.buffer_device_address,
+    }
+}
+
 /// A request for so many bytes, with this usage.
 fn bytes(size: u64, usage: UsageFlags) -> Request {
     Request {
@@ -481,4 +498,156 @@ fn imports_stand_beside_blocks_of_each_kind(rt: HostRuntime) -> Result<(), Fail>
         compare_returns(&rt, rt.alloc(), *order)?;
     }
     Ok(())
+}
+
+/// All that a plugged heap gives out.
+type Plug<'a> = Vec<u8, &'a LocalHeap>;
+
+/// Takes all of the heap but one hole of this size.
+fn plug<'a>(alloc: Global, heap: &'a LocalHeap, hole: usize) -> Result<Vec<Plug<'a>>, AllocError> {
+    let gap: Plug<'a> = Vec::with_capacity(heap, hole)?;
+    let mut plugs = Vec::new(alloc);
+    for size in [1 << 16, 1 << 12, 1 << 8, 64, 32, 16, 1] {
+        for _ in 0..1024 {
+            match Vec::with_capacity(heap, size) {
+                Ok(taken) => plugs.push(taken)?,
+                Err(_) => break,
+            }
+        }
+    }
+    drop(gap);
+    Ok(plugs)
+}
+
+/// Imports an object with one hole of memory left, and once more with all of it where that was refused: then the object
+/// came back, and all is as before. It tells whether the hole was enough.
+fn import_in_hole<'a, M: MemoryObject, D: MemoryDevice<M>>(
+    rt: &impl Abort,
+    alloc: Global,
+    heap: &'a LocalHeap,
+    hole: usize,
+    allocator: &mut GpuAllocator<M, &'a LocalHeap>,
+    device: &D,
+    memory: M,
+    props: MemoryPropertyFlags,
+) -> Result<(bool, MemoryBlock<M>), Fail>
+    requires heaps { 0 < length (allocator.old.properties).memory_heaps }
+    requires known { 0 < length (allocator.old.properties).memory_types }
+    requires props { property_bits props ≡ props_at allocator.old.properties 0 }
+    requires remains { 0 < allocator.old.remaining }
+    requires unheld { map.get allocator.old.held (M.object memory) ≡ None }
+    requires agrees { Agrees allocator.old (D.properties device.now) (D.objects device.now) }
+    requires may { MayBeImported (D.properties device.now) (D.objects device.now) (M.object memory) 0 0 64 }
+    ensures agrees { IfOk result (λ _. Agrees allocator.new (D.properties device.now) (D.objects device.now)) }
+    ensures owned { IfOk result (λ told. IsOwned allocator.new told.1) }
+{
+    let name = memory.object();
+    let plugs = plug(alloc, heap, hole)?;
+    let answer = import(allocator, device, memory, props, whole(64));
+    drop(plugs);
+    match answer {
+        Ok(block) => Ok((true, block)),
+        Err(handed) => {
+            assert_eq!(rt; handed.object(), name);
+            compare_nothing(rt, allocator, name);
+            match import(allocator, device, handed, props, whole(64)) {
+                Ok(block) => Ok((false, block)),
+                Err(_) => Err(Fail::from("refused with ample memory")),
+            }
+        }
+    }
+}
+
+/// Compares that nothing is held.
+fn compare_nothing<M: MemoryObject, A: Allocator>(
+    rt: &impl Abort,
+    allocator: &GpuAllocator<M, A>,
+    name: u64,
+)
+    requires { 0 < length (allocator.now.properties).memory_heaps }
+{
+    assert!(rt; !allocator.holds(name));
+    assert_eq!(rt;
+        (allocator.held_objects(), allocator.remaining_allocations()),
+        (0, 4096)
+    );
+    assert_eq!(rt; allocator.heap_used(0), 0);
+}
+
+/// Whether an import is served with one hole of memory left. What was imported is given back.
+fn is_served_in(rt: &impl Abort, alloc: Global, hole: usize) -> Result<bool, Fail> {
+    let heap = LocalHeap::new(alloc, 1 << 16)?;
+    let types = [LOCAL];
+    let offered = offering(&types, 1);
+    assert!(rt; offered.is_usable());
+    if offered.memory_heaps.is_empty() || offered.memory_types.is_empty() {
+        panic!(rt; "no memory type");
+    }
+    let device = Sim::new(&heap, again(&offered))?;
+    serve_in(rt, alloc, &heap, hole, offered, device)
+}
+
+/// The same with a fresh device that offers this.
+fn serve_in<'a, M: MemoryObject, D: MemoryDevice<M> + Drop>(
+    rt: &impl Abort,
+    alloc: Global,
+    heap: &'a LocalHeap,
+    hole: usize,
+    offered: DeviceProperties<'_>,
+    mut device: D,
+) -> Result<bool, Fail>
+    requires usable { IsUsable (properties_of offered) }
+    requires heaps { 0 < length offered.memory_heaps.now }
+    requires types { 0 < length offered.memory_types.now }
+    requires same { D.properties device ≡ properties_of offered }
+{
+    let props = offered.memory_types[0].props;
+    let Ok(mut allocator) = GpuAllocator::new(heap, Config::i_am_potato(), offered) else {
+        return Err(Fail::from("no memory for an allocator"));
+    };
+    agrees_at_first(&allocator, &device);
+    let served = serve_by(rt, alloc, heap, hole, &mut allocator, &mut device, props);
+    assert_eq!(rt; allocator.held_objects(), 0);
+    assert!(rt; allocator.held_objects() == 0);
+    drop(device);
+    allocator.close();
+    served
+}
+
+/// The same with an allocator that holds nothing.
+fn serve_by<'a, M: MemoryObject, D: MemoryDevice<M>>(
+    rt: &impl Abort,
+    alloc: Global,
+    heap: &'a LocalHeap,
+    hole: usize,
+    allocator: &mut GpuAllocator<M, &'a LocalHeap>,
+    device: &mut D,
+    props: MemoryPropertyFlags,
+) -> Result<bool, Fail>
+    requires heaps { 0 < length (allocator.old.properties).memory_heaps }
+    requires known { 0 < length (allocator.old.properties).memory_types }
+    requires props { property_bits props ≡ props_at allocator.old.properties 0 }
+    requires agrees { Agrees allocator.old (D.properties device.old) (D.objects device.old) }
+{
+    assert!(rt; allocator.remaining_allocations() > 0);
+    let Some(memory) = make(allocator, device, whole(64)) else {
+        panic!(rt; "no object");
+    };
+    let (served, block) = import_in_hole(rt, alloc, heap, hole, allocator, device, memory, props)?;
+    allocator.dealloc(device, block);
+    Ok(served)
+}
+
+/// Each request of an import for memory is refused in turn, and then served.
+#[test]
+fn an_import_without_room_comes_back(rt: HostRuntime) -> Result<(), Fail> {
+    let mut refused = 0u32;
+    for hole in 0..4096 {
+        if is_served_in(&rt, rt.alloc(), hole << 4)? {
+            assert!(&rt; refused > 0, "none was refused");
+            return Ok(());
+        }
+        refused = refused.saturating_add(1);
+    }
+    Err(Fail::from("never served"))
 }
