@@ -19,7 +19,8 @@ impl<M: MemoryObject, A: Allocator + Copy> GpuAllocator<M, A> {
     /// their length, that lie in no live block. Of a free list's chunk they are the free runs: the longest ranges that
     /// lie in none. An object of one block has none.
     ///
-    /// The memory type has to be there. The only refusal is `OutOfHostMemory`. Nothing changes.
+    /// The memory type has to be there. The only refusal is `OutOfHostMemory`, since the answer and the list of each
+    /// part take host memory. Nothing changes.
     pub fn free_ranges(&self, memory_type: u32) -> Result<Vec<FreeRange, A>, AllocationError>
         requires { memory_type < length (self.now.properties).memory_types }
         ensures exact { IfOk result
