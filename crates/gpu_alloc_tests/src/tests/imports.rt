@@ -60,7 +60,9 @@ struct Part {
 }
 
 /// The whole of an object.
-fn whole(size: u64) -> Part {
+fn whole(size: u64) -> Part
+    ensures { result ≡ record { object = size; offset = 0; size = size } }
+{
     Part {
         object: size,
         offset: 0,
