@@ -557,11 +557,12 @@ impl<M: MemoryObject, A: Allocator> GpuAllocator<M, A> {
         self.heaps[self.limits.heap_index(memory_type)].size()
     }
 
-    /// Takes a block back. An object of its own goes back to the device, and so does a buddy chunk in which no other
-    /// block is live. With a block of a free list each chunk of that list goes in which no block is live, the oldest
-    /// first, but not the one in which the list's last free run lies (the original crate's rule);
+    /// Takes a block back. An object of its own, an import too, goes back to the device, and so does a buddy chunk in
+    /// which no other block is live. With a block of a free list each chunk of that list goes in which no block is live,
+    /// the oldest first, but not the one in which the list's last free run lies (the original crate's rule);
     /// [`cleanup`](GpuAllocator::cleanup) gives that one back. For each object that goes, one more may be held, and the
-    /// ledger of its heap is lowered by its size. Any other chunk stays, and joins what is free in it.
+    /// ledger of its heap is lowered by what it counted: its size, or of an import the block's. Any other chunk stays,
+    /// and joins what is free in it.
     ///
     /// The block has to be live here (`owns` tells), and the device has to be the one that this allocator has served,
     /// so that the two agree. The block may be mapped. It takes no memory and cannot fail. Each other block that stays

@@ -8,5 +8,6 @@ mod flags;
 mod freelist;
 mod imports;
 mod pair;
+mod plugs;
 mod ranges;
 mod usage;

@@ -81,6 +81,42 @@ fn import_whole<M: MemoryObject, D: MemoryDevice<M>>(
     Ok(block)
 }
 
+/// Imports the whole of an object that somebody else made, with a test for each condition that has one. Where one fails,
+/// or where the allocator has no room, the object comes back.
+pub fn import_of_others<M: MemoryObject, D: MemoryDevice<M>>(
+    allocator: &mut GpuAllocator<M>,
+    device: &D,
+    memory: M,
+    memory_type: u32,
+    types: &[MemoryType],
+    size: u64,
+) -> Result<MemoryBlock<M>, M>
+    requires types { types.now ≡ (allocator.old.properties).memory_types }
+    requires agrees { Agrees allocator.old (D.properties device.now) (D.objects device.now) }
+    requires whole { MayBeImported (D.properties device.now) (D.objects device.now) (M.object memory) memory_type 0 size }
+    ensures agrees { IfOk result (λ _. Agrees allocator.new (D.properties device.now) (D.objects device.now)) }
+    ensures ready { IfOk result (λ block. BlockAgrees block (D.properties device.now) (D.objects device.now)) }
+    ensures added { IfOk result (Adds allocator.old allocator.new) }
+    ensures refused { OnErr result (allocator.new ≡ allocator.old) }
+    ensures handed_back { IfErr result (λ handed. handed ≡ memory) }
+{
+    let index = memory_type as usize;
+    if size == 0 || index >= types.len() || allocator.remaining_allocations() == 0 {
+        return Err(memory);
+    }
+    if allocator.holds(memory.object()) {
+        return Err(memory);
+    }
+    import_whole(
+        allocator,
+        device,
+        memory,
+        memory_type,
+        types[index].props,
+        size,
+    )
+}
+
 /// Gives an object back to the device that an allocator does not hold.
 fn take_back<M: MemoryObject, D: MemoryDevice<M>>(
     allocator: &GpuAllocator<M>,

@@ -9,6 +9,7 @@ ghost use Rattle.gpu_alloc.specs.Importing.{MayBeImported};
 ghost use Rattle.gpu_alloc.specs.Owned.{Leaves};
 ghost use Rattle.gpu_alloc.specs.State.{IsOwned};
 
+use super::plugs::plug;
 use gpu_alloc::laws::{
     agrees_at_first, imports_agree, made_objects_may_be_imported, objects_of_others_may_go,
     which_objects_may_be_imported,
@@ -379,6 +380,13 @@ fn an_import_is_flushed_in_atoms_of_its_object(rt: HostRuntime) -> Result<(), Fa
     compare_import(&rt, &yard);
     yard.allow(&rt, 7);
     yard.give_back(&rt, 1);
+    let held = Held {
+        objects: 0,
+        held: 0,
+        remaining: 8,
+        used: 0,
+    };
+    assert_eq!(&rt; yard.held(), held);
     yard.end(&rt, 8);
     Ok(())
 }
@@ -417,31 +425,67 @@ fn an_import_may_be_as_large_as_any_object(rt: HostRuntime) -> Result<(), Fail> 
 const COUNTED: [u128; 5] = [1000, 500, 8192, 8192, 600];
 
 /// The orders in which the blocks in them are given back: each order of their kinds.
-const ORDERS: [[u64; 5]; 24] = [
+const ORDERS: [[u64; 5]; 60] = [
+    [1, 2, 3, 5, 4],
+    [1, 2, 4, 5, 3],
     [1, 2, 5, 3, 4],
-    [1, 5, 2, 4, 3],
+    [1, 3, 2, 4, 5],
     [1, 3, 2, 5, 4],
     [1, 3, 4, 5, 2],
     [1, 4, 2, 5, 3],
     [1, 4, 3, 5, 2],
+    [1, 4, 5, 3, 2],
+    [1, 5, 2, 4, 3],
+    [1, 5, 3, 4, 2],
+    [1, 5, 4, 3, 2],
+    [2, 1, 3, 5, 4],
+    [2, 1, 4, 5, 3],
+    [2, 1, 5, 3, 4],
+    [2, 3, 1, 5, 4],
+    [2, 3, 4, 1, 5],
+    [2, 3, 5, 1, 4],
+    [2, 4, 1, 5, 3],
+    [2, 4, 3, 1, 5],
+    [2, 4, 5, 1, 3],
     [2, 5, 1, 3, 4],
-    [5, 2, 1, 4, 3],
     [2, 5, 3, 1, 4],
-    [5, 2, 3, 4, 1],
     [2, 5, 4, 1, 3],
-    [5, 2, 4, 3, 1],
+    [3, 1, 2, 4, 5],
     [3, 1, 2, 5, 4],
     [3, 1, 4, 5, 2],
+    [3, 2, 1, 4, 5],
+    [3, 2, 4, 5, 1],
     [3, 2, 5, 1, 4],
-    [3, 5, 2, 4, 1],
     [3, 4, 1, 2, 5],
+    [3, 4, 5, 1, 2],
     [3, 4, 5, 2, 1],
+    [3, 5, 1, 2, 4],
+    [3, 5, 2, 4, 1],
+    [3, 5, 4, 1, 2],
+    [4, 1, 2, 3, 5],
     [4, 1, 2, 5, 3],
     [4, 1, 3, 5, 2],
+    [4, 2, 1, 3, 5],
+    [4, 2, 3, 5, 1],
     [4, 2, 5, 1, 3],
-    [4, 5, 2, 3, 1],
     [4, 3, 1, 2, 5],
+    [4, 3, 5, 1, 2],
     [4, 3, 5, 2, 1],
+    [4, 5, 1, 2, 3],
+    [4, 5, 2, 3, 1],
+    [4, 5, 3, 1, 2],
+    [5, 1, 2, 4, 3],
+    [5, 1, 3, 4, 2],
+    [5, 1, 4, 3, 2],
+    [5, 2, 1, 4, 3],
+    [5, 2, 3, 4, 1],
+    [5, 2, 4, 3, 1],
+    [5, 3, 1, 4, 2],
+    [5, 3, 2, 4, 1],
+    [5, 3, 4, 2, 1],
+    [5, 4, 1, 3, 2],
+    [5, 4, 2, 3, 1],
+    [5, 4, 3, 2, 1],
 ];
 
 /// A yard with a block in each of the five objects.
@@ -500,25 +544,6 @@ fn imports_stand_beside_blocks_of_each_kind(rt: HostRuntime) -> Result<(), Fail>
         compare_returns(&rt, rt.alloc(), *order)?;
     }
     Ok(())
-}
-
-/// All that a plugged heap gives out.
-type Plug<'a> = Vec<u8, &'a LocalHeap>;
-
-/// Takes all of the heap but one hole of this size.
-fn plug<'a>(alloc: Global, heap: &'a LocalHeap, hole: usize) -> Result<Vec<Plug<'a>>, AllocError> {
-    let gap: Plug<'a> = Vec::with_capacity(heap, hole)?;
-    let mut plugs = Vec::new(alloc);
-    for size in [1 << 16, 1 << 12, 1 << 8, 64, 32, 16, 1] {
-        for _ in 0..1024 {
-            match Vec::with_capacity(heap, size) {
-                Ok(taken) => plugs.push(taken)?,
-                Err(_) => break,
-            }
-        }
-    }
-    drop(gap);
-    Ok(plugs)
 }
 
 /// Imports an object with one hole of memory left, and once more with all of it where that was refused: then the object

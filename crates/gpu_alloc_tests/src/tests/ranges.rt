@@ -3,6 +3,7 @@
 ghost use Rattle.std.specs.Prelude.{◌≡◌, length};
 ghost use Rattle.gpu_alloc_types.specs.Properties.{properties_of};
 
+use super::plugs::plug;
 use gpu_alloc::laws::agrees_at_first;
 use gpu_alloc::{
     AllocationError, Config, Dedicated, DeviceProperties, FreeRange, GpuAllocator, MemoryBlock,
@@ -342,7 +343,7 @@ fn runs_may_come_first(rt: HostRuntime) -> Result<(), Fail> {
 }
 
 /// What is left below an aligned block is one run, and when both blocks are back it is the chunk. If not, bytes that
-/// came back would be lost.
+/// came back would be lost. A larger chunk that comes beside it keeps the last run, and the smaller one goes.
 #[test]
 fn runs_are_joined(rt: HostRuntime) -> Result<(), Fail> {
     take_steps(
@@ -356,6 +357,10 @@ fn runs_are_joined(rt: HostRuntime) -> Result<(), Fail> {
             Step::Free(0, &[(1, 0, 7936), (1, 8092, 8192)]),
             Step::Return(0),
             Step::Free(0, &[(1, 0, 8192)]),
+            transient(10000, 0),
+            Step::Free(0, &[(1, 0, 8192), (2, 0, 6384)]),
+            Step::Return(0),
+            Step::Free(0, &[(2, 0, 16384)]),
         ],
     )
 }
@@ -379,62 +384,56 @@ fn other_memory_has_no_free_ranges(rt: HostRuntime) -> Result<(), Fail> {
     )
 }
 
-/// What came of a look at the free ranges where the host has so much memory in all.
-#[derive(Clone, Copy, Debug, PartialEq, Eq)]
-enum Outcome {
-    /// There was none for the allocator and its blocks.
-    NoBlocks,
-
-    /// There was none for the ranges.
-    Refused,
-
-    Served,
-}
-
-/// Takes a block for each request, and looks at the free ranges, which have to be these where there is memory.
-fn look<A: Allocator + Copy>(
+/// Looks at the free ranges with one hole of memory left, and once more with all of it where that was refused. They have
+/// to be these, and nothing else changes. It tells whether the hole was enough.
+fn look_in_hole<'a>(
     rt: &impl Abort,
-    bench: &mut Bench<A>,
-    requests: &[Request],
+    alloc: Global,
+    heap: &'a LocalHeap,
+    hole: usize,
+    bench: &Bench<&'a LocalHeap>,
     wanted: &[(u64, u64, u64)],
-) -> Outcome {
-    for request in requests {
-        if bench.take(rt, *request, None).is_err() {
-            return Outcome::NoBlocks;
-        }
-    }
+) -> Result<bool, Fail> {
     let before = bench.counts();
-    match bench.free_ranges(rt, 0) {
+    let plugs = plug(alloc, heap, hole)?;
+    let answer = bench.free_ranges(rt, 0);
+    drop(plugs);
+    assert_eq!(rt; bench.counts(), before);
+    match answer {
         Ok(found) => {
-            compare_ranges(rt, requests.len(), &found, wanted);
-            Outcome::Served
+            compare_ranges(rt, hole, &found, wanted);
+            Ok(true)
         }
         Err(error) => {
             assert_eq!(rt; error, AllocationError::OutOfHostMemory);
-            assert_eq!(rt; bench.counts(), before);
-            Outcome::Refused
+            match bench.free_ranges(rt, 0) {
+                Ok(found) => compare_ranges(rt, hole, &found, wanted),
+                Err(_) => panic!(rt; "refused with ample memory"),
+            }
+            Ok(false)
         }
     }
 }
 
-/// Looks at them over a heap of this many bytes.
-fn outcome_over(
+/// Takes a block for each request, and looks at the free ranges with one hole of memory left.
+fn is_served_in(
     rt: &impl Abort,
     alloc: Global,
-    room: usize,
+    hole: usize,
     requests: &[Request],
     wanted: &[(u64, u64, u64)],
-) -> Result<Outcome, Fail> {
-    let heap = LocalHeap::new(alloc, room)?;
-    let Ok(mut bench) = Bench::new(rt, &heap) else {
-        return Ok(Outcome::NoBlocks);
-    };
-    let outcome = look(rt, &mut bench, requests, wanted);
+) -> Result<bool, Fail> {
+    let heap = LocalHeap::new(alloc, 1 << 16)?;
+    let mut bench = Bench::new(rt, &heap)?;
+    for request in requests {
+        assert_eq!(rt; bench.take(rt, *request, None), Ok(()));
+    }
+    let served = look_in_hole(rt, alloc, &heap, hole, &bench, wanted);
     bench.end(rt);
-    Ok(outcome)
+    served
 }
 
-/// Looks at them over ever larger heaps. They are refused over some, and from some size on they are told.
+/// Each request of a look for memory is refused in turn, and then served.
 fn compare_refusals(
     rt: &impl Abort,
     alloc: Global,
@@ -442,19 +441,14 @@ fn compare_refusals(
     wanted: &[(u64, u64, u64)],
 ) -> Result<(), Fail> {
     let mut refused = 0u32;
-    let mut served = 0u32;
-    for room in 0..512 {
-        match outcome_over(rt, alloc, room << 4, requests, wanted)? {
-            Outcome::NoBlocks => assert_eq!(rt; (refused, served), (0, 0), "over {room}"),
-            Outcome::Refused => {
-                assert_eq!(rt; served, 0, "over {room}");
-                refused = refused.saturating_add(1);
-            }
-            Outcome::Served => served = served.saturating_add(1),
+    for hole in 0..4096 {
+        if is_served_in(rt, alloc, hole << 4, requests, wanted)? {
+            assert!(rt; refused > 0, "none was refused");
+            return Ok(());
         }
+        refused = refused.saturating_add(1);
     }
-    assert!(rt; refused > 0 && served > 0, "{refused} and {served}");
-    Ok(())
+    Err(Fail::from("never served"))
 }
 
 /// What is free of a chunk with a block of 128 bytes at its start.
