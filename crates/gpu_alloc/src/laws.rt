@@ -197,9 +197,9 @@ pub fn which_objects_may_be_imported()
     ensures { WhichMayBeImported }
 {}
 
-/// A device that was asked for an object by its caller (`allocate_memory`), whatever its answer was, leaves an allocator
-/// and each block in agreement; the name of what it made is new to the allocator, and the whole of it may be imported.
-/// By this call it becomes known of the device's latest call.
+/// A device that was asked for an object by its caller (`allocate_memory`), whatever its answer was, leaves an
+/// allocator and each block in agreement; the name of what it made is new to the allocator, and the whole of it may be
+/// imported. By this call it becomes known of the device's latest call.
 pub fn made_objects_may_be_imported<M: MemoryObject, D: MemoryDevice<M>, A: Allocator>(
     allocator: &GpuAllocator<M, A>,
     device: &D,

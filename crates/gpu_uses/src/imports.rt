@@ -64,7 +64,8 @@ fn import_whole<M: MemoryObject, D: MemoryDevice<M>>(
     requires unheld { map.get allocator.old.held (M.object memory) ≡ None }
     requires some { 0 < size }
     requires agrees { Agrees allocator.old (D.properties device.now) (D.objects device.now) }
-    requires whole { MayBeImported (D.properties device.now) (D.objects device.now) (M.object memory) memory_type 0 size }
+    requires whole { MayBeImported (D.properties device.now) (D.objects device.now) (M.object memory) memory_type 0
+        size }
     ensures agrees { IfOk result (λ _. Agrees allocator.new (D.properties device.now) (D.objects device.now)) }
     ensures ready { IfOk result (λ block. BlockAgrees block (D.properties device.now) (D.objects device.now)) }
     ensures added { IfOk result (Adds allocator.old allocator.new) }
@@ -127,7 +128,8 @@ fn take_back<M: MemoryObject, D: MemoryDevice<M>>(
     size: u64,
 )
     requires unheld { map.get allocator.now.held (M.object memory) ≡ None }
-    requires whole { MayBeImported (D.properties device.old) (D.objects device.old) (M.object memory) memory_type 0 size }
+    requires whole { MayBeImported (D.properties device.old) (D.objects device.old) (M.object memory) memory_type 0
+        size }
     requires owned { AreOwned allocator.now (first.now ∷ []) }
     requires agrees { Agrees allocator.now (D.properties device.old) (D.objects device.old) }
     requires first { BlockAgrees first.now (D.properties device.old) (D.objects device.old) }
@@ -140,8 +142,8 @@ fn take_back<M: MemoryObject, D: MemoryDevice<M>>(
     objects_of_others_may_go(allocator, device);
 }
 
-/// Has the device make an object, and imports the whole of it, while a block is in hand. Where the allocator has no room
-/// for it, the object goes back.
+/// Has the device make an object, and imports the whole of it, while a block is in hand. Where the allocator has no
+/// room for it, the object goes back.
 fn import_new<M: MemoryObject, D: MemoryDevice<M>>(
     allocator: &mut GpuAllocator<M>,
     device: &mut D,
@@ -225,9 +227,9 @@ fn count_free<M: MemoryObject>(allocator: &GpuAllocator<M>, memory_type: u32) ->
     Some(ranges.len())
 }
 
-/// Takes a block as a request asks, imports an object of as many bytes beside it, writes bytes to both, and returns both.
-/// It tells how many free ranges there were beside them, or none where no object was imported or no memory was found for
-/// the list of them.
+/// Takes a block as a request asks, imports an object of as many bytes beside it, writes bytes to both, and returns
+/// both. It tells how many free ranges there were beside them, or none where no object was imported or no memory was
+/// found for the list of them.
 pub fn import_beside<M: MemoryObject, D: MemoryDevice<M>>(
     allocator: &mut GpuAllocator<M>,
     device: &mut D,

@@ -107,7 +107,8 @@ fn import<M: MemoryObject, D: MemoryDevice<M>, A: Allocator>(
     requires ends { part.offset + part.size < 2 ^ 64 }
     requires unheld { map.get allocator.old.held (M.object memory) ≡ None }
     requires agrees { Agrees allocator.old (D.properties device.now) (D.objects device.now) }
-    requires may { MayBeImported (D.properties device.now) (D.objects device.now) (M.object memory) 0 part.offset part.size }
+    requires may { MayBeImported (D.properties device.now) (D.objects device.now) (M.object memory) 0 part.offset
+        part.size }
     ensures agrees { IfOk result (λ _. Agrees allocator.new (D.properties device.now) (D.objects device.now)) }
     ensures ready { IfOk result (λ block. BlockAgrees block (D.properties device.now) (D.objects device.now)) }
     ensures owned { IfOk result (IsOwned allocator.new) }
@@ -421,7 +422,8 @@ fn an_import_may_be_as_large_as_any_object(rt: HostRuntime) -> Result<(), Fail> 
     Ok(())
 }
 
-/// What each of five objects counts: one of a block's own, an import, a buddy chunk, a free list's chunk, another import.
+/// What each of five objects counts: one of a block's own, an import, a buddy chunk, a free list's chunk, another
+/// import.
 const COUNTED: [u128; 5] = [1000, 500, 8192, 8192, 600];
 
 /// The orders in which the blocks in them are given back: each order of their kinds.
