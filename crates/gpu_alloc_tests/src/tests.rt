@@ -7,6 +7,7 @@ mod errors;
 mod flags;
 mod freelist;
 mod imports;
+mod offers;
 mod pair;
 mod plugs;
 mod ranges;

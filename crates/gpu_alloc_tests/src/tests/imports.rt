@@ -9,6 +9,7 @@ ghost use Rattle.gpu_alloc.specs.Importing.{MayBeImported};
 ghost use Rattle.gpu_alloc.specs.Owned.{Leaves};
 ghost use Rattle.gpu_alloc.specs.State.{IsOwned};
 
+use super::offers::again;
 use super::plugs::plug;
 use gpu_alloc::laws::{
     agrees_at_first, imports_agree, made_objects_may_be_imported, objects_of_others_may_go,
@@ -341,20 +342,6 @@ fn offering<'a>(memory_types: &'a [MemoryType], atom: u64) -> DeviceProperties<'
         max_memory_allocation_size: 1 << 30,
         non_coherent_atom_size: atom,
         buffer_device_address: false,
-    }
-}
-
-/// The same properties once more.
-fn again<'a>(props: &DeviceProperties<'a>) -> DeviceProperties<'a>
-    ensures { properties_of result ≡ properties_of props.now }
-{
-    DeviceProperties {
-        memory_types: props.memory_types,
-        memory_heaps: props.memory_heaps,
-        max_memory_allocation_count: props.max_memory_allocation_count,
-        max_memory_allocation_size: props.max_memory_allocation_size,
-        non_coherent_atom_size: props.non_coherent_atom_size,
-        buffer_device_address: props.buffer_device_address,
     }
 }
 

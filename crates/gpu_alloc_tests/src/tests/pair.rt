@@ -7,6 +7,7 @@ ghost use Rattle.gpu_alloc.specs.Owned.{Adds, IsSameBlock, Leaves};
 ghost use Rattle.gpu_sim.specs.Question.{CanRefuse};
 ghost use Rattle.gpu_sim.specs.Sim.{objects_of};
 
+use super::offers::again;
 use gpu_alloc::laws::{agrees_at_first, kept_blocks_agree};
 use gpu_alloc::{
     Config, Dedicated, DeviceProperties, GpuAllocator, MapError, Mapping, MemoryBlock, MemoryHeap,
@@ -242,20 +243,6 @@ pub(super) fn play(
     }
     pair.end(rt);
     Ok(())
-}
-
-/// The same properties once more.
-fn again<'a>(props: &DeviceProperties<'a>) -> DeviceProperties<'a>
-    ensures { properties_of result ≡ properties_of props.now }
-{
-    DeviceProperties {
-        memory_types: props.memory_types,
-        memory_heaps: props.memory_heaps,
-        max_memory_allocation_count: props.max_memory_allocation_count,
-        max_memory_allocation_size: props.max_memory_allocation_size,
-        non_coherent_atom_size: props.non_coherent_atom_size,
-        buffer_device_address: props.buffer_device_address,
-    }
 }
 
 /// A block as it is asked for, beside those in hand.

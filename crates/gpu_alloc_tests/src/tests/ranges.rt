@@ -3,6 +3,7 @@
 ghost use Rattle.std.specs.Prelude.{◌≡◌, length};
 ghost use Rattle.gpu_alloc_types.specs.Properties.{properties_of};
 
+use super::offers::again;
 use super::plugs::plug;
 use gpu_alloc::laws::agrees_at_first;
 use gpu_alloc::{
@@ -41,20 +42,6 @@ fn offered() -> DeviceProperties<'static>
         max_memory_allocation_size: 1 << 30,
         non_coherent_atom_size: 1,
         buffer_device_address: false,
-    }
-}
-
-/// The same properties once more.
-fn again<'a>(props: &DeviceProperties<'a>) -> DeviceProperties<'a>
-    ensures { properties_of result ≡ properties_of props.now }
-{
-    DeviceProperties {
-        memory_types: props.memory_types,
-        memory_heaps: props.memory_heaps,
-        max_memory_allocation_count: props.max_memory_allocation_count,
-        max_memory_allocation_size: props.max_memory_allocation_size,
-        non_coherent_atom_size: props.non_coherent_atom_size,
-        buffer_device_address: props.buffer_device_address,
     }
 }
 

@@ -1,0 +1,20 @@
+//! What a device offers.
+
+ghost use Rattle.std.specs.Prelude.{◌≡◌};
+ghost use Rattle.gpu_alloc_types.specs.Properties.{properties_of};
+
+use gpu_alloc::DeviceProperties;
+
+/// The same properties once more.
+pub(super) fn again<'a>(props: &DeviceProperties<'a>) -> DeviceProperties<'a>
+    ensures { properties_of result ≡ properties_of props.now }
+{
+    DeviceProperties {
+        memory_types: props.memory_types,
+        memory_heaps: props.memory_heaps,
+        max_memory_allocation_count: props.max_memory_allocation_count,
+        max_memory_allocation_size: props.max_memory_allocation_size,
+        non_coherent_atom_size: props.non_coherent_atom_size,
+        buffer_device_address: props.buffer_device_address,
+    }
+}
