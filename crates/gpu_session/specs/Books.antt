@@ -20,6 +20,10 @@ pub record SessionState (D : Type 0) : Type 0 where
 abbrev pub OfBlock : Books → ℕ → (Block → Type 0) → Type 0
 OfBlock s name P = (b : Block) × (map.get s.blocks name ≡ Some b) × P b
 
+-- the block is the one of the name from now on
+abbrev pub with_block : Books → ℕ → Block → Books
+with_block s name b = record s { blocks = map.insert s.blocks name b }
+
 -- How these are stored.
 
 abbrev pub books_code : Coded Books

@@ -2,10 +2,10 @@
 #![tactic(auto)]
 
 mod command;
-pub mod laws;
-mod ledgers;
+mod items;
+mod offer;
 mod session;
 
 pub use command::{Command, Fault, Reply};
-pub use ledgers::Ledgers;
+pub use items::{Bytes, Items, Ledgers, Ranges};
 pub use session::{Session, SessionOpenError};

@@ -1,21 +1,22 @@
 //! A session: an allocator with its device, and live blocks by name.
 
-ghost use Rattle.std.specs.Prelude.{◌≡◌, ℕ, ◌+◌, ◌<◌, List, IfOk, IfErr, OnErr, Option, Some, None, IsSome};
-ghost use Rattle.std.specs.Prelude.{length, slice_get};
+ghost use Rattle.std.specs.Prelude.{◌≡◌, ℕ, List, IfOk, IfErr, OnErr, None, IsSome};
 ghost use Rattle.std.specs.FinMap as map;
 ghost use Rattle.gpu_alloc_types.specs.Properties.{IsUsable, properties_of};
 ghost use Rattle.gpu_alloc_types.specs.Device.{Event, Chain};
 ghost use Rattle.gpu_alloc.specs.Opening.{opened};
-ghost use Rattle.gpu_alloc.specs.State.{ledger};
 ghost use Rattle.gpu_session.specs.Books.{Books, SessionState};
-ghost use Rattle.gpu_session.specs.Does.{IsEachLedger};
-ghost use Rattle.gpu_session.specs.Faults.{fault_of_request};
 ghost use Rattle.gpu_session.specs.Run.{Step, Run};
-ghost use Rattle.gpu_session.specs.Sound.{IsSound, KeepsGiven, HasWholeObjects, SoundStep, ReturnsAll};
+ghost use Rattle.gpu_session.specs.Sound.{IsSound, Keeps, KeepsGiven, HasWholeObjects, SoundStep, ReturnsAll};
 
-use crate::{Command, Fault, Ledgers, Reply};
-use gpu_alloc::{Config, Dedicated, DeviceProperties, GpuAllocator, MemoryBlock, Request};
-use gpu_alloc_types::{MemoryDevice, MemoryObject, UsageFlags};
+mod allocating;
+mod counting;
+mod moving;
+
+use crate::offer::Offer;
+use crate::{Command, Reply};
+use gpu_alloc::{Config, DeviceProperties, GpuAllocator, MemoryBlock};
+use gpu_alloc_types::{MemoryDevice, MemoryObject};
 use indexmap::IndexMap;
 use std::alloc::{AllocError, Allocator, Global};
 use std::hash::{BuildHasherDefault, FoldHasher};
@@ -37,8 +38,7 @@ pub struct Session<M: MemoryObject, D: MemoryDevice<M>, A: Allocator + Copy = Gl
     allocator: GpuAllocator<M, A>,
     device: D,
     blocks: Blocks<M, A>,
-    heaps: u32,
-    buffer_device_address: bool,
+    offer: Offer<A>,
 }
 
 impl<M: MemoryObject, D: MemoryDevice<M>, A: Allocator + Copy> Model for Session<M, D, A> {
@@ -57,23 +57,7 @@ impl<M: MemoryObject, D: MemoryDevice<M>, A: Allocator + Copy> Model for Session
     } };
 
     ghost invariant = { λ a. IsKept (D.properties a.device) (D.objects a.device)
-        (record { allocator = a.allocator; blocks = from_entries a.blocks.entries }) a.heaps a.buffer_device_address };
-}
-
-/// Why a request cannot be asked for: the first condition that it misses.
-fn fault_of(request: Request, buffer_device_address: bool) -> Option<Fault>
-    ensures { result ≡ fault_of_request buffer_device_address request }
-{
-    if request.size == 0 {
-        return Some(Fault::BadSize);
-    }
-    if request.align_mask >= 1 << 63 || !(request.align_mask + 1).is_power_of_two() {
-        return Some(Fault::BadAlignment);
-    }
-    if request.usage.intersects(UsageFlags::DEVICE_ADDRESS) && !buffer_device_address {
-        return Some(Fault::NoDeviceAddress);
-    }
-    None
+        (record { allocator = a.allocator; blocks = from_entries a.blocks.entries }) a.offer };
 }
 
 impl<M: MemoryObject, D: MemoryDevice<M>, A: Allocator + Copy> Session<M, D, A> {
@@ -99,8 +83,9 @@ impl<M: MemoryObject, D: MemoryDevice<M>, A: Allocator + Copy> Session<M, D, A> 
         ensures whole { IfOk result (HasWholeObjects D.objects) }
         ensures given_back { IfErr result (λ e. e.device ≡ device) }
     {
-        let heaps = props.memory_heaps.len() as u32;
-        let buffer_device_address = props.buffer_device_address;
+        let Ok(offer) = Offer::of(alloc, &props) else {
+            return Err(SessionOpenError { device });
+        };
         match GpuAllocator::new(alloc, config, props) {
             Ok(allocator) => {
                 let session = Session {
@@ -108,8 +93,7 @@ impl<M: MemoryObject, D: MemoryDevice<M>, A: Allocator + Copy> Session<M, D, A> 
                     allocator,
                     device,
                     blocks: IndexMap::new(alloc),
-                    heaps,
-                    buffer_device_address,
+                    offer,
                 };
                 session.keeps_sound();
                 Ok(session)
@@ -119,8 +103,9 @@ impl<M: MemoryObject, D: MemoryDevice<M>, A: Allocator + Copy> Session<M, D, A> 
     }
 
     /// Answers the commands in order, one reply for each. The replies and the state after them are a run, in which
-    /// every state between two commands is sound: live blocks are memory of their own. The properties and the
-    /// configuration stay.
+    /// every state between two commands is sound: live blocks are memory of their own. Each step grants as asked,
+    /// changes nothing where it refuses, and leaves how many objects are held or may still be, but where it is told
+    /// otherwise.
     ///
     /// Places for all replies are taken first: an error means that there was no memory for them, and nothing ran. What
     /// a run keeps, [`laws`](crate::laws) tell.
@@ -157,8 +142,7 @@ impl<M: MemoryObject, D: MemoryDevice<M>, A: Allocator + Copy> Session<M, D, A> 
             mut allocator,
             mut device,
             mut blocks,
-            heaps: _,
-            buffer_device_address: _,
+            offer: _,
         } = self;
         while let Some((_, block)) = blocks.pop() {
             allocator.dealloc(&mut device, block);
@@ -178,90 +162,42 @@ impl<M: MemoryObject, D: MemoryDevice<M>, A: Allocator + Copy> Session<M, D, A> 
 
     /// Answers one command.
     fn serve(&mut self, command: &Command<A>) -> Reply<A>
-        ensures { Step D.step self.old command.now result self.new }
+        ensures step { Step D.step self.old command.now result self.new }
+        ensures keeps { Keeps D.objects self.old command.now result self.new }
     {
         match command {
+            Command::Alloc { name, request } => self.alloc(*name, *request),
             Command::Dedicated {
                 name,
                 request,
                 dedicated,
             } => self.dedicated(*name, *request, *dedicated),
+            Command::Import {
+                name,
+                memory_type,
+                object_size,
+                offset,
+                size,
+            } => self.import(*name, *memory_type, *object_size, *offset, *size),
             Command::Free { name } => self.free(*name),
+            Command::Map { name, offset, size } => self.map(*name, *offset, *size),
+            Command::Unmap { name } => self.unmap(*name),
+            Command::Write {
+                name,
+                offset,
+                bytes,
+            } => self.write(*name, *offset, bytes),
+            Command::Read { name, offset, len } => self.read(*name, *offset, *len),
+            Command::Put {
+                name,
+                offset,
+                bytes,
+            } => self.put(*name, *offset, bytes),
+            Command::Get { name, offset, len } => self.get(*name, *offset, *len),
+            Command::SetRemaining { remaining } => self.set_remaining(*remaining),
+            Command::Cleanup => self.cleanup(),
+            Command::FreeRanges { memory_type } => self.free_ranges(*memory_type),
             Command::Counts => self.counts(),
-            Command::Never(never, _) => match *never {},
         }
-    }
-
-    /// Answers `Dedicated`. Room for the block's entry is made before the device is asked.
-    fn dedicated(&mut self, name: u32, request: Request, dedicated: Dedicated) -> Reply<A>
-        ensures { Step D.step self.old (Command.Dedicated name request dedicated) result self.new }
-    {
-        if self.blocks.contains_key(&name) {
-            return Reply::Fault(Fault::NameInUse);
-        }
-        if let Some(fault) = fault_of(request, self.buffer_device_address) {
-            return Reply::Fault(fault);
-        }
-        if self.blocks.reserve(1).is_err() {
-            return Reply::Fault(Fault::NoMemory);
-        }
-        match self
-            .allocator
-            .alloc_with_dedicated(&mut self.device, request, dedicated)
-        {
-            Ok(block) => {
-                let reply = Reply::Granted {
-                    memory_type: block.memory_type(),
-                    object: block.memory().object(),
-                    offset: block.offset(),
-                    size: block.size(),
-                };
-                match self.blocks.insert(name, block) {
-                    Ok(None) => reply,
-                    Ok(Some(_older)) => unreachable!(),
-                    Err(_failed) => unreachable!(),
-                }
-            }
-            Err(e) => Reply::Refused(e),
-        }
-    }
-
-    /// Answers `Free`.
-    fn free(&mut self, name: u32) -> Reply<A>
-        ensures { Step D.step self.old (Command.Free name) result self.new }
-    {
-        match self.blocks.swap_remove(&name) {
-            Some(block) => {
-                self.allocator.dealloc(&mut self.device, block);
-                Reply::Done
-            }
-            None => Reply::Fault(Fault::UnknownName),
-        }
-    }
-
-    /// Answers `Counts`. Places for the ledgers are taken first.
-    fn counts(&mut self) -> Reply<A>
-        ensures step { Step D.step self.old Command.Counts result self.new }
-        ensures same { self.new ≡ self.old }
-    {
-        match self.ledgers() {
-            Ok(used) => Reply::Counts {
-                remaining: self.allocator.remaining_allocations(),
-                held: self.allocator.held_objects(),
-                used: Ledgers::from_vec(used),
-            },
-            Err(_) => Reply::Fault(Fault::NoMemory),
-        }
-    }
-
-    /// The ledger of each heap, in heap order.
-    fn ledgers(&self) -> Result<Vec<u128, A>, AllocError>
-        ensures { IfOk result (λ used. IsEachLedger (self.now.books).allocator used.items) }
-    {
-        let mut used = Vec::with_capacity(self.alloc, self.heaps as usize)?;
-        for heap in 0..self.heaps {
-            used.push(self.allocator.heap_used(heap))?;
-        }
-        Ok(used)
     }
 }

@@ -1,9 +1,0 @@
-pub mod Blocks
-pub mod Conditions
-pub mod Finished
-pub mod Grants
-pub mod Openings
-pub mod Returns
-pub mod Runs
-pub mod Steps
-pub mod WholeObjects

@@ -1,0 +1,77 @@
+//! What a session keeps of what its device offers, for the conditions of commands.
+
+ghost use Rattle.std.specs.Prelude.{◌≡◌, ◌<◌, length, nat_lt, IfOk};
+ghost use Rattle.gpu_alloc_types.specs.Flags.{allocation_bits, property_bits};
+ghost use Rattle.gpu_alloc_types.specs.Properties.{IsUsable, Properties, properties_of, props_at};
+ghost use Rattle.gpu_alloc.specs.NewChunk.{flags_of};
+
+use gpu_alloc::{AllocationFlags, DeviceProperties, MemoryPropertyFlags, MemoryType};
+use std::alloc::{AllocError, Allocator};
+
+/// What a session keeps of what its device offers.
+#[derive(Drop)]
+pub(crate) struct Offer<A: Allocator> {
+    pub(crate) memory_types: Vec<MemoryType, A>,
+    pub(crate) heaps: u32,
+    pub(crate) non_coherent_atom_size: u64,
+    pub(crate) buffer_device_address: bool,
+    ghost some_atom: { 0 < non_coherent_atom_size },
+}
+
+impl<A: Allocator> Offer<A> {
+    ghost use Rattle.gpu_session.specs.Faults.{is_bad_end, fault_of_request};
+    ghost use Rattle.gpu_session.specs.Offer.{IsOffer};
+
+    /// What a session has to know of these.
+    pub(crate) fn of(alloc: A, props: &DeviceProperties<'_>) -> Result<Self, AllocError>
+        requires { IsUsable (properties_of props.now) }
+        ensures { IfOk result (IsOffer (properties_of props.now)) }
+    {
+        Ok(Offer {
+            memory_types: Vec::from_slice(alloc, props.memory_types)?,
+            heaps: props.memory_heaps.len() as u32,
+            non_coherent_atom_size: props.non_coherent_atom_size,
+            buffer_device_address: props.buffer_device_address,
+        })
+    }
+
+    /// Whether there is such a memory type.
+    pub(crate) fn has_type(&self, memory_type: u32) -> bool
+        ensures { (p : Properties) → IsOffer p self.now → result ≡ nat_lt memory_type (length p.memory_types) }
+    {
+        (memory_type as usize) < self.memory_types.len()
+    }
+
+    /// The properties of a memory type, none where there is no such type.
+    pub(crate) fn props(&self, memory_type: u32) -> MemoryPropertyFlags
+        ensures { (p : Properties) → IsOffer p self.now → property_bits result ≡ props_at p memory_type }
+    {
+        match self.memory_types.get(memory_type as usize) {
+            Some(found) => found.props,
+            None => MemoryPropertyFlags::empty(),
+        }
+    }
+
+    /// The flags of what the device is asked for.
+    pub(crate) fn flags(&self) -> AllocationFlags
+        ensures { (p : Properties) → IsOffer p self.now → allocation_bits result ≡ flags_of p }
+    {
+        if self.buffer_device_address {
+            AllocationFlags::DEVICE_ADDRESS
+        } else {
+            AllocationFlags::empty()
+        }
+    }
+
+    /// Whether an import of this memory type may not end there: what has to be flushed has to end on the atom or where
+    /// its object ends.
+    pub(crate) fn is_bad_end(&self, memory_type: u32, object_size: u64, end: u64) -> bool
+        ensures { (p : Properties) → IsOffer p self.now → result ≡ is_bad_end p memory_type object_size end }
+    {
+        let props = self.props(memory_type);
+        props.intersects(MemoryPropertyFlags::HOST_VISIBLE)
+            && !props.intersects(MemoryPropertyFlags::HOST_COHERENT)
+            && end % self.non_coherent_atom_size != 0
+            && end != object_size
+    }
+}

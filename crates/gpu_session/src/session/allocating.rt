@@ -1,0 +1,203 @@
+//! Commands that grant blocks and give them back.
+
+ghost use Rattle.std.specs.Prelude.{◌≡◌, ◌<◌, nat_eq, nat_lt, ◌+◌, None};
+ghost use Rattle.std.specs.FinMap as map;
+ghost use Rattle.std.specs.Ordering.{nat_cmp};
+ghost use Rattle.indexmap.specs.IndexMap.{get, spare};
+ghost use Rattle.gpu_session.specs.Faults.{fault_of_import, fault_of_request};
+ghost use Rattle.gpu_session.specs.Run.{Step};
+ghost use Rattle.gpu_session.specs.Sound.{Keeps};
+
+use super::{Blocks, Session};
+use crate::{Command, Fault, Reply};
+use gpu_alloc::{AllocationError, Dedicated, MemoryBlock, Request};
+use gpu_alloc_types::{MemoryDevice, MemoryObject, UsageFlags};
+use std::alloc::Allocator;
+
+/// Why a request cannot be asked for: the first condition that it misses.
+fn fault_of(request: Request, buffer_device_address: bool) -> Option<Fault>
+    ensures { result ≡ fault_of_request buffer_device_address request }
+{
+    if request.size == 0 {
+        return Some(Fault::BadSize);
+    }
+    if request.align_mask >= 1 << 63 || !(request.align_mask + 1).is_power_of_two() {
+        return Some(Fault::BadAlignment);
+    }
+    if request.usage.intersects(UsageFlags::DEVICE_ADDRESS) && !buffer_device_address {
+        return Some(Fault::NoDeviceAddress);
+    }
+    None
+}
+
+/// Whether a range passes the end of so many bytes.
+pub(super) fn passes_end(offset: u64, len: u64, size: u64) -> bool
+    ensures { result ≡ nat_lt size (offset + len) }
+{
+    len > size || offset > size - len
+}
+
+/// Keeps a block under a name that has none, and tells of it. There has to be room for its entry.
+fn keep<M: MemoryObject, A: Allocator + Copy>(
+    blocks: &mut Blocks<M, A>,
+    name: u32,
+    block: MemoryBlock<M>,
+) -> Reply<A>
+    requires free { get nat_eq blocks.old name ≡ None }
+    requires room { 0 < spare blocks.old }
+    ensures kept { map.from_entries {R = nat_cmp} blocks.new.entries
+        ≡ map.insert (map.from_entries blocks.old.entries) name block }
+    ensures told { result ≡ Reply.Granted block.memory_type block.object block.offset block.size }
+{
+    let reply = Reply::Granted {
+        memory_type: block.memory_type(),
+        object: block.memory().object(),
+        offset: block.offset(),
+        size: block.size(),
+    };
+    match blocks.insert(name, block) {
+        Ok(None) => reply,
+        Ok(Some(_older)) => unreachable!(),
+        Err(_failed) => unreachable!(),
+    }
+}
+
+impl<M: MemoryObject, D: MemoryDevice<M>, A: Allocator + Copy> Session<M, D, A> {
+    /// Answers `Alloc`. Room for the block's entry is made before the device is asked.
+    pub(super) fn alloc(&mut self, name: u32, request: Request) -> Reply<A>
+        ensures step { Step D.step self.old (Command.Alloc name request) result self.new }
+        ensures keeps { Keeps D.objects self.old (Command.Alloc name request) result self.new }
+    {
+        if self.blocks.contains_key(&name) {
+            return Reply::Fault(Fault::NameInUse);
+        }
+        if let Some(fault) = fault_of(request, self.offer.buffer_device_address) {
+            return Reply::Fault(fault);
+        }
+        if self.blocks.reserve(1).is_err() {
+            return Reply::Fault(Fault::NoMemory);
+        }
+        match self.allocator.alloc(&mut self.device, request) {
+            Ok(block) => keep(&mut self.blocks, name, block),
+            Err(e) => Reply::Refused(e),
+        }
+    }
+
+    /// Answers `Dedicated`. Room for the block's entry is made before the device is asked.
+    pub(super) fn dedicated(&mut self, name: u32, request: Request, dedicated: Dedicated) -> Reply<A>
+        ensures step { Step D.step self.old (Command.Dedicated name request dedicated) result self.new }
+        ensures keeps { Keeps D.objects self.old (Command.Dedicated name request dedicated) result self.new }
+    {
+        if self.blocks.contains_key(&name) {
+            return Reply::Fault(Fault::NameInUse);
+        }
+        if let Some(fault) = fault_of(request, self.offer.buffer_device_address) {
+            return Reply::Fault(fault);
+        }
+        if self.blocks.reserve(1).is_err() {
+            return Reply::Fault(Fault::NoMemory);
+        }
+        match self
+            .allocator
+            .alloc_with_dedicated(&mut self.device, request, dedicated)
+        {
+            Ok(block) => keep(&mut self.blocks, name, block),
+            Err(e) => Reply::Refused(e),
+        }
+    }
+
+    /// Why an import cannot be asked for: the first condition that it misses.
+    fn fault_of_import(
+        &self,
+        memory_type: u32,
+        object_size: u64,
+        offset: u64,
+        size: u64,
+    ) -> Option<Fault>
+        ensures { result ≡ fault_of_import (self.now.books).allocator memory_type object_size offset size }
+    {
+        if !self.offer.has_type(memory_type) {
+            return Some(Fault::BadType);
+        }
+        if object_size == 0 || size == 0 {
+            return Some(Fault::BadSize);
+        }
+        if passes_end(offset, size, object_size) {
+            return Some(Fault::BadRange);
+        }
+        if self
+            .offer
+            .is_bad_end(memory_type, object_size, offset + size)
+        {
+            return Some(Fault::BadImportEnd);
+        }
+        if self.allocator.remaining_allocations() == 0 {
+            return Some(Fault::NoRemaining);
+        }
+        None
+    }
+
+    /// Answers `Import`. Room for the block's entry is made before the device is asked; where the allocator then finds
+    /// no memory, the object goes back.
+    pub(super) fn import(
+        &mut self,
+        name: u32,
+        memory_type: u32,
+        object_size: u64,
+        offset: u64,
+        size: u64,
+    ) -> Reply<A>
+        ensures step { Step D.step self.old (Command.Import name memory_type object_size offset size) result self.new }
+        ensures keeps { Keeps D.objects self.old (Command.Import name memory_type object_size offset size) result
+            self.new }
+    {
+        if self.blocks.contains_key(&name) {
+            return Reply::Fault(Fault::NameInUse);
+        }
+        if let Some(fault) = self.fault_of_import(memory_type, object_size, offset, size) {
+            return Reply::Fault(fault);
+        }
+        if self.blocks.reserve(1).is_err() {
+            return Reply::Fault(Fault::NoMemory);
+        }
+        let flags = self.offer.flags();
+        let memory = match self.device.allocate_memory(object_size, memory_type, flags) {
+            Ok(memory) => memory,
+            Err(e) => return Reply::Refused(AllocationError::from(e)),
+        };
+        let props = self.offer.props(memory_type);
+        match self
+            .allocator
+            .import_memory(memory, memory_type, props, offset, size)
+        {
+            Ok(block) => keep(&mut self.blocks, name, block),
+            Err(memory) => {
+                self.device.deallocate_memory(&memory);
+                Reply::Fault(Fault::NoMemory)
+            }
+        }
+    }
+
+    /// Answers `Free`.
+    pub(super) fn free(&mut self, name: u32) -> Reply<A>
+        ensures step { Step D.step self.old (Command.Free name) result self.new }
+        ensures keeps { Keeps D.objects self.old (Command.Free name) result self.new }
+    {
+        match self.blocks.swap_remove(&name) {
+            Some(block) => {
+                self.allocator.dealloc(&mut self.device, block);
+                Reply::Done
+            }
+            None => Reply::Fault(Fault::UnknownName),
+        }
+    }
+
+    /// Answers `Cleanup`.
+    pub(super) fn cleanup(&mut self) -> Reply<A>
+        ensures step { Step D.step self.old Command.Cleanup result self.new }
+        ensures keeps { Keeps D.objects self.old Command.Cleanup result self.new }
+    {
+        self.allocator.cleanup(&mut self.device);
+        Reply::Done
+    }
+}
