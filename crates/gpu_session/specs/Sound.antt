@@ -8,8 +8,9 @@ use Rattle.gpu_alloc_types.specs.Device.Event.{Deallocated}
 use Rattle.gpu_alloc.specs.Agreement.{Agrees, BlockAgrees}
 use Rattle.gpu_alloc.specs.Allocation.{IsGranted}
 use Rattle.gpu_alloc.specs.Importing.{imported_block}
+use Rattle.gpu_alloc.specs.Owned.{AreTwo}
 use Rattle.gpu_alloc.specs.Sound as allocator
-use Rattle.gpu_alloc.specs.State.{Span, span_of, Block, State, IsLive, IsOwned, AreApart, is_shared, total, ledger}
+use Rattle.gpu_alloc.specs.State.{Span, span_of, Block, State, IsLive, IsOwned, is_shared, total, ledger}
 use Rattle.gpu_alloc.specs.Types.Kind.TheVariants.{Dedicated as DedicatedObject}
 use Rattle.gpu_alloc.specs.declared.request.Dedicated.TheVariants.{Required}
 use Rattle.gpu_session.specs.Books.{Books, OfBlock, SessionState}
@@ -38,13 +39,13 @@ pub record IsBlock (p : Properties) (s : State) (objects : ℕ → Option Object
   pub agrees : BlockAgrees b p objects
 
 -- Memory of its own: allocator and device agree, the allocator is sound, each named block is a live span of a held
--- object, no two share a byte, and nothing else is live.
+-- object, no two share a byte (nor an object where one of them has its own), and nothing else is live.
 pub record IsSound (p : Properties) (objects : ℕ → Option Object) (s : Books) : Type 0 where
   pub agrees : Agrees s.allocator p objects
   pub allocator : allocator.IsSound s.allocator
   pub blocks : (name : ℕ) → IfSome (finite.get s.blocks name) (IsBlock p s.allocator objects)
   pub apart : (n m : ℕ) (b c : Block) → n ≢ m → finite.get s.blocks n ≡ Some b → finite.get s.blocks m ≡ Some c
-      → AreApart (span_of b) (span_of c)
+      → AreTwo b c
   pub named : (span : Span) → IsLive s.allocator span → (name : ℕ) × OfBlock s name (λ b. span_of b ≡ span)
 
 -- what a session's fields keep

@@ -1,0 +1,9 @@
+pub mod Blocks
+pub mod Conditions
+pub mod Ends
+pub mod Grants
+pub mod Moves
+pub mod Names
+pub mod Openings
+pub mod Returns
+pub mod Runs

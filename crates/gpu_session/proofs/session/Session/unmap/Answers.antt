@@ -1,0 +1,33 @@
+use Rattle.std.proofs.Common.{◌≡◌, [], Some, None, refl, sym, ◌∙◌, ap, inl}
+use Rattle.std.specs.Ordering.{nat_cmp}
+use Rattle.std.specs.FinMap as finite
+use Rattle.gpu_alloc_base.proofs.Names.{get_entries, here}
+use Rattle.gpu_session.specs.Sound.{IsBlock}
+use Rattle.gpu_session.proofs.Conditions.{no_block, of_block}
+use Rattle.gpu_session.proofs.Moves.{move_is_kept}
+use Rattle.gpu_session.proofs.Names.{lent_at, lent_back, lent_put, placed, placed_again}
+use Rattle.gpu_session.proofs.session.Session.unmap.Goals as goal
+
+pub returns-in_default-clause-step : goal.returns-in_default-clause-step
+returns-in_default-clause-step g c =
+    let none = get_entries c.self.inside.blocks.entries c.args.name ∙ sym c.in_default.ensures.value in
+    rw (← c.self.view_is, c.get_mut.follows.holds-at-none) ([], refl, (refl, inl (no_block _ _ none, refl)))
+
+pub unmap-was_mapped-requires : goal.unmap-was_mapped-requires
+unmap-was_mapped-requires g c =
+    let at = lent_at c.self.inside.blocks.entries c.args.name c.in-Some.block.now c.in-Some.ensures.value in
+    (here _ (IsBlock _ c.self.inside.allocator (g.D.MemoryDevice.objects c.self.inside.device)) (c.self.invariant.sound.blocks c.args.name) c.in-Some.block.now at).agrees
+
+pub invariant_of-self-2 : goal.invariant_of-self-2
+invariant_of-self-2 g c =
+    let at = lent_at c.self.inside.blocks.entries c.args.name c.in-Some.block.now c.in-Some.ensures.value in
+    let put = lent_put c.self.inside.blocks.entries c.args.name c.in-Some.block.now c.in-Some.ensures.value c.unmap-was_mapped.new.self (c.get_mut.follows.lender c.unmap-was_mapped.new.self).entries (λ some. ((c.get_mut.follows.holds c.unmap-was_mapped.new.self).3 some).0) in
+    rw put (move_is_kept c.self.invariant (record { named = at; same = c.unmap-was_mapped.ensures.same; ready = c.unmap-was_mapped.ensures.agrees; keeps = c.unmap-was_mapped.ensures.keeps; properties = c.unmap-was_mapped.ensures.properties }))
+
+pub returns-clause-step : goal.returns-clause-step
+returns-clause-step g c =
+    let at = lent_at c.self.inside.blocks.entries c.args.name c.in-Some.block.now c.in-Some.ensures.value in
+    let put = lent_put c.self.inside.blocks.entries c.args.name c.in-Some.block.now c.in-Some.ensures.value c.unmap-was_mapped.new.self (c.get_mut.follows.lender c.unmap-was_mapped.new.self).entries (λ some. ((c.get_mut.follows.holds c.unmap-was_mapped.new.self).3 some).0) in
+    let able = of_block _ c.in-Some.block.now (λ b. None) _ at refl in
+    let asked = c.unmap-was_mapped.ensures.asked in
+    rw (← c.self.view_is, put) (asked.0, asked.1, (able, (c.in-Some.block.now, at, (c.unmap-was_mapped.ensures.answer, asked.2, placed _ c.args.name _ _ c.unmap-was_mapped.ensures.unmapped))))
