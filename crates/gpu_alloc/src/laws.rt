@@ -35,7 +35,9 @@ use crate::GpuAllocator;
 pub use gpu_alloc_base::laws::{
     align_masks_of_powers, free_list_chunk_is_least, next_power_of_two_is_least,
 };
-pub use gpu_alloc_block::laws::rounded_ranges_lie_in_their_block;
+pub use gpu_alloc_block::laws::{
+    byte_calls_keep_agreement, bytes_of_a_mapping_may_be_moved, rounded_ranges_lie_in_their_block,
+};
 use gpu_alloc_types::{MemoryDevice, MemoryObject, OutOfMemory};
 pub use gpu_alloc_usage::laws::{
     candidates_are_exact_and_sorted, ranking_is_exact_and_sorted, rankings_of_samples,
