@@ -78,8 +78,7 @@ one_other f g object c = λ name o is. elim (one_or_two name object) [
 both_other : (f g h : ℕ → Option Object) → HaveOnlyOtherBytes f g → HaveOnlyOtherBytes g h → HaveOnlyOtherBytes f h
 both_other f g h first second = λ name o is.
     let mid = first name o is in
-    let last = second name mid.0 mid.1 in
-    (
+    let last = second name mid.0 mid.1 in (
       last.0,
       last.1,
       record {

@@ -25,10 +25,10 @@ pub record MayBeMoved (b : Block) : Type 0 where
       → BlockAgrees b p objects → b.mapping ≡ Some m → 0 < len → m.start ≤ place → place + len ≤ m.start + m.len
       → HeldWith objects b.object (IsInMapped place len)
 
--- A device's latest call was a byte call: each allocator and each block agree with it as before.
-pub record BytesMoved {D : Type 0} (step : D → Event → D → Type 0) (properties : D → Properties)
+-- A device's latest call was a byte call: the allocator agrees with it as before, and so does each block.
+pub record BytesMoved (s : State) {D : Type 0} (step : D → Event → D → Type 0) (properties : D → Properties)
     (objects : D → ℕ → Option Object) (now : D) : Type 0 where
-  pub allocators : (s : State) (old : D) (e : Event) → step old e now → IsByteCall e
-      → Agrees s (properties old) (objects old) → Agrees s (properties now) (objects now)
+  pub allocator : (old : D) (e : Event) → step old e now → IsByteCall e → Agrees s (properties old) (objects old)
+      → Agrees s (properties now) (objects now)
   pub blocks : (b : Block) (old : D) (e : Event) → step old e now → IsByteCall e
       → BlockAgrees b (properties old) (objects old) → BlockAgrees b (properties now) (objects now)
