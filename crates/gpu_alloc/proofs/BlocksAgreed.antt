@@ -1,5 +1,5 @@
 -- A block and the device agree from its grant on, through all calls of its allocator.
-use Rattle.std.proofs.Common.{◌≡◌, ◌≢◌, ◌⊎◌, inl, inr, ℕ, ◌+◌, ◌%◌, ◌≤◌, true, false, cond, ◌&&◌, List, Option, Some, None, IfSome, Result, Ok, Err, IfOk, refl, sym, ◌∙◌, ap, subst, arith, Contains}
+use Rattle.std.proofs.Common.{◌≡◌, ◌≢◌, ◌⊎◌, inl, inr, ℕ, ◌+◌, ◌%◌, ◌≤◌, true, false, cond, ◌&&◌, List, Option, Some, None, IfSome, IsSome, Result, Ok, Err, IfOk, refl, sym, ◌∙◌, ap, subst, arith, Contains}
 use Rattle.std.proofs.Math.Nat.{add-mul-mod_self_right}
 use Rattle.std.specs.FinMap as map
 use Rattle.std.specs.Prelude.{option_map}
@@ -117,6 +117,7 @@ module _ (s new : State) (r : Request) (b : Block) (q : Properties) (f g : ℕ �
         props = granted.props ∙ ap (λ p. props_at p b.memory_type) (sym properties);
         atom = granted.atom ∙ ap (λ p. atom_of p b.memory_type) (sym properties);
         mapping = subst (λ (m : Option Mapping). IfSome m (IsOfBlock b)) (sym granted.unmapped) tt;
+        visible = λ some. absurd (let none = subst IsSome granted.unmapped some in cc);
         there = (
           o,
           there.1,
@@ -150,6 +151,7 @@ block_kept b p q f g same object is = record {
   props = is.props ∙ ap (λ x. props_at x b.memory_type) (sym same);
   atom = is.atom ∙ ap (λ x. atom_of x b.memory_type) (sym same);
   mapping = is.mapping;
+  visible = is.visible;
   there = (is.there.0, object ∙ is.there.1, subst (λ x. IsBeneath x b is.there.0) (sym same) is.there.2);
 }
 

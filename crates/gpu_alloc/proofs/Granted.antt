@@ -34,6 +34,7 @@ use Rattle.gpu_alloc.specs.declared.allocator.Strategy.TheVariants.{OwnObject, I
 use Rattle.gpu_alloc_block.specs.declared.block.Kind.{Kind}
 use Rattle.gpu_alloc_block.specs.declared.block.Kind.TheVariants.{Dedicated as DedicatedObject, BuddyChunk, FreeListChunk}
 use Rattle.gpu_alloc.specs.declared.request.Dedicated.{Dedicated}
+use Rattle.gpu_alloc.specs.declared.request.Dedicated.TheVariants.{Required}
 use Rattle.gpu_alloc.specs.declared.request.Request.{Request}
 use Rattle.gpu_alloc.proofs.Decisions.{of_grant}
 use Rattle.gpu_alloc.proofs.Soundness.{ranges_apart}
@@ -247,3 +248,15 @@ module _ (s : State) (r : Request) (sound : IsSound s) where
   allocates_granted atoms asked hint es (Err e) new h = tt
   allocates_granted atoms asked hint es (Ok b) new h =
       of_grant s r hint b new (λ t es chosen known decides. granted_by atoms asked t chosen (strategy s r hint t) es b new known (fits_its_list s r hint t) decides.1) es h
+
+-- A required grant has an object of its own.
+
+with_required : (s : State) (r : Request) (es : List Event) (new : State) (b : Block) → Allocates s r (Some Required) es (Ok b) new → b.kind ≡ DedicatedObject
+with_required s r es new b decided = of_grant s r (Some Required) b new (λ t fs chosen known decides. elim (decides.1) [
+  | inl gives ↦ absurd (gives.place)
+  | inr gives ↦ ap (λ (x : Block). x.kind) gives.place.is
+]) es decided
+
+pub required_granted : (s : State) (r : Request) (hint : Dedicated) → hint ≡ Required → (es : List Event) (answer : Result Block AllocationError) (new : State) → Allocates s r (Some hint) es answer new → IfOk answer (λ b. b.kind ≡ DedicatedObject)
+required_granted s r hint required es (Err e) new decided = tt
+required_granted s r hint required es (Ok b) new decided = with_required s r es new b (subst (λ d. Allocates s r (Some d) es (Ok b) new) required decided)

@@ -105,6 +105,7 @@ module _ (s : State) (object memory_type offset size : ℕ) (new : State) (b : B
       props = ap (λ q. props_at q memory_type) (sym agrees.properties);
       atom = ap (λ q. atom_of q memory_type) (sym agrees.properties);
       mapping = tt;
+      visible = λ some. absurd (cc);
       there = (
         o,
         held.1,

@@ -9,6 +9,7 @@ pub mod Consistency
 pub mod FreeLists
 pub mod FreeRanges
 pub mod Decisions
+pub mod GoneBack
 pub mod Granted
 pub mod Grants
 pub mod HandedOn

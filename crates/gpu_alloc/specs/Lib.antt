@@ -37,6 +37,7 @@ pub use Rattle.gpu_alloc_base.specs.Sizes
 pub use Rattle.gpu_alloc_base.specs.Slots
 pub use Rattle.gpu_alloc_base.specs.Wanted
 pub use Rattle.gpu_alloc_block.specs.Agreement
+pub use Rattle.gpu_alloc_block.specs.ByteCalls
 pub use Rattle.gpu_alloc_block.specs.Bytes
 pub use Rattle.gpu_alloc_block.specs.Mapped
 pub use Rattle.gpu_alloc_block.specs.Ranges

@@ -1,12 +1,12 @@
 -- How a block comes back.
 use Rattle.std.specs.Prelude.{◌≡◌, ◌≢◌, ◌⊎◌, ◌↔◌, ℕ, zero, suc, ◌+◌, ◌<◌, Bool, true, false, List, [], ◌∷◌, ◌++◌}
 use Rattle.std.specs.Prelude.{length, get_or}
-use Rattle.std.specs.Prelude.{map, Option, Some, None}
+use Rattle.std.specs.Prelude.{map, Option, Some, None, IsSome}
 use Rattle.std.specs.List.{Contains}
 use Rattle.std.specs.FinMap as finite
 use Rattle.std.specs.FinSet as set
 use Rattle.std.specs.Ordering.{nat_cmp}
-use Rattle.gpu_alloc_types.specs.Device.{Object, Event, put}
+use Rattle.gpu_alloc_types.specs.Device.{Object, Event, Chain, put}
 use Rattle.gpu_alloc_types.specs.Device.Event.{Deallocated}
 use Rattle.gpu_alloc_block.specs.declared.block.Kind.{Kind}
 use Rattle.gpu_alloc_block.specs.declared.block.Kind.TheVariants.{Dedicated, Imported, BuddyChunk, FreeListChunk}
@@ -100,3 +100,16 @@ ObjectsCleaned s old new =
 -- What a cleanup takes: a free list's chunk in which nothing is live.
 abbrev pub IsCleanedUp : State → ℕ → HeldObject → Type 0
 IsCleanedUp s object h = (is_list_chunk h.kind ≡ true) × IsUnused s object
+
+-- What goes back to the device with a call: some objects that were held, each once and in this order, and nothing else.
+-- They are held no more, and the device has them no more; every other object is held and on the device as before.
+pub record GoesBack {D : Type 0} (step : D → Event → D → Type 0) (objects : D → ℕ → Option Object) (s : State)
+    (from : D) (new : State) (to : D) : Type 0 where
+  pub gone : List ℕ
+  pub asked : Chain step from (map Deallocated gone) to
+  pub held : (object : ℕ) → Contains gone object → IsSome (finite.get s.held object)
+  pub unheld : (object : ℕ) → Contains gone object → finite.get new.held object ≡ None
+  pub others : (object : ℕ) → (Contains gone object → ⊥) → finite.get new.held object ≡ finite.get s.held object
+  pub once : length gone + finite.len new.held ≡ finite.len s.held
+  pub absent : (object : ℕ) → Contains gone object → objects to object ≡ None
+  pub stay : (object : ℕ) → (Contains gone object → ⊥) → objects to object ≡ objects from object

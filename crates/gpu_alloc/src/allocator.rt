@@ -14,7 +14,7 @@ ghost use Rattle.gpu_alloc.specs.Atoms.{KeepsAtoms};
 ghost use Rattle.gpu_alloc.specs.declared.allocator.Strategy.TheVariants.{OwnObject, InBuddyChunk, InFreeList};
 ghost use Rattle.gpu_alloc.specs.Opening.{opened};
 ghost use Rattle.gpu_alloc.specs.Owned.{HoldsNothing, Leaves, Adds, Removes, LeavesNoRest, StaysAgreed};
-ghost use Rattle.gpu_alloc.specs.Release.{Frees, ObjectsFreed, Cleans, ObjectsCleaned, IsCleanedUp};
+ghost use Rattle.gpu_alloc.specs.Release.{Frees, ObjectsFreed, Cleans, ObjectsCleaned, IsCleanedUp, GoesBack};
 ghost use Rattle.gpu_alloc.specs.Request.{IsAskable};
 ghost use Rattle.gpu_alloc.specs.Sound as Sound;
 ghost use Rattle.gpu_alloc_block.specs.State.{HeldObject, Span, IsLive, IsOwned, ledger, total};
@@ -233,6 +233,7 @@ impl<M: MemoryObject, A: Allocator> GpuAllocator<M, A> {
         // What follows from it.
         ensures granted { IfOk result (IsGranted self.old request self.new) }
         ensures ready { IfOk result (λ block. BlockAgrees block (D.properties device.new) (D.objects device.new)) }
+        ensures own { dedicated ≡ Dedicated.Required → IfOk result (λ block. block.kind ≡ Kind.Dedicated) }
         ensures added { IfOk result (Adds self.old self.new) }
         ensures refused { OnErr result (self.new ≡ self.old) }
         ensures leaves { Leaves self.old self.new }
@@ -573,6 +574,7 @@ impl<M: MemoryObject, A: Allocator> GpuAllocator<M, A> {
 
         ensures freed { (es : List Event) × Chain D.step device.old es device.new × Frees self.old block es self.new }
         ensures objects { ObjectsFreed self.old block (D.objects device.old) (D.objects device.new) }
+        ensures gone { GoesBack D.step D.objects self.old device.old self.new device.new }
         ensures agrees { Agrees self.new (D.properties device.new) (D.objects device.new) }
         ensures removed { Removes self.old block self.new }
         ensures keeps { KeepsBlocks self.old (D.properties device.old) (D.objects device.old)
@@ -594,6 +596,7 @@ impl<M: MemoryObject, A: Allocator> GpuAllocator<M, A> {
 
         ensures cleaned { (es : List Event) × Chain D.step device.old es device.new × Cleans self.old es self.new }
         ensures objects { ObjectsCleaned self.old (D.objects device.old) (D.objects device.new) }
+        ensures gone { GoesBack D.step D.objects self.old device.old self.new device.new }
         ensures agrees { Agrees self.new (D.properties device.new) (D.objects device.new) }
         ensures leaves { Leaves self.old self.new }
         ensures keeps { KeepsBlocks self.old (D.properties device.old) (D.objects device.old)

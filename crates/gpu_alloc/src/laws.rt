@@ -3,6 +3,7 @@
 ghost use Rattle.std.specs.Prelude.{◌≡◌, ◌≢◌, ℕ, List, [], ◌∷◌, Some, None, true, false};
 ghost use Rattle.std.specs.FinSet as set;
 ghost use Rattle.gpu_alloc_block.specs.Agreement.{Agrees, KeptBlocksAgree};
+ghost use Rattle.gpu_alloc_block.specs.ByteCalls.{BytesMoved};
 ghost use Rattle.gpu_alloc.specs.Allocation.{strategy, CandidatesServe};
 ghost use Rattle.gpu_alloc.specs.Exactness.{AreCanonical, AreFreePieces, AreLongEnough, ArePiecesApart};
 ghost use Rattle.gpu_alloc.specs.Exactness.{AreSpaced, AreFreeRuns, TellPlaces};
@@ -35,7 +36,10 @@ use crate::GpuAllocator;
 pub use gpu_alloc_base::laws::{
     align_masks_of_powers, free_list_chunk_is_least, next_power_of_two_is_least,
 };
-pub use gpu_alloc_block::laws::rounded_ranges_lie_in_their_block;
+use gpu_alloc_block::laws::byte_calls_keep_each_agreement;
+pub use gpu_alloc_block::laws::{
+    bytes_of_a_mapping_may_be_moved, rounded_ranges_lie_in_their_block, these_bytes_may_be_moved,
+};
 use gpu_alloc_types::{MemoryDevice, MemoryObject, OutOfMemory};
 pub use gpu_alloc_usage::laws::{
     candidates_are_exact_and_sorted, ranking_is_exact_and_sorted, rankings_of_samples,
@@ -222,6 +226,18 @@ pub fn objects_of_others_may_go<M: MemoryObject, D: MemoryDevice<M>, A: Allocato
 {
     let _ = allocator;
     let _ = device;
+}
+
+/// A device that puts or gets bytes, flushes or invalidates for its caller, whatever its answer was, leaves an allocator
+/// and each block in agreement: by this call it becomes known of the device's latest call.
+pub fn byte_calls_keep_agreement<M: MemoryObject, D: MemoryDevice<M>, A: Allocator>(
+    allocator: &GpuAllocator<M, A>,
+    device: &D,
+)
+    ensures { BytesMoved allocator.now D.step D.properties D.objects device.now }
+{
+    let _ = allocator;
+    byte_calls_keep_each_agreement(device);
 }
 
 /// Two blocks that are owned and of different spans share no byte, nor an object where one of them has its own.

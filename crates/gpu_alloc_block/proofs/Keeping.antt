@@ -1,9 +1,10 @@
 -- What a call of a block keeps of the agreements of allocators and of blocks.
-use Rattle.std.proofs.Common.{◌≡◌, ◌≢◌, ◌⊎◌, inl, inr, ℕ, ◌+◌, ◌<◌, ◌≤◌, Bool, true, false, Option, Some, None, IfSome, List, [], ◌∷◌, ◌++◌, refl, sym, ◌∙◌, ap, subst}
+use Rattle.std.proofs.Common.{◌≡◌, ◌≢◌, inl, inr, ℕ, Bool, true, false, Option, Some, None, IfSome, IsSome, List, [], ◌∷◌, ◌++◌, refl, sym, ◌∙◌, ap, subst}
 use Rattle.std.specs.FinMap as map
 use Rattle.gpu_alloc_base.proofs.Names.{one_or_two}
-use Rattle.gpu_alloc_types.specs.Properties.{Properties, is_host_visible}
-use Rattle.gpu_alloc_types.specs.Device.{Object, Changes, HeldWith, put}
+use Rattle.gpu_alloc_types.specs.Flags.{has_bit}
+use Rattle.gpu_alloc_types.specs.Properties.{Properties}
+use Rattle.gpu_alloc_types.specs.Device.{Object, Changes, HeldWith}
 use Rattle.gpu_alloc_types.specs.Objects.{put-same, put-other}
 use Rattle.gpu_alloc_block.proofs.Changes.{some_same, changed_there}
 use Rattle.gpu_alloc_block.specs.Agreement.{IsMappedWhole, IsInside, IsCounted, IsThere, Agrees, IsOfBlock, IsBeneath, IsHeldFor, BlockAgrees, KeepsAgreement}
@@ -22,7 +23,7 @@ pub record HasSameShape (b : Block) (o new : Object) : Type 0 where
   pub same_mapping : is_shared b.kind ≡ true → new.mapped ≡ o.mapped
 
 -- of an option, what is known of its value
-if_some_told : {X : Type 0} (x : Option X) (P Q : X → Type 0) → ((value : X) → x ≡ Some value → P value → Q value) → IfSome x P → IfSome x Q
+pub if_some_told : {X : Type 0} (x : Option X) (P Q : X → Type 0) → ((value : X) → x ≡ Some value → P value → Q value) → IfSome x P → IfSome x Q
 if_some_told None P Q told known = tt
 if_some_told (Some value) P Q told known = told value refl known
 
@@ -38,13 +39,13 @@ inside_same : (p : Properties) (span : Span) (o new : Object) → new.memory_typ
 inside_same p span o new of_type of_size is = record { within = rw of_size is.within; finish = λ non_coherent. rw of_size (is.finish (rw of_type at non_coherent)) }
 
 module _ (s : State) (name counted : ℕ) (o new : Object) (of_type : new.memory_type ≡ o.memory_type) (of_size : new.size ≡ o.size) where
-  counted_same : (kind : Kind) → (is_shared kind ≡ true → new.mapped ≡ o.mapped) → IsCounted kind s name counted o → IsCounted kind s name counted new
+  pub counted_same : (kind : Kind) → (is_shared kind ≡ true → new.mapped ≡ o.mapped) → IsCounted kind s name counted o → IsCounted kind s name counted new
   counted_same Dedicated mapping is = of_size ∙ is
   counted_same Imported mapping is = λ span live of_object. inside_same s.properties span o new of_type of_size (is span live of_object)
   counted_same BuddyChunk mapping is = (of_size ∙ is.0, mapped_whole s.properties o new of_type of_size (mapping refl) is.1)
   counted_same (FreeListChunk number) mapping is = (of_size ∙ is.0, mapped_whole s.properties o new of_type of_size (mapping refl) is.1)
 
-beneath_same : (p : Properties) (c : Block) (o new : Object) → new.memory_type ≡ o.memory_type → new.size ≡ o.size → new.mapped ≡ o.mapped → IsBeneath p c o → IsBeneath p c new
+pub beneath_same : (p : Properties) (c : Block) (o new : Object) → new.memory_type ≡ o.memory_type → new.size ≡ o.size → new.mapped ≡ o.mapped → IsBeneath p c o → IsBeneath p c new
 beneath_same p c o new of_type of_size mapping is = record {
   of_type = of_type ∙ is.of_type;
   inside = rw of_size is.inside;
@@ -93,6 +94,7 @@ module _ (b : Block) (p : Properties) (f g : ℕ → Option Object) (c : Changes
     props = agrees.props;
     atom = agrees.atom;
     mapping = agrees.mapping;
+    visible = agrees.visible;
     there = held_still d.object (IsBeneath p d) kept agrees.there;
   }
 
@@ -136,6 +138,7 @@ agrees_moved b p q f g same c agrees =
       props = agrees.props;
       atom = agrees.atom;
       mapping = agrees.mapping;
+      visible = agrees.visible;
       there =
           let before : agrees.there.0 ≡ c.0 = some_same agrees.there.0 c.0 (sym agrees.there.1 ∙ c.1) in
           (c.2.0, changed_there f b.object HasOnlyOtherBytes g c, beneath_same p b c.0 c.2.0 c.2.1.same_type c.2.1.same_size c.2.1.same_mapping (subst (IsBeneath p b) before agrees.there.2));
@@ -158,13 +161,14 @@ beneath_remapped p b m o new re is = record {
   finish = rw (re.shape.same_size) is.finish;
 }
 
-pub agrees_remapped : (b : Block) (m : Option Mapping) (p q : Properties) (f g : ℕ → Option Object) → q ≡ p → IfSome m (IsOfBlock b) → Changes (IsRemapped b m) f b.object g → IsHeldFor b p f → IsHeldFor (record b { mapping = m }) q g
-agrees_remapped b m p q f g same inside c agrees =
+pub agrees_remapped : (b : Block) (m : Option Mapping) (p q : Properties) (f g : ℕ → Option Object) → q ≡ p → IfSome m (IsOfBlock b) → (IsSome m → has_bit b.props 2 ≡ true) → Changes (IsRemapped b m) f b.object g → IsHeldFor b p f → IsHeldFor (record b { mapping = m }) q g
+agrees_remapped b m p q f g same inside visible c agrees =
     let before : agrees.there.0 ≡ c.0 = some_same agrees.there.0 c.0 (sym agrees.there.1 ∙ c.1) in
     rw same (record {
       props = agrees.props;
       atom = agrees.atom;
       mapping = inside_same_block m inside;
+      visible = visible;
       there = (c.2.0, changed_there f b.object (IsRemapped b m) g c, beneath_remapped p b m c.0 c.2.0 c.2.1 (subst (IsBeneath p b) before agrees.there.2));
     })
   where

@@ -1,4 +1,5 @@
 pub mod Between
+pub mod ByteCalls
 pub mod Changes
 pub mod Copies
 pub mod Keeping

@@ -1,4 +1,5 @@
 pub mod Agreement
+pub mod ByteCalls
 pub mod Bytes
 pub mod Codes
 pub mod InHand

@@ -1,13 +1,15 @@
 //! Laws of the definitions that contracts cite. The functions do nothing.
 
-ghost use Rattle.std.specs.Prelude.{ℕ, ◌+◌, ◌≤◌, Option};
-ghost use Rattle.gpu_alloc_types.specs.Device.{Object};
+ghost use Rattle.std.specs.Prelude.{◌≡◌, ℕ, ◌+◌, ◌<◌, ◌≤◌, Option, Some};
+ghost use Rattle.gpu_alloc_types.specs.Device.{Object, HeldWith, IsInMapped};
 ghost use Rattle.gpu_alloc_types.specs.Properties.{Properties};
 ghost use Rattle.gpu_alloc_block.specs.Agreement.{BlockAgrees, LiesInBlock};
+ghost use Rattle.gpu_alloc_block.specs.ByteCalls.{BytesMoved, MayBeMoved};
 ghost use Rattle.gpu_alloc_block.specs.Ranges.{rounded};
+ghost use Rattle.gpu_alloc_block.specs.State.{State};
 
-use crate::MemoryBlock;
-use gpu_alloc_types::MemoryObject;
+use crate::{Mapping, MemoryBlock};
+use gpu_alloc_types::{MemoryDevice, MemoryObject};
 
 /// What is flushed or invalidated of a block lies inside it; an import's alone may begin before it, by less than one
 /// atom. So a call of a block changes no byte of another, as its clause `within` tells.
@@ -16,4 +18,39 @@ pub fn rounded_ranges_lie_in_their_block<M: MemoryObject>(block: &MemoryBlock<M>
         → offset + len ≤ block.now.size → LiesInBlock block.now (rounded block.now offset len) }
 {
     block.keeps_end();
+}
+
+/// Bytes inside a block's mapping may be put and got by the device's own calls (`put_bytes`, `get_bytes`), on each
+/// device that the block agrees with.
+pub fn bytes_of_a_mapping_may_be_moved<M: MemoryObject>(block: &MemoryBlock<M>)
+    ensures { MayBeMoved block.now }
+{
+    block.keeps_end();
+}
+
+/// The same of `len` bytes from `place` on, in bytes from the start of the block's object: by this call a caller may
+/// put or get them.
+pub fn these_bytes_may_be_moved<M: MemoryObject, D: MemoryDevice<M>>(
+    block: &MemoryBlock<M>,
+    device: &D,
+    mapping: Mapping,
+    place: u64,
+    len: usize,
+)
+    requires agrees { BlockAgrees block.now (D.properties device.now) (D.objects device.now) }
+    requires mapped { block.now.mapping ≡ Some mapping }
+    requires some { 0 < len }
+    requires from { mapping.start ≤ place }
+    requires to { place + len ≤ mapping.start + mapping.len }
+    ensures { HeldWith (D.objects device.now) block.now.object (IsInMapped place len) }
+{
+    bytes_of_a_mapping_may_be_moved(block);
+}
+
+/// A device that puts or gets bytes, flushes or invalidates for its caller, whatever its answer was, leaves every
+/// allocator and every block in agreement. `gpu_alloc::laws::byte_calls_keep_agreement` is that of one allocator.
+pub fn byte_calls_keep_each_agreement<M: MemoryObject, D: MemoryDevice<M>>(device: &D)
+    ensures { (s : State) → BytesMoved s D.step D.properties D.objects device.now }
+{
+    let _ = device;
 }

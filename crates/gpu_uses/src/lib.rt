@@ -7,6 +7,7 @@ pub mod bytes;
 pub mod first_use;
 pub mod frame;
 pub mod imports;
+pub mod mapping;
 pub mod opening;
 pub mod session;
 pub mod shared;

@@ -2,7 +2,7 @@ use Rattle.std.proofs.Common.{Some}
 use Rattle.gpu_alloc.proofs.Agreed.{allocates_agrees, chain_keeps}
 use Rattle.gpu_alloc.proofs.BlocksAgreed.{allocates_agrees_block, allocation_keeps_blocks}
 use Rattle.gpu_alloc.proofs.Decisions.{allocates_kept, allocates_total}
-use Rattle.gpu_alloc.proofs.Granted.{allocates_granted}
+use Rattle.gpu_alloc.proofs.Granted.{allocates_granted, required_granted}
 use Rattle.gpu_alloc.proofs.Owning.{allocates_add, allocates_leave}
 use Rattle.gpu_alloc.proofs.allocator.GpuAllocator.alloc_with_dedicated.Goals as goal
 
@@ -34,3 +34,6 @@ pub returns-clause-keeps : goal.returns-clause-keeps
 returns-clause-keeps g c =
     let properties = chain_keeps g.D.MemoryDevice.step g.D.MemoryDevice.properties g.met.D.MemoryDevice.keeps_properties _ _ _ c.allocate-answer.ensures.decided.1 in
     allocation_keeps_blocks c.args.self.now _ _ _ _ properties _ _ c.allocate-answer.ensures.objects
+
+pub returns-clause-own : goal.returns-clause-own
+returns-clause-own g c required = required_granted c.args.self.now c.args.request c.args.dedicated required _ _ _ c.allocate-answer.ensures.decided.2

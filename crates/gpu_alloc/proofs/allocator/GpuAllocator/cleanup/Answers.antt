@@ -4,6 +4,7 @@ use Rattle.gpu_alloc.specs.Release.{AreAllGone}
 use Rattle.gpu_alloc.proofs.Agreed.{chain_keeps}
 use Rattle.gpu_alloc.proofs.BlocksAgreed.{cleanup_keeps_blocks}
 use Rattle.gpu_alloc.proofs.FreeLists.Cleanups.{cleaning_goes_on, all_gone, left_is}
+use Rattle.gpu_alloc.proofs.GoneBack.{cleanup_goes_back}
 use Rattle.gpu_alloc.proofs.Owning.{cleans_leave, none_live}
 use Rattle.gpu_alloc_block.specs.State.{HeldObject, State}
 use Rattle.std.specs.FinMap as map
@@ -76,3 +77,8 @@ returns-clause-keeps g c =
     let cleaned = returns-clause-cleaned g c in
     let properties = chain_keeps g.D.MemoryDevice.step g.D.MemoryDevice.properties g.met.D.MemoryDevice.keeps_properties _ _ _ cleaned.1 in
     cleanup_keeps_blocks c.args.self.now _ _ _ _ properties cleaned.0 _ cleaned.2 (returns-clause-objects g c)
+
+pub returns-clause-gone : goal.returns-clause-gone
+returns-clause-gone g c =
+    let cleaned = returns-clause-cleaned g c in
+    cleanup_goes_back g.D.MemoryDevice.step g.D.MemoryDevice.objects c.args.self.now _ _ _ (returns-clause-total g c) cleaned.0 cleaned.1 cleaned.2 (returns-clause-objects g c)

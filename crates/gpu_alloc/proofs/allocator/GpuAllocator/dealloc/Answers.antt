@@ -1,5 +1,6 @@
 use Rattle.gpu_alloc.proofs.Agreed.{chain_keeps}
 use Rattle.gpu_alloc.proofs.BlocksAgreed.{return_keeps_blocks}
+use Rattle.gpu_alloc.proofs.GoneBack.{return_goes_back}
 use Rattle.gpu_alloc.proofs.Owning.{frees_remove}
 use Rattle.gpu_alloc.proofs.ReturnedTotals.{frees_total}
 use Rattle.gpu_alloc.proofs.allocator.GpuAllocator.dealloc.Goals as goal
@@ -15,3 +16,8 @@ returns-clause-keeps g c =
     let freed = c.take_back.ensures.freed in
     let properties = chain_keeps g.D.MemoryDevice.step g.D.MemoryDevice.properties g.met.D.MemoryDevice.keeps_properties _ _ _ freed.1 in
     return_keeps_blocks c.args.self.now _ _ _ _ properties c.args.block freed.0 _ freed.2 c.take_back.ensures.objects
+
+pub returns-clause-gone : goal.returns-clause-gone
+returns-clause-gone g c =
+    let freed = c.take_back.ensures.freed in
+    return_goes_back g.D.MemoryDevice.step g.D.MemoryDevice.objects c.args.self.now _ _ _ (returns-clause-total g c) freed.0 freed.1 c.args.block c.requires.owned freed.2 c.take_back.ensures.objects

@@ -1,6 +1,7 @@
-use Rattle.std.proofs.Common.{◌≡◌, ◌+◌, ◌≤◌, Some, refl, sym, ◌∙◌, subst, arith}
+use Rattle.std.proofs.Common.{Some, sym, ◌∙◌, subst, arith}
 use Rattle.gpu_alloc_block.proofs.Between.{mapped_so, keeps_remapped}
 use Rattle.gpu_alloc_block.proofs.Keeping.{agrees_remapped, same_block}
+use Rattle.gpu_alloc_block.proofs.Opened.{able_seen}
 use Rattle.gpu_alloc_block.specs.Agreement.{BlockAgrees, IsOfBlock}
 use Rattle.gpu_alloc_block.specs.InHand.{IsSameBlock}
 use Rattle.gpu_alloc_block.specs.Mapped.{ObjectsMapped, mapping_of}
@@ -18,7 +19,7 @@ returns-in-Ok-clause-agrees g c =
     let objects = subst (λ answer. ObjectsMapped b (rounded b c.args.offset c.args.size) answer f opened) c.in-Ok.is c.open.ensures.objects in
     let inside : IsOfBlock b (mapping_of b c.args.offset c.args.size) = record { nonempty = c.requires.nonempty; from = omega arith; to = omega (arith, c.requires.inside) } in
     subst (λ x. BlockAgrees (record x { mapping = Some (mapping_of x c.args.offset c.args.size) }) q opened) (sym c.self.view_is)
-    (agrees_remapped b (Some (mapping_of b c.args.offset c.args.size)) p q f opened c.open.ensures.properties inside
+    (agrees_remapped b (Some (mapping_of b c.args.offset c.args.size)) p q f opened c.open.ensures.properties inside (λ some. able_seen b (sym c.refusal.ensures ∙ c.in_default.is))
     (mapped_so p b c.args.offset c.args.size f opened c.requires.agrees objects) c.requires.agrees)
 
 pub returns-in-Ok-clause-keeps : goal.returns-in-Ok-clause-keeps

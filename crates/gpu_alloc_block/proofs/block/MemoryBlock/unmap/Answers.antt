@@ -1,4 +1,4 @@
-use Rattle.std.proofs.Common.{◌≡◌, true, false, not, ◌||◌, Bool, Option, Some, None, is_some, refl, sym, ◌∙◌, ap, subst}
+use Rattle.std.proofs.Common.{None, sym, subst}
 use Rattle.gpu_alloc_block.proofs.Between.{unmapped_so, keeps_remapped}
 use Rattle.gpu_alloc_block.proofs.Keeping.{agrees_remapped, same_block}
 use Rattle.gpu_alloc_block.specs.Agreement.{BlockAgrees}
@@ -14,7 +14,7 @@ returns-clause-agrees g c =
     let f = g.D.MemoryDevice.objects c.args.device.now in
     let closed = g.D.MemoryDevice.objects c.close.new.device in
     subst (λ x. BlockAgrees (record x { mapping = None }) q closed) (sym c.self.view_is)
-    (agrees_remapped b None p q f closed c.close.ensures.properties tt (unmapped_so p b f closed c.requires c.close.ensures.objects) c.requires)
+    (agrees_remapped b None p q f closed c.close.ensures.properties tt (λ some. absurd (cc)) (unmapped_so p b f closed c.requires c.close.ensures.objects) c.requires)
 
 pub returns-clause-keeps : goal.returns-clause-keeps
 unfolding BlockAgrees
