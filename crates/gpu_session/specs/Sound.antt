@@ -1,5 +1,5 @@
 -- What every state between two commands has, and what each step keeps.
-use Rattle.std.specs.Prelude.{◌≡◌, ◌≢◌, ◌↔◌, ℕ, ◌+◌, ◌%◌, ◌≤◌, ◌<◌, true, List, length, map, Contains, Option, Some, None}
+use Rattle.std.specs.Prelude.{◌≡◌, ◌≢◌, ◌↔◌, ℕ, ◌+◌, ◌%◌, ◌≤◌, ◌<◌, true, List, length, map, Contains, Option, Some}
 use Rattle.std.specs.Prelude.{IsSome, IfSome}
 use Rattle.std.specs.FinMap as finite
 use Rattle.gpu_alloc_types.specs.Properties.{Properties, atom_of}
@@ -18,9 +18,8 @@ use Rattle.gpu_session.specs.Does.{IsTold}
 use Rattle.gpu_session.specs.Offer.{IsOffer}
 use Rattle.gpu_session.specs.Run.{Step}
 use Rattle.gpu_session.specs.declared.command.Command.{Command}
-use Rattle.gpu_session.specs.declared.command.Command.TheVariants.{Alloc, Dedicated, Import, Free, Map, Unmap, Write}
-use Rattle.gpu_session.specs.declared.command.Command.TheVariants.{Read, Put, Get, SetRemaining, Cleanup, FreeRanges}
-use Rattle.gpu_session.specs.declared.command.Command.TheVariants.{Counts}
+use Rattle.gpu_session.specs.declared.command.Command.TheVariants.{Alloc, Dedicated, Import}
+use Rattle.gpu_session.specs.declared.command.Command.TheVariants.{SetRemaining, Cleanup}
 use Rattle.gpu_session.specs.declared.command.Reply.{Reply}
 use Rattle.gpu_session.specs.declared.command.Reply.TheVariants.{Granted, Refused, Fault as Faulty}
 use Rattle.gpu_session.specs.declared.offer.Offer.{Offer}
@@ -116,6 +115,10 @@ pub record SoundStep {D A : Type 0} (step : D → Event → D → Type 0) (prope
 abbrev pub LeavesRemaining : {A : Type 0} → Command A → Type 0
 LeavesRemaining (SetRemaining remaining) = ⊥
 LeavesRemaining command = Unit {0}
+
+-- with no block under any name nothing is held
+abbrev pub HasNothingLeft : Books → Type 0
+HasNothingLeft s = s.blocks ≡ finite.empty → HoldsNothing s.allocator s.allocator
 
 -- Each live block is the whole of an object, and no two are of one object.
 pub record AreWholeObjects (objects : ℕ → Option Object) (s : Books) : Type 0 where
