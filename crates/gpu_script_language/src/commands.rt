@@ -59,6 +59,28 @@ pub(crate) enum PlainWord {
     Counts,
 }
 
+/// What the words of command lines stand for.
+pub(crate) const COMMAND_WORDS: [(&str, CommandWord); 15] = [
+    ("alloc", CommandWord::Request(None)),
+    ("required", CommandWord::Request(Some(Dedicated::Required))),
+    (
+        "preferred",
+        CommandWord::Request(Some(Dedicated::Preferred)),
+    ),
+    ("import", CommandWord::Import),
+    ("free", CommandWord::Number(NumberWord::Free)),
+    ("map", CommandWord::Span(SpanWord::Map)),
+    ("unmap", CommandWord::Number(NumberWord::Unmap)),
+    ("write", CommandWord::Bytes(BytesWord::Write)),
+    ("read", CommandWord::Span(SpanWord::Read)),
+    ("put", CommandWord::Bytes(BytesWord::Put)),
+    ("get", CommandWord::Span(SpanWord::Get)),
+    ("remaining", CommandWord::Number(NumberWord::Remaining)),
+    ("cleanup", CommandWord::Plain(PlainWord::Cleanup)),
+    ("ranges", CommandWord::Number(NumberWord::Ranges)),
+    ("counts", CommandWord::Plain(PlainWord::Counts)),
+];
+
 impl CommandWord {
     /// How many fields follow the word.
     fn wanted(self) -> usize {

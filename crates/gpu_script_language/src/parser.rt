@@ -1,11 +1,10 @@
 //! A script, line by line.
 
-use crate::commands::{BytesWord, CommandWord, NumberWord, PlainWord, SpanWord};
+use crate::commands::COMMAND_WORDS;
 use crate::fields::Fields;
 use crate::line::{LineError, LineStop, meaning_of};
 use crate::lines::Lines;
-use crate::setup::{Setup, SetupWord};
-use gpu_alloc::Dedicated;
+use crate::setup::{SETUP_WORDS, Setup};
 use gpu_session::Command;
 use std::alloc::{AllocError, Allocator};
 
@@ -71,69 +70,14 @@ impl<A: Allocator + Copy> Script<A> {
         if let [b'#', ..] = first {
             return Ok(());
         }
-        match meaning_of(&WORDS, Some(first))? {
-            Word::Setup(word) => {
-                if !self.commands.is_empty() {
-                    return Err(LineStop::Bad(LineError::SetupAfterCommands));
-                }
-                self.setup.take_line(word, fields)?;
-            }
-            Word::Command(word) => self.commands.push(word.read(alloc, fields)?)?,
+        if let Ok(word) = meaning_of(&COMMAND_WORDS, Some(first)) {
+            self.commands.push(word.read(alloc, fields)?)?;
+            return Ok(());
         }
-        Ok(())
+        let word = meaning_of(&SETUP_WORDS, Some(first))?;
+        if !self.commands.is_empty() {
+            return Err(LineStop::Bad(LineError::SetupAfterCommands));
+        }
+        self.setup.take_line(word, fields)
     }
 }
-
-/// The words that lines begin with.
-#[derive(Clone, Copy)]
-enum Word {
-    Setup(SetupWord),
-    Command(CommandWord),
-}
-
-/// What they stand for.
-const WORDS: [(&str, Word); 22] = [
-    ("config", Word::Setup(SetupWord::Config)),
-    ("heap", Word::Setup(SetupWord::Heap)),
-    ("type", Word::Setup(SetupWord::Type)),
-    ("limits", Word::Setup(SetupWord::Limits)),
-    ("atom", Word::Setup(SetupWord::Atom)),
-    ("address", Word::Setup(SetupWord::Address)),
-    ("refuse", Word::Setup(SetupWord::Refuse)),
-    ("alloc", Word::Command(CommandWord::Request(None))),
-    (
-        "required",
-        Word::Command(CommandWord::Request(Some(Dedicated::Required))),
-    ),
-    (
-        "preferred",
-        Word::Command(CommandWord::Request(Some(Dedicated::Preferred))),
-    ),
-    ("import", Word::Command(CommandWord::Import)),
-    ("free", Word::Command(CommandWord::Number(NumberWord::Free))),
-    ("map", Word::Command(CommandWord::Span(SpanWord::Map))),
-    (
-        "unmap",
-        Word::Command(CommandWord::Number(NumberWord::Unmap)),
-    ),
-    ("write", Word::Command(CommandWord::Bytes(BytesWord::Write))),
-    ("read", Word::Command(CommandWord::Span(SpanWord::Read))),
-    ("put", Word::Command(CommandWord::Bytes(BytesWord::Put))),
-    ("get", Word::Command(CommandWord::Span(SpanWord::Get))),
-    (
-        "remaining",
-        Word::Command(CommandWord::Number(NumberWord::Remaining)),
-    ),
-    (
-        "cleanup",
-        Word::Command(CommandWord::Plain(PlainWord::Cleanup)),
-    ),
-    (
-        "ranges",
-        Word::Command(CommandWord::Number(NumberWord::Ranges)),
-    ),
-    (
-        "counts",
-        Word::Command(CommandWord::Plain(PlainWord::Counts)),
-    ),
-];
