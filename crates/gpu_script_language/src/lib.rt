@@ -1,6 +1,7 @@
 //! The script language: setup lines that describe a device, and command lines that a session runs over it.
 #![tactic(auto)]
 
+mod commands;
 mod fields;
 mod line;
 mod lines;

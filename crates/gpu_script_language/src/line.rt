@@ -1,7 +1,9 @@
-//! What is wrong with a line, and the numbers in it.
+//! What is wrong with a line, and the numbers and bytes in it.
 
 use crate::fields::Fields;
-use std::alloc::{AllocError, AllocFailed};
+use gpu_session::Bytes;
+use hex::FromHexError;
+use std::alloc::{AllocError, AllocFailed, Allocator};
 use std::fmt;
 
 /// What is wrong with a line.
@@ -19,6 +21,9 @@ pub enum LineError {
     /// A field that is not a number of its type or range.
     BadNumber,
 
+    /// A field that is not bytes.
+    BadBytes,
+
     /// After all lines: the properties cannot be used.
     BadProperties,
 }
@@ -30,6 +35,7 @@ impl fmt::Display for LineError {
             LineError::SetupAfterCommands => write!(f, "setup after commands"),
             LineError::WrongNumberOfFields => write!(f, "wrong number of fields"),
             LineError::BadNumber => write!(f, "bad number"),
+            LineError::BadBytes => write!(f, "bad bytes"),
             LineError::BadProperties => write!(f, "bad properties"),
         }
     }
@@ -77,6 +83,18 @@ fn number(field: &[u8]) -> Option<u64> {
     if field.is_empty() { None } else { Some(value) }
 }
 
+/// The bytes that a field holds: two hexadecimal digits for each, or `-` for none.
+fn bytes<A: Allocator>(alloc: A, field: &[u8]) -> Result<Bytes<A>, LineStop> {
+    if let [b'-'] = field {
+        return Ok(Bytes::from_vec(Vec::new(alloc)));
+    }
+    match hex::decode(alloc, field) {
+        Ok(bytes) => Ok(Bytes::from_vec(bytes)),
+        Err(FromHexError::OutOfMemory) => Err(LineStop::Memory),
+        Err(_) => Err(LineStop::Bad(LineError::BadBytes)),
+    }
+}
+
 /// What a field stands for, as one of these words.
 pub(crate) fn meaning_of<T: Copy>(
     words: &[(&str, T)],
@@ -113,5 +131,11 @@ impl Fields<'_> {
             Ok(value) if value <= most => Ok(value),
             _ => Err(LineError::BadNumber),
         }
+    }
+
+    /// The next field as bytes.
+    pub(crate) fn next_bytes<A: Allocator>(&mut self, alloc: A) -> Result<Bytes<A>, LineStop> {
+        let field = self.next().ok_or(LineError::WrongNumberOfFields)?;
+        bytes(alloc, field)
     }
 }

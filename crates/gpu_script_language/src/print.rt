@@ -1,5 +1,6 @@
 //! Replies as lines of text.
 
+use gpu_alloc::FreeRange;
 use gpu_session::{Fault, Reply};
 use gpu_sim::{Question, Sim};
 use std::alloc::{AllocError, Allocator};
@@ -34,24 +35,70 @@ pub fn print_reply<A: Allocator>(text: &mut String<A>, reply: &Reply<A>) -> Resu
             "block type {memory_type} object {object} offset {offset} size {size}"
         ),
         Reply::Refused(error) => write!(text, "refused: {error}"),
+        Reply::MapRefused(error) => write!(text, "refused: {error}"),
         Reply::Done => text.push_str("ok"),
+        Reply::Mapped(mapping) => write!(text, "mapped {} {}", mapping.start, mapping.len),
+        Reply::Unmapped(was_mapped) => {
+            text.push_str(if *was_mapped {
+                "unmapped yes"
+            } else {
+                "unmapped no"
+            })
+        }
+        Reply::Bytes(bytes) => print_bytes(text, bytes.as_slice()),
+        Reply::Ranges(ranges) => print_ranges(text, ranges.as_slice()),
         Reply::Counts {
             remaining,
             held,
             used,
-        } => {
-            write!(text, "counts remaining {remaining} held {held} used")?;
-            for ledger in used.as_slice() {
-                write!(text, " {ledger}")?;
-            }
-            Ok(())
-        }
+        } => print_counts(text, *remaining, *held, used.as_slice()),
         Reply::Fault(fault) => {
             let number = *fault as u8;
             let name = name_of(*fault);
             write!(text, "fault {number} {name}")
         }
     }
+}
+
+/// Two hexadecimal digits for each byte.
+fn print_bytes<A: Allocator>(text: &mut String<A>, bytes: &[u8]) -> Result<(), AllocError> {
+    text.push_str("bytes ")?;
+    if bytes.is_empty() {
+        text.push('-')?;
+    }
+    for byte in bytes {
+        write!(text, "{byte:02x}")?;
+    }
+    Ok(())
+}
+
+/// The object, the start and the end of each range.
+fn print_ranges<A: Allocator>(
+    text: &mut String<A>,
+    ranges: &[FreeRange],
+) -> Result<(), AllocError> {
+    text.push_str("ranges")?;
+    if ranges.is_empty() {
+        text.push_str(" none")?;
+    }
+    for range in ranges {
+        write!(text, " {}:{}-{}", range.object, range.start, range.end)?;
+    }
+    Ok(())
+}
+
+/// How many objects remain and how many are held, and what is held of each heap.
+fn print_counts<A: Allocator>(
+    text: &mut String<A>,
+    remaining: u32,
+    held: u32,
+    used: &[u128],
+) -> Result<(), AllocError> {
+    write!(text, "counts remaining {remaining} held {held} used")?;
+    for ledger in used {
+        write!(text, " {ledger}")?;
+    }
+    Ok(())
 }
 
 fn name_of(fault: Fault) -> &'static str {

@@ -26,6 +26,17 @@ pub(crate) enum SetupWord {
     Refuse,
 }
 
+/// What the words of setup lines stand for.
+pub(crate) const SETUP_WORDS: [(&str, SetupWord); 7] = [
+    ("config", SetupWord::Config),
+    ("heap", SetupWord::Heap),
+    ("type", SetupWord::Type),
+    ("limits", SetupWord::Limits),
+    ("atom", SetupWord::Atom),
+    ("address", SetupWord::Address),
+    ("refuse", SetupWord::Refuse),
+];
+
 impl SetupWord {
     /// Whether so many fields may follow the word.
     fn takes(self, count: usize) -> bool {
