@@ -1,5 +1,8 @@
 //! What is wrong with a line, and the numbers and bytes in it.
 
+ghost use Rattle.std.specs.Prelude.{IfOk};
+ghost use Rattle.gpu_script_language.specs.Bytes.{IsWritten};
+
 use crate::fields::Fields;
 use gpu_session::Bytes;
 use hex::FromHexError;
@@ -84,7 +87,9 @@ fn number(field: &[u8]) -> Option<u64> {
 }
 
 /// The bytes that a field holds: two hexadecimal digits for each, or `-` for none.
-fn bytes<A: Allocator>(alloc: A, field: &[u8]) -> Result<Bytes<A>, LineStop> {
+fn bytes<A: Allocator>(alloc: A, field: &[u8]) -> Result<Bytes<A>, LineStop>
+    ensures { IfOk result (IsWritten field.now) }
+{
     if let [b'-'] = field {
         return Ok(Bytes::from_vec(Vec::new(alloc)));
     }

@@ -163,7 +163,7 @@ fn outcome_at<'a>(
     command: &Script<&'a LocalHeap>,
     hole: usize,
 ) -> Result<Outcome, Fail> {
-    let counts = good_script(heap, "counts")?;
+    let counts = good_script(heap, "counts\nranges 0")?;
     let before = counted(heap, session, &counts)?;
     let outcome = run_in_hole(alloc, heap, session, command, hole)?;
     let after = counted(heap, session, &counts)?;
@@ -191,46 +191,61 @@ fn outcome_of_script(
     outcome
 }
 
-/// How often a command came to each refusal, as the hole grows until it is served.
+/// Whether a command comes to each refusal, as the hole grows until it is served: no place for its reply, no memory for
+/// the session, none for the allocator or the device.
 fn refusals(
     rt: &impl Abort,
     alloc: Global,
     earlier: &str,
     command: &str,
-) -> Result<[u32; 3], Fail> {
-    let mut nothing_ran = 0u32;
-    let mut no_memory = 0u32;
-    let mut refused = 0u32;
+) -> Result<[bool; 3], Fail> {
+    let mut nothing_ran = false;
+    let mut no_memory = false;
+    let mut refused = false;
     for hole in 0..4096 {
         match outcome_of_script(rt, alloc, earlier, command, hole << 4)? {
-            Outcome::NothingRan => nothing_ran = nothing_ran.saturating_add(1),
-            Outcome::NoMemory => no_memory = no_memory.saturating_add(1),
-            Outcome::Refused => refused = refused.saturating_add(1),
+            Outcome::NothingRan => nothing_ran = true,
+            Outcome::NoMemory => no_memory = true,
+            Outcome::Refused => refused = true,
             Outcome::Served => return Ok([nothing_ran, no_memory, refused]),
         }
     }
     Err(Fail::from("never served"))
 }
 
+/// Nothing is held.
+const BASE: &str = "heap 1048576\ntype 0 1\n";
+
+/// A buddy block and a mapped object of its own are held.
+const HELD: &str = "heap 1048576\ntype 0 6\nalloc 1 64 0 2 1\nrequired 2 64 0 2 1\nmap 2 0 64\n";
+
+/// Commands, and which refusals they come to. Those that take no memory only find no place for their reply.
+const WANTS: [(&str, &str, [bool; 3]); 17] = [
+    (BASE, "required 1 100 0 0 1", [true, true, true]),
+    (BASE, "preferred 1 1024 0 0 1", [true, true, true]),
+    (BASE, "alloc 1 100 0 0 1", [true, true, true]),
+    (BASE, "alloc 1 100 0 16 1", [true, true, true]),
+    (BASE, "import 1 0 128 32 64", [true, true, true]),
+    (HELD, "read 1 0 64", [true, true, false]),
+    (HELD, "get 2 0 64", [true, true, false]),
+    (HELD, "ranges 0", [true, true, false]),
+    (HELD, "counts", [true, true, false]),
+    (HELD, "free 1", [true, false, false]),
+    (HELD, "free 2", [true, false, false]),
+    (HELD, "map 1 0 64", [true, false, false]),
+    (HELD, "unmap 2", [true, false, false]),
+    (HELD, "write 1 0 00", [true, false, false]),
+    (HELD, "put 2 0 00", [true, false, false]),
+    (HELD, "remaining 1", [true, false, false]),
+    (HELD, "cleanup", [true, false, false]),
+];
+
 #[test]
 fn each_request_for_memory_is_refused_in_turn(rt: HostRuntime) -> Result<(), Fail> {
-    let base = "heap 1048576\ntype 0 1\n";
-    let held = "heap 1048576\ntype 0 1\nrequired 1 100 0 0 1\n";
-    let [nothing_ran, no_memory, refused] = refusals(
-        &rt,
-        rt.alloc(),
-        base,
-        "required 2 100 0 0 1",
-    )?;
-    assert!(rt;
-        nothing_ran > 0 && no_memory > 0 && refused > 0,
-        "a first block"
-    );
-    let [nothing_ran, no_memory, _] = refusals(&rt, rt.alloc(), held, "counts")?;
-    assert!(rt; nothing_ran > 0 && no_memory > 0, "counts");
-    let [nothing_ran, no_memory, refused] = refusals(&rt, rt.alloc(), held, "free 1")?;
-    assert!(rt; nothing_ran > 0, "the reply to a return");
-    assert_eq!(rt; (no_memory, refused), (0, 0), "a return takes no memory");
+    for (earlier, command, wanted) in WANTS {
+        let met = refusals(&rt, rt.alloc(), earlier, command)?;
+        assert_eq!(rt; met, wanted, "{command}");
+    }
     Ok(())
 }
 
@@ -238,7 +253,7 @@ fn each_request_for_memory_is_refused_in_turn(rt: HostRuntime) -> Result<(), Fai
 fn script_over(alloc: Global, room: usize) -> Result<(u8, usize), Fail> {
     let heap = LocalHeap::new(alloc, room)?;
     let mut input =
-        "heap 4096\ntype 0 1\nrefuse map 1 failed\nrequired 1 8 0 0 1\nfree 1".as_bytes();
+        "heap 4096\ntype 0 6\nrefuse map 3 failed\nrequired 1 8 0 2 1\nwrite 1 0 00\nread 1 0 8\nranges 0\nfree 1".as_bytes();
     let mut output = Vec::new(alloc);
     let status = run_script(&heap, &mut input, &mut output);
     Ok((status, output.len()))
