@@ -15,6 +15,7 @@ use Rattle.gpu_alloc.specs.Types.Kind.TheVariants.{Dedicated as DedicatedObject}
 use Rattle.gpu_alloc.specs.declared.request.Dedicated.TheVariants.{Required}
 use Rattle.gpu_session.specs.Books.{Books, OfBlock, SessionState}
 use Rattle.gpu_session.specs.Does.{IsTold}
+use Rattle.gpu_session.specs.Isolation.{LeavesOthers, MovesBytes}
 use Rattle.gpu_session.specs.Offer.{IsOffer}
 use Rattle.gpu_session.specs.Run.{Step}
 use Rattle.gpu_session.specs.declared.command.Command.{Command}
@@ -99,6 +100,8 @@ pub record Keeps {D A : Type 0} (objects : D → ℕ → Option Object) (old : S
   pub granted : GrantsAsAsked old.books command reply new.books
   pub refused : ChangesNothing (objects old.device) old.books reply (objects new.device) new.books
   pub balance : Balances old.books command new.books
+  pub others : LeavesOthers (objects old.device) old.books command (objects new.device) new.books
+  pub bytes : MovesBytes (objects old.device) old.books command reply (objects new.device)
 
 -- A step from a sound state to a sound state, which keeps what each step keeps.
 pub record SoundStep {D A : Type 0} (step : D → Event → D → Type 0) (properties : D → Properties)
