@@ -7,6 +7,7 @@ pub mod Imports
 pub mod Moves
 pub mod Names
 pub mod Openings
+pub mod Others
 pub mod Returns
 pub mod Runs
 pub mod Totals

@@ -7,7 +7,9 @@ ghost use Rattle.gpu_session.specs.Sound.{Keeps};
 use super::Session;
 use super::allocating::passes_end;
 use crate::{Bytes, Command, Fault, Reply};
-use gpu_alloc::laws::{byte_calls_keep_agreement, bytes_of_a_mapping_may_be_moved};
+use gpu_alloc::laws::{
+    byte_calls_keep_agreement, bytes_of_a_mapping_may_be_moved, rounded_ranges_lie_in_their_block,
+};
 use gpu_alloc_types::{MemoryDevice, MemoryObject};
 use std::alloc::{AllocError, Allocator};
 
@@ -56,6 +58,7 @@ impl<M: MemoryObject, D: MemoryDevice<M>, A: Allocator + Copy> Session<M, D, A> 
         if passes_end(offset, bytes.len() as u64, block.size()) {
             return Reply::Fault(Fault::BadRange);
         }
+        rounded_ranges_lie_in_their_block(block);
         match block.write_bytes(&mut self.device, offset, bytes) {
             Ok(()) => Reply::Done,
             Err(e) => Reply::MapRefused(e),
@@ -76,6 +79,7 @@ impl<M: MemoryObject, D: MemoryDevice<M>, A: Allocator + Copy> Session<M, D, A> 
         let Ok(mut bytes) = zeros(self.alloc, len) else {
             return Reply::Fault(Fault::NoMemory);
         };
+        rounded_ranges_lie_in_their_block(block);
         match block.read_bytes(&mut self.device, offset, bytes.as_mut_slice()) {
             Ok(()) => Reply::Bytes(Bytes::from_vec(bytes)),
             Err(e) => Reply::MapRefused(e),

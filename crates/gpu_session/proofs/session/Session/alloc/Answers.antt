@@ -1,9 +1,10 @@
 use Rattle.std.proofs.Common.{[], None, refl, sym, ◌∙◌, inl, inr}
-use Rattle.gpu_alloc_base.proofs.Names.{get_put}
+use Rattle.gpu_alloc_base.proofs.Names.{get_put, get_put-other}
 use Rattle.gpu_session.proofs.Conditions.{in_use, new_name, tested_request}
 use Rattle.gpu_session.proofs.Grants.{grant_is_kept}
 use Rattle.gpu_session.proofs.Names.{named, unnamed}
 use Rattle.gpu_session.proofs.Returns.{kept_block}
+use Rattle.gpu_session.proofs.Others.{another_name, given_leaves, its_object}
 use Rattle.gpu_session.proofs.session.Session.alloc.Goals as goal
 
 pub returns-then-contains_key-clause-step : goal.returns-then-contains_key-clause-step
@@ -55,6 +56,13 @@ returns-in-Ok-clause-keeps g c =
       granted = (c.in-Ok.block, get_put _ c.args.name c.in-Ok.block, ((refl, refl, refl, refl), done.granted));
       refused = tt;
       balance = done.total;
+      others = λ name b another there.
+          let object = its_object c.self.invariant.sound name b there in
+          (
+            get_put-other _ c.args.name c.in-Ok.block name (another_name c.args.name name another) ∙ there,
+            given_leaves (c.self.inside.allocator).properties _ _ c.in-Ok.block.object (g.D.MemoryDevice.objects c.self.inside.device) (g.D.MemoryDevice.objects c.alloc.new.device) b object.0 (rw c.in-Ok.is at c.alloc.ensures.objects) object.1,
+          );
+      bytes = tt;
     })
 
 pub returns-in-Err-clause-step : goal.returns-in-Err-clause-step

@@ -1,9 +1,10 @@
 use Rattle.std.proofs.Common.{◌≡◌, [], None, Some, refl, sym, ◌∙◌, ap, inl}
 use Rattle.std.specs.Ordering.{nat_cmp}
 use Rattle.std.specs.FinMap as map
-use Rattle.gpu_alloc_base.proofs.Names.{here, get_entries, removed_by_name}
+use Rattle.gpu_alloc_base.proofs.Names.{here, get_entries, get_removed-other, removed_by_name}
 use Rattle.gpu_session.specs.Sound.{IsBlock}
 use Rattle.gpu_session.proofs.Conditions.{no_block, of_block}
+use Rattle.gpu_session.proofs.Others.{another_name, its_object, return_leaves}
 use Rattle.gpu_session.proofs.Returns.{return_is_kept}
 use Rattle.gpu_session.proofs.session.Session.free.Goals as goal
 
@@ -39,3 +40,20 @@ returns-in-None-clause-step g c =
     let none : map.get (map.from_entries {R = nat_cmp} c.self.inside.blocks.entries) c.args.name ≡ None = get_entries _ _ ∙ sym c.swap_remove.ensures.value ∙ c.in-None.is in
     rw (← c.self.view_is)
     ([], refl, (ap (λ es. record { allocator = c.self.inside.allocator; blocks = map.from_entries {R = nat_cmp} es }) c.in-None.ensures.unchanged, inl (no_block _ _ none, refl)))
+
+pub returns-in-Some-clause-keeps : goal.returns-in-Some-clause-keeps
+returns-in-Some-clause-keeps g c =
+    let at : map.get (map.from_entries {R = nat_cmp} c.self.inside.blocks.entries) c.args.name ≡ Some c.in-Some.block = get_entries _ _ ∙ sym c.swap_remove.ensures.value ∙ c.in-Some.is in
+    let done = c.dealloc.ensures in
+    let kept = return_is_kept c.self.invariant (record { named = at; removes = done.removed; keeps = done.keeps; sound = done.sound; agrees = done.agrees }) in
+    rw (← c.self.view_is, removed_by_name c.self.inside.blocks.entries c.swap_remove.new.self.entries c.args.name c.swap_remove.ensures.updates.0) (record {
+      given = record { properties = done.removed.properties; config = done.removed.config };
+      granted = tt;
+      refused = tt;
+      balance = done.total;
+      others = λ name b another there.
+          let still = get_removed-other (map.from_entries {R = nat_cmp} c.self.inside.blocks.entries) c.args.name name (another_name c.args.name name another) ∙ there in
+          let object = its_object kept.sound name b still in
+          (still, return_leaves g.D.MemoryDevice.step g.D.MemoryDevice.objects c.self.inside.allocator c.dealloc.new.self c.self.inside.device c.dealloc.new.device b object.0 done.gone object.1);
+      bytes = tt;
+    })

@@ -7,6 +7,7 @@ use Rattle.gpu_session.proofs.Conditions.{bad_range, good_range, in_mapping, ins
 use Rattle.gpu_session.proofs.Ends.{none_moved, some_moved, taken_whole}
 use Rattle.gpu_session.proofs.Moves.{agreed_is_kept}
 use Rattle.gpu_session.proofs.Names.{lent_at}
+use Rattle.gpu_session.proofs.Others.{untouched}
 use Rattle.gpu_session.proofs.session.Session.get.Goals as goal
 use Rattle.gpu_session.proofs.session.Session.get.Goals.{then-len-gt0, else-len-gt0}
 
@@ -74,4 +75,32 @@ returns-clause-step g c =
       | else-len-gt0 w ↦
           let told = rw w.bytes-is at c.from_vec.ensures in
           rw (w.self-is, ← c.self.view_is) ([], refl, (able, (c.in-Some.block.now, at, (ap (λ xs. length xs) told ∙ c.in-Ok.ensures, (c.in-Some-mapping.mapping, is, none_moved c.args.len _ w.if-len-gt0.false), refl))))
+    ]
+
+pub returns-clause-keeps : goal.returns-clause-keeps
+returns-clause-keeps g c =
+    let before = g.D.MemoryDevice.objects c.self.inside.device in
+    elim c.if-len-gt0.branch [
+      | then-len-gt0 w ↦
+          let after = g.D.MemoryDevice.objects w.get_bytes.new.self in
+          let row = g.met.D.MemoryDevice.row c.self.inside.device (BytesGot _ _ w.get_bytes.new.bytes) w.get_bytes.new.self w.get_bytes.ensures in
+          rw (← c.self.view_is, w.self-is)
+          (record {
+            given = record { properties = refl; config = refl };
+            granted = tt;
+            refused = tt;
+            balance = refl;
+            others = λ name x another there. (there, untouched before after x row.0);
+            bytes = row.0;
+          })
+      | else-len-gt0 w ↦
+          rw (w.self-is, ← c.self.view_is)
+          (record {
+            given = record { properties = refl; config = refl };
+            granted = tt;
+            refused = tt;
+            balance = refl;
+            others = λ name x another there. (there, λ k from to. (refl, refl));
+            bytes = refl;
+          })
     ]

@@ -1,10 +1,10 @@
 use Rattle.std.proofs.Common.{◌≡◌, ◌+◌, false, [], ◌∷◌, None, Ok, Err, refl, sym, ◌∙◌, ap, subst, inl, inr}
-use Rattle.gpu_alloc_types.specs.Device.Event.{Deallocated}
+use Rattle.gpu_alloc_types.specs.Device.Event.{Allocated, Deallocated}
 use Rattle.gpu_alloc_types.specs.Flags.{allocation_bits}
 use Rattle.gpu_alloc.specs.Importing.{Imports, imported_block}
 use Rattle.gpu_alloc.specs.NewChunk.{flags_of}
 use Rattle.gpu_alloc.specs.State.{Block}
-use Rattle.gpu_alloc_base.proofs.Names.{get_put}
+use Rattle.gpu_alloc_base.proofs.Names.{get_put, get_put-other}
 use Rattle.gpu_session.specs.Books.{SessionState}
 use Rattle.gpu_session.specs.Does.{object_asked}
 use Rattle.gpu_session.specs.Faults.{fault_of_import, is_bad_end}
@@ -13,6 +13,7 @@ use Rattle.gpu_session.proofs.Grants.{grant_is_kept}
 use Rattle.gpu_session.proofs.Imports.{faultless, import_agrees, importable_is_held, part_may_be_imported, undone}
 use Rattle.gpu_session.proofs.Moves.{agreed_is_kept}
 use Rattle.gpu_session.proofs.Names.{named, unnamed}
+use Rattle.gpu_session.proofs.Others.{another_name, its_object, new_leaves, untouched}
 use Rattle.gpu_session.proofs.session.Session.import.Goals as goal
 
 pub returns-then-contains_key-clause-step : goal.returns-then-contains_key-clause-step
@@ -133,6 +134,14 @@ returns-in-Ok-import_memory-clause-keeps g c =
       granted = (b, get_put _ c.args.name b, ((refl, refl, refl, refl), done.imported.block ∙ ap (λ n. imported_block c.self.inside.allocator n c.args.memory_type c.args.offset c.args.size) (sym name_is)));
       refused = tt;
       balance = done.total;
+      others = λ n x another there.
+          let object = its_object c.self.invariant.sound n x there in
+          let made = g.met.D.MemoryDevice.row c.self.inside.device (Allocated c.args.object_size c.args.memory_type (allocation_bits c.flags-flags.result) (Ok name)) c.allocate_memory-answer.new.self (rw c.in-Ok.is at c.allocate_memory-answer.ensures) in
+          (
+            get_put-other _ c.args.name b n (another_name c.args.name n another) ∙ there,
+            new_leaves (g.D.MemoryDevice.objects c.self.inside.device) (g.D.MemoryDevice.objects c.allocate_memory-answer.new.self) name made.1.0 x object.0 made.0 made.1.2 object.1,
+          );
+      bytes = tt;
     })
 
 pub returns-in-Err-import_memory-clause-step : goal.returns-in-Err-import_memory-clause-step
@@ -161,6 +170,11 @@ returns-in-Err-import_memory-clause-keeps g c =
     rw (← c.self.view_is, c.in-Err-import_memory.ensures.refused, c.reserve.ensures.entries) (record {
       given = record { properties = refl; config = refl };
       granted = tt;
+      others = λ n x another there. (
+        there,
+        untouched (g.D.MemoryDevice.objects c.self.inside.device) (g.D.MemoryDevice.objects c.deallocate_memory.new.self) x (undone g.D.MemoryDevice.properties g.D.MemoryDevice.objects g.D.MemoryDevice.step g.met.D.MemoryDevice.row c.self.inside.device c.allocate_memory-answer.new.self c.deallocate_memory.new.self _ _ _ name asked gone),
+      );
+      bytes = tt;
       refused = (refl, undone g.D.MemoryDevice.properties g.D.MemoryDevice.objects g.D.MemoryDevice.step g.met.D.MemoryDevice.row c.self.inside.device c.allocate_memory-answer.new.self c.deallocate_memory.new.self _ _ _ name asked gone);
       balance = refl;
     })

@@ -1,9 +1,14 @@
-use Rattle.std.proofs.Common.{◌+◌, [], Some, nat_lt, refl, sym, ◌∙◌, ap, inl}
+use Rattle.std.proofs.Common.{◌≡◌, ◌+◌, [], Some, nat_lt, refl, sym, ◌∙◌, ap, inl}
 use Rattle.gpu_alloc_base.proofs.Names.{get_entries, here}
 use Rattle.gpu_session.specs.Sound.{IsBlock}
 use Rattle.gpu_session.proofs.Conditions.{bad_range, good_range, no_block, of_block, some_bytes_then}
 use Rattle.gpu_session.proofs.Moves.{move_is_kept}
 use Rattle.gpu_session.proofs.Names.{lent_at, lent_back, lent_put, placed, placed_again}
+use Rattle.gpu_alloc.specs.Ranges.{rounded}
+use Rattle.gpu_alloc.specs.State.{is_shared}
+use Rattle.gpu_session.proofs.Others.{others_left, opened_leaves, opened_moves_none, untouched}
+use Rattle.std.specs.FinMap as finite
+use Rattle.std.specs.Ordering.{nat_cmp}
 use Rattle.gpu_session.proofs.session.Session.map.Goals as goal
 use Rattle.gpu_session.proofs.session.Session.map.Goals.{in-Ok, in-Err}
 
@@ -26,7 +31,7 @@ returns-then-size-eq0-clause-step g c =
 pub returns-then-size-eq0-clause-keeps : goal.returns-then-size-eq0-clause-keeps
 returns-then-size-eq0-clause-keeps g c =
     let back = lent_back c.self.inside.blocks.entries c.args.name c.in-Some.block.now c.in-Some.ensures.value c.in-Some.block.now (c.get_mut.follows.lender c.in-Some.block.now).entries (λ some. ((c.get_mut.follows.holds c.in-Some.block.now).3 some).0) refl in
-    rw (← c.self.view_is, back) (record { given = record { properties = refl; config = refl }; granted = tt; refused = (refl, refl); balance = refl })
+    rw (← c.self.view_is, back) (record { given = record { properties = refl; config = refl }; granted = tt; refused = (refl, refl); balance = refl; others = λ n x another there. (there, λ k low high. (refl, refl)); bytes = tt })
 
 pub invariant_of-self-then-passes_end : goal.invariant_of-self-then-passes_end
 invariant_of-self-then-passes_end g c =
@@ -42,7 +47,7 @@ returns-then-passes_end-clause-step g c =
 pub returns-then-passes_end-clause-keeps : goal.returns-then-passes_end-clause-keeps
 returns-then-passes_end-clause-keeps g c =
     let back = lent_back c.self.inside.blocks.entries c.args.name c.in-Some.block.now c.in-Some.ensures.value c.in-Some.block.now (c.get_mut.follows.lender c.in-Some.block.now).entries (λ some. ((c.get_mut.follows.holds c.in-Some.block.now).3 some).0) refl in
-    rw (← c.self.view_is, back) (record { given = record { properties = refl; config = refl }; granted = tt; refused = (refl, refl); balance = refl })
+    rw (← c.self.view_is, back) (record { given = record { properties = refl; config = refl }; granted = tt; refused = (refl, refl); balance = refl; others = λ n x another there. (there, λ k low high. (refl, refl)); bytes = tt })
 
 pub map-requires-clause-agrees : goal.map-requires-clause-agrees
 map-requires-clause-agrees g c =
@@ -67,4 +72,31 @@ returns-clause-step g c =
       | in-Err w ↦
           let asked = rw w.in-Err.is at c.map.ensures.asked in
           rw (← c.self.view_is, w.result-is, put) (asked.0, asked.1, (able, (c.in-Some.block.now, at, (asked.2, placed_again _ c.args.name c.in-Some.block.now _ at w.in-Err.ensures.refused))))
+    ]
+
+pub returns-clause-keeps : goal.returns-clause-keeps
+returns-clause-keeps g c =
+    let b = c.in-Some.block.now in
+    let before = g.D.MemoryDevice.objects c.self.inside.device in
+    let at = lent_at c.self.inside.blocks.entries c.args.name b c.in-Some.ensures.value in
+    let put = lent_put c.self.inside.blocks.entries c.args.name c.in-Some.block.now c.in-Some.ensures.value c.map.new.self (c.get_mut.follows.lender c.map.new.self).entries (λ some. ((c.get_mut.follows.holds c.map.new.self).3 some).0) in
+    let after = g.D.MemoryDevice.objects c.map.new.device in
+    elim c.match-map.branch [
+      | in-Ok w ↦
+          let opened = rw w.in-Ok.is at c.map.ensures.objects in
+          let others = others_left (finite.from_entries {R = nat_cmp} c.self.inside.blocks.entries) c.args.name c.map.new.self before after (λ name x ne there. opened_leaves (is_shared b.kind) (rounded b c.args.offset c.args.size) before after b x refl opened) in
+          rw (← c.self.view_is, w.result-is, put)
+          (record {
+            given = record { properties = refl; config = refl };
+            granted = tt;
+            refused = tt;
+            balance = refl;
+            others = others;
+            bytes = (b, at, opened_moves_none (is_shared b.kind) (rounded b c.args.offset c.args.size) before after b refl opened);
+          })
+      | in-Err w ↦
+          let same : after ≡ before = rw w.in-Err.is at c.map.ensures.objects in
+          let others = others_left (finite.from_entries {R = nat_cmp} c.self.inside.blocks.entries) c.args.name c.map.new.self before after (λ name x ne there. untouched before after x same) in
+          rw (← c.self.view_is, w.result-is, put)
+          (record { given = record { properties = refl; config = refl }; granted = tt; refused = tt; balance = refl; others = others; bytes = same })
     ]

@@ -1,12 +1,15 @@
 use Rattle.std.proofs.Common.{◌+◌, [], length, nat_lt, refl, sym, subst, ◌∙◌, ap, inl, inr}
 use Rattle.gpu_alloc_base.proofs.Names.{get_entries, here}
 use Rattle.gpu_session.specs.Sound.{IsBlock}
-use Rattle.gpu_session.proofs.Conditions.{bad_range, good_range, no_block, of_block}
+use Rattle.gpu_session.proofs.Conditions.{bad_range, good_range, inside, no_block, of_block}
 use Rattle.gpu_session.proofs.Moves.{move_is_kept}
 use Rattle.gpu_session.proofs.Names.{lent_at, lent_back, lent_put, placed_again}
+use Rattle.gpu_session.proofs.Others.{others_left, read_leaves, refused_read}
+use Rattle.std.specs.FinMap as finite
+use Rattle.std.specs.Ordering.{nat_cmp}
 use Rattle.gpu_session.proofs.session.Session.read.Goals as goal
 use Rattle.gpu_session.proofs.Ends.{ends_read, taken_whole}
-use Rattle.gpu_alloc.specs.Bytes.{AsksToRead}
+use Rattle.gpu_alloc.specs.Bytes.{AsksToRead, ChangesBytes, IsReadThrough}
 use Rattle.gpu_session.proofs.session.Session.read.Goals.{in-Ok-read_bytes, in-Err}
 
 pub returns-in_default-clause-step : goal.returns-in_default-clause-step
@@ -28,7 +31,7 @@ returns-then-passes_end-clause-step g c =
 pub returns-then-passes_end-clause-keeps : goal.returns-then-passes_end-clause-keeps
 returns-then-passes_end-clause-keeps g c =
     let back = lent_back c.self.inside.blocks.entries c.args.name c.in-Some.block.now c.in-Some.ensures.value c.in-Some.block.now (c.get_mut.follows.lender c.in-Some.block.now).entries (λ some. ((c.get_mut.follows.holds c.in-Some.block.now).3 some).0) refl in
-    rw (← c.self.view_is, back) (record { given = record { properties = refl; config = refl }; granted = tt; refused = (refl, refl); balance = refl })
+    rw (← c.self.view_is, back) (record { given = record { properties = refl; config = refl }; granted = tt; refused = (refl, refl); balance = refl; others = λ n x another there. (there, λ k low high. (refl, refl)); bytes = tt })
 
 pub invariant_of-self-in_default-zeros : goal.invariant_of-self-in_default-zeros
 invariant_of-self-in_default-zeros g c =
@@ -44,7 +47,7 @@ returns-in_default-zeros-clause-step g c =
 pub returns-in_default-zeros-clause-keeps : goal.returns-in_default-zeros-clause-keeps
 returns-in_default-zeros-clause-keeps g c =
     let back = lent_back c.self.inside.blocks.entries c.args.name c.in-Some.block.now c.in-Some.ensures.value c.in-Some.block.now (c.get_mut.follows.lender c.in-Some.block.now).entries (λ some. ((c.get_mut.follows.holds c.in-Some.block.now).3 some).0) refl in
-    rw (← c.self.view_is, back) (record { given = record { properties = refl; config = refl }; granted = tt; refused = (refl, refl); balance = refl })
+    rw (← c.self.view_is, back) (record { given = record { properties = refl; config = refl }; granted = tt; refused = (refl, refl); balance = refl; others = λ n x another there. (there, λ k low high. (refl, refl)); bytes = tt })
 
 pub read_bytes-requires-clause-agrees : goal.read_bytes-requires-clause-agrees
 read_bytes-requires-clause-agrees g c =
@@ -94,4 +97,38 @@ returns-clause-step g c =
               ),
             ),
           )
+    ]
+
+pub returns-clause-keeps : goal.returns-clause-keeps
+returns-clause-keeps g c =
+    let b = c.in-Some.block.now in
+    let before = g.D.MemoryDevice.objects c.self.inside.device in
+    let at = lent_at c.self.inside.blocks.entries c.args.name b c.in-Some.ensures.value in
+    let put = lent_put c.self.inside.blocks.entries c.args.name c.in-Some.block.now c.in-Some.ensures.value c.read_bytes.new.self (c.get_mut.follows.lender c.read_bytes.new.self).entries (λ some. ((c.get_mut.follows.holds c.read_bytes.new.self).3 some).0) in
+    let after = g.D.MemoryDevice.objects c.read_bytes.new.device in
+    let agrees = (here _ (IsBlock _ c.self.inside.allocator before) (c.self.invariant.sound.blocks c.args.name) b at).agrees in
+    let low = inside (c.args.offset + c.args.len) b.size (ap (λ n. nat_lt n (c.args.offset + c.args.len)) (sym c.size.ensures) ∙ sym c.passes_end.ensures ∙ c.if-passes_end.false) in
+    let lies = c.rounded_ranges_lie_in_their_block.ensures (g.D.MemoryDevice.properties c.self.inside.device) before c.args.offset c.args.len agrees low in
+    let count = ap (λ xs. length xs) c.as_mut_slice.ensures.value ∙ c.in-Ok.ensures in
+    let within = rw count at c.read_bytes.ensures.within in
+    let others = others_left (finite.from_entries {R = nat_cmp} c.self.inside.blocks.entries) c.args.name c.read_bytes.new.self before after (λ name x ne there.
+        let two = c.self.invariant.sound.apart c.args.name name b x (λ e. ne (sym e)) at there in
+        read_leaves b x two c.args.offset c.args.len before after lies within) in
+    elim c.match-read_bytes.branch [
+      | in-Ok-read_bytes w ↦
+          let told = taken_whole c.in-Ok.bytes.len c.read_bytes.new.bytes _ w.from_vec.result w.from_vec.ensures (c.read_bytes.auto.bytes ∙ c.as_mut_slice.ensures.len) in
+          let read = subst (λ xs. ChangesBytes b c.args.len (IsReadThrough b c.args.offset xs) before after) (sym told) (rw count at w.in-Ok-read_bytes.ensures.read) in
+          rw (← c.self.view_is, w.result-is, put)
+          (record { given = record { properties = refl; config = refl }; granted = tt; refused = tt; balance = refl; others = others; bytes = (b, at, read) })
+      | in-Err w ↦
+          let asked = rw count at w.in-Err.ensures.refused in
+          rw (← c.self.view_is, w.result-is, put)
+          (record {
+            given = record { properties = refl; config = refl };
+            granted = tt;
+            refused = tt;
+            balance = refl;
+            others = others;
+            bytes = (b, at, refused_read b c.args.offset c.args.len w.in-Err.e before after asked.0 asked.2);
+          })
     ]

@@ -1,9 +1,12 @@
 use Rattle.std.proofs.Common.{◌+◌, [], length, nat_lt, refl, sym, ◌∙◌, ap, inl}
 use Rattle.gpu_alloc_base.proofs.Names.{get_entries, here}
 use Rattle.gpu_session.specs.Sound.{IsBlock}
-use Rattle.gpu_session.proofs.Conditions.{bad_range, good_range, no_block, of_block}
+use Rattle.gpu_session.proofs.Conditions.{bad_range, good_range, inside, no_block, of_block}
 use Rattle.gpu_session.proofs.Moves.{move_is_kept}
 use Rattle.gpu_session.proofs.Names.{lent_at, lent_back, lent_put, placed_again}
+use Rattle.gpu_session.proofs.Others.{others_left, refused_write, write_leaves}
+use Rattle.std.specs.FinMap as finite
+use Rattle.std.specs.Ordering.{nat_cmp}
 use Rattle.gpu_session.proofs.session.Session.write.Goals as goal
 use Rattle.gpu_session.proofs.Ends.{ends_write}
 use Rattle.gpu_session.proofs.session.Session.write.Goals.{in-Ok, in-Err}
@@ -27,7 +30,7 @@ returns-then-passes_end-clause-step g c =
 pub returns-then-passes_end-clause-keeps : goal.returns-then-passes_end-clause-keeps
 returns-then-passes_end-clause-keeps g c =
     let back = lent_back c.self.inside.blocks.entries c.args.name c.in-Some.block.now c.in-Some.ensures.value c.in-Some.block.now (c.get_mut.follows.lender c.in-Some.block.now).entries (λ some. ((c.get_mut.follows.holds c.in-Some.block.now).3 some).0) refl in
-    rw (← c.self.view_is, back) (record { given = record { properties = refl; config = refl }; granted = tt; refused = (refl, refl); balance = refl })
+    rw (← c.self.view_is, back) (record { given = record { properties = refl; config = refl }; granted = tt; refused = (refl, refl); balance = refl; others = λ n x another there. (there, λ k low high. (refl, refl)); bytes = tt })
 
 pub write_bytes-requires-clause-agrees : goal.write_bytes-requires-clause-agrees
 write_bytes-requires-clause-agrees g c =
@@ -64,4 +67,36 @@ returns-clause-step g c =
               ),
             ),
           )
+    ]
+
+pub returns-clause-keeps : goal.returns-clause-keeps
+returns-clause-keeps g c =
+    let b = c.in-Some.block.now in
+    let before = g.D.MemoryDevice.objects c.self.inside.device in
+    let at = lent_at c.self.inside.blocks.entries c.args.name b c.in-Some.ensures.value in
+    let put = lent_put c.self.inside.blocks.entries c.args.name c.in-Some.block.now c.in-Some.ensures.value c.write_bytes.new.self (c.get_mut.follows.lender c.write_bytes.new.self).entries (λ some. ((c.get_mut.follows.holds c.write_bytes.new.self).3 some).0) in
+    let after = g.D.MemoryDevice.objects c.write_bytes.new.device in
+    let agrees = (here _ (IsBlock _ c.self.inside.allocator before) (c.self.invariant.sound.blocks c.args.name) b at).agrees in
+    let low = inside (c.args.offset + (length c.args.bytes.now)) b.size (ap (λ n. nat_lt n (c.args.offset + (length c.args.bytes.now))) (sym c.size.ensures) ∙ ap (λ xs. nat_lt c.size.result (c.args.offset + length xs)) (sym c.as_slice-bytes.ensures) ∙ sym c.passes_end.ensures ∙ c.if-passes_end.false) in
+    let lies = c.rounded_ranges_lie_in_their_block.ensures (g.D.MemoryDevice.properties c.self.inside.device) before c.args.offset (length c.args.bytes.now) agrees low in
+    let within = rw c.as_slice-bytes.ensures at c.write_bytes.ensures.within in
+    let others = others_left (finite.from_entries {R = nat_cmp} c.self.inside.blocks.entries) c.args.name c.write_bytes.new.self before after (λ name x ne there.
+        let two = c.self.invariant.sound.apart c.args.name name b x (λ e. ne (sym e)) at there in
+        write_leaves b x two c.args.offset (length c.args.bytes.now) before after low lies within) in
+    elim c.match-write_bytes.branch [
+      | in-Ok w ↦
+          let written = rw c.as_slice-bytes.ensures at w.in-Ok.ensures.written in
+          rw (← c.self.view_is, w.result-is, put)
+          (record { given = record { properties = refl; config = refl }; granted = tt; refused = tt; balance = refl; others = others; bytes = (b, at, written) })
+      | in-Err w ↦
+          let asked = rw c.as_slice-bytes.ensures at w.in-Err.ensures.refused in
+          rw (← c.self.view_is, w.result-is, put)
+          (record {
+            given = record { properties = refl; config = refl };
+            granted = tt;
+            refused = tt;
+            balance = refl;
+            others = others;
+            bytes = (b, at, refused_write b c.args.offset c.args.bytes.now w.in-Err.e before after asked.0 asked.2);
+          })
     ]

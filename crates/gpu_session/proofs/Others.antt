@@ -1,0 +1,165 @@
+-- What a command leaves of the bytes of blocks that it does not name.
+use Rattle.std.proofs.Common.{◌≡◌, ◌≢◌, ◌⊎◌, inl, inr, ℕ, ◌+◌, ◌<◌, ◌≤◌, ◌==◌, Bool, true, false, List, length, slice_get, Option, Some, None, Result, Ok, Err, refl, sym, ◌∙◌, ap, subst, arith, Contains}
+use Rattle.std.proofs.lemmas.Bool.Decides.{nat_tests}
+use Rattle.std.specs.FinMap as finite
+use Rattle.std.specs.Ordering.{nat_cmp}
+use Rattle.gpu_alloc_types.specs.Device.{Changes, Event, IsMappedOver, IsOutside, IsPut, IsPutDevice, IsUnmapped, Object, Range, put}
+use Rattle.gpu_alloc_types.specs.Objects.{put-same, put-other}
+use Rattle.gpu_alloc_types.specs.Properties.{Properties, is_coherent}
+use Rattle.gpu_alloc.specs.Agreement.{BlockAgrees, LiesInBlock}
+use Rattle.gpu_alloc_block.specs.Agreement.{IsOfBlock}
+use Rattle.gpu_alloc.specs.Allocation.{IsAsCounted, ObjectsAfter}
+use Rattle.gpu_alloc.specs.Bytes.{EndsRead, EndsWrite, ReadsWithin, WritesWithin}
+use Rattle.gpu_alloc.specs.Mapped.{IsClosed, IsOpened}
+use Rattle.gpu_alloc.specs.NewObject.{ObjectsGiven}
+use Rattle.gpu_alloc_block.specs.InHand.{AreTwo, ShareNoObject}
+use Rattle.gpu_alloc.specs.Ranges.{rounded}
+use Rattle.gpu_alloc.specs.Release.{GoesBack}
+use Rattle.gpu_alloc.specs.State.{AreApart, Block, HeldObject, State, IsOwned, is_shared, span_of}
+use Rattle.gpu_alloc.specs.Types.AllocationError.{AllocationError}
+use Rattle.gpu_alloc.specs.Types.MapError.{MapError}
+use Rattle.gpu_alloc.specs.Types.Mapping.{Mapping}
+use Rattle.gpu_alloc.specs.Types.Kind.{Kind}
+use Rattle.gpu_alloc.specs.Types.Kind.TheVariants.{Dedicated as DedicatedObject, Imported, BuddyChunk, FreeListChunk}
+use Rattle.gpu_alloc_base.proofs.Names.{get_put-other, here, one_or_two}
+use Rattle.gpu_session.specs.Isolation.{AreSame, IsRefusedRead, IsRefusedWrite, MovesNoByte, host_at, device_at}
+use Rattle.gpu_session.specs.Sound.{IsBlock, IsSound}
+
+-- the bytes of a block are as before
+abbrev pub IsUntouched : (old new : ℕ → Option Object) → Block → Type 0
+IsUntouched old new b = (k : ℕ) → b.offset ≤ k → k < b.offset + b.size → AreSame (old b.object) (new b.object) k
+
+pub untouched_object : (f g : ℕ → Option Object) (b : Block) → g b.object ≡ f b.object → IsUntouched f g b
+untouched_object f g b same k low high = (ap (λ o. host_at o k) same, ap (λ o. device_at o k) same)
+
+pub untouched : (f g : ℕ → Option Object) (b : Block) → g ≡ f → IsUntouched f g b
+untouched f g b same = untouched_object f g b (ap (λ (h : ℕ → Option Object). h b.object) same)
+
+-- a command of one name names no other
+pub another_name : (own name : ℕ) → (own == name) ≡ false → name ≢ own
+another_name own name e = grind (arith, nat_tests)
+
+-- Where the block of one name is put, each block of another name stays, and is untouched if it is so on the device.
+pub others_left : (blocks : finite.FinMap nat_cmp Block) (own : ℕ) (now : Block) (f g : ℕ → Option Object) → ((name : ℕ) (b : Block) → name ≢ own → finite.get blocks name ≡ Some b → IsUntouched f g b)
+    → (name : ℕ) (b : Block) → (own == name) ≡ false → finite.get blocks name ≡ Some b → (finite.get (finite.insert blocks own now) name ≡ Some b) × IsUntouched f g b
+others_left blocks own now f g each name b another there =
+    let ne = another_name own name another in
+    (get_put-other blocks own now name ne ∙ there, each name b ne there)
+
+-- where the names stay
+pub others_stay : (blocks : finite.FinMap nat_cmp Block) (own : ℕ) (f g : ℕ → Option Object) → ((name : ℕ) (b : Block) → name ≢ own → finite.get blocks name ≡ Some b → IsUntouched f g b)
+    → (name : ℕ) (b : Block) → (own == name) ≡ false → finite.get blocks name ≡ Some b → (finite.get blocks name ≡ Some b) × IsUntouched f g b
+others_stay blocks own f g each name b another there = (there, each name b (another_name own name another) there)
+
+-- the object of a block that has a name
+pub its_object : {p : Properties} {objects : ℕ → Option Object} {s : State} {blocks : finite.FinMap nat_cmp Block} → IsSound p objects (record { allocator = s; blocks = blocks }) → (name : ℕ) (b : Block) → finite.get blocks name ≡ Some b → (o : Object) × (objects b.object ≡ Some o)
+its_object {p = p} {objects = objects} {s = s} {blocks = blocks} sound name b at =
+    let inside = (here (finite.get blocks name) (IsBlock p s objects) (sound.blocks name) b at).inside in
+    (inside.0, inside.1)
+
+-- A grant makes one object at most, of a name that the device had not.
+
+pub new_leaves : (f g : ℕ → Option Object) (name : ℕ) (made : Object) (c : Block) (o : Object) → f name ≡ None → g ≡ put f name (Some made) → f c.object ≡ Some o → IsUntouched f g c
+new_leaves f g name made c o free now there =
+    untouched_object f g c (ap (λ (h : ℕ → Option Object). h c.object) now ∙ put-other f name (Some made) c.object (λ is. absurd (let both = sym there ∙ ap f is ∙ free in cc)))
+
+pub given_leaves : (p : Properties) (before now : Option HeldObject) (name : ℕ) (f g : ℕ → Option Object) (c : Block) (o : Object) → ObjectsGiven (IsAsCounted p) before now name f g → f c.object ≡ Some o → IsUntouched f g c
+given_leaves p None now name f g c o more there = new_leaves f g name more.made c o more.was_free more.now there
+given_leaves p (Some h) now name f g c o same there = untouched f g c same
+
+-- What goes back is of no block that is still there.
+pub return_leaves : {D : Type 0} (step : D → Event → D → Type 0) (objects : D → ℕ → Option Object) (s new : State) (from to : D) (c : Block) (o : Object) → GoesBack step objects s from new to → objects to c.object ≡ Some o → IsUntouched (objects from) (objects to) c
+return_leaves step objects s new from to c o back there =
+    untouched_object (objects from) (objects to) c (back.stay c.object (λ went. let none = back.absent c.object went in absurd (cc)))
+
+-- A change of one object leaves the bytes of a block that it does not reach.
+pub change_leaves : (P : Object → Object → Type 0) (f g : ℕ → Option Object) (b c : Block) → Changes P f b.object g
+    → ((o n : Object) → P o n → (k : ℕ) → c.object ≡ b.object → c.offset ≤ k → k < c.offset + c.size
+      → (slice_get n.host_bytes k ≡ slice_get o.host_bytes k) × (slice_get n.device_bytes k ≡ slice_get o.device_bytes k))
+    → IsUntouched f g c
+change_leaves P f g b c changes same k low high = elim (one_or_two c.object b.object) [
+  | inr other ↦ untouched_object f g c (ap (λ (h : ℕ → Option Object). h c.object) changes.2.2 ∙ put-other f b.object (Some changes.2.0) c.object other) k low high
+  | inl is ↦
+      let there : f c.object ≡ Some changes.0 = ap f is ∙ changes.1 in
+      let now : g c.object ≡ Some changes.2.0 = ap (λ (h : ℕ → Option Object). h c.object) changes.2.2 ∙ ap (put f b.object (Some changes.2.0)) is ∙ put-same f b.object (Some changes.2.0) in
+      let two = same changes.0 changes.2.0 changes.2.1 k is low high in
+      (ap (λ o. host_at o k) now ∙ two.0 ∙ sym (ap (λ o. host_at o k) there), ap (λ o. device_at o k) now ∙ two.1 ∙ sym (ap (λ o. device_at o k) there))
+]
+
+-- A call that changes the mapping alone.
+
+pub opened_leaves : (shared : Bool) (r : Range) (f g : ℕ → Option Object) (b c : Block) → r.object ≡ b.object → IsOpened shared r f g → IsUntouched f g c
+opened_leaves true r f g b c own same = untouched f g c same
+opened_leaves false r f g b c own changes =
+    change_leaves (IsMappedOver r) f g b c (rw own at changes) (λ o n is k _ _ _. (ap (λ (x : Object). slice_get x.host_bytes k) is, ap (λ (x : Object). slice_get x.device_bytes k) is))
+
+pub closed_leaves : (shared : Bool) (f g : ℕ → Option Object) (b c : Block) → IsClosed shared b.object f g → IsUntouched f g c
+closed_leaves true f g b c same = untouched f g c same
+closed_leaves false f g b c changes =
+    change_leaves IsUnmapped f g b c changes (λ o n is k _ _ _. (ap (λ (x : Object). slice_get x.host_bytes k) is, ap (λ (x : Object). slice_get x.device_bytes k) is))
+
+-- Two blocks that share no byte: what lies in the one, or is flushed of it, lies outside the other.
+module _ (b c : Block) (two : AreTwo b c) where
+  own_object : c.object ≡ b.object → b.kind ≢ Imported
+  unfolding ShareNoObject
+  own_object same is = two.objects.0 (ap is_shared is) (sym same)
+
+  pub outside_range : (r : Range) → LiesInBlock b r → c.object ≡ b.object → (k : ℕ) → c.offset ≤ k → k < c.offset + c.size → IsOutside r.offset r.size k
+  outside_range r lies same k low high = elim two.apart [
+    | inl ne ↦ absurd (ne (sym same))
+    | inr sides ↦ elim sides [
+      | inl before ↦ let end = lies.finish in inr (omega (arith, before, low, end))
+      | inr after ↦ let start = lies.start (own_object same) in inl (omega (arith, after, high, start))
+    ]
+  ]
+
+  pub outside_data : (start len : ℕ) → b.offset ≤ start → start + len ≤ b.offset + b.size → c.object ≡ b.object → (k : ℕ) → c.offset ≤ k → k < c.offset + c.size → IsOutside start len k
+  outside_data start len from to same k low high = elim two.apart [
+    | inl ne ↦ absurd (ne (sym same))
+    | inr sides ↦ elim sides [
+      | inl before ↦ inr (omega (arith, before, low, to))
+      | inr after ↦ inl (omega (arith, after, high, from))
+    ]
+  ]
+
+  pub write_leaves : (offset len : ℕ) (f g : ℕ → Option Object) → offset + len ≤ b.size → LiesInBlock b (rounded b offset len) → Changes (WritesWithin b offset len) f b.object g → IsUntouched f g c
+  write_leaves offset len f g inside lies changes =
+      change_leaves (WritesWithin b offset len) f g b c changes (λ o n w k same low high. (w.host k (outside_data (b.offset + offset) len (omega arith) (omega (arith, inside)) same k low high), w.device k (outside_range (rounded b offset len) lies same k low high)))
+
+  pub read_leaves : (offset len : ℕ) (f g : ℕ → Option Object) → LiesInBlock b (rounded b offset len) → Changes (ReadsWithin b offset len) f b.object g → IsUntouched f g c
+  read_leaves offset len f g lies changes =
+      change_leaves (ReadsWithin b offset len) f g b c changes (λ o n w k same low high. (w.host k (outside_range (rounded b offset len) lies same k low high), ap (λ xs. slice_get xs k) w.device))
+
+  put_device : (coherent : Bool) (offset : ℕ) (bytes from to : List ℕ) (k : ℕ) → IsPutDevice coherent offset bytes from to → IsOutside offset (length bytes) k → slice_get to k ≡ slice_get from k
+  put_device true offset bytes from to k put outside = put.outside k outside
+  put_device false offset bytes from to k same outside = ap (λ xs. slice_get xs k) same
+
+  pub put_leaves : (p : Properties) (start : ℕ) (bytes : List ℕ) (f g : ℕ → Option Object) → b.offset ≤ start → start + length bytes ≤ b.offset + b.size → Changes (IsPut p start bytes) f b.object g → IsUntouched f g c
+  put_leaves p start bytes f g from to changes =
+      change_leaves (IsPut p start bytes) f g b c changes (λ o n w k same low high.
+          let out = outside_data start (length bytes) from to same k low high in
+          (ap (λ (x : Object). slice_get x.host_bytes k) w.4 ∙ w.2.outside k out, ap (λ (x : Object). slice_get x.device_bytes k) w.4 ∙ put_device (is_coherent p o.memory_type) start bytes o.device_bytes w.1 k w.3 out))
+
+-- a mapping lies in its block
+pub mapping_in_block : (b : Block) (p : Properties) (objects : ℕ → Option Object) (m : Mapping) → BlockAgrees b p objects → b.mapping ≡ Some m → (b.offset ≤ m.start) × (m.start + m.len ≤ b.offset + b.size)
+unfolding BlockAgrees
+mapping_in_block b p objects m agrees is = let inside = here b.mapping (IsOfBlock b) agrees.mapping m is in (inside.from, inside.to)
+
+-- How refused byte calls end, for the bytes alone.
+
+pub refused_write : (b : Block) (offset : ℕ) (bytes : List ℕ) (e : MapError) (f g : ℕ → Option Object) (es : List Event) → EndsWrite b offset bytes e f g es → IsRefusedWrite b offset bytes e f g
+refused_write b offset bytes e f g es ends = elim ends [ inl refused ↦ inl refused.1 | inr failed ↦ inr (failed.0.cause, failed.0.like, failed.1) ]
+
+pub refused_read : (b : Block) (offset len : ℕ) (e : MapError) (f g : ℕ → Option Object) (es : List Event) → EndsRead b offset len e f g es → IsRefusedRead b offset len f g
+refused_read b offset len e f g es ends = elim ends [ inl refused ↦ inl refused.1 | inr failed ↦ inr failed.1 ]
+
+-- a map or an unmap moves no byte
+pub opened_moves_none : (shared : Bool) (r : Range) (f g : ℕ → Option Object) (b : Block) → r.object ≡ b.object → IsOpened shared r f g → MovesNoByte b f g
+opened_moves_none true r f g b own same = inl same
+opened_moves_none false r f g b own changes =
+    let c = rw own at changes in
+    inr (c.0, c.1, (c.2.0, (ap (λ (x : Object). x.host_bytes) c.2.1, ap (λ (x : Object). x.device_bytes) c.2.1), c.2.2))
+
+pub closed_moves_none : (shared : Bool) (f g : ℕ → Option Object) (b : Block) → IsClosed shared b.object f g → MovesNoByte b f g
+closed_moves_none true f g b same = inl same
+closed_moves_none false f g b c = inr (c.0, c.1, (c.2.0, (ap (λ (x : Object). x.host_bytes) c.2.1, ap (λ (x : Object). x.device_bytes) c.2.1), c.2.2))
