@@ -38,13 +38,8 @@ pub fn print_reply<A: Allocator>(text: &mut String<A>, reply: &Reply<A>) -> Resu
         Reply::MapRefused(error) => write!(text, "refused: {error}"),
         Reply::Done => text.push_str("ok"),
         Reply::Mapped(mapping) => write!(text, "mapped {} {}", mapping.start, mapping.len),
-        Reply::Unmapped(was_mapped) => {
-            text.push_str(if *was_mapped {
-                "unmapped yes"
-            } else {
-                "unmapped no"
-            })
-        }
+        Reply::Unmapped(true) => text.push_str("unmapped yes"),
+        Reply::Unmapped(false) => text.push_str("unmapped no"),
         Reply::Bytes(bytes) => print_bytes(text, bytes.as_slice()),
         Reply::Ranges(ranges) => print_ranges(text, ranges.as_slice()),
         Reply::Counts {

@@ -9,6 +9,7 @@ pub mod frame;
 pub mod imports;
 pub mod mapping;
 pub mod opening;
+pub mod returning;
 pub mod session;
 pub mod shared;
 pub mod staging;

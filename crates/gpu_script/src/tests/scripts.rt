@@ -119,19 +119,6 @@ fn blocks_are_whole_objects_of_the_best_type(rt: HostRuntime) {
     );
 }
 
-#[test]
-fn faults_come_in_their_order(rt: HostRuntime) {
-    compare(
-        &rt,
-        rt.alloc(),
-        &[(
-            "heap 1048576\ntype 0 1\nrequired 1 0 6 32 1\nrequired 1 8 6 32 1\nrequired 1 8 0 32 1\nfree 9\nrequired 1 8 0 0 1\nrequired 1 0 6 32 1\nrequired 2 8 18446744073709551615 0 1\nfree 1\nfree 1\ncounts",
-            "fault 3 BadSize\nfault 4 BadAlignment\nfault 5 NoDeviceAddress\nfault 2 UnknownName\nblock type 0 object 1 offset 0 size 8\nfault 1 NameInUse\nfault 4 BadAlignment\nok\nfault 2 UnknownName\ncounts remaining 4096 held 0 used 0\nend objects 0 allocations 1\n",
-            0,
-        )],
-    );
-}
-
 /// Setup lines, and what is wrong with them.
 const BAD_SETUP: [(&str, &str, u8); 24] = [
     ("heap 18446744073709551616", "line 1: bad number\n", 2),
