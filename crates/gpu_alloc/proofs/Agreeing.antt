@@ -17,7 +17,7 @@ use Rattle.gpu_alloc_base.specs.NewObject.{HasOneMore}
 use Rattle.gpu_alloc_block.specs.declared.block.Kind.{Kind}
 use Rattle.gpu_alloc_block.specs.declared.block.Kind.TheVariants.{Dedicated, Imported, BuddyChunk, FreeListChunk}
 use Rattle.gpu_alloc_base.proofs.Maps.{name_test, one_value, own_inserted}
-use Rattle.gpu_alloc.proofs.Tables.LiveSpans.{live_before, live_other}
+use Rattle.gpu_alloc_block.proofs.LiveSpans.{live_before, live_other}
 
 -- the spans of an object that are live were live
 abbrev pub IsOlder : State → State → ℕ → Type 0

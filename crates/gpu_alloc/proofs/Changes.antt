@@ -26,7 +26,7 @@ use Rattle.gpu_alloc_base.proofs.Names.{here, one_or_two, get_removed-other, get
 use Rattle.gpu_alloc.proofs.Decisions.{of_grant}
 use Rattle.gpu_alloc.proofs.FreeLists.Gone.{kept_was}
 use Rattle.gpu_alloc.proofs.Ledgers.{Held}
-use Rattle.gpu_alloc.proofs.Tables.LiveSpans.{live_still}
+use Rattle.gpu_alloc_block.proofs.LiveSpans.{live_still}
 
 -- A grant.
 

@@ -18,7 +18,8 @@ use Rattle.gpu_alloc_base.specs.declared.heap.Heap.{Heap}
 use Rattle.gpu_alloc.proofs.Ledgers.{ledger-bound, Held, small-insert, small-remove}
 use Rattle.gpu_alloc_base.proofs.Sums.{sum_by-insert, sum_by-remove, len_more, len_less}
 use Rattle.gpu_alloc_base.proofs.Maps.{name_test, eq-true, eq-false, one_value}
-use Rattle.gpu_alloc.proofs.Tables.LiveSpans.{live_new, live_before, live_other, HasSameSpans, spans_same, spans_more, spans_fewer}
+use Rattle.gpu_alloc_block.proofs.LiveSpans.{live_new, live_before, live_other}
+use Rattle.gpu_alloc.proofs.Tables.LiveSpans.{HasSameSpans, spans_same, spans_more, spans_fewer}
 use Rattle.gpu_alloc.proofs.HeapLists.{heap_inside, ledger_at, ledgers_set}
 
 test-same : (a b n : ℕ) → a ≡ b → cond (a == b) n 0 ≡ n

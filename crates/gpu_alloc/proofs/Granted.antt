@@ -39,7 +39,7 @@ use Rattle.gpu_alloc.specs.declared.request.Request.{Request}
 use Rattle.gpu_alloc.proofs.Decisions.{of_grant}
 use Rattle.gpu_alloc.proofs.Soundness.{ranges_apart}
 use Rattle.gpu_alloc.proofs.Strategies.{fits_its_list}
-use Rattle.gpu_alloc.proofs.Tables.LiveSpans.{live_new}
+use Rattle.gpu_alloc_block.proofs.LiveSpans.{live_new}
 
 module _ (s : State) (r : Request) (sound : IsSound s) where
   -- A block of a kind, in an object of a memory type.

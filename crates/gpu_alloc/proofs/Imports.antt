@@ -20,7 +20,7 @@ use Rattle.gpu_alloc.proofs.Agreeing.{IsOlder, agrees_kept, agrees_more, not_hel
 use Rattle.gpu_alloc.proofs.BlocksAgreed.{block_kept}
 use Rattle.gpu_alloc.proofs.Changes.{Grows, holds_one_more}
 use Rattle.gpu_alloc.proofs.Owning.{grant_adds, grant_leaves, left_as_it_was}
-use Rattle.gpu_alloc.proofs.Tables.LiveSpans.{live_before, live_new}
+use Rattle.gpu_alloc_block.proofs.LiveSpans.{live_before, live_new}
 
 module _ (s : State) (object memory_type offset size : ℕ) where
   owned : IsOwned (holding s (imported_object memory_type size) (imported_block s object memory_type offset size)) (imported_block s object memory_type offset size)

@@ -19,7 +19,7 @@ use Rattle.gpu_alloc.proofs.Decisions.{allocates_kept}
 use Rattle.gpu_alloc_block.specs.InHand.{ShareNoObject}
 use Rattle.gpu_alloc_block.specs.State.{HeldObject, State, Block, Span, span_of, span_cmp, AreApart, IsLive, IsOwned, is_shared}
 use Rattle.gpu_alloc.proofs.Changes.{Grows, allocates_grow, granted_kept, apart_differ, apart_back, still_owned}
-use Rattle.gpu_alloc.proofs.Tables.LiveSpans.{span_total, live_new, live_still, live_kept, not_live, put_taken, taken_before}
+use Rattle.gpu_alloc_block.proofs.LiveSpans.{span_total, live_new, live_still, live_kept, not_live, put_taken, taken_before}
 
 -- Two blocks.
 

@@ -3,6 +3,7 @@ pub mod ByteCalls
 pub mod Changes
 pub mod Copies
 pub mod Keeping
+pub mod LiveSpans
 pub mod Moving
 pub mod Opened
 pub mod Rounded

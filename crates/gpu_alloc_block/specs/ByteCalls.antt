@@ -1,5 +1,5 @@
 -- A device's own byte calls, made by a caller who has mapped a block.
-use Rattle.std.specs.Prelude.{◌≡◌, ℕ, ◌+◌, ◌<◌, ◌≤◌, Option, Some}
+use Rattle.std.specs.Prelude.{◌≡◌, ℕ, ◌+◌, ◌^◌, ◌<◌, ◌≤◌, Option, Some}
 use Rattle.gpu_alloc_types.specs.Device.{Object, Event, HeldWith, IsInMapped}
 use Rattle.gpu_alloc_types.specs.Device.Event.{Allocated, Deallocated, Mapped, Unmapped, Flushed, Invalidated}
 use Rattle.gpu_alloc_types.specs.Device.Event.{BytesPut, BytesGot}
@@ -24,6 +24,9 @@ pub record MayBeMoved (b : Block) : Type 0 where
   pub inside : (p : Properties) (objects : ℕ → Option Object) (m : Mapping) (place len : ℕ)
       → BlockAgrees b p objects → b.mapping ≡ Some m → 0 < len → m.start ≤ place → place + len ≤ m.start + m.len
       → HeldWith objects b.object (IsInMapped place len)
+  -- the mapping ends at a number of 64 bits
+  pub finish : (p : Properties) (objects : ℕ → Option Object) (m : Mapping) → BlockAgrees b p objects
+      → b.mapping ≡ Some m → m.start + m.len < 2 ^ 64
 
 -- A device's latest call was a byte call: the allocator agrees with it as before, and so does each block.
 pub record BytesMoved (s : State) {D : Type 0} (step : D → Event → D → Type 0) (properties : D → Properties)

@@ -1,5 +1,5 @@
 -- Live blocks on the device.
-use Rattle.std.proofs.Common.{◌≡◌, ℕ, ◌+◌, ◌*◌, ◌%◌, ◌≤◌, true, Option, arith, refl, sym, ◌∙◌, ap, subst}
+use Rattle.std.proofs.Common.{◌≡◌, ℕ, ◌+◌, ◌*◌, ◌%◌, ◌≤◌, true, Option, arith, sym, ◌∙◌, ap}
 use Rattle.std.proofs.Math.Nat.{add-mul-mod_self_right}
 use Rattle.gpu_alloc_types.specs.Device.{Object, HeldWith}
 use Rattle.gpu_alloc_types.specs.Properties.{Properties, atom_of}

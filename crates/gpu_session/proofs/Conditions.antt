@@ -1,19 +1,19 @@
 -- The conditions of commands.
-use Rattle.std.proofs.Common.{◌≡◌, ◌↔◌, ℕ, ◌+◌, ◌<◌, ◌≤◌, ◌^◌, ◌==◌, arith, Bool, true, false, not, ◌&&◌, nat_le, nat_lt, Option, Some, None, refl, sym, ◌∙◌, ap}
+use Rattle.std.proofs.Common.{◌≡◌, ◌↔◌, ℕ, ◌+◌, ◌<◌, ◌≤◌, ◌^◌, ◌==◌, arith, Bool, true, false, not, ◌&&◌, nat_le, nat_lt, length, Option, Some, None, refl, sym, ◌∙◌, ap}
 use Rattle.std.proofs.lemmas.Bool.Decides.{nat_tests}
 use Rattle.std.specs.Int.{is_power_of_two}
 use Rattle.gpu_alloc_types.specs.Flags.{usage_bits, has_bit}
 use Rattle.gpu_alloc_types.specs.Properties.{Properties}
 use Rattle.gpu_alloc_types.specs.Device.{Object}
 use Rattle.gpu_alloc.specs.Request.{IsAskable}
-use Rattle.gpu_alloc.specs.State.{State, Block}
+use Rattle.gpu_alloc.specs.State.{Block}
 use Rattle.gpu_alloc.specs.Types.Mapping.{Mapping}
 use Rattle.gpu_alloc.specs.declared.request.Request.{Request}
 use Rattle.gpu_session.specs.Books.{Books}
-use Rattle.gpu_session.specs.Faults.{where_true, is_alignment, fault_of_block, fault_of_mapping, fault_of_new_name, fault_of_range, fault_of_request}
+use Rattle.gpu_session.specs.Faults.{where_true, is_alignment, fault_of_block, fault_of_mapping, fault_of_new_name, fault_of_range, fault_of_request, fault_of_type}
 use Rattle.gpu_session.specs.Sound.{IsKept}
 use Rattle.gpu_session.specs.declared.command.Fault.{Fault}
-use Rattle.gpu_session.specs.declared.command.Fault.TheVariants.{NameInUse, BadSize, BadAlignment, BadRange, NoDeviceAddress, UnknownName}
+use Rattle.gpu_session.specs.declared.command.Fault.TheVariants.{NameInUse, BadSize, BadAlignment, BadRange, BadType, NoDeviceAddress, UnknownName}
 use Rattle.gpu_session.specs.declared.offer.Offer.{Offer}
 
 -- A name for a new block.
@@ -49,6 +49,13 @@ bad_range offset len size past = ap (λ t. where_true t BadRange None) past
 
 pub good_range : (offset len size : ℕ) → nat_lt size (offset + len) ≡ false → fault_of_range offset len size None ≡ None
 good_range offset len size inside = ap (λ t. where_true t BadRange None) inside
+
+pub inside : (n limit : ℕ) → nat_lt limit n ≡ false → n ≤ limit
+inside n limit e = grind (arith, nat_tests)
+
+-- a memory type that is there
+pub known_type : (p : Properties) (t : ℕ) → nat_lt t (length p.memory_types) ≡ true → fault_of_type p t None ≡ None
+known_type p t known = ap (λ x. where_true x BadType None) (let x : nat_le (length p.memory_types) t ≡ false = grind (arith, nat_tests) in x)
 
 pub some_bytes_then : (size : ℕ) (rest : Option Fault) → (size ≡ 0 → ⊥) → where_true (size == 0) BadSize rest ≡ rest
 some_bytes_then size rest some = ap (λ t. where_true t BadSize rest) (let t : (size == 0) ≡ false = grind (arith, nat_tests) in t)

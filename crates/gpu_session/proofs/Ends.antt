@@ -1,9 +1,10 @@
 -- How a byte call ends that is refused.
-use Rattle.std.proofs.Common.{◌≡◌, ◌⊎◌, inl, inr, ℕ, ◌<◌, zero, suc, List, ◌++◌, length, take, ◌∙◌, Option, None, Result, Ok, Err, refl, sym, ap, subst, arith}
+use Rattle.std.proofs.Common.{◌≡◌, inl, inr, ℕ, ◌<◌, ◌≤◌, ◌==◌, zero, suc, true, false, cond, List, [], ◌++◌, length, take, ◌∙◌, Option, None, Result, Err, refl, sym, ap, subst, arith}
 use Rattle.std.proofs.Math.Seq.{take-append_seam}
+use Rattle.std.proofs.lemmas.Bool.Decides.{nat_tests}
 use Rattle.std.specs.Result.{IsOk}
 use Rattle.gpu_alloc_types.specs.Device.{Event, Object}
-use Rattle.gpu_alloc.specs.Bytes.{EndsRead, EndsWrite, flush_fails, invalidate_fails}
+use Rattle.gpu_alloc.specs.Bytes.{EndsRead, EndsWrite, flush_fails, invalidate_fails, where_some}
 use Rattle.gpu_alloc.specs.Mapped.{refusal}
 use Rattle.gpu_alloc.specs.Ranges.{rounded}
 use Rattle.gpu_alloc.specs.State.{Block}
@@ -29,3 +30,11 @@ module _ {T : Type 0} (answer : Result T MapError) (b : Block) (e : MapError) (f
 -- what is seen of a vector whose every byte was lent
 pub taken_whole : (n : ℕ) (xs rest ys : List ℕ) → ys ≡ take n (xs ++ rest) → length xs ≡ n → ys ≡ xs
 taken_whole n xs rest ys is many = is ∙ ap (λ k. take k (xs ++ rest)) (sym many) ∙ take-append_seam xs rest
+
+-- Bytes are moved where there are some.
+
+pub some_moved : (len : ℕ) (es : List Event) → 0 < len → es ≡ where_some len es
+some_moved len es some = ap (λ t. cond t [] es) (let t : false ≡ (len == 0) = grind (arith, nat_tests) in t)
+
+pub none_moved : (len : ℕ) (es : List Event) → len ≤ 0 → [] ≡ where_some len es
+none_moved len es none = ap (λ t. cond t [] es) (let t : true ≡ (len == 0) = grind (arith, nat_tests) in t)

@@ -1,5 +1,5 @@
 -- What a grant makes of the books.
-use Rattle.std.proofs.Common.{◌≡◌, ◌≢◌, ◌⊎◌, inl, inr, ℕ, Option, Some, None, sym, ◌∙◌, ap, subst}
+use Rattle.std.proofs.Common.{◌≡◌, ◌≢◌, ◌⊎◌, inl, inr, ℕ, Option, Some, None, sym, ◌∙◌, subst}
 use Rattle.std.specs.FinMap as finite
 use Rattle.std.specs.Ordering.{nat_cmp}
 use Rattle.gpu_alloc_types.specs.Properties.{Properties}
@@ -8,7 +8,7 @@ use Rattle.gpu_alloc.specs.Agreement.{Agrees, BlockAgrees}
 use Rattle.gpu_alloc.specs.Owned.{Adds, Leaves, AreTwo}
 use Rattle.gpu_alloc.specs.Sound as allocator
 use Rattle.gpu_alloc.specs.State.{Span, span_of, Block, State, IsLive, IsOwned}
-use Rattle.gpu_alloc.proofs.Tables.LiveSpans.{live_before}
+use Rattle.gpu_alloc_block.proofs.LiveSpans.{live_before}
 use Rattle.gpu_alloc_base.proofs.Names.{here, wherever, put-cases, get_put, get_put-other}
 use Rattle.gpu_session.specs.Offer.{IsOffer}
 use Rattle.gpu_session.specs.Sound.{IsBlock, IsSound, IsKept}

@@ -1,9 +1,13 @@
 pub mod Blocks
 pub mod Conditions
 pub mod Ends
+pub mod Finished
 pub mod Grants
+pub mod Imports
 pub mod Moves
 pub mod Names
 pub mod Openings
 pub mod Returns
 pub mod Runs
+pub mod Totals
+pub mod WholeObjects

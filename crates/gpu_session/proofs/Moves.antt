@@ -1,5 +1,5 @@
 -- What a call of a block, or on its bytes, makes of the books.
-use Rattle.std.proofs.Common.{◌≡◌, ◌≢◌, ◌⊎◌, inl, inr, ℕ, Option, Some, None, refl, sym, ◌∙◌, ap, subst}
+use Rattle.std.proofs.Common.{◌≡◌, inl, inr, ℕ, Option, Some, sym, ◌∙◌, ap, subst}
 use Rattle.std.specs.FinMap as finite
 use Rattle.std.specs.Ordering.{nat_cmp}
 use Rattle.gpu_alloc_types.specs.Properties.{Properties}
@@ -70,3 +70,27 @@ pub move_is_kept : {A : Type 0} {s : State} {blocks : finite.FinMap nat_cmp Bloc
     → IsKept p before (record { allocator = s; blocks = blocks }) o → Moves blocks name b now p before q after
     → IsKept q after (record { allocator = s; blocks = finite.insert blocks name now }) o
 move_is_kept {o = o} k m = record { sound = move_is_sound m k.sound; offer = subst (λ t. IsOffer t o) (sym m.properties) k.offer }
+
+-- The device was called beside the allocator's and the blocks' calls, and all agree with it as before.
+pub record Agreed (s : State) (p : Properties) (before : ℕ → Option Object) (q : Properties) (after : ℕ → Option Object) : Type 0 where
+  pub allocator : Agrees s p before → Agrees s q after
+  pub blocks : (c : Block) → IsOwned s c → BlockAgrees c p before → BlockAgrees c q after
+
+-- What a session keeps, it keeps over such a call.
+pub agreed_is_kept : {A : Type 0} {s : State} {blocks : finite.FinMap nat_cmp Block} {p q : Properties} {before after : ℕ → Option Object} {o : Offer A}
+    → IsKept p before (record { allocator = s; blocks = blocks }) o → Agreed s p before q after → IsKept q after (record { allocator = s; blocks = blocks }) o
+agreed_is_kept {s = s} {blocks = blocks} {p = p} {q = q} {before = before} {after = after} {o = o} k agreed =
+    let sound = k.sound in
+    let agrees = agreed.allocator sound.agrees in
+    record {
+      sound = record {
+        agrees = agrees;
+        allocator = sound.allocator;
+        blocks = λ n. wherever (finite.get blocks n) (IsBlock q s after) (λ c at.
+            let was = here (finite.get blocks n) (IsBlock p s before) (sound.blocks n) c at in
+            live_block c q after (agreed.blocks c was.owned was.agrees) s sound.allocator was.owned);
+        apart = sound.apart;
+        named = sound.named;
+      };
+      offer = subst (λ t. IsOffer t o) (sym (agrees.properties ∙ sym sound.agrees.properties)) k.offer;
+    }

@@ -1,14 +1,14 @@
 -- What is found under a name, in the maps of live blocks.
-use Rattle.std.proofs.Common.{◌≡◌, ◌⊎◌, inl, inr, ℕ, Bool, true, false, cond, ◌==◌, nat_eq, Option, Some, None, refl, sym, ◌∙◌, ap, arith, List}
+use Rattle.std.proofs.Common.{◌≡◌, inl, inr, ℕ, true, false, cond, nat_eq, Option, Some, None, refl, sym, ◌∙◌, ap, List}
 use Rattle.std.specs.Option.{is_some}
 use Rattle.std.specs.Map.{lookup}
-use Rattle.std.specs.Ordering.{nat_cmp, eq_by_cmp}
+use Rattle.std.specs.Ordering.{nat_cmp}
 use Rattle.std.specs.Cmp.{nat_cmp_total}
 use Rattle.std.specs.FinMap as finite
 use Rattle.std.specs.FinMap.{nat_cmp-IsAntisymmetric}
 use Rattle.gpu_alloc.specs.State.{Block}
 use Rattle.gpu_session.specs.Books.{Books, with_block}
-use Rattle.gpu_alloc_base.proofs.Names.{get_entries, get_put, get_put-other, one_or_two, put_by_name}
+use Rattle.gpu_alloc_base.proofs.Names.{get_entries, get_put, get_put-other, is_there, one_or_two, put_by_name}
 
 module _ {X : Type 0} where
   -- to put what is there changes nothing
@@ -26,6 +26,10 @@ module _ {X : Type 0} where
         is_absent : (o : Option X) → is_some o ≡ false → o ≡ None
         is_absent None e = refl
         is_absent (Some x) e = absurd (let n : true ≡ false = e in cc)
+
+    -- a name that is found has one
+    pub named : is_some (lookup (nat_eq name) es) ≡ true → (x : X) × (finite.get (finite.from_entries {R = nat_cmp} es) name ≡ Some x)
+    named e = let there = is_there (lookup (nat_eq name) es) e in (there.0, get_entries es name ∙ there.1)
 
     -- what is found under a name is its block
     pub found : (o : Option X) → o ≡ lookup (nat_eq name) es → finite.get (finite.from_entries {R = nat_cmp} es) name ≡ o

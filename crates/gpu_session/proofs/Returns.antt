@@ -8,9 +8,8 @@ use Rattle.gpu_alloc.specs.Agreement.{Agrees, BlockAgrees, KeepsBlocks}
 use Rattle.gpu_alloc.specs.Owned.{Leaves, LeavesNoRest, Removes}
 use Rattle.gpu_alloc.specs.Sound as allocator
 use Rattle.gpu_alloc.specs.State.{span_of, Block, HeldObject, Span, State, IsLive, IsOwned, ledger, total}
-use Rattle.gpu_alloc.proofs.Tables.LiveSpans.{live_other}
+use Rattle.gpu_alloc_block.proofs.LiveSpans.{live_other}
 use Rattle.gpu_alloc_base.proofs.Names.{here, wherever, removed-cases, get_removed-other}
-use Rattle.gpu_session.specs.Books.{OfBlock}
 use Rattle.gpu_session.specs.Offer.{IsOffer}
 use Rattle.gpu_session.specs.Sound.{HoldsNothing, IsBlock, IsSound, IsKept}
 use Rattle.gpu_session.specs.declared.offer.Offer.{Offer}

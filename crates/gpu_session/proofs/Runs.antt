@@ -1,5 +1,5 @@
 -- Runs, one after the other.
-use Rattle.std.proofs.Common.{ℕ, ◌+◌, ◌<◌, List, [], ◌∷◌, ◌++◌, length, take, get_or, add-one, refl, subst}
+use Rattle.std.proofs.Common.{◌≡◌, ℕ, ◌+◌, ◌<◌, List, [], ◌∷◌, ◌++◌, length, take, get_or, add-one, refl, subst}
 use Rattle.std.proofs.Math.Seq.{take-suc}
 use Rattle.gpu_session.specs.Run.{Run}
 use Rattle.gpu_session.specs.declared.command.Command.{Command}
@@ -18,6 +18,11 @@ module _ {S A : Type 0} (Steps : S → Command A → Reply A → S → Type 0) w
   pub run_next : (old mid new : S) (commands : List (Command A)) (i : ℕ) (default : Command A) (replies : List (Reply A)) (reply : Reply A) → i < length commands
       → Run Steps old (take i commands) replies mid → Steps mid (get_or commands i default) reply new → Run Steps old (take (i + 1) commands) (replies ++ reply ∷ []) new
   run_next old mid new commands i default replies reply lt run s = rw (add-one, take-suc commands i default lt) (run_more old mid new (take i commands) replies (get_or commands i default) reply run s)
+
+  -- the same, where the next command is known
+  pub run_next_is : (old mid new : S) (commands : List (Command A)) (i : ℕ) (command : Command A) (replies : List (Reply A)) (reply : Reply A) → i < length commands → command ≡ get_or commands i command
+      → Run Steps old (take i commands) replies mid → Steps mid command reply new → Run Steps old (take (i + 1) commands) (replies ++ reply ∷ []) new
+  run_next_is old mid new commands i command replies reply lt is run s = run_next old mid new commands i command replies reply lt run (subst (λ x. Steps mid x reply new) is s)
 
   -- two runs, one after the other, are a run of the joined lists
   pub run_append : (old mid new : S) (commands later : List (Command A)) (replies answers : List (Reply A))

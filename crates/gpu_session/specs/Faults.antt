@@ -1,5 +1,5 @@
 -- The first condition that a command misses.
-use Rattle.std.specs.Prelude.{ℕ, ◌+◌, ◌%◌, ◌^◌, ◌==◌, ◌&&◌, ◌||◌, Bool, true, false, not, cond, List, length, Option, Some}
+use Rattle.std.specs.Prelude.{ℕ, ◌+◌, ◌%◌, ◌^◌, ◌==◌, ◌&&◌, ◌||◌, Bool, true, false, not, cond, length, Option, Some}
 use Rattle.std.specs.Prelude.{None, is_some, nat_lt, nat_le}
 use Rattle.std.specs.Int.{is_power_of_two}
 use Rattle.std.specs.FinMap as map

@@ -4,6 +4,7 @@ use Rattle.gpu_alloc_types.specs.Device.{Event, Chain}
 use Rattle.gpu_session.specs.Books.{SessionState}
 use Rattle.gpu_session.specs.Does.{Does}
 use Rattle.gpu_session.specs.declared.command.Command.{Command}
+use Rattle.gpu_session.specs.declared.command.Command.TheVariants.{Cleanup}
 use Rattle.gpu_session.specs.declared.command.Reply.{Reply}
 
 -- From old, a session may answer the command so and go on to new: what the device was asked is a chain of its steps.
@@ -28,14 +29,13 @@ Joins {S} {A} Steps =
     → Run Steps old commands replies mid → Run Steps mid later answers new
     → Run Steps old (commands ++ later) (replies ++ answers) new
 
--- this holds of each step
-abbrev pub EachStep : {S A : Type 0} → (S → Command A → Reply A → S → Type 0) → (S → S → Type 0) → Type 0
-EachStep {S} {A} Steps P =
-    (old new : S) (command : Command A) (reply : Reply A) → Steps old command reply new → P old new
-
 -- this holds of each run of these steps
 abbrev pub EachRun : {S A : Type 0} → (S → Command A → Reply A → S → Type 0)
     → (S → List (Command A) → List (Reply A) → S → Type 0) → Type 0
 EachRun {S} {A} Steps P =
     (old new : S) (commands : List (Command A)) (replies : List (Reply A))
     → Run Steps old commands replies new → P old commands replies new
+
+-- the last command is a cleanup
+abbrev pub EndsWithCleanup : {A : Type 0} → List (Command A) → Type 0
+EndsWithCleanup {A} commands = (before : List (Command A)) × (commands ≡ before ++ Cleanup ∷ [])

@@ -1,5 +1,5 @@
 -- What every state between two commands has, and what each step keeps.
-use Rattle.std.specs.Prelude.{◌≡◌, ◌≢◌, ◌↔◌, ℕ, ◌+◌, ◌%◌, ◌≤◌, ◌<◌, true, List, length, map, Contains, Option, Some, None}
+use Rattle.std.specs.Prelude.{◌≡◌, ◌≢◌, ◌↔◌, ℕ, ◌+◌, ◌%◌, ◌≤◌, ◌<◌, true, List, length, map, Contains, Option, Some}
 use Rattle.std.specs.Prelude.{IsSome, IfSome}
 use Rattle.std.specs.FinMap as finite
 use Rattle.gpu_alloc_types.specs.Properties.{Properties, atom_of}
@@ -15,12 +15,12 @@ use Rattle.gpu_alloc.specs.Types.Kind.TheVariants.{Dedicated as DedicatedObject}
 use Rattle.gpu_alloc.specs.declared.request.Dedicated.TheVariants.{Required}
 use Rattle.gpu_session.specs.Books.{Books, OfBlock, SessionState}
 use Rattle.gpu_session.specs.Does.{IsTold}
+use Rattle.gpu_session.specs.Isolation.{LeavesOthers, MovesBytes}
 use Rattle.gpu_session.specs.Offer.{IsOffer}
 use Rattle.gpu_session.specs.Run.{Step}
 use Rattle.gpu_session.specs.declared.command.Command.{Command}
-use Rattle.gpu_session.specs.declared.command.Command.TheVariants.{Alloc, Dedicated, Import, Free, Map, Unmap, Write}
-use Rattle.gpu_session.specs.declared.command.Command.TheVariants.{Read, Put, Get, SetRemaining, Cleanup, FreeRanges}
-use Rattle.gpu_session.specs.declared.command.Command.TheVariants.{Counts}
+use Rattle.gpu_session.specs.declared.command.Command.TheVariants.{Alloc, Dedicated, Import}
+use Rattle.gpu_session.specs.declared.command.Command.TheVariants.{SetRemaining, Cleanup}
 use Rattle.gpu_session.specs.declared.command.Reply.{Reply}
 use Rattle.gpu_session.specs.declared.command.Reply.TheVariants.{Granted, Refused, Fault as Faulty}
 use Rattle.gpu_session.specs.declared.offer.Offer.{Offer}
@@ -100,6 +100,8 @@ pub record Keeps {D A : Type 0} (objects : D → ℕ → Option Object) (old : S
   pub granted : GrantsAsAsked old.books command reply new.books
   pub refused : ChangesNothing (objects old.device) old.books reply (objects new.device) new.books
   pub balance : Balances old.books command new.books
+  pub others : LeavesOthers (objects old.device) old.books command (objects new.device) new.books
+  pub bytes : MovesBytes (objects old.device) old.books command reply (objects new.device)
 
 -- A step from a sound state to a sound state, which keeps what each step keeps.
 pub record SoundStep {D A : Type 0} (step : D → Event → D → Type 0) (properties : D → Properties)
@@ -116,6 +118,10 @@ pub record SoundStep {D A : Type 0} (step : D → Event → D → Type 0) (prope
 abbrev pub LeavesRemaining : {A : Type 0} → Command A → Type 0
 LeavesRemaining (SetRemaining remaining) = ⊥
 LeavesRemaining command = Unit {0}
+
+-- with no block under any name nothing is held
+abbrev pub HasNothingLeft : Books → Type 0
+HasNothingLeft s = s.blocks ≡ finite.empty → HoldsNothing s.allocator s.allocator
 
 -- Each live block is the whole of an object, and no two are of one object.
 pub record AreWholeObjects (objects : ℕ → Option Object) (s : Books) : Type 0 where

@@ -3,6 +3,7 @@
 
 mod command;
 mod items;
+pub mod laws;
 mod offer;
 mod session;
 

@@ -1,13 +1,16 @@
 //! A list of commands, as one session answers it.
 
-ghost use Rattle.std.specs.Prelude.{◌≡◌, All, IfOk};
+ghost use Rattle.std.specs.Prelude.{◌≡◌, All, IfOk, OnOk};
 ghost use Rattle.gpu_alloc.specs.State.{total};
 ghost use Rattle.gpu_alloc_types.specs.Properties.{IsUsable, properties_of};
-ghost use Rattle.gpu_session.specs.Sound.{HasWholeObjects, IsForRequired};
+ghost use Rattle.gpu_session.specs.Run.{EndsWithCleanup};
+ghost use Rattle.gpu_session.specs.Sound.{HasNothingLeft, HasWholeObjects, IsForRequired, LeavesRemaining};
 
 use gpu_alloc::{Config, DeviceProperties};
 use gpu_alloc_types::{MemoryDevice, MemoryObject};
-use gpu_session::laws::{required_runs_keep_whole_objects, steps_keep_the_total};
+use gpu_session::laws::{
+    required_runs_keep_whole_objects, runs_end_with_nothing_held, runs_keep_the_total,
+};
 use gpu_session::{Command, Reply, Session};
 use std::alloc::{AllocError, Global};
 
@@ -35,24 +38,43 @@ pub fn answer_twice<M: MemoryObject, D: MemoryDevice<M>>(
     }
 }
 
-/// Answers a list of commands, after which as many objects are held or may be held as before.
+/// Answers a list of commands of which none says how many more objects may be held: as many are held or may be held as
+/// before.
 pub fn answer<M: MemoryObject, D: MemoryDevice<M>>(
     session: &mut Session<M, D>,
     commands: &[Command<Global>],
 ) -> Result<Vec<Reply<Global>>, AllocError>
+    requires leaves { All LeavesRemaining commands.now }
     ensures { total (session.new.books).allocator ≡ total (session.old.books).allocator }
 {
     match session.run(commands) {
         Ok(replies) => {
-            steps_keep_the_total::<M, D, Global>();
+            runs_keep_the_total::<M, D, Global>();
             Ok(replies)
         }
         Err(refusal) => Err(refusal),
     }
 }
 
-/// Opens a session and answers a list of requests with the hint `Required` and of returns: each live block is the whole
-/// of an object of its own. Where there is no memory, the device comes back.
+/// Answers a list of commands that ends with `Cleanup`: where no name has a block then, nothing is held.
+pub fn answer_and_clean_up<M: MemoryObject, D: MemoryDevice<M>>(
+    session: &mut Session<M, D>,
+    commands: &[Command<Global>],
+) -> Result<Vec<Reply<Global>>, AllocError>
+    requires ends { EndsWithCleanup commands.now }
+    ensures { OnOk result (HasNothingLeft session.new.books) }
+{
+    match session.run(commands) {
+        Ok(replies) => {
+            runs_end_with_nothing_held::<M, D, Global>();
+            Ok(replies)
+        }
+        Err(refusal) => Err(refusal),
+    }
+}
+
+/// Opens a session and answers a list of commands that asks for no block but with the hint `Required`: each live block is
+/// the whole of an object of its own. Where there is no memory, the device comes back.
 pub fn open_with_whole_objects<M: MemoryObject, D: MemoryDevice<M>>(
     alloc: Global,
     props: DeviceProperties<'_>,

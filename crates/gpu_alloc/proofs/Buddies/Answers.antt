@@ -29,7 +29,8 @@ use Rattle.gpu_alloc.proofs.Agreeing.{not_held}
 use Rattle.gpu_alloc.proofs.Ledgers.{Held}
 use Rattle.gpu_alloc_base.proofs.Maps.{own_inserted}
 use Rattle.gpu_alloc.proofs.Buddies.Links.{HasLeafMore}
-use Rattle.gpu_alloc.proofs.Tables.LiveSpans.{not_live, not_live_new}
+use Rattle.gpu_alloc_block.proofs.LiveSpans.{not_live}
+use Rattle.gpu_alloc.proofs.Tables.LiveSpans.{not_live_new}
 use Rattle.gpu_alloc_base.proofs.Books.{made_new}
 use Rattle.gpu_alloc_base.proofs.ToldTwice.{asks_is}
 use Rattle.gpu_alloc.proofs.HandedOn.{Given}

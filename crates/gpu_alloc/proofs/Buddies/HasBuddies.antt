@@ -14,7 +14,8 @@ use Rattle.gpu_alloc_block.specs.declared.block.Kind.TheVariants.{BuddyChunk}
 use Rattle.gpu_alloc_base.specs.declared.config.Config.{Config}
 use Rattle.gpu_alloc.proofs.HeapLists.{each_set}
 use Rattle.gpu_alloc.proofs.Buddies.Links.{IsBeside, linked_beside}
-use Rattle.gpu_alloc.proofs.Tables.LiveSpans.{span_total, span_test, spans_more, spans_fewer}
+use Rattle.gpu_alloc_block.proofs.LiveSpans.{span_total, span_test}
+use Rattle.gpu_alloc.proofs.Tables.LiveSpans.{spans_more, spans_fewer}
 
 -- What a span makes of the table is of its object.
 

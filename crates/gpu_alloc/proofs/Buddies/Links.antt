@@ -13,7 +13,7 @@ use Rattle.gpu_alloc_block.specs.State.{HeldObject, Span}
 use Rattle.gpu_alloc_base.specs.declared.buddy_block.Leaf.{Leaf}
 use Rattle.gpu_alloc_base.proofs.Leaves.{was_live, still_live, now_live, leaf_removed}
 use Rattle.gpu_alloc_base.proofs.Maps.{one_value, get_put, get_beside, get_left, own_inserted, other_inserted, another_key, kept_other, kept_key}
-use Rattle.gpu_alloc.proofs.Tables.LiveSpans.{span_total, span_test, live_new, live_still, live_before, live_kept, live_other}
+use Rattle.gpu_alloc_block.proofs.LiveSpans.{span_total, span_test, live_new, live_still, live_before, live_kept, live_other}
 
 -- What changed in the table is of one object.
 pub record IsBeside (old new : Table) (object : ℕ) : Type 0 where

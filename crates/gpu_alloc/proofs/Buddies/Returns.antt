@@ -36,7 +36,7 @@ use Rattle.gpu_alloc_base.proofs.Maps.{kept_other, gone, one_value}
 use Rattle.gpu_alloc.proofs.HeapLists.{properties_kept, state_kept}
 use Rattle.gpu_alloc.proofs.Ledgers.{Held}
 use Rattle.gpu_alloc.proofs.Buddies.Links.{IsBeside, HasLeafLess, linked_without_leaf, linked_without_chunk}
-use Rattle.gpu_alloc.proofs.Tables.LiveSpans.{span_test, live_kept, live_other}
+use Rattle.gpu_alloc_block.proofs.LiveSpans.{span_test, live_kept, live_other}
 use Rattle.gpu_alloc.proofs.Returns.{returned}
 use Rattle.gpu_alloc.proofs.Buddies.Served.{buddy_agrees, unused_is, unused_was}
 use Rattle.gpu_alloc.proofs.Buddies.Serving.{Serves}

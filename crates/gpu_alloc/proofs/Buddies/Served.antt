@@ -22,7 +22,7 @@ use Rattle.gpu_alloc_base.proofs.Leaves.{leaf_removed}
 use Rattle.gpu_alloc.proofs.Ledgers.{sum_by-small}
 use Rattle.gpu_alloc_base.proofs.Sums.{sum_by-within, len-within}
 use Rattle.gpu_alloc_base.proofs.Maps.{eq-true, one_value}
-use Rattle.gpu_alloc.proofs.Tables.LiveSpans.{live_kept, live_other}
+use Rattle.gpu_alloc_block.proofs.LiveSpans.{live_kept, live_other}
 use Rattle.gpu_alloc.proofs.Buddies.Serving.{table_of, Serves}
 use Rattle.gpu_alloc.proofs.HeapLists.{ledger_at}
 

@@ -14,7 +14,8 @@ use Rattle.gpu_alloc_base.specs.Case.{Answers, GivesInPlace, GivesInNewObject}
 use Rattle.gpu_alloc_base.specs.NewObject.{HasOneMore}
 use Rattle.gpu_alloc.specs.Candidates.{list_candidate}
 use Rattle.gpu_alloc_freelist.specs.FreeListAllocator.{question, ObjectsAfter, chunk_size, next_size, list_case, listing_with_slot, in_new_chunk, sees_chunks}
-use Rattle.gpu_alloc.proofs.Tables.LiveSpans.{not_live, not_live_new}
+use Rattle.gpu_alloc_block.proofs.LiveSpans.{not_live}
+use Rattle.gpu_alloc.proofs.Tables.LiveSpans.{not_live_new}
 use Rattle.gpu_alloc_base.proofs.Books.{made_new}
 use Rattle.gpu_alloc_base.proofs.ToldTwice.{asks_is}
 use Rattle.gpu_alloc_freelist.proofs.Spaces.{next_is_new}

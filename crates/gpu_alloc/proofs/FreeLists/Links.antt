@@ -14,7 +14,7 @@ use Rattle.gpu_alloc_block.specs.State.{HeldObject, Span}
 use Rattle.gpu_alloc_block.specs.declared.block.Kind.TheVariants.{FreeListChunk}
 use Rattle.gpu_alloc_base.specs.declared.free_list_block.Slot.{Slot}
 use Rattle.gpu_alloc.proofs.Buddies.Links.{IsBeside}
-use Rattle.gpu_alloc.proofs.Tables.LiveSpans.{live_new, live_still, live_before, live_kept, live_other}
+use Rattle.gpu_alloc_block.proofs.LiveSpans.{live_new, live_still, live_before, live_kept, live_other}
 use Rattle.gpu_alloc_base.proofs.Maps.{one_value, own_inserted, other_inserted, kept_other, kept_key, another_key}
 use Rattle.gpu_alloc_base.proofs.Slots.{slot_inserted, slot_removed}
 

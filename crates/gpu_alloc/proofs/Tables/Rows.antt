@@ -7,7 +7,7 @@ use Rattle.gpu_alloc_base.specs.SlabViews.{map_by, set_by, HasOneKeyEach}
 use Rattle.gpu_alloc.specs.Spans.{Place, span_in, place_in, IsUnder, IsNowhere}
 use Rattle.gpu_alloc_block.specs.State.{Span, span_cmp}
 use Rattle.gpu_alloc.specs.declared.spans.LiveSpan.{LiveSpan}
-use Rattle.gpu_alloc.proofs.Tables.LiveSpans.{span_total, span_exact}
+use Rattle.gpu_alloc_block.proofs.LiveSpans.{span_total, span_exact}
 use Rattle.gpu_alloc_base.proofs.SlabViews.{IsInserted, once_inserted, in_set, map_there, map_absent}
 
 abbrev pub live_in : Slab LiveSpan → set.FinSet span_cmp

@@ -10,6 +10,7 @@ ghost use Rattle.gpu_session.specs.Sound.{Keeps};
 
 use super::{Blocks, Session};
 use crate::{Command, Fault, Reply};
+use gpu_alloc::laws::{made_objects_may_be_imported, objects_of_others_may_go};
 use gpu_alloc::{AllocationError, Dedicated, MemoryBlock, Request};
 use gpu_alloc_types::{MemoryDevice, MemoryObject, UsageFlags};
 use std::alloc::Allocator;
@@ -84,7 +85,12 @@ impl<M: MemoryObject, D: MemoryDevice<M>, A: Allocator + Copy> Session<M, D, A> 
     }
 
     /// Answers `Dedicated`. Room for the block's entry is made before the device is asked.
-    pub(super) fn dedicated(&mut self, name: u32, request: Request, dedicated: Dedicated) -> Reply<A>
+    pub(super) fn dedicated(
+        &mut self,
+        name: u32,
+        request: Request,
+        dedicated: Dedicated,
+    ) -> Reply<A>
         ensures step { Step D.step self.old (Command.Dedicated name request dedicated) result self.new }
         ensures keeps { Keeps D.objects self.old (Command.Dedicated name request dedicated) result self.new }
     {
@@ -161,7 +167,9 @@ impl<M: MemoryObject, D: MemoryDevice<M>, A: Allocator + Copy> Session<M, D, A> 
             return Reply::Fault(Fault::NoMemory);
         }
         let flags = self.offer.flags();
-        let memory = match self.device.allocate_memory(object_size, memory_type, flags) {
+        let answer = self.device.allocate_memory(object_size, memory_type, flags);
+        made_objects_may_be_imported(&self.allocator, &self.device, &answer);
+        let memory = match answer {
             Ok(memory) => memory,
             Err(e) => return Reply::Refused(AllocationError::from(e)),
         };
@@ -173,6 +181,7 @@ impl<M: MemoryObject, D: MemoryDevice<M>, A: Allocator + Copy> Session<M, D, A> 
             Ok(block) => keep(&mut self.blocks, name, block),
             Err(memory) => {
                 self.device.deallocate_memory(&memory);
+                objects_of_others_may_go(&self.allocator, &self.device);
                 Reply::Fault(Fault::NoMemory)
             }
         }

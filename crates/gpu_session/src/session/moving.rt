@@ -7,6 +7,7 @@ ghost use Rattle.gpu_session.specs.Sound.{Keeps};
 use super::Session;
 use super::allocating::passes_end;
 use crate::{Bytes, Command, Fault, Reply};
+use gpu_alloc::laws::{byte_calls_keep_agreement, bytes_of_a_mapping_may_be_moved};
 use gpu_alloc_types::{MemoryDevice, MemoryObject};
 use std::alloc::{AllocError, Allocator};
 
@@ -93,12 +94,15 @@ impl<M: MemoryObject, D: MemoryDevice<M>, A: Allocator + Copy> Session<M, D, A> 
         let Some(mapping) = block.mapping() else {
             return Reply::Fault(Fault::NotMapped);
         };
-        if passes_end(offset, bytes.len() as u64, mapping.len) {
+        let len = bytes.len() as u64;
+        if passes_end(offset, len, mapping.len) {
             return Reply::Fault(Fault::BadRange);
         }
-        if !bytes.is_empty() {
-            self.device
-                .put_bytes(block.memory(), mapping.start + offset, bytes);
+        if len > 0 {
+            bytes_of_a_mapping_may_be_moved(block);
+            let place = mapping.start + offset;
+            self.device.put_bytes(block.memory(), place, bytes);
+            byte_calls_keep_agreement(&self.allocator, &self.device);
         }
         Reply::Done
     }
@@ -121,11 +125,11 @@ impl<M: MemoryObject, D: MemoryDevice<M>, A: Allocator + Copy> Session<M, D, A> 
             return Reply::Fault(Fault::NoMemory);
         };
         if len > 0 {
-            self.device.get_bytes(
-                block.memory(),
-                mapping.start + offset,
-                bytes.as_mut_slice(),
-            );
+            bytes_of_a_mapping_may_be_moved(block);
+            let place = mapping.start + offset;
+            self.device
+                .get_bytes(block.memory(), place, bytes.as_mut_slice());
+            byte_calls_keep_agreement(&self.allocator, &self.device);
         }
         Reply::Bytes(Bytes::from_vec(bytes))
     }

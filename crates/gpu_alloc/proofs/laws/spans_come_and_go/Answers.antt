@@ -1,5 +1,5 @@
 use Rattle.gpu_alloc.proofs.Owning.{one_cancels, two_cancel}
-use Rattle.gpu_alloc.proofs.Tables.LiveSpans.{put_taken, taken_before}
+use Rattle.gpu_alloc_block.proofs.LiveSpans.{put_taken, taken_before}
 use Rattle.gpu_alloc.proofs.laws.spans_come_and_go.Goals as goal
 
 pub returns-clause-again : goal.returns-clause-again

@@ -11,7 +11,7 @@ use Rattle.gpu_alloc_base.specs.declared.heap.Heap.{Heap}
 use Rattle.gpu_alloc.proofs.Agreeing.{agrees_returned}
 use Rattle.gpu_alloc.proofs.Consistency.{covers, fits_again}
 use Rattle.gpu_alloc.proofs.HeapLists.{properties_kept}
-use Rattle.gpu_alloc.proofs.Tables.LiveSpans.{live_other}
+use Rattle.gpu_alloc_block.proofs.LiveSpans.{live_other}
 use Rattle.gpu_alloc.proofs.OwnObjects.{consistent-gone}
 use Rattle.gpu_alloc.proofs.Returns.{returned, goes_with, let_go, state_returned}
 use Rattle.gpu_alloc.proofs.allocator.GpuAllocator.dealloc_object.Given.{Over}

@@ -1,7 +1,7 @@
 use Rattle.std.proofs.Common.{◌≡◌, false, ap, ◌∙◌}
 use Rattle.std.specs.FinSet as set
 use Rattle.gpu_alloc.specs.Spans.{Table, span_in, place_in}
-use Rattle.gpu_alloc.proofs.Tables.LiveSpans.{span_total, span_exact}
+use Rattle.gpu_alloc_block.proofs.LiveSpans.{span_total, span_exact}
 use Rattle.gpu_alloc_base.proofs.SlabViews.{IsInserted, set_inserted, map_inserted}
 use Rattle.gpu_alloc.proofs.Tables.Rows.{live_in, once_more}
 use Rattle.gpu_alloc.proofs.spans.Spans.insert.Given.{Over}

@@ -3,7 +3,7 @@ use Rattle.std.specs.FinMap as finite
 use Rattle.std.specs.FinSet as set
 use Rattle.gpu_alloc.specs.Spans.{Table, span_at, span_in, place_in}
 use Rattle.gpu_alloc_block.specs.State.{Span}
-use Rattle.gpu_alloc.proofs.Tables.LiveSpans.{span_total, span_exact}
+use Rattle.gpu_alloc_block.proofs.LiveSpans.{span_total, span_exact}
 use Rattle.gpu_alloc_base.proofs.SlabViews.{IsRemoved, once_removed, set_removed, map_removed}
 use Rattle.gpu_alloc.proofs.Tables.Rows.{live_in, places_in, nowhere_dead, under_row, under_place}
 use Rattle.gpu_alloc.proofs.spans.Spans.remove.Given.{Over}

@@ -1,6 +1,4 @@
-use Rattle.std.proofs.Common.{◌≡◌, ◌+◌, [], true, false, None, Some, nat_lt, refl, sym, ◌∙◌, ap, inl}
-use Rattle.std.specs.Ordering.{nat_cmp}
-use Rattle.std.specs.FinMap as finite
+use Rattle.std.proofs.Common.{◌+◌, [], Some, nat_lt, refl, sym, ◌∙◌, ap, inl}
 use Rattle.gpu_alloc_base.proofs.Names.{get_entries, here}
 use Rattle.gpu_session.specs.Sound.{IsBlock}
 use Rattle.gpu_session.proofs.Conditions.{bad_range, good_range, no_block, of_block, some_bytes_then}

@@ -1,11 +1,9 @@
-use Rattle.std.proofs.Common.{◌≡◌, ◌+◌, [], true, false, None, Some, length, nat_lt, refl, sym, subst, ◌∙◌, ap, inl, inr}
-use Rattle.std.specs.Ordering.{nat_cmp}
-use Rattle.std.specs.FinMap as finite
+use Rattle.std.proofs.Common.{◌+◌, [], length, nat_lt, refl, sym, subst, ◌∙◌, ap, inl, inr}
 use Rattle.gpu_alloc_base.proofs.Names.{get_entries, here}
 use Rattle.gpu_session.specs.Sound.{IsBlock}
 use Rattle.gpu_session.proofs.Conditions.{bad_range, good_range, no_block, of_block}
 use Rattle.gpu_session.proofs.Moves.{move_is_kept}
-use Rattle.gpu_session.proofs.Names.{lent_at, lent_back, lent_put, placed, placed_again}
+use Rattle.gpu_session.proofs.Names.{lent_at, lent_back, lent_put, placed_again}
 use Rattle.gpu_session.proofs.session.Session.read.Goals as goal
 use Rattle.gpu_session.proofs.Ends.{ends_read, taken_whole}
 use Rattle.gpu_alloc.specs.Bytes.{AsksToRead}
@@ -69,11 +67,31 @@ returns-clause-step g c =
       | in-Ok-read_bytes w ↦
           let asked = w.in-Ok-read_bytes.ensures.asked in
           let told = taken_whole c.in-Ok.bytes.len c.read_bytes.new.bytes _ w.from_vec.result w.from_vec.ensures (c.read_bytes.auto.bytes ∙ c.as_mut_slice.ensures.len) in
-          rw (← c.self.view_is, w.result-is, put) (asked.0, asked.1, (able, (c.in-Some.block.now, at,
-          (ap (λ xs. length xs) told ∙ c.read_bytes.auto.bytes ∙ count, subst (λ xs. AsksToRead c.in-Some.block.now c.args.offset xs asked.0) (sym told) asked.2, placed_again _ c.args.name c.in-Some.block.now _ at c.read_bytes.ensures.block))))
+          rw (← c.self.view_is, w.result-is, put) (
+            asked.0,
+            asked.1,
+            (
+              able,
+              (
+                c.in-Some.block.now,
+                at,
+                (ap (λ xs. length xs) told ∙ c.read_bytes.auto.bytes ∙ count, subst (λ xs. AsksToRead c.in-Some.block.now c.args.offset xs asked.0) (sym told) asked.2, placed_again _ c.args.name c.in-Some.block.now _ at c.read_bytes.ensures.block),
+              ),
+            ),
+          )
       | in-Err w ↦
           let asked = rw count at w.in-Err.ensures.refused in
           let empty = rw count at c.read_bytes.ensures.empty in
-          rw (← c.self.view_is, w.result-is, put) (asked.0, asked.1, (able, (c.in-Some.block.now, at,
-          (ends_read c.read_bytes.result c.in-Some.block.now _ _ _ asked.0 w.in-Err.is c.args.offset c.args.len empty asked.2, placed_again _ c.args.name c.in-Some.block.now _ at c.read_bytes.ensures.block))))
+          rw (← c.self.view_is, w.result-is, put) (
+            asked.0,
+            asked.1,
+            (
+              able,
+              (
+                c.in-Some.block.now,
+                at,
+                (ends_read c.read_bytes.result c.in-Some.block.now _ _ _ asked.0 w.in-Err.is c.args.offset c.args.len empty asked.2, placed_again _ c.args.name c.in-Some.block.now _ at c.read_bytes.ensures.block),
+              ),
+            ),
+          )
     ]

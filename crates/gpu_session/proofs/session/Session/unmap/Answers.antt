@@ -1,11 +1,9 @@
-use Rattle.std.proofs.Common.{◌≡◌, [], Some, None, refl, sym, ◌∙◌, ap, inl}
-use Rattle.std.specs.Ordering.{nat_cmp}
-use Rattle.std.specs.FinMap as finite
+use Rattle.std.proofs.Common.{[], None, refl, sym, ◌∙◌, inl}
 use Rattle.gpu_alloc_base.proofs.Names.{get_entries, here}
 use Rattle.gpu_session.specs.Sound.{IsBlock}
 use Rattle.gpu_session.proofs.Conditions.{no_block, of_block}
 use Rattle.gpu_session.proofs.Moves.{move_is_kept}
-use Rattle.gpu_session.proofs.Names.{lent_at, lent_back, lent_put, placed, placed_again}
+use Rattle.gpu_session.proofs.Names.{lent_at, lent_put, placed}
 use Rattle.gpu_session.proofs.session.Session.unmap.Goals as goal
 
 pub returns-in_default-clause-step : goal.returns-in_default-clause-step

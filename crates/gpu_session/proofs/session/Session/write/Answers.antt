@@ -1,11 +1,9 @@
-use Rattle.std.proofs.Common.{◌≡◌, ◌+◌, [], true, false, None, Some, length, nat_lt, refl, sym, ◌∙◌, ap, inl, inr}
-use Rattle.std.specs.Ordering.{nat_cmp}
-use Rattle.std.specs.FinMap as finite
+use Rattle.std.proofs.Common.{◌+◌, [], length, nat_lt, refl, sym, ◌∙◌, ap, inl}
 use Rattle.gpu_alloc_base.proofs.Names.{get_entries, here}
 use Rattle.gpu_session.specs.Sound.{IsBlock}
 use Rattle.gpu_session.proofs.Conditions.{bad_range, good_range, no_block, of_block}
 use Rattle.gpu_session.proofs.Moves.{move_is_kept}
-use Rattle.gpu_session.proofs.Names.{lent_at, lent_back, lent_put, placed, placed_again}
+use Rattle.gpu_session.proofs.Names.{lent_at, lent_back, lent_put, placed_again}
 use Rattle.gpu_session.proofs.session.Session.write.Goals as goal
 use Rattle.gpu_session.proofs.Ends.{ends_write}
 use Rattle.gpu_session.proofs.session.Session.write.Goals.{in-Ok, in-Err}
@@ -54,6 +52,16 @@ returns-clause-step g c =
       | in-Err w ↦
           let asked = rw c.as_slice-bytes.ensures at w.in-Err.ensures.refused in
           let empty = rw c.as_slice-bytes.ensures at c.write_bytes.ensures.empty in
-          rw (← c.self.view_is, w.result-is, put) (asked.0, asked.1, (able, (c.in-Some.block.now, at,
-          (ends_write c.write_bytes.result c.in-Some.block.now _ _ _ asked.0 w.in-Err.is c.args.offset c.args.bytes.now empty asked.2, placed_again _ c.args.name c.in-Some.block.now _ at c.write_bytes.ensures.block))))
+          rw (← c.self.view_is, w.result-is, put) (
+            asked.0,
+            asked.1,
+            (
+              able,
+              (
+                c.in-Some.block.now,
+                at,
+                (ends_write c.write_bytes.result c.in-Some.block.now _ _ _ asked.0 w.in-Err.is c.args.offset c.args.bytes.now empty asked.2, placed_again _ c.args.name c.in-Some.block.now _ at c.write_bytes.ensures.block),
+              ),
+            ),
+          )
     ]

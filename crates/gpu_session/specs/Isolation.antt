@@ -1,0 +1,105 @@
+-- Which bytes a command may change, and what is known of bytes that were written.
+use Rattle.std.specs.Prelude.{◌≡◌, ◌≢◌, ◌⊎◌, ℕ, ◌+◌, ◌<◌, ◌≤◌, false, List, [], ◌∷◌, length, Option, Some, None, slice_get}
+use Rattle.std.specs.FinMap as finite
+use Rattle.gpu_alloc_types.specs.Device.{Object, Changes, IsPut}
+use Rattle.gpu_alloc_types.specs.Properties.{Properties}
+use Rattle.gpu_alloc_types.specs.declared.types.OutOfMemory.{OutOfMemory}
+use Rattle.gpu_alloc.specs.Bytes.{ChangesBytes, IsWrittenThrough, IsPartlyWritten, IsReadThrough, IsPartlyRead}
+use Rattle.gpu_alloc.specs.Bytes.{HasOnlyOtherBytes}
+use Rattle.gpu_alloc.specs.Errors.{map_like_memory}
+use Rattle.gpu_alloc.specs.Ranges.{rounded}
+use Rattle.gpu_alloc.specs.State.{Block}
+use Rattle.gpu_alloc.specs.Types.MapError.{MapError}
+use Rattle.gpu_alloc.specs.Types.Mapping.{Mapping}
+use Rattle.gpu_session.specs.Books.{Books, OfBlock, SessionState}
+use Rattle.gpu_session.specs.Written.{is_about, written}
+use Rattle.gpu_session.specs.declared.command.Command.{Command}
+use Rattle.gpu_session.specs.declared.command.Command.TheVariants.{Map, Unmap, Write, Read, Put, Get}
+use Rattle.gpu_session.specs.declared.command.Reply.{Reply}
+use Rattle.gpu_session.specs.declared.command.Reply.TheVariants.{Done, Mapped as MappedTo, MapRefused, Bytes}
+use Rattle.gpu_session.specs.declared.command.Reply.TheVariants.{Unmapped as WasMapped}
+
+-- a byte of an object as the host and as the device see it, none where there is none
+abbrev pub host_at : Option Object → ℕ → Option ℕ
+host_at None k = None
+host_at (Some o) k = slice_get o.host_bytes k
+
+abbrev pub device_at : Option Object → ℕ → Option ℕ
+device_at None k = None
+device_at (Some o) k = slice_get o.device_bytes k
+
+-- No other block's command changes: a block that the command does not name stays as it is, with its mapping and with
+-- each of its bytes, as the host and as the device see it.
+abbrev pub AreSame : (old new : Option Object) → ℕ → Type 0
+AreSame old new k = (host_at new k ≡ host_at old k) × (device_at new k ≡ device_at old k)
+
+abbrev pub LeavesOthers : {A : Type 0} → (ℕ → Option Object) → Books → Command A → (ℕ → Option Object) → Books → Type 0
+LeavesOthers objects old command new_objects new =
+    (name : ℕ) (b : Block) → is_about name command ≡ false → finite.get old.blocks name ≡ Some b
+    → (finite.get new.blocks name ≡ Some b)
+    × ((k : ℕ) → b.offset ≤ k → k < b.offset + b.size → AreSame (objects b.object) (new_objects b.object) k)
+
+-- What a command does to the bytes of its own block.
+
+-- a refused write moved no byte, or the device had no memory for the flush
+abbrev pub IsRefusedWrite : Block → ℕ → List ℕ → MapError → (old new : ℕ → Option Object) → Type 0
+IsRefusedWrite b offset bytes e old new =
+    (new ≡ old)
+    ⊎ ((cause : OutOfMemory) × (e ≡ map_like_memory cause)
+    × Changes (IsPartlyWritten b offset bytes) old b.object new)
+
+-- a refused read moved no byte, or part of the device's bytes to the host
+abbrev pub IsRefusedRead : Block → (offset len : ℕ) → (old new : ℕ → Option Object) → Type 0
+IsRefusedRead b offset len old new = (new ≡ old) ⊎ Changes (IsPartlyRead (rounded b offset len)) old b.object new
+
+-- where there are bytes they are put where the block is mapped
+abbrev pub PutsBytes : Properties → Block → ℕ → List ℕ → (old new : ℕ → Option Object) → Type 0
+PutsBytes p b offset bytes old new =
+    (m : Mapping) × (b.mapping ≡ Some m)
+    × ((0 < length bytes → Changes (IsPut p (m.start + offset) bytes) old b.object new)
+    × (length bytes ≡ 0 → new ≡ old))
+
+-- the object may have another mapping, and no other bytes
+abbrev pub HasOnlyOtherMapping : Object → Object → Type 0
+HasOnlyOtherMapping o new = (new.host_bytes ≡ o.host_bytes) × (new.device_bytes ≡ o.device_bytes)
+
+abbrev pub MovesNoByte : Block → (old new : ℕ → Option Object) → Type 0
+MovesNoByte b old new = (new ≡ old) ⊎ Changes HasOnlyOtherMapping old b.object new
+
+abbrev pub MovesBytes : {A : Type 0} → (ℕ → Option Object) → Books → Command A → Reply A → (ℕ → Option Object) → Type 0
+MovesBytes old s (Map name offset size) (MappedTo mapping) new = OfBlock s name (λ b. MovesNoByte b old new)
+MovesBytes old s (Map name offset size) (MapRefused e) new = new ≡ old
+MovesBytes old s (Unmap name) (WasMapped was) new = OfBlock s name (λ b. MovesNoByte b old new)
+MovesBytes old s (Write name offset bytes) Done new =
+    OfBlock s name (λ b. ChangesBytes b (length bytes) (IsWrittenThrough b offset bytes) old new)
+MovesBytes old s (Write name offset bytes) (MapRefused e) new =
+    OfBlock s name (λ b. IsRefusedWrite b offset bytes e old new)
+MovesBytes old s (Read name offset len) (Bytes bytes) new =
+    OfBlock s name (λ b. ChangesBytes b len (IsReadThrough b offset bytes) old new)
+MovesBytes old s (Read name offset len) (MapRefused e) new = OfBlock s name (λ b. IsRefusedRead b offset len old new)
+MovesBytes old s (Put name offset bytes) Done new =
+    OfBlock s name (λ b. PutsBytes (s.allocator).properties b offset bytes old new)
+MovesBytes old s (Get name offset len) (Bytes bytes) new = new ≡ old
+MovesBytes old s command reply new = Unit {0}
+
+-- What was written.
+
+-- one of these values
+abbrev pub IsAmong : List ℕ → ℕ → Type 0
+IsAmong [] v = ⊥
+IsAmong (w ∷ values) v = (v ≡ w) ⊎ IsAmong values v
+
+-- a byte is there, and has one of these values
+abbrev pub HasOneOf : List ℕ → Option ℕ → Type 0
+HasOneOf values None = ⊥
+HasOneOf values (Some v) = IsAmong values v
+
+-- the byte has one of these values for the host, and one for the device
+abbrev pub HasBoth : List ℕ → Option Object → ℕ → Type 0
+HasBoth values o k = HasOneOf values (host_at o k) × HasOneOf values (device_at o k)
+
+-- each byte of a live block that has values by what was written has one of them for the host, and one for the device
+abbrev pub HoldsWritten : (ℕ → Option Object) → Books → ((name byte : ℕ) → List ℕ) → Type 0
+HoldsWritten objects s values =
+    (name byte : ℕ) (b : Block) → finite.get s.blocks name ≡ Some b → byte < b.size → values name byte ≢ []
+    → HasBoth (values name byte) (objects b.object) (b.offset + byte)

@@ -1,0 +1,82 @@
+-- What a byte of a block may hold, by the commands and their replies alone.
+use Rattle.std.specs.Prelude.{ℕ, ◌+◌, ◌-◌, ◌==◌, Bool, false, cond, List, [], ◌∷◌, Option, Some, None, slice_get, nat_le}
+use Rattle.gpu_alloc.specs.Types.MapError.{MapError}
+use Rattle.gpu_alloc.specs.Types.MapError.TheVariants.{AlreadyMapped, MapFailed}
+use Rattle.gpu_session.specs.declared.command.Command.{Command}
+use Rattle.gpu_session.specs.declared.command.Command.TheVariants.{Alloc, Dedicated, Import, Free, Map, Unmap, Write}
+use Rattle.gpu_session.specs.declared.command.Command.TheVariants.{Read, Put, Get, SetRemaining, Cleanup, FreeRanges}
+use Rattle.gpu_session.specs.declared.command.Command.TheVariants.{Counts}
+use Rattle.gpu_session.specs.declared.command.Reply.{Reply}
+use Rattle.gpu_session.specs.declared.command.Reply.TheVariants.{Granted, Done, Mapped as MappedTo, MapRefused}
+
+-- whether a command names a block
+abbrev pub is_about : {A : Type 0} → ℕ → Command A → Bool
+is_about name (Alloc n request) = n == name
+is_about name (Dedicated n request dedicated) = n == name
+is_about name (Import n t object_size offset size) = n == name
+is_about name (Free n) = n == name
+is_about name (Map n offset size) = n == name
+is_about name (Unmap n) = n == name
+is_about name (Write n offset bytes) = n == name
+is_about name (Read n offset len) = n == name
+is_about name (Put n offset bytes) = n == name
+is_about name (Get n offset len) = n == name
+is_about name (SetRemaining remaining) = false
+is_about name Cleanup = false
+is_about name (FreeRanges t) = false
+is_about name Counts = false
+
+-- What is known of one byte of a block: where the latest mapping of the block starts in it, and the values that the byte
+-- may have, the latest first; none where no write has covered it since the block was granted.
+pub record Seen : Type 0 where
+  pub mapped_from : ℕ
+  pub values : List ℕ
+
+abbrev pub unseen : Seen
+unseen = record { mapped_from = 0; values = [] }
+
+-- the value that bytes give a byte, of which the first goes to an offset, if they cover it
+abbrev pub given : (offset : ℕ) → List ℕ → ℕ → Option ℕ
+given offset bytes byte = cond (nat_le offset byte) (slice_get bytes (byte - offset)) None
+
+-- it has this value from now on
+abbrev pub surely : Option ℕ → Seen → Seen
+surely None seen = seen
+surely (Some v) seen = record seen { values = v ∷ [] }
+
+-- one value more, where there are some
+abbrev pub with_more : ℕ → List ℕ → List ℕ
+with_more v [] = []
+with_more v (w ∷ values) = v ∷ w ∷ values
+
+-- it may have this value too
+abbrev pub maybe : Option ℕ → Seen → Seen
+maybe None seen = seen
+maybe (Some v) seen = record seen { values = with_more v seen.values }
+
+-- After a command that names the block: a write that is done gives its bytes; a put gives its bytes to the host, and a
+-- refused write may have given them to either side, unless it is known to have moved none.
+abbrev pub own_after : {A : Type 0} → ℕ → Command A → Reply A → Seen → Seen
+own_after byte (Write name offset bytes) Done seen = surely (given offset bytes byte) seen
+own_after byte (Write name offset bytes) (MapRefused AlreadyMapped) seen = seen
+own_after byte (Write name offset bytes) (MapRefused MapFailed) seen = seen
+own_after byte (Write name offset bytes) (MapRefused e) seen = maybe (given offset bytes byte) seen
+own_after byte (Put name offset bytes) Done seen = maybe (given (seen.mapped_from + offset) bytes byte) seen
+own_after byte (Map name offset size) (MappedTo mapping) seen = record seen { mapped_from = offset }
+own_after byte (Free name) Done seen = unseen
+own_after byte command (Granted memory_type object offset size) seen = unseen
+own_after byte command reply seen = seen
+
+abbrev pub seen_after : {A : Type 0} → (name byte : ℕ) → Command A → Reply A → Seen → Seen
+seen_after name byte command reply seen = cond (is_about name command) (own_after byte command reply seen) seen
+
+abbrev pub seen_along : {A : Type 0} → (name byte : ℕ) → List (Command A) → List (Reply A) → Seen → Seen
+seen_along name byte [] replies seen = seen
+seen_along name byte (command ∷ commands) [] seen = seen
+seen_along name byte (command ∷ commands) (reply ∷ replies) seen =
+    seen_along name byte commands replies (seen_after name byte command reply seen)
+
+-- the values that a byte of the block of a name may have after these commands with these replies; none where no write
+-- has covered it
+abbrev pub written : {A : Type 0} → List (Command A) → List (Reply A) → (name byte : ℕ) → List ℕ
+written commands replies name byte = (seen_along name byte commands replies unseen).values

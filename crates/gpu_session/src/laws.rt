@@ -1,0 +1,46 @@
+//! Laws of runs and faults, over the definitions alone. The functions do nothing.
+
+ghost use Rattle.std.specs.Prelude.{◌≡◌, ◌↔◌, Bool, All, None};
+ghost use Rattle.gpu_alloc.specs.Request.{IsAskable};
+ghost use Rattle.gpu_alloc.specs.State.{total};
+ghost use Rattle.gpu_alloc.specs.declared.request.Request.{Request};
+ghost use Rattle.gpu_session.specs.Faults.{fault_of_request};
+ghost use Rattle.gpu_session.specs.Run.{Step, Run, Joins, EachRun, EndsWithCleanup};
+ghost use Rattle.gpu_session.specs.Sound.{SoundStep, LeavesRemaining, HasNothingLeft, HasWholeObjects, IsForRequired};
+
+use gpu_alloc_types::{MemoryDevice, MemoryObject};
+use std::alloc::Allocator;
+
+/// Two runs, one after the other, are a run of the joined lists: of any steps, and of those between sound states, which
+/// are such steps.
+pub fn runs_join<M: MemoryObject, D: MemoryDevice<M>, A: Allocator>()
+    ensures any { Joins {A = A} (Step D.step) }
+    ensures sound { Joins {A = A} (SoundStep D.step D.properties D.objects) }
+    ensures steps { EachRun {A = A} (SoundStep D.step D.properties D.objects)
+        (λ old commands replies new. Run (Step D.step) old commands replies new) }
+{}
+
+/// A request has no fault exactly where an allocator can be asked for it.
+pub fn askable_is_without_fault()
+    ensures { (address : Bool) (r : Request) → (fault_of_request address r ≡ None) ↔ IsAskable address r }
+{}
+
+/// A run without `SetRemaining` leaves how many objects are held or may still be.
+pub fn runs_keep_the_total<M: MemoryObject, D: MemoryDevice<M>, A: Allocator>()
+    ensures { EachRun {A = A} (SoundStep D.step D.properties D.objects) (λ old commands replies new.
+        All LeavesRemaining commands → total (new.books).allocator ≡ total (old.books).allocator) }
+{}
+
+/// After a run that ends with `Cleanup`, if no name has a block, nothing is held, what remains is the total, and each
+/// ledger is 0.
+pub fn runs_end_with_nothing_held<M: MemoryObject, D: MemoryDevice<M>, A: Allocator>()
+    ensures { EachRun {A = A} (SoundStep D.step D.properties D.objects) (λ old commands replies new.
+        EndsWithCleanup commands → HasNothingLeft new.books) }
+{}
+
+/// Where each live block is the whole of an object of its own, a run that asks for no block but with the hint `Required`
+/// leaves it so.
+pub fn required_runs_keep_whole_objects<M: MemoryObject, D: MemoryDevice<M>, A: Allocator>()
+    ensures { EachRun {A = A} (SoundStep D.step D.properties D.objects) (λ old commands replies new.
+        All IsForRequired commands → HasWholeObjects D.objects old → HasWholeObjects D.objects new) }
+{}
