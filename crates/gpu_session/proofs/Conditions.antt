@@ -66,7 +66,7 @@ in_mapping o m offset len fault is then = ap (λ x. fault_of_mapping x offset le
 -- A request has no fault exactly where an allocator can be asked for it.
 
 -- a fault that is passed over
-passed : (test : Bool) (fault : Fault) (next : Option Fault) → where_true test fault next ≡ None → (test ≡ false) × (next ≡ None)
+pub passed : (test : Bool) (fault : Fault) (next : Option Fault) → where_true test fault next ≡ None → (test ≡ false) × (next ≡ None)
 passed true fault next none = absurd (cc)
 passed false fault next none = (refl, none)
 
@@ -114,3 +114,9 @@ module _ (address : Bool) (r : Request) where
 
   pub faultless_is_askable : (fault_of_request address r ≡ None) ↔ IsAskable address r
   faultless_is_askable = (askable, faultless)
+
+-- the range that a command names lies in its block, where it has no fault
+pub range_inside : (o : Option Block) (b : Block) (offset len : ℕ) → o ≡ Some b → fault_of_block o (λ c. fault_of_range offset len c.size None) ≡ None → offset + len ≤ b.size
+range_inside o b offset len at none =
+    let good : where_true (nat_lt b.size (offset + len)) BadRange None ≡ None = sym (of_block o b (λ c. fault_of_range offset len c.size None) _ at refl) ∙ none in
+    inside (offset + len) b.size (passed (nat_lt b.size (offset + len)) BadRange None good).0

@@ -10,9 +10,9 @@ use Rattle.gpu_alloc.specs.Agreement.{Agrees, BlockAgrees}
 use Rattle.gpu_alloc.specs.Importing.{ImportAgrees, MayBeImported}
 use Rattle.gpu_alloc.specs.NewChunk.{flags_of}
 use Rattle.gpu_alloc.specs.State.{Block, State}
-use Rattle.gpu_session.specs.Faults.{fault_of_import, is_bad_end, where_true}
-use Rattle.gpu_session.specs.declared.command.Fault.{Fault}
+use Rattle.gpu_session.specs.Faults.{fault_of_import, is_bad_end}
 use Rattle.gpu_session.specs.declared.command.Fault.TheVariants.{BadImportEnd, BadRange, BadSize, BadType, NoRemaining}
+use Rattle.gpu_session.proofs.Conditions.{passed}
 
 -- What an import has that misses no condition.
 pub record IsFaultless (s : State) (t object_size offset size : ℕ) : Type 0 where
@@ -22,10 +22,6 @@ pub record IsFaultless (s : State) (t object_size offset size : ℕ) : Type 0 wh
   pub within : offset + size ≤ object_size
   pub finish : is_bad_end s.properties t object_size (offset + size) ≡ false
   pub remains : 0 < s.remaining
-
-passed : (test : Bool) (fault : Fault) (next : Option Fault) → where_true test fault next ≡ None → (test ≡ false) × (next ≡ None)
-passed true fault next none = absurd (cc)
-passed false fault next none = (refl, none)
 
 neither : (a b : Bool) → (a || b) ≡ false → (a ≡ false) × (b ≡ false)
 neither false false e = (refl, refl)

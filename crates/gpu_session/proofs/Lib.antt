@@ -3,6 +3,7 @@ pub mod Conditions
 pub mod Ends
 pub mod Finished
 pub mod Grants
+pub mod Holding
 pub mod Imports
 pub mod Moves
 pub mod Names
@@ -10,5 +11,6 @@ pub mod Openings
 pub mod Others
 pub mod Returns
 pub mod Runs
+pub mod Seen
 pub mod Totals
 pub mod WholeObjects

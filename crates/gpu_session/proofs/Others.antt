@@ -1,5 +1,6 @@
 -- What a command leaves of the bytes of blocks that it does not name.
 use Rattle.std.proofs.Common.{◌≡◌, ◌≢◌, ◌⊎◌, inl, inr, ℕ, ◌+◌, ◌<◌, ◌≤◌, ◌==◌, Bool, true, false, List, length, slice_get, Option, Some, None, Result, Ok, Err, refl, sym, ◌∙◌, ap, subst, arith, Contains}
+use Rattle.std.proofs.Math.Nat.{div-mul-le_self}
 use Rattle.std.proofs.lemmas.Bool.Decides.{nat_tests}
 use Rattle.std.specs.FinMap as finite
 use Rattle.std.specs.Ordering.{nat_cmp}
@@ -130,7 +131,7 @@ module _ (b c : Block) (two : AreTwo b c) where
   read_leaves offset len f g lies changes =
       change_leaves (ReadsWithin b offset len) f g b c changes (λ o n w k same low high. (w.host k (outside_range (rounded b offset len) lies same k low high), ap (λ xs. slice_get xs k) w.device))
 
-  put_device : (coherent : Bool) (offset : ℕ) (bytes from to : List ℕ) (k : ℕ) → IsPutDevice coherent offset bytes from to → IsOutside offset (length bytes) k → slice_get to k ≡ slice_get from k
+  pub put_device : (coherent : Bool) (offset : ℕ) (bytes from to : List ℕ) (k : ℕ) → IsPutDevice coherent offset bytes from to → IsOutside offset (length bytes) k → slice_get to k ≡ slice_get from k
   put_device true offset bytes from to k put outside = put.outside k outside
   put_device false offset bytes from to k same outside = ap (λ xs. slice_get xs k) same
 
@@ -163,3 +164,7 @@ opened_moves_none false r f g b own changes =
 pub closed_moves_none : (shared : Bool) (f g : ℕ → Option Object) (b : Block) → IsClosed shared b.object f g → MovesNoByte b f g
 closed_moves_none true f g b same = inl same
 closed_moves_none false f g b c = inr (c.0, c.1, (c.2.0, (ap (λ (x : Object). x.host_bytes) c.2.1, ap (λ (x : Object). x.device_bytes) c.2.1), c.2.2))
+
+-- an atom is some bytes, as what lies near a block tells
+pub some_atom : (b : Block) → LiesInBlock b (rounded b 0 0) → 0 < b.atom
+some_atom b lies = let near = lies.near in let down = div-mul-le_self (b.offset + 0) b.atom in omega (arith, near, down)

@@ -1,7 +1,7 @@
 -- Which bytes a command may change, and what is known of bytes that were written.
 use Rattle.std.specs.Prelude.{◌≡◌, ◌≢◌, ◌⊎◌, ℕ, ◌+◌, ◌<◌, ◌≤◌, false, List, [], ◌∷◌, length, Option, Some, None, slice_get}
 use Rattle.std.specs.FinMap as finite
-use Rattle.gpu_alloc_types.specs.Device.{Object, Changes, IsPut}
+use Rattle.gpu_alloc_types.specs.Device.{Object, Range, Changes, IsPut}
 use Rattle.gpu_alloc_types.specs.Properties.{Properties}
 use Rattle.gpu_alloc_types.specs.declared.types.OutOfMemory.{OutOfMemory}
 use Rattle.gpu_alloc.specs.Bytes.{ChangesBytes, IsWrittenThrough, IsPartlyWritten, IsReadThrough, IsPartlyRead}
@@ -41,6 +41,15 @@ LeavesOthers objects old command new_objects new =
 
 -- What a command does to the bytes of its own block.
 
+-- the range has all of so many bytes, of which the first is at a place of the object
+abbrev pub HasAll : Range → (place len : ℕ) → Type 0
+HasAll r place len = (r.offset ≤ place) × (place + len ≤ r.offset + r.size)
+
+-- the bytes are with host and device, as is all that is flushed with them
+pub record WritesBytes (b : Block) (offset : ℕ) (bytes : List ℕ) (old new : ℕ → Option Object) : Type 0 where
+  pub through : ChangesBytes b (length bytes) (IsWrittenThrough b offset bytes) old new
+  pub all : HasAll (rounded b offset (length bytes)) (b.offset + offset) (length bytes)
+
 -- a refused write moved no byte, or the device had no memory for the flush
 abbrev pub IsRefusedWrite : Block → ℕ → List ℕ → MapError → (old new : ℕ → Option Object) → Type 0
 IsRefusedWrite b offset bytes e old new =
@@ -71,7 +80,7 @@ MovesBytes old s (Map name offset size) (MappedTo mapping) new = OfBlock s name 
 MovesBytes old s (Map name offset size) (MapRefused e) new = new ≡ old
 MovesBytes old s (Unmap name) (WasMapped was) new = OfBlock s name (λ b. MovesNoByte b old new)
 MovesBytes old s (Write name offset bytes) Done new =
-    OfBlock s name (λ b. ChangesBytes b (length bytes) (IsWrittenThrough b offset bytes) old new)
+    OfBlock s name (λ b. WritesBytes b offset bytes old new)
 MovesBytes old s (Write name offset bytes) (MapRefused e) new =
     OfBlock s name (λ b. IsRefusedWrite b offset bytes e old new)
 MovesBytes old s (Read name offset len) (Bytes bytes) new =

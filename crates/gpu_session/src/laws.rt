@@ -5,8 +5,10 @@ ghost use Rattle.gpu_alloc.specs.Request.{IsAskable};
 ghost use Rattle.gpu_alloc.specs.State.{total};
 ghost use Rattle.gpu_alloc.specs.declared.request.Request.{Request};
 ghost use Rattle.gpu_session.specs.Faults.{fault_of_request};
+ghost use Rattle.gpu_session.specs.Isolation.{HoldsWritten};
 ghost use Rattle.gpu_session.specs.Run.{Step, Run, Joins, EachRun, EndsWithCleanup};
 ghost use Rattle.gpu_session.specs.Sound.{SoundStep, LeavesRemaining, HasNothingLeft, HasWholeObjects, IsForRequired};
+ghost use Rattle.gpu_session.specs.Written.{written};
 
 use gpu_alloc_types::{MemoryDevice, MemoryObject};
 use std::alloc::Allocator;
@@ -36,6 +38,13 @@ pub fn runs_keep_the_total<M: MemoryObject, D: MemoryDevice<M>, A: Allocator>()
 pub fn runs_end_with_nothing_held<M: MemoryObject, D: MemoryDevice<M>, A: Allocator>()
     ensures { EachRun {A = A} (SoundStep D.step D.properties D.objects) (λ old commands replies new.
         EndsWithCleanup commands → HasNothingLeft new.books) }
+{}
+
+/// After a run each byte of a live block that has values by what was written has one of them for the host, and one for
+/// the device.
+pub fn runs_hold_what_was_written<M: MemoryObject, D: MemoryDevice<M>, A: Allocator>()
+    ensures { EachRun {A = A} (SoundStep D.step D.properties D.objects) (λ old commands replies new.
+        HoldsWritten (D.objects new.device) new.books (written commands replies)) }
 {}
 
 /// Where each live block is the whole of an object of its own, a run that asks for no block but with the hint `Required`

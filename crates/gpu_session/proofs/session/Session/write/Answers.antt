@@ -1,10 +1,11 @@
-use Rattle.std.proofs.Common.{◌+◌, [], length, nat_lt, refl, sym, ◌∙◌, ap, inl}
+use Rattle.std.proofs.Common.{◌+◌, [], length, nat_lt, refl, sym, ◌∙◌, ap, inl, arith}
 use Rattle.gpu_alloc_base.proofs.Names.{get_entries, here}
 use Rattle.gpu_session.specs.Sound.{IsBlock}
 use Rattle.gpu_session.proofs.Conditions.{bad_range, good_range, inside, no_block, of_block}
 use Rattle.gpu_session.proofs.Moves.{move_is_kept}
 use Rattle.gpu_session.proofs.Names.{lent_at, lent_back, lent_put, placed_again}
-use Rattle.gpu_session.proofs.Others.{others_left, refused_write, write_leaves}
+use Rattle.gpu_alloc_block.proofs.Rounded.{rounded_covers}
+use Rattle.gpu_session.proofs.Others.{others_left, refused_write, some_atom, write_leaves}
 use Rattle.std.specs.FinMap as finite
 use Rattle.std.specs.Ordering.{nat_cmp}
 use Rattle.gpu_session.proofs.session.Session.write.Goals as goal
@@ -80,6 +81,7 @@ returns-clause-keeps g c =
     let low = inside (c.args.offset + (length c.args.bytes.now)) b.size (ap (λ n. nat_lt n (c.args.offset + (length c.args.bytes.now))) (sym c.size.ensures) ∙ ap (λ xs. nat_lt c.size.result (c.args.offset + length xs)) (sym c.as_slice-bytes.ensures) ∙ sym c.passes_end.ensures ∙ c.if-passes_end.false) in
     let lies = c.rounded_ranges_lie_in_their_block.ensures (g.D.MemoryDevice.properties c.self.inside.device) before c.args.offset (length c.args.bytes.now) agrees low in
     let within = rw c.as_slice-bytes.ensures at c.write_bytes.ensures.within in
+    let atom = some_atom b (c.rounded_ranges_lie_in_their_block.ensures (g.D.MemoryDevice.properties c.self.inside.device) before 0 0 agrees (omega arith)) in
     let others = others_left (finite.from_entries {R = nat_cmp} c.self.inside.blocks.entries) c.args.name c.write_bytes.new.self before after (λ name x ne there.
         let two = c.self.invariant.sound.apart c.args.name name b x (λ e. ne (sym e)) at there in
         write_leaves b x two c.args.offset (length c.args.bytes.now) before after low lies within) in
@@ -87,7 +89,7 @@ returns-clause-keeps g c =
       | in-Ok w ↦
           let written = rw c.as_slice-bytes.ensures at w.in-Ok.ensures.written in
           rw (← c.self.view_is, w.result-is, put)
-          (record { given = record { properties = refl; config = refl }; granted = tt; refused = tt; balance = refl; others = others; bytes = (b, at, written) })
+          (record { given = record { properties = refl; config = refl }; granted = tt; refused = tt; balance = refl; others = others; bytes = (b, at, record { through = written; all = rounded_covers b c.args.offset (length c.args.bytes.now) atom low }) })
       | in-Err w ↦
           let asked = rw c.as_slice-bytes.ensures at w.in-Err.ensures.refused in
           rw (← c.self.view_is, w.result-is, put)

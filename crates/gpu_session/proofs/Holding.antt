@@ -1,0 +1,232 @@
+-- Each step keeps what is known of each byte that was written, and so does a run.
+use Rattle.std.proofs.Common.{◌≡◌, ◌⊎◌, inl, inr, ℕ, zero, suc, ◌+◌, ◌<◌, ◌≤◌, ◌==◌, Bool, true, false, cond, is_some, List, [], ◌∷◌, length, Option, Some, None, refl, sym, ◌∙◌, ap, subst, arith}
+use Rattle.std.proofs.lemmas.Bool.Decides.{nat_tests}
+use Rattle.std.specs.FinMap as finite
+use Rattle.gpu_alloc_types.specs.Device.{Changes, Event, IsOutside, IsPut, Object}
+use Rattle.gpu_alloc_types.specs.Properties.{Properties}
+use Rattle.gpu_alloc_types.specs.declared.types.OutOfMemory.{OutOfMemory}
+use Rattle.gpu_alloc_types.specs.declared.types.OutOfMemory.TheVariants.{OutOfDeviceMemory as NoDeviceMemory, OutOfHostMemory as NoHostMemory}
+use Rattle.gpu_alloc.specs.Errors.{map_like_memory}
+use Rattle.gpu_alloc.specs.Mapped.{refusal}
+use Rattle.gpu_alloc.specs.State.{Block}
+use Rattle.gpu_alloc.specs.Types.MapError.{MapError}
+use Rattle.gpu_alloc.specs.Types.MapError.TheVariants.{AlreadyMapped, MapFailed, NonHostVisible, OutOfDeviceMemory, OutOfHostMemory}
+use Rattle.gpu_alloc.specs.Types.Mapping.{Mapping}
+use Rattle.gpu_alloc_base.proofs.Names.{get_put}
+use Rattle.gpu_session.specs.Books.{Books, OfBlock, SessionState}
+use Rattle.gpu_session.specs.Isolation.{HasBoth, HoldsWritten, IsRefusedRead, IsRefusedWrite, MovesNoByte, PutsBytes, WritesBytes}
+use Rattle.gpu_session.specs.Run.{Run, Step}
+use Rattle.gpu_session.specs.Sound.{Keeps, SoundStep}
+use Rattle.gpu_session.specs.Written.{Seen, given, is_about, maybe, own_after, seen_after, seen_along, surely, unseen, written}
+use Rattle.gpu_session.specs.declared.command.Command.{Command}
+use Rattle.gpu_session.specs.declared.command.Command.TheVariants.{Alloc, Dedicated, Import, Free, Map, Unmap, Write, Read, Put, Get, SetRemaining, Cleanup, FreeRanges, Counts}
+use Rattle.gpu_session.specs.declared.command.Reply.{Reply}
+use Rattle.gpu_session.specs.declared.command.Reply.TheVariants.{Granted, Refused, Done, Mapped as MappedTo, MapRefused, Unmapped as WasMapped, Bytes, Fault as Faulty}
+use Rattle.gpu_session.proofs.Conditions.{range_inside}
+use Rattle.gpu_session.proofs.Seen.{IsKnown, IsSeen, both_more, flush_aside, flush_here, given_cases, known_of, maybe_known, maybe_none, moved_none, of_its_name, other_seen, put_aside, put_here, read_refused, read_through, seen_again, still_known, still_seen, surely_known, write_aside, write_here}
+
+same_name : (n name : ℕ) → (n == name) ≡ true → n ≡ name
+same_name n name is = grind (arith, nat_tests)
+
+at_name : (P : ℕ → Type 0) (n name : ℕ) → (n == name) ≡ true → (P n → P name)
+at_name P n name is h = subst P (same_name n name is) h
+
+-- what may be written is not mapped
+not_mapped : (visible : Bool) (m : Option Mapping) → cond visible (cond (is_some m) (Some AlreadyMapped) None) (Some NonHostVisible) ≡ None → m ≡ None
+not_mapped true None e = refl
+not_mapped true (Some m) e = absurd (cc)
+not_mapped false m e = absurd (cc)
+
+not_like_memory : (cause : OutOfMemory) → (AlreadyMapped ≡ map_like_memory cause → ⊥) × (MapFailed ≡ map_like_memory cause → ⊥)
+not_like_memory NoDeviceMemory = ((λ e. cc), (λ e. cc))
+not_like_memory NoHostMemory = ((λ e. cc), (λ e. cc))
+
+module _ (f g : ℕ → Option Object) (s new : Books) (n byte : ℕ) (seen : Seen) (b : Block) (at : finite.get s.blocks n ≡ Some b) (same : new ≡ s) (before : IsSeen f s n byte seen) where
+  -- the block stays, and its byte has one of the values of before
+  byte_stays : (HasBoth seen.values (f b.object) (b.offset + byte) → HasBoth seen.values (g b.object) (b.offset + byte)) → IsSeen g new n byte seen
+  byte_stays stays = elim (known_of f s n byte seen b at before) [
+    | inl none ↦ inl none
+    | inr known ↦ seen_again g s new n byte seen b same at (inr (still_known f g seen byte b known (stays known.bytes)))
+  ]
+
+  write_seen : (offset : ℕ) (bytes : List ℕ) → b.mapping ≡ None → offset + length bytes ≤ b.size → WritesBytes b offset bytes f g → IsSeen g new n byte (surely (given offset bytes byte) seen)
+  write_seen offset bytes unmapped within w =
+      seen_again g s new n byte (surely (given offset bytes byte) seen) b same at (surely_known f g seen byte b offset bytes (known_of f s n byte seen b at before) unmapped within
+        (λ out h. write_aside b offset bytes f g (b.offset + byte) seen.values out w.through h) (λ v here. write_here b offset bytes f g (b.offset + byte) v here w.all w.through))
+
+  flush_seen : (offset : ℕ) (bytes : List ℕ) (e : MapError) → IsRefusedWrite b offset bytes e f g → IsSeen g new n byte (maybe (given offset bytes byte) seen)
+  flush_seen offset bytes e (inl moved) = elim (known_of f s n byte seen b at before) [
+    | inl none ↦ inl (maybe_none seen (given offset bytes byte) none)
+    | inr known ↦ seen_again g s new n byte (maybe (given offset bytes byte) seen) b same at (more_known known)
+  ]
+    where
+      stays : HasBoth seen.values (f b.object) (b.offset + byte) → HasBoth seen.values (g b.object) (b.offset + byte)
+      stays h = subst (λ (t : ℕ → Option Object). HasBoth seen.values (t b.object) (b.offset + byte)) (sym moved) h
+      more_known : IsKnown f seen byte b → ((maybe (given offset bytes byte) seen).values ≡ []) ⊎ IsKnown g (maybe (given offset bytes byte) seen) byte b
+      more_known known = maybe_known f g seen byte b offset bytes known (λ out h. stays h) (λ v some here h. both_more v seen.values (g b.object) (b.offset + byte) some (stays h))
+  flush_seen offset bytes e (inr failed) = elim (known_of f s n byte seen b at before) [
+    | inl none ↦ inl (maybe_none seen (given offset bytes byte) none)
+    | inr known ↦
+        seen_again g s new n byte (maybe (given offset bytes byte) seen) b same at (maybe_known f g seen byte b offset bytes known
+          (λ out h. flush_aside b offset bytes f g (b.offset + byte) seen.values out failed.2 h) (λ v some here h. flush_here b offset bytes f g (b.offset + byte) v seen.values some here failed.2 h))
+  ]
+
+  put_seen : (p : Properties) (offset : ℕ) (bytes : List ℕ) → PutsBytes p b offset bytes f g → IsSeen g new n byte (maybe (given (seen.mapped_from + offset) bytes byte) seen)
+  put_seen p offset bytes puts = elim (known_of f s n byte seen b at before) [
+    | inl none ↦ inl (maybe_none seen (given (seen.mapped_from + offset) bytes byte) none)
+    | inr known ↦
+        let m = puts.0 in
+        let start : m.start ≡ b.offset + seen.mapped_from = known.mapping m puts.1 in
+        let place : m.start + offset ≡ b.offset + (seen.mapped_from + offset) = omega (arith, start) in
+        let some : 0 < length bytes → Changes (IsPut p (b.offset + (seen.mapped_from + offset)) bytes) f b.object g = λ more. subst (λ i. Changes (IsPut p i bytes) f b.object g) place (puts.2.0 more) in
+        seen_again g s new n byte (maybe (given (seen.mapped_from + offset) bytes byte) seen) b same at (maybe_known f g seen byte b (seen.mapped_from + offset) bytes known
+          (λ out h. put_either (length bytes) refl some puts.2.1 out h)
+          (λ v has here h. let low = here.2 in put_here p b (b.offset + (seen.mapped_from + offset)) bytes f g (b.offset + byte) seen.values (some (omega (arith, low))) v has here h))
+  ]
+    where
+      put_either : (len : ℕ) → length bytes ≡ len → (0 < length bytes → Changes (IsPut p (b.offset + (seen.mapped_from + offset)) bytes) f b.object g) → (length bytes ≡ 0 → g ≡ f)
+          → IsOutside (b.offset + (seen.mapped_from + offset)) (length bytes) (b.offset + byte) → HasBoth seen.values (f b.object) (b.offset + byte) → HasBoth seen.values (g b.object) (b.offset + byte)
+      put_either zero is some none out h = subst (λ (t : ℕ → Option Object). HasBoth seen.values (t b.object) (b.offset + byte)) (sym (none is)) h
+      put_either (suc len) is some none out h = put_aside p b (b.offset + (seen.mapped_from + offset)) bytes f g (b.offset + byte) seen.values (some (omega (arith, is))) out h
+
+-- the block is mapped, or its mapping ends
+map_seen : (f g : ℕ → Option Object) (s new : Books) (n byte from : ℕ) (seen : Seen) (b : Block) (mapping : Option Mapping) → finite.get s.blocks n ≡ Some b → finite.get new.blocks n ≡ Some (record b { mapping = mapping })
+    → ((m : Mapping) → mapping ≡ Some m → m.start ≡ b.offset + from) → MovesNoByte b f g → IsSeen f s n byte seen → IsSeen g new n byte (record seen { mapped_from = from })
+map_seen f g s new n byte from seen b mapping at now starts moved before = elim (known_of f s n byte seen b at before) [
+  | inl none ↦ inl none
+  | inr known ↦ inr (record b { mapping = mapping }, now, record { bytes = moved_none b f g (b.offset + byte) seen.values moved known.bytes; mapping = starts; inside = known.inside })
+]
+
+module _ {D : Type 0} (objects : D → ℕ → Option Object) (old new : SessionState D) (byte : ℕ) (seen : Seen) where
+  abbrev f : ℕ → Option Object
+  f = objects old.device
+
+  abbrev g : ℕ → Option Object
+  g = objects new.device
+
+  abbrev Stays : ℕ → Seen → Type 0
+  Stays n then = IsSeen f old.books n byte seen → IsSeen g new.books n byte then
+
+  as_before : (n : ℕ) → new.books ≡ old.books → g ≡ f → Stays n seen
+  as_before n books moved before = still_seen f g old.books new.books n byte seen books moved before
+
+  module _ {A : Type 0} (step : D → Event → D → Type 0) where
+    map_done : (n offset size : ℕ) (m : Mapping) → Step {A = A} step old (Map n offset size) (MappedTo m) new → Keeps {A = A} objects old (Map n offset size) (MappedTo m) new → Stays n (record seen { mapped_from = offset })
+    map_done n offset size m s keeps before =
+        let b = s.2.1.0 in
+        let at = s.2.1.1 in
+        let rest = s.2.1.2 in
+        map_seen f g old.books new.books n byte offset seen b (Some m) at (ap (λ (t : Books). finite.get t.blocks n) rest.2 ∙ get_put old.books.blocks n _)
+        (λ x is. let one : m ≡ x = cc in ap (λ (y : Mapping). y.start) (sym one) ∙ ap (λ (y : Mapping). y.start) rest.1) (of_its_name old.books n b (λ x. MovesNoByte x f g) at keeps.bytes) before
+
+    unmap_done : (n : ℕ) (was : Bool) → Step {A = A} step old (Unmap n) (WasMapped was) new → Keeps {A = A} objects old (Unmap n) (WasMapped was) new → Stays n seen
+    unmap_done n was s keeps before =
+        let b = s.2.1.0 in
+        let at = s.2.1.1 in
+        let rest = s.2.1.2 in
+        map_seen f g old.books new.books n byte seen.mapped_from seen b None at (ap (λ (t : Books). finite.get t.blocks n) rest.2 ∙ get_put old.books.blocks n _)
+        (λ x is. absurd (cc)) (of_its_name old.books n b (λ x. MovesNoByte x f g) at keeps.bytes) before
+
+    write_done : (n offset : ℕ) (bytes : List ℕ) → Step {A = A} step old (Write n offset bytes) Done new → Keeps {A = A} objects old (Write n offset bytes) Done new → Stays n (surely (given offset bytes byte) seen)
+    write_done n offset bytes s keeps before =
+        let b = s.2.1.0 in
+        let at = s.2.1.1 in
+        let rest = s.2.1.2 in
+        write_seen f g old.books new.books n byte seen b at rest.1 before offset bytes (not_mapped _ b.mapping rest.0.0) (range_inside (finite.get old.books.blocks n) b offset (length bytes) at s.2.0)
+        (of_its_name old.books n b (λ x. WritesBytes x offset bytes f g) at keeps.bytes)
+
+    write_refused : (n offset : ℕ) (bytes : List ℕ) (e : MapError) → Step {A = A} step old (Write n offset bytes) (MapRefused e) new → Keeps {A = A} objects old (Write n offset bytes) (MapRefused e) new → Stays n (maybe (given offset bytes byte) seen)
+    write_refused n offset bytes e s keeps before =
+        let b = s.2.1.0 in
+        let at = s.2.1.1 in
+        flush_seen f g old.books new.books n byte seen b at s.2.1.2.1 before offset bytes e (of_its_name old.books n b (λ x. IsRefusedWrite x offset bytes e f g) at keeps.bytes)
+
+    unmoved : (n offset : ℕ) (bytes : List ℕ) (e : MapError) → ((cause : OutOfMemory) → e ≡ map_like_memory cause → ⊥) → Step {A = A} step old (Write n offset bytes) (MapRefused e) new
+        → Keeps {A = A} objects old (Write n offset bytes) (MapRefused e) new → Stays n seen
+    unmoved n offset bytes e other s keeps before = elim keeps.bytes.2 [
+      | inl moved ↦ as_before n s.2.1.2.1 moved before
+      | inr failed ↦ absurd (other failed.0 failed.1)
+    ]
+
+    read_done : (n offset len : ℕ) (bytes : List ℕ) → Step {A = A} step old (Read n offset len) (Bytes bytes) new → Keeps {A = A} objects old (Read n offset len) (Bytes bytes) new → Stays n seen
+    read_done n offset len bytes s keeps before =
+        byte_stays f g old.books new.books n byte seen keeps.bytes.0 keeps.bytes.1 s.2.1.2.2 before (λ h. read_through keeps.bytes.0 offset bytes f g (keeps.bytes.0.offset + byte) len seen.values keeps.bytes.2 h)
+
+    read_fails : (n offset len : ℕ) (e : MapError) → Step {A = A} step old (Read n offset len) (MapRefused e) new → Keeps {A = A} objects old (Read n offset len) (MapRefused e) new → Stays n seen
+    read_fails n offset len e s keeps before =
+        byte_stays f g old.books new.books n byte seen keeps.bytes.0 keeps.bytes.1 s.2.1.2.1 before (λ h. read_refused keeps.bytes.0 offset [] f g (keeps.bytes.0.offset + byte) len seen.values keeps.bytes.2 h)
+
+    put_done : (n offset : ℕ) (bytes : List ℕ) → Step {A = A} step old (Put n offset bytes) Done new → Keeps {A = A} objects old (Put n offset bytes) Done new → Stays n (maybe (given (seen.mapped_from + offset) bytes byte) seen)
+    put_done n offset bytes s keeps before =
+        put_seen f g old.books new.books n byte seen keeps.bytes.0 keeps.bytes.1 s.2.1.2.1 before (old.books.allocator).properties offset bytes keeps.bytes.2
+
+    own_step : (command : Command A) (reply : Reply A) (name : ℕ) → is_about name command ≡ true → Step step old command reply new → Keeps objects old command reply new → Stays name (own_after byte command reply seen)
+    own_step (Alloc n request) (Granted memory_type object offset size) name is s k before = inl refl
+    own_step (Alloc n request) (Refused e) name is s k before = as_before name k.refused.0 k.refused.1 before
+    own_step (Alloc n request) (Faulty fault) name is s k before = as_before name k.refused.0 k.refused.1 before
+    own_step (Alloc n request) reply name is s k before = absurd s.2.1
+    own_step (Dedicated n request dedicated) (Granted memory_type object offset size) name is s k before = inl refl
+    own_step (Dedicated n request dedicated) (Refused e) name is s k before = as_before name k.refused.0 k.refused.1 before
+    own_step (Dedicated n request dedicated) (Faulty fault) name is s k before = as_before name k.refused.0 k.refused.1 before
+    own_step (Dedicated n request dedicated) reply name is s k before = absurd s.2.1
+    own_step (Import n t object_size start len) (Granted memory_type object offset size) name is s k before = inl refl
+    own_step (Import n t object_size start len) (Refused e) name is s k before = as_before name k.refused.0 k.refused.1 before
+    own_step (Import n t object_size start len) (Faulty fault) name is s k before = as_before name k.refused.0 k.refused.1 before
+    own_step (Import n t object_size start len) reply name is s k before = absurd s.2.1
+    own_step (Free n) Done name is s k before = inl refl
+    own_step (Free n) (Faulty fault) name is s k before = as_before name k.refused.0 k.refused.1 before
+    own_step (Free n) reply name is s k before = absurd s.2.1
+    own_step (Map n offset size) (MappedTo m) name is s k before = at_name (λ x. Stays x (record seen { mapped_from = offset })) n name is (map_done n offset size m s k) before
+    own_step (Map n offset size) (MapRefused e) name is s k before = as_before name s.2.1.2.1 k.bytes before
+    own_step (Map n offset size) (Faulty fault) name is s k before = as_before name k.refused.0 k.refused.1 before
+    own_step (Map n offset size) reply name is s k before = absurd s.2.1
+    own_step (Unmap n) (WasMapped was) name is s k before = at_name (λ x. Stays x seen) n name is (unmap_done n was s k) before
+    own_step (Unmap n) (Faulty fault) name is s k before = as_before name k.refused.0 k.refused.1 before
+    own_step (Unmap n) reply name is s k before = absurd s.2.1
+    own_step (Write n offset bytes) Done name is s k before = at_name (λ x. Stays x (surely (given offset bytes byte) seen)) n name is (write_done n offset bytes s k) before
+    own_step (Write n offset bytes) (MapRefused AlreadyMapped) name is s k before = at_name (λ x. Stays x seen) n name is (unmoved n offset bytes AlreadyMapped (λ cause. (not_like_memory cause).0) s k) before
+    own_step (Write n offset bytes) (MapRefused MapFailed) name is s k before = at_name (λ x. Stays x seen) n name is (unmoved n offset bytes MapFailed (λ cause. (not_like_memory cause).1) s k) before
+    own_step (Write n offset bytes) (MapRefused NonHostVisible) name is s k before = at_name (λ x. Stays x (maybe (given offset bytes byte) seen)) n name is (write_refused n offset bytes NonHostVisible s k) before
+    own_step (Write n offset bytes) (MapRefused OutOfDeviceMemory) name is s k before = at_name (λ x. Stays x (maybe (given offset bytes byte) seen)) n name is (write_refused n offset bytes OutOfDeviceMemory s k) before
+    own_step (Write n offset bytes) (MapRefused OutOfHostMemory) name is s k before = at_name (λ x. Stays x (maybe (given offset bytes byte) seen)) n name is (write_refused n offset bytes OutOfHostMemory s k) before
+    own_step (Write n offset bytes) (Faulty fault) name is s k before = as_before name k.refused.0 k.refused.1 before
+    own_step (Write n offset bytes) reply name is s k before = absurd s.2.1
+    own_step (Read n offset len) (Bytes bytes) name is s k before = at_name (λ x. Stays x seen) n name is (read_done n offset len bytes s k) before
+    own_step (Read n offset len) (MapRefused e) name is s k before = at_name (λ x. Stays x seen) n name is (read_fails n offset len e s k) before
+    own_step (Read n offset len) (Faulty fault) name is s k before = as_before name k.refused.0 k.refused.1 before
+    own_step (Read n offset len) reply name is s k before = absurd s.2.1
+    own_step (Put n offset bytes) Done name is s k before = at_name (λ x. Stays x (maybe (given (seen.mapped_from + offset) bytes byte) seen)) n name is (put_done n offset bytes s k) before
+    own_step (Put n offset bytes) (Faulty fault) name is s k before = as_before name k.refused.0 k.refused.1 before
+    own_step (Put n offset bytes) reply name is s k before = absurd s.2.1
+    own_step (Get n offset len) (Bytes bytes) name is s k before = as_before name s.2.1.2.2 k.bytes before
+    own_step (Get n offset len) (Faulty fault) name is s k before = as_before name k.refused.0 k.refused.1 before
+    own_step (Get n offset len) reply name is s k before = absurd s.2.1
+    own_step (SetRemaining remaining) reply name is s k before = absurd (cc)
+    own_step Cleanup reply name is s k before = absurd (cc)
+    own_step (FreeRanges t) reply name is s k before = absurd (cc)
+    own_step Counts reply name is s k before = absurd (cc)
+
+    pub step_seen : (command : Command A) (reply : Reply A) (name : ℕ) → Step step old command reply new → Keeps objects old command reply new → Stays name (seen_after name byte command reply seen)
+    step_seen command reply name s k before =
+        elim (is_about name command) as (λ t. is_about name command ≡ t → IsSeen g new.books name byte (cond t (own_after byte command reply seen) seen)) [
+          | true ↦ λ is. own_step command reply name is s k before
+          | false ↦ λ is. other_seen f g old.books new.books command name byte seen k.others is before
+        ] refl
+
+module _ {D A : Type 0} (step : D → Event → D → Type 0) (properties : D → Properties) (objects : D → ℕ → Option Object) (name byte : ℕ) where
+  run_seen : (old new : SessionState D) (commands : List (Command A)) (replies : List (Reply A)) (seen : Seen) → Run (SoundStep step properties objects) old commands replies new
+      → IsSeen (objects old.device) old.books name byte seen → IsSeen (objects new.device) new.books name byte (seen_along name byte commands replies seen)
+  run_seen old new [] [] seen run before = subst (λ (s : SessionState D). IsSeen (objects s.device) s.books name byte seen) (sym run) before
+  run_seen old new [] (r ∷ replies) seen run before = absurd run
+  run_seen old new (c ∷ commands) [] seen run before = absurd run
+  run_seen old new (c ∷ commands) (r ∷ replies) seen run before =
+      run_seen run.0 new commands replies (seen_after name byte c r seen) run.2 (step_seen objects old run.0 byte seen step c r name run.1.taken run.1.keeps before)
+
+-- After a run each byte that has values by what was written has one of them for the host, and one for the device.
+pub run_holds : {D A : Type 0} (step : D → Event → D → Type 0) (properties : D → Properties) (objects : D → ℕ → Option Object) (old new : SessionState D) (commands : List (Command A)) (replies : List (Reply A))
+    → Run (SoundStep step properties objects) old commands replies new → HoldsWritten (objects new.device) new.books (written commands replies)
+run_holds step properties objects old new commands replies run name byte b at low some =
+    elim (known_of (objects new.device) new.books name byte (seen_along name byte commands replies unseen) b at (run_seen step properties objects name byte old new commands replies unseen run (inl refl))) [
+      | inl none ↦ absurd (some none)
+      | inr known ↦ known.bytes
+    ]
