@@ -1,20 +1,20 @@
 -- Each step keeps what is known of each byte that was written, and so does a run.
-use Rattle.std.proofs.Common.{◌≡◌, ◌⊎◌, inl, inr, ℕ, zero, suc, ◌+◌, ◌<◌, ◌≤◌, ◌==◌, Bool, true, false, cond, is_some, List, [], ◌∷◌, length, Option, Some, None, refl, sym, ◌∙◌, ap, subst, arith}
+use Rattle.std.proofs.Common.{◌≡◌, ◌⊎◌, inl, inr, ℕ, zero, suc, ◌+◌, ◌<◌, ◌≤◌, ◌==◌, Bool, true, false, cond, is_some, List, [], ◌∷◌, length, slice_get, take, Option, Some, None, refl, sym, ◌∙◌, ap, subst, arith}
 use Rattle.std.proofs.lemmas.Bool.Decides.{nat_tests}
 use Rattle.std.specs.FinMap as finite
 use Rattle.gpu_alloc_types.specs.Device.{Changes, Event, IsOutside, IsPut, Object}
 use Rattle.gpu_alloc_types.specs.Properties.{Properties}
 use Rattle.gpu_alloc_types.specs.declared.types.OutOfMemory.{OutOfMemory}
 use Rattle.gpu_alloc_types.specs.declared.types.OutOfMemory.TheVariants.{OutOfDeviceMemory as NoDeviceMemory, OutOfHostMemory as NoHostMemory}
+use Rattle.gpu_alloc.specs.Bytes.{ChangesBytes, IsReadThrough}
 use Rattle.gpu_alloc.specs.Errors.{map_like_memory}
-use Rattle.gpu_alloc.specs.Mapped.{refusal}
 use Rattle.gpu_alloc.specs.State.{Block}
 use Rattle.gpu_alloc.specs.Types.MapError.{MapError}
 use Rattle.gpu_alloc.specs.Types.MapError.TheVariants.{AlreadyMapped, MapFailed, NonHostVisible, OutOfDeviceMemory, OutOfHostMemory}
 use Rattle.gpu_alloc.specs.Types.Mapping.{Mapping}
 use Rattle.gpu_alloc_base.proofs.Names.{get_put}
-use Rattle.gpu_session.specs.Books.{Books, OfBlock, SessionState}
-use Rattle.gpu_session.specs.Isolation.{HasBoth, HoldsWritten, IsRefusedRead, IsRefusedWrite, MovesNoByte, PutsBytes, WritesBytes}
+use Rattle.gpu_session.specs.Books.{Books, SessionState}
+use Rattle.gpu_session.specs.Isolation.{GoesOn, HasBoth, HasOneOf, HoldsAlong, HoldsWritten, IsOneOf, IsRefusedWrite, MovesNoByte, PutsBytes, TellsWritten, WritesBytes, device_at}
 use Rattle.gpu_session.specs.Run.{Run, Step}
 use Rattle.gpu_session.specs.Sound.{Keeps, SoundStep}
 use Rattle.gpu_session.specs.Written.{Seen, given, is_about, maybe, own_after, seen_after, seen_along, surely, unseen, written}
@@ -23,7 +23,7 @@ use Rattle.gpu_session.specs.declared.command.Command.TheVariants.{Alloc, Dedica
 use Rattle.gpu_session.specs.declared.command.Reply.{Reply}
 use Rattle.gpu_session.specs.declared.command.Reply.TheVariants.{Granted, Refused, Done, Mapped as MappedTo, MapRefused, Unmapped as WasMapped, Bytes, Fault as Faulty}
 use Rattle.gpu_session.proofs.Conditions.{range_inside}
-use Rattle.gpu_session.proofs.Seen.{IsKnown, IsSeen, both_more, flush_aside, flush_here, given_cases, known_of, maybe_known, maybe_none, moved_none, of_its_name, other_seen, put_aside, put_here, read_refused, read_through, seen_again, still_known, still_seen, surely_known, write_aside, write_here}
+use Rattle.gpu_session.proofs.Seen.{IsKnown, IsSeen, both_more, flush_aside, flush_here, known_of, maybe_known, maybe_none, moved_none, of_its_name, other_seen, put_aside, put_here, read_refused, read_through, seen_again, still_known, still_seen, surely_known, write_aside, write_here}
 
 same_name : (n name : ℕ) → (n == name) ≡ true → n ≡ name
 same_name n name is = grind (arith, nat_tests)
@@ -52,7 +52,7 @@ module _ (f g : ℕ → Option Object) (s new : Books) (n byte : ℕ) (seen : Se
   write_seen : (offset : ℕ) (bytes : List ℕ) → b.mapping ≡ None → offset + length bytes ≤ b.size → WritesBytes b offset bytes f g → IsSeen g new n byte (surely (given offset bytes byte) seen)
   write_seen offset bytes unmapped within w =
       seen_again g s new n byte (surely (given offset bytes byte) seen) b same at (surely_known f g seen byte b offset bytes (known_of f s n byte seen b at before) unmapped within
-        (λ out h. write_aside b offset bytes f g (b.offset + byte) seen.values out w.through h) (λ v here. write_here b offset bytes f g (b.offset + byte) v here w.all w.through))
+      (λ out h. write_aside b offset bytes f g (b.offset + byte) seen.values out w.through h) (λ v here. write_here b offset bytes f g (b.offset + byte) v here w.all w.through))
 
   flush_seen : (offset : ℕ) (bytes : List ℕ) (e : MapError) → IsRefusedWrite b offset bytes e f g → IsSeen g new n byte (maybe (given offset bytes byte) seen)
   flush_seen offset bytes e (inl moved) = elim (known_of f s n byte seen b at before) [
@@ -62,13 +62,14 @@ module _ (f g : ℕ → Option Object) (s new : Books) (n byte : ℕ) (seen : Se
     where
       stays : HasBoth seen.values (f b.object) (b.offset + byte) → HasBoth seen.values (g b.object) (b.offset + byte)
       stays h = subst (λ (t : ℕ → Option Object). HasBoth seen.values (t b.object) (b.offset + byte)) (sym moved) h
+
       more_known : IsKnown f seen byte b → ((maybe (given offset bytes byte) seen).values ≡ []) ⊎ IsKnown g (maybe (given offset bytes byte) seen) byte b
       more_known known = maybe_known f g seen byte b offset bytes known (λ out h. stays h) (λ v some here h. both_more v seen.values (g b.object) (b.offset + byte) some (stays h))
   flush_seen offset bytes e (inr failed) = elim (known_of f s n byte seen b at before) [
     | inl none ↦ inl (maybe_none seen (given offset bytes byte) none)
     | inr known ↦
         seen_again g s new n byte (maybe (given offset bytes byte) seen) b same at (maybe_known f g seen byte b offset bytes known
-          (λ out h. flush_aside b offset bytes f g (b.offset + byte) seen.values out failed.2 h) (λ v some here h. flush_here b offset bytes f g (b.offset + byte) v seen.values some here failed.2 h))
+        (λ out h. flush_aside b offset bytes f g (b.offset + byte) seen.values out failed.2 h) (λ v some here h. flush_here b offset bytes f g (b.offset + byte) v seen.values some here failed.2 h))
   ]
 
   put_seen : (p : Properties) (offset : ℕ) (bytes : List ℕ) → PutsBytes p b offset bytes f g → IsSeen g new n byte (maybe (given (seen.mapped_from + offset) bytes byte) seen)
@@ -80,8 +81,8 @@ module _ (f g : ℕ → Option Object) (s new : Books) (n byte : ℕ) (seen : Se
         let place : m.start + offset ≡ b.offset + (seen.mapped_from + offset) = omega (arith, start) in
         let some : 0 < length bytes → Changes (IsPut p (b.offset + (seen.mapped_from + offset)) bytes) f b.object g = λ more. subst (λ i. Changes (IsPut p i bytes) f b.object g) place (puts.2.0 more) in
         seen_again g s new n byte (maybe (given (seen.mapped_from + offset) bytes byte) seen) b same at (maybe_known f g seen byte b (seen.mapped_from + offset) bytes known
-          (λ out h. put_either (length bytes) refl some puts.2.1 out h)
-          (λ v has here h. let low = here.2 in put_here p b (b.offset + (seen.mapped_from + offset)) bytes f g (b.offset + byte) seen.values (some (omega (arith, low))) v has here h))
+        (λ out h. put_either (length bytes) refl some puts.2.1 out h)
+        (λ v has here h. let low = here.2 in put_here p b (b.offset + (seen.mapped_from + offset)) bytes f g (b.offset + byte) seen.values (some (omega (arith, low))) v has here h))
   ]
     where
       put_either : (len : ℕ) → length bytes ≡ len → (0 < length bytes → Changes (IsPut p (b.offset + (seen.mapped_from + offset)) bytes) f b.object g) → (length bytes ≡ 0 → g ≡ f)
@@ -230,3 +231,46 @@ run_holds step properties objects old new commands replies run name byte b at lo
       | inl none ↦ absurd (some none)
       | inr known ↦ known.bytes
     ]
+
+-- In each state of a run, as after the run that ends there.
+pub run_holds_along : {D A : Type 0} (step : D → Event → D → Type 0) (properties : D → Properties) (objects : D → ℕ → Option Object) (old : SessionState D) (commands : List (Command A)) (replies : List (Reply A))
+    → HoldsAlong (SoundStep step properties objects) objects old commands replies
+run_holds_along step properties objects old commands replies n mid run = run_holds step properties objects old mid (take n commands) (take n replies) run
+
+-- what is known along joined lists, where the first are those of a run
+pub run_goes_on : {S A : Type 0} (Steps : S → Command A → Reply A → S → Type 0) (old new : S) (commands : List (Command A)) (replies : List (Reply A)) → Run Steps old commands replies new → GoesOn commands replies
+run_goes_on Steps old new [] [] run later answers name byte seen = refl
+run_goes_on Steps old new [] (r ∷ replies) run later answers name byte seen = absurd run
+run_goes_on Steps old new (c ∷ commands) [] run later answers name byte seen = absurd run
+run_goes_on Steps old new (c ∷ commands) (r ∷ replies) run later answers name byte seen = run_goes_on Steps run.0 new commands replies run.2 later answers name byte (seen_after name byte c r seen)
+
+-- A read tells what was written.
+
+the_only : (v : ℕ) (x : Option ℕ) → HasOneOf (v ∷ []) x → x ≡ Some v
+the_only v None h = absurd h
+the_only v (Some w) (inl is) = ap Some is
+the_only v (Some w) (inr none) = absurd none
+
+one_of_these : (values : List ℕ) (x : Option ℕ) → ((values ≡ [] → ⊥) → HasOneOf values x) → IsOneOf values x
+one_of_these values x known = record { known = known; only = λ v is. the_only v x (subst (λ vs. HasOneOf vs x) is (known (λ none. let e = sym is ∙ none in absurd (cc)))) }
+
+module _ {D A : Type 0} (step : D → Event → D → Type 0) (properties : D → Properties) (objects : D → ℕ → Option Object) (old mid : SessionState D) (commands : List (Command A)) (replies : List (Reply A))
+    (run : Run (SoundStep step properties objects) old commands replies mid) where
+  byte_told : (new : SessionState D) (name offset len : ℕ) (bytes : List ℕ) → SoundStep {A = A} step properties objects mid (Read name offset len) (Bytes bytes) new
+      → (j : ℕ) → j < length bytes → (written commands replies name (offset + j) ≡ [] → ⊥) → HasOneOf (written commands replies name (offset + j)) (slice_get bytes j)
+  byte_told new name offset len bytes s j low some =
+      let b = s.taken.2.1.0 in
+      let at = s.taken.2.1.1 in
+      let many : length bytes ≡ len = s.taken.2.1.2.0 in
+      let within = range_inside (finite.get mid.books.blocks name) b offset len at s.taken.2.0 in
+      let read = of_its_name mid.books name b (λ x. ChangesBytes x len (IsReadThrough x offset bytes) (objects mid.device) (objects new.device)) at s.keeps.bytes in
+      let c = read.some (omega (arith, many, low)) in
+      let held = (run_holds step properties objects old mid commands replies run name (offset + j) b at (omega (arith, within, many, low)) some).1 in
+      let here : b.offset + (offset + j) ≡ b.offset + offset + j = omega arith in
+      let there : device_at (objects mid.device b.object) (b.offset + (offset + j)) ≡ slice_get bytes j =
+      ap (λ x. device_at x (b.offset + (offset + j))) c.1 ∙ ap (slice_get c.0.device_bytes) here ∙ sym (c.2.1.told j low) in
+      subst (HasOneOf (written commands replies name (offset + j))) there held
+
+  pub next_tells : (new : SessionState D) (command : Command A) (reply : Reply A) → SoundStep step properties objects mid command reply new → TellsWritten (written commands replies) command reply
+  next_tells new (Read name offset len) (Bytes bytes) s = λ j low. one_of_these _ _ (byte_told new name offset len bytes s j low)
+  next_tells new command reply s = tt

@@ -1,5 +1,5 @@
 -- What a command leaves of the bytes of blocks that it does not name.
-use Rattle.std.proofs.Common.{◌≡◌, ◌≢◌, ◌⊎◌, inl, inr, ℕ, ◌+◌, ◌<◌, ◌≤◌, ◌==◌, Bool, true, false, List, length, slice_get, Option, Some, None, Result, Ok, Err, refl, sym, ◌∙◌, ap, subst, arith, Contains}
+use Rattle.std.proofs.Common.{◌≡◌, ◌≢◌, inl, inr, ℕ, ◌+◌, ◌<◌, ◌≤◌, ◌==◌, Bool, true, false, List, length, slice_get, Option, Some, None, sym, ◌∙◌, ap, arith}
 use Rattle.std.proofs.Math.Nat.{div-mul-le_self}
 use Rattle.std.proofs.lemmas.Bool.Decides.{nat_tests}
 use Rattle.std.specs.FinMap as finite
@@ -9,19 +9,17 @@ use Rattle.gpu_alloc_types.specs.Objects.{put-same, put-other}
 use Rattle.gpu_alloc_types.specs.Properties.{Properties, is_coherent}
 use Rattle.gpu_alloc.specs.Agreement.{BlockAgrees, LiesInBlock}
 use Rattle.gpu_alloc_block.specs.Agreement.{IsOfBlock}
-use Rattle.gpu_alloc.specs.Allocation.{IsAsCounted, ObjectsAfter}
+use Rattle.gpu_alloc.specs.Allocation.{IsAsCounted}
 use Rattle.gpu_alloc.specs.Bytes.{EndsRead, EndsWrite, ReadsWithin, WritesWithin}
 use Rattle.gpu_alloc.specs.Mapped.{IsClosed, IsOpened}
 use Rattle.gpu_alloc.specs.NewObject.{ObjectsGiven}
 use Rattle.gpu_alloc_block.specs.InHand.{AreTwo, ShareNoObject}
 use Rattle.gpu_alloc.specs.Ranges.{rounded}
 use Rattle.gpu_alloc.specs.Release.{GoesBack}
-use Rattle.gpu_alloc.specs.State.{AreApart, Block, HeldObject, State, IsOwned, is_shared, span_of}
-use Rattle.gpu_alloc.specs.Types.AllocationError.{AllocationError}
+use Rattle.gpu_alloc.specs.State.{Block, HeldObject, State, is_shared}
 use Rattle.gpu_alloc.specs.Types.MapError.{MapError}
 use Rattle.gpu_alloc.specs.Types.Mapping.{Mapping}
-use Rattle.gpu_alloc.specs.Types.Kind.{Kind}
-use Rattle.gpu_alloc.specs.Types.Kind.TheVariants.{Dedicated as DedicatedObject, Imported, BuddyChunk, FreeListChunk}
+use Rattle.gpu_alloc.specs.Types.Kind.TheVariants.{Imported}
 use Rattle.gpu_alloc_base.proofs.Names.{get_put-other, here, one_or_two}
 use Rattle.gpu_session.specs.Isolation.{AreSame, IsRefusedRead, IsRefusedWrite, MovesNoByte, host_at, device_at}
 use Rattle.gpu_session.specs.Sound.{IsBlock, IsSound}
@@ -76,7 +74,7 @@ return_leaves step objects s new from to c o back there =
 -- A change of one object leaves the bytes of a block that it does not reach.
 pub change_leaves : (P : Object → Object → Type 0) (f g : ℕ → Option Object) (b c : Block) → Changes P f b.object g
     → ((o n : Object) → P o n → (k : ℕ) → c.object ≡ b.object → c.offset ≤ k → k < c.offset + c.size
-      → (slice_get n.host_bytes k ≡ slice_get o.host_bytes k) × (slice_get n.device_bytes k ≡ slice_get o.device_bytes k))
+    → (slice_get n.host_bytes k ≡ slice_get o.host_bytes k) × (slice_get n.device_bytes k ≡ slice_get o.device_bytes k))
     → IsUntouched f g c
 change_leaves P f g b c changes same k low high = elim (one_or_two c.object b.object) [
   | inr other ↦ untouched_object f g c (ap (λ (h : ℕ → Option Object). h c.object) changes.2.2 ∙ put-other f b.object (Some changes.2.0) c.object other) k low high
@@ -138,8 +136,8 @@ module _ (b c : Block) (two : AreTwo b c) where
   pub put_leaves : (p : Properties) (start : ℕ) (bytes : List ℕ) (f g : ℕ → Option Object) → b.offset ≤ start → start + length bytes ≤ b.offset + b.size → Changes (IsPut p start bytes) f b.object g → IsUntouched f g c
   put_leaves p start bytes f g from to changes =
       change_leaves (IsPut p start bytes) f g b c changes (λ o n w k same low high.
-          let out = outside_data start (length bytes) from to same k low high in
-          (ap (λ (x : Object). slice_get x.host_bytes k) w.4 ∙ w.2.outside k out, ap (λ (x : Object). slice_get x.device_bytes k) w.4 ∙ put_device (is_coherent p o.memory_type) start bytes o.device_bytes w.1 k w.3 out))
+      let out = outside_data start (length bytes) from to same k low high in
+      (ap (λ (x : Object). slice_get x.host_bytes k) w.4 ∙ w.2.outside k out, ap (λ (x : Object). slice_get x.device_bytes k) w.4 ∙ put_device (is_coherent p o.memory_type) start bytes o.device_bytes w.1 k w.3 out))
 
 -- a mapping lies in its block
 pub mapping_in_block : (b : Block) (p : Properties) (objects : ℕ → Option Object) (m : Mapping) → BlockAgrees b p objects → b.mapping ≡ Some m → (b.offset ≤ m.start) × (m.start + m.len ≤ b.offset + b.size)

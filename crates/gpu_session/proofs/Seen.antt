@@ -1,9 +1,9 @@
 -- What becomes of a byte whose values are known, and every step keeps what is known of it.
-use Rattle.std.proofs.Common.{get_or, ◌≡◌, ◌≢◌, ◌⊎◌, inl, inr, ℕ, zero, suc, ◌+◌, ◌-◌, ◌<◌, ◌≤◌, ◌==◌, Bool, true, false, cond, List, [], ◌∷◌, length, slice_get, nat_le, nat_lt, Option, Some, None, refl, sym, ◌∙◌, ap, subst, arith}
+use Rattle.std.proofs.Common.{get_or, ◌≡◌, ◌⊎◌, inl, inr, ℕ, zero, suc, ◌+◌, ◌-◌, ◌<◌, ◌≤◌, Bool, true, false, cond, List, [], ◌∷◌, length, slice_get, nat_le, nat_lt, Option, Some, None, refl, sym, ◌∙◌, ap, subst, arith}
 use Rattle.std.proofs.lemmas.Bool.Decides.{nat_tests}
 use Rattle.std.proofs.lemmas.Option.{slice_get_past, slice_get-get_or}
 use Rattle.std.specs.FinMap as finite
-use Rattle.gpu_alloc_types.specs.Device.{Changes, IsCopied, IsOutside, IsPut, IsPutDevice, IsWritten, Object, put}
+use Rattle.gpu_alloc_types.specs.Device.{Changes, IsCopied, IsOutside, IsPut, IsPutDevice, IsWritten, Object}
 use Rattle.gpu_alloc_types.specs.Objects.{put-same}
 use Rattle.gpu_alloc_types.specs.Properties.{Properties, is_coherent}
 use Rattle.gpu_alloc.specs.Bytes.{ChangesBytes, IsPartlyRead, IsPartlyWritten, IsReadThrough, IsWrittenThrough}
@@ -51,11 +51,15 @@ other_seen f g s new command name byte seen leaves other (inr live) =
     let known = live.2 in
     let kept = leaves name b other live.1 in
     let same = kept.1 (b.offset + byte) (omega arith) (let inside = known.inside in omega (arith, inside)) in
-    inr (b, kept.0, record {
-      bytes = (subst (HasOneOf seen.values) (sym same.0) known.bytes.0, subst (HasOneOf seen.values) (sym same.1) known.bytes.1);
-      mapping = known.mapping;
-      inside = known.inside;
-    })
+    inr (
+      b,
+      kept.0,
+      record {
+        bytes = (subst (HasOneOf seen.values) (sym same.0) known.bytes.0, subst (HasOneOf seen.values) (sym same.1) known.bytes.1);
+        mapping = known.mapping;
+        inside = known.inside;
+      },
+    )
 
 -- One of the values.
 
@@ -167,8 +171,8 @@ module _ (b : Block) (offset : ℕ) (bytes : List ℕ) (f g : ℕ → Option Obj
     | inl same ↦ unchanged f g b.object k values same h
     | inr change ↦
         changed (IsWrittenThrough b offset bytes) f g b.object k values values change (λ o new w both.
-            let host = along values (slice_get o.host_bytes k) (slice_get new.host_bytes k) (w.host.outside k out) both.0 in
-            (host, one_of values _ _ _ (copied _ _ new.host_bytes o.device_bytes new.device_bytes k w.device) both.1 host)) h
+        let host = along values (slice_get o.host_bytes k) (slice_get new.host_bytes k) (w.host.outside k out) both.0 in
+        (host, one_of values _ _ _ (copied _ _ new.host_bytes o.device_bytes new.device_bytes k w.device) both.1 host)) h
   ]
 
   pub write_here : (v : ℕ) → IsGiven (b.offset + offset) bytes k v → HasAll (rounded b offset (length bytes)) (b.offset + offset) (length bytes) → ChangesBytes b (length bytes) (IsWrittenThrough b offset bytes) f g
@@ -177,23 +181,23 @@ module _ (b : Block) (offset : ℕ) (bytes : List ℕ) (f g : ℕ → Option Obj
       let place = at.1 in
       let low = at.2 in
       set_to (IsWrittenThrough b offset bytes) f g b.object k (v ∷ []) (c.some (omega (arith, low))) (λ o new w.
-          let host = written_there (b.offset + offset) bytes o.host_bytes new.host_bytes k v at w.host in
-          (only_this v (slice_get new.host_bytes k) host, only_this v (slice_get new.device_bytes k) (w.device.inside k (omega (arith, place, all.0)) (omega (arith, place, low, all.1)) ∙ host)))
+      let host = written_there (b.offset + offset) bytes o.host_bytes new.host_bytes k v at w.host in
+      (only_this v (slice_get new.host_bytes k) host, only_this v (slice_get new.device_bytes k) (w.device.inside k (omega (arith, place, all.0)) (omega (arith, place, low, all.1)) ∙ host)))
 
   -- A write whose flush is refused.
 
   pub flush_aside : (values : List ℕ) → IsOutside (b.offset + offset) (length bytes) k → Changes (IsPartlyWritten b offset bytes) f b.object g → HasBoth values (f b.object) k → HasBoth values (g b.object) k
   flush_aside values out c h =
       changed (IsPartlyWritten b offset bytes) f g b.object k values values c (λ o new w both.
-          let host = along values (slice_get o.host_bytes k) (slice_get new.host_bytes k) (w.host.outside k out) both.0 in
-          (host, one_of values _ _ _ (w.device.inside k) both.1 host)) h
+      let host = along values (slice_get o.host_bytes k) (slice_get new.host_bytes k) (w.host.outside k out) both.0 in
+      (host, one_of values _ _ _ (w.device.inside k) both.1 host)) h
 
   pub flush_here : (v : ℕ) (values : List ℕ) → (values ≡ [] → ⊥) → IsGiven (b.offset + offset) bytes k v → Changes (IsPartlyWritten b offset bytes) f b.object g → HasBoth values (f b.object) k
       → HasBoth (with_more v values) (g b.object) k
   flush_here v values some at c h =
       changed (IsPartlyWritten b offset bytes) f g b.object k values (with_more v values) c (λ o new w both.
-          let host = this_more v values (slice_get new.host_bytes k) some (written_there (b.offset + offset) bytes o.host_bytes new.host_bytes k v at w.host) in
-          (host, one_of (with_more v values) _ _ _ (w.device.inside k) (some_more v values (slice_get o.device_bytes k) some both.1) host)) h
+      let host = this_more v values (slice_get new.host_bytes k) some (written_there (b.offset + offset) bytes o.host_bytes new.host_bytes k v at w.host) in
+      (host, one_of (with_more v values) _ _ _ (w.device.inside k) (some_more v values (slice_get o.device_bytes k) some both.1) host)) h
 
   -- A read, and one whose invalidate is refused.
 
@@ -253,14 +257,14 @@ maybe_none seen (Some v) none = ap (with_more v) none
 pub maybe_known : (f g : ℕ → Option Object) (seen : Seen) (byte : ℕ) (b : Block) (offset : ℕ) (bytes : List ℕ) → IsKnown f seen byte b
     → (IsOutside (b.offset + offset) (length bytes) (b.offset + byte) → HasBoth seen.values (f b.object) (b.offset + byte) → HasBoth seen.values (g b.object) (b.offset + byte))
     → ((v : ℕ) → (seen.values ≡ [] → ⊥) → IsGiven (b.offset + offset) bytes (b.offset + byte) v → HasBoth seen.values (f b.object) (b.offset + byte)
-      → HasBoth (with_more v seen.values) (g b.object) (b.offset + byte))
+    → HasBoth (with_more v seen.values) (g b.object) (b.offset + byte))
     → ((maybe (given offset bytes byte) seen).values ≡ []) ⊎ IsKnown g (maybe (given offset bytes byte) seen) byte b
 maybe_known f g seen byte b offset bytes known aside here = elim (given_cases offset bytes byte) [
   | inl out ↦ rw out.0 (inr (still_known f g seen byte b known (aside (outside_there b.offset offset (length bytes) byte out.1) known.bytes)))
   | inr at ↦ rw at.1 (elim (none_or_some seen.values) [
-      | inl none ↦ inl (ap (with_more at.0) none)
-      | inr some ↦ inr (record { bytes = here at.0 some (given_there b.offset offset bytes byte at.0 at.2) known.bytes; mapping = known.mapping; inside = known.inside })
-    ])
+    | inl none ↦ inl (ap (with_more at.0) none)
+    | inr some ↦ inr (record { bytes = here at.0 some (given_there b.offset offset bytes byte at.0 at.2) known.bytes; mapping = known.mapping; inside = known.inside })
+  ])
 ]
 
 -- it has a value for sure, where bytes cover it that go to an offset of the block, which is not mapped
@@ -270,9 +274,9 @@ pub surely_known : (f g : ℕ → Option Object) (seen : Seen) (byte : ℕ) (b :
     → ((surely (given offset bytes byte) seen).values ≡ []) ⊎ IsKnown g (surely (given offset bytes byte) seen) byte b
 surely_known f g seen byte b offset bytes before unmapped within aside here = elim (given_cases offset bytes byte) [
   | inl out ↦ rw out.0 (elim before [
-      | inl none ↦ inl none
-      | inr known ↦ inr (still_known f g seen byte b known (aside (outside_there b.offset offset (length bytes) byte out.1) known.bytes))
-    ])
+    | inl none ↦ inl none
+    | inr known ↦ inr (still_known f g seen byte b known (aside (outside_there b.offset offset (length bytes) byte out.1) known.bytes))
+  ])
   | inr at ↦
       let place = at.2.1 in
       let low = at.2.2 in

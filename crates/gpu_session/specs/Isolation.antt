@@ -1,18 +1,19 @@
 -- Which bytes a command may change, and what is known of bytes that were written.
-use Rattle.std.specs.Prelude.{◌≡◌, ◌≢◌, ◌⊎◌, ℕ, ◌+◌, ◌<◌, ◌≤◌, false, List, [], ◌∷◌, length, Option, Some, None, slice_get}
+use Rattle.std.specs.Prelude.{◌≡◌, ◌≢◌, ◌⊎◌, ℕ, ◌+◌, ◌<◌, ◌≤◌, false, List, [], ◌∷◌, ◌++◌, length, take}
+use Rattle.std.specs.Prelude.{Option, Some, None, slice_get}
 use Rattle.std.specs.FinMap as finite
 use Rattle.gpu_alloc_types.specs.Device.{Object, Range, Changes, IsPut}
 use Rattle.gpu_alloc_types.specs.Properties.{Properties}
 use Rattle.gpu_alloc_types.specs.declared.types.OutOfMemory.{OutOfMemory}
 use Rattle.gpu_alloc.specs.Bytes.{ChangesBytes, IsWrittenThrough, IsPartlyWritten, IsReadThrough, IsPartlyRead}
-use Rattle.gpu_alloc.specs.Bytes.{HasOnlyOtherBytes}
 use Rattle.gpu_alloc.specs.Errors.{map_like_memory}
 use Rattle.gpu_alloc.specs.Ranges.{rounded}
 use Rattle.gpu_alloc.specs.State.{Block}
 use Rattle.gpu_alloc.specs.Types.MapError.{MapError}
 use Rattle.gpu_alloc.specs.Types.Mapping.{Mapping}
 use Rattle.gpu_session.specs.Books.{Books, OfBlock, SessionState}
-use Rattle.gpu_session.specs.Written.{is_about, written}
+use Rattle.gpu_session.specs.Run.{Run}
+use Rattle.gpu_session.specs.Written.{Seen, is_about, seen_along, written}
 use Rattle.gpu_session.specs.declared.command.Command.{Command}
 use Rattle.gpu_session.specs.declared.command.Command.TheVariants.{Map, Unmap, Write, Read, Put, Get}
 use Rattle.gpu_session.specs.declared.command.Reply.{Reply}
@@ -112,3 +113,28 @@ abbrev pub HoldsWritten : (ℕ → Option Object) → Books → ((name byte : �
 HoldsWritten objects s values =
     (name byte : ℕ) (b : Block) → finite.get s.blocks name ≡ Some b → byte < b.size → values name byte ≢ []
     → HasBoth (values name byte) (objects b.object) (b.offset + byte)
+
+-- In each state of a run, after each number of its commands, the blocks hold what was written by then.
+abbrev pub HoldsAlong : {D A : Type 0} → (SessionState D → Command A → Reply A → SessionState D → Type 0)
+    → (D → ℕ → Option Object) → SessionState D → List (Command A) → List (Reply A) → Type 0
+HoldsAlong {D} Steps objects old commands replies =
+    (n : ℕ) (mid : SessionState D) → Run Steps old (take n commands) (take n replies) mid
+    → HoldsWritten (objects mid.device) mid.books (written (take n commands) (take n replies))
+
+-- A byte that was read has one of its values, and this one where it is the only one.
+pub record IsOneOf (values : List ℕ) (byte : Option ℕ) : Type 0 where
+  pub known : values ≢ [] → HasOneOf values byte
+  pub only : (v : ℕ) → values ≡ v ∷ [] → byte ≡ Some v
+
+-- A read that is answered by bytes tells values of what was written.
+abbrev pub TellsWritten : {A : Type 0} → ((name byte : ℕ) → List ℕ) → Command A → Reply A → Type 0
+TellsWritten values (Read name offset len) (Bytes bytes) =
+    (j : ℕ) → j < length bytes → IsOneOf (values name (offset + j)) (slice_get bytes j)
+TellsWritten values command reply = Unit {0}
+
+-- What is known of a byte along joined lists is what the later ones make of what the earlier ones left.
+abbrev pub GoesOn : {A : Type 0} → List (Command A) → List (Reply A) → Type 0
+GoesOn {A} commands replies =
+    (later : List (Command A)) (answers : List (Reply A)) (name byte : ℕ) (seen : Seen)
+    → seen_along name byte (commands ++ later) (replies ++ answers) seen
+    ≡ seen_along name byte later answers (seen_along name byte commands replies seen)

@@ -39,3 +39,8 @@ EachRun {S} {A} Steps P =
 -- the last command is a cleanup
 abbrev pub EndsWithCleanup : {A : Type 0} → List (Command A) → Type 0
 EndsWithCleanup {A} commands = (before : List (Command A)) × (commands ≡ before ++ Cleanup ∷ [])
+
+-- this holds of each command that is served next, with its reply
+abbrev pub EachNext : {S A : Type 0} → (S → Command A → Reply A → S → Type 0) → S → (Command A → Reply A → Type 0)
+    → Type 0
+EachNext {S} {A} Steps old P = (command : Command A) (reply : Reply A) (new : S) → Steps old command reply new → P command reply

@@ -5,8 +5,8 @@ ghost use Rattle.gpu_alloc.specs.Request.{IsAskable};
 ghost use Rattle.gpu_alloc.specs.State.{total};
 ghost use Rattle.gpu_alloc.specs.declared.request.Request.{Request};
 ghost use Rattle.gpu_session.specs.Faults.{fault_of_request};
-ghost use Rattle.gpu_session.specs.Isolation.{HoldsWritten};
-ghost use Rattle.gpu_session.specs.Run.{Step, Run, Joins, EachRun, EndsWithCleanup};
+ghost use Rattle.gpu_session.specs.Isolation.{GoesOn, HoldsWritten, TellsWritten};
+ghost use Rattle.gpu_session.specs.Run.{Step, Run, Joins, EachRun, EachNext, EndsWithCleanup};
 ghost use Rattle.gpu_session.specs.Sound.{SoundStep, LeavesRemaining, HasNothingLeft, HasWholeObjects, IsForRequired};
 ghost use Rattle.gpu_session.specs.Written.{written};
 
@@ -14,12 +14,14 @@ use gpu_alloc_types::{MemoryDevice, MemoryObject};
 use std::alloc::Allocator;
 
 /// Two runs, one after the other, are a run of the joined lists: of any steps, and of those between sound states, which
-/// are such steps.
+/// are such steps. What is known of a byte along the joined lists is what is known along the later ones from what the
+/// earlier ones left.
 pub fn runs_join<M: MemoryObject, D: MemoryDevice<M>, A: Allocator>()
     ensures any { Joins {A = A} (Step D.step) }
     ensures sound { Joins {A = A} (SoundStep D.step D.properties D.objects) }
     ensures steps { EachRun {A = A} (SoundStep D.step D.properties D.objects)
         (λ old commands replies new. Run (Step D.step) old commands replies new) }
+    ensures seen { EachRun {A = A} (SoundStep D.step D.properties D.objects) (λ old commands replies new. GoesOn commands replies) }
 {}
 
 /// A request has no fault exactly where an allocator can be asked for it.
@@ -45,6 +47,13 @@ pub fn runs_end_with_nothing_held<M: MemoryObject, D: MemoryDevice<M>, A: Alloca
 pub fn runs_hold_what_was_written<M: MemoryObject, D: MemoryDevice<M>, A: Allocator>()
     ensures { EachRun {A = A} (SoundStep D.step D.properties D.objects) (λ old commands replies new.
         HoldsWritten (D.objects new.device) new.books (written commands replies)) }
+{}
+
+/// A read after a run, where it is answered by bytes, tells for each byte that has values by what was written one of
+/// them: that of the latest write, where no put and no refused write covered it since.
+pub fn reads_tell_what_was_written<M: MemoryObject, D: MemoryDevice<M>, A: Allocator>()
+    ensures { EachRun {A = A} (SoundStep D.step D.properties D.objects) (λ old commands replies mid.
+        EachNext {A = A} (SoundStep D.step D.properties D.objects) mid (TellsWritten (written commands replies))) }
 {}
 
 /// Where each live block is the whole of an object of its own, a run that asks for no block but with the hint `Required`

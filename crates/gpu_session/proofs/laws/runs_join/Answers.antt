@@ -1,4 +1,5 @@
 use Rattle.gpu_session.proofs.Runs.{run_append, run_coarser}
+use Rattle.gpu_session.proofs.Holding.{run_goes_on}
 use Rattle.gpu_session.proofs.laws.runs_join.Goals as goal
 
 pub returns-clause-any : goal.returns-clause-any
@@ -9,3 +10,6 @@ returns-clause-sound g c = λ old mid new commands later replies answers. run_ap
 
 pub returns-clause-steps : goal.returns-clause-steps
 returns-clause-steps g c = λ old new commands replies. run_coarser _ _ (λ before command reply after s. s.taken) old new commands replies
+
+pub returns-clause-seen : goal.returns-clause-seen
+returns-clause-seen g c = λ old new commands replies run. run_goes_on _ old new commands replies run

@@ -57,8 +57,7 @@ returns-in-Ok-clause-keeps g c =
       refused = tt;
       balance = done.total;
       others = λ name b another there.
-          let object = its_object c.self.invariant.sound name b there in
-          (
+          let object = its_object c.self.invariant.sound name b there in (
             get_put-other _ c.args.name c.in-Ok.block name (another_name c.args.name name another) ∙ there,
             given_leaves (c.self.inside.allocator).properties _ _ c.in-Ok.block.object (g.D.MemoryDevice.objects c.self.inside.device) (g.D.MemoryDevice.objects c.alloc.new.device) b object.0 (rw c.in-Ok.is at c.alloc.ensures.objects) object.1,
           );

@@ -136,8 +136,7 @@ returns-in-Ok-import_memory-clause-keeps g c =
       balance = done.total;
       others = λ n x another there.
           let object = its_object c.self.invariant.sound n x there in
-          let made = g.met.D.MemoryDevice.row c.self.inside.device (Allocated c.args.object_size c.args.memory_type (allocation_bits c.flags-flags.result) (Ok name)) c.allocate_memory-answer.new.self (rw c.in-Ok.is at c.allocate_memory-answer.ensures) in
-          (
+          let made = g.met.D.MemoryDevice.row c.self.inside.device (Allocated c.args.object_size c.args.memory_type (allocation_bits c.flags-flags.result) (Ok name)) c.allocate_memory-answer.new.self (rw c.in-Ok.is at c.allocate_memory-answer.ensures) in (
             get_put-other _ c.args.name b n (another_name c.args.name n another) ∙ there,
             new_leaves (g.D.MemoryDevice.objects c.self.inside.device) (g.D.MemoryDevice.objects c.allocate_memory-answer.new.self) name made.1.0 x object.0 made.0 made.1.2 object.1,
           );

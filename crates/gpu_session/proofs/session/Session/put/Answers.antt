@@ -92,8 +92,8 @@ returns-clause-keeps g c =
           let put = subst (λ p. Changes (IsPut p (m.start + c.args.offset) c.args.bytes.now) before b.object after) sound.agrees.properties row in
           let some = rw c.as_slice-bytes.ensures at w.if-len-gt0.true in
           let others = others_stay (finite.from_entries {R = nat_cmp} c.self.inside.blocks.entries) c.args.name before after (λ name x ne there.
-              let two = sound.apart c.args.name name b x (λ e. ne (sym e)) at there in
-              put_leaves b x two (c.self.inside.allocator).properties (m.start + c.args.offset) c.args.bytes.now before after (omega (arith, lies.0)) (omega (arith, low, lies.1)) put) in
+          let two = sound.apart c.args.name name b x (λ e. ne (sym e)) at there in
+          put_leaves b x two (c.self.inside.allocator).properties (m.start + c.args.offset) c.args.bytes.now before after (omega (arith, lies.0)) (omega (arith, low, lies.1)) put) in
           rw (← c.self.view_is, w.self-is)
           (record {
             given = record { properties = refl; config = refl };

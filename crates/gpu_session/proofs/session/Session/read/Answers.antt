@@ -112,8 +112,8 @@ returns-clause-keeps g c =
     let count = ap (λ xs. length xs) c.as_mut_slice.ensures.value ∙ c.in-Ok.ensures in
     let within = rw count at c.read_bytes.ensures.within in
     let others = others_left (finite.from_entries {R = nat_cmp} c.self.inside.blocks.entries) c.args.name c.read_bytes.new.self before after (λ name x ne there.
-        let two = c.self.invariant.sound.apart c.args.name name b x (λ e. ne (sym e)) at there in
-        read_leaves b x two c.args.offset c.args.len before after lies within) in
+    let two = c.self.invariant.sound.apart c.args.name name b x (λ e. ne (sym e)) at there in
+    read_leaves b x two c.args.offset c.args.len before after lies within) in
     elim c.match-read_bytes.branch [
       | in-Ok-read_bytes w ↦
           let told = taken_whole c.in-Ok.bytes.len c.read_bytes.new.bytes _ w.from_vec.result w.from_vec.ensures (c.read_bytes.auto.bytes ∙ c.as_mut_slice.ensures.len) in

@@ -1,5 +1,6 @@
 use Rattle.std.proofs.Common.{◌+◌, ◌∙◌, ap, arith}
 use Rattle.gpu_session.specs.Sound.{SoundStep}
+use Rattle.gpu_session.proofs.Holding.{run_holds_along}
 use Rattle.gpu_session.proofs.Runs.{run_next_is}
 use Rattle.gpu_session.proofs.session.Session.run.Goals as goal
 
@@ -16,3 +17,6 @@ loop-command-preserved g c =
       told = longer ∙ ap (λ n. n + 1) before.told;
       room = omega (arith, before.room, c.push.ensures.capacity);
     }
+
+pub returns-clause-isolated : goal.returns-clause-isolated
+returns-clause-isolated g c = run_holds_along g.D.MemoryDevice.step g.D.MemoryDevice.properties g.D.MemoryDevice.objects _ c.args.commands.now _

@@ -83,8 +83,8 @@ returns-clause-keeps g c =
     let within = rw c.as_slice-bytes.ensures at c.write_bytes.ensures.within in
     let atom = some_atom b (c.rounded_ranges_lie_in_their_block.ensures (g.D.MemoryDevice.properties c.self.inside.device) before 0 0 agrees (omega arith)) in
     let others = others_left (finite.from_entries {R = nat_cmp} c.self.inside.blocks.entries) c.args.name c.write_bytes.new.self before after (λ name x ne there.
-        let two = c.self.invariant.sound.apart c.args.name name b x (λ e. ne (sym e)) at there in
-        write_leaves b x two c.args.offset (length c.args.bytes.now) before after low lies within) in
+    let two = c.self.invariant.sound.apart c.args.name name b x (λ e. ne (sym e)) at there in
+    write_leaves b x two c.args.offset (length c.args.bytes.now) before after low lies within) in
     elim c.match-write_bytes.branch [
       | in-Ok w ↦
           let written = rw c.as_slice-bytes.ensures at w.in-Ok.ensures.written in
