@@ -226,6 +226,7 @@ module _ {D A : Type 0} (step : D → Event → D → Type 0) (properties : D �
 -- After a run each byte that has values by what was written has one of them for the host, and one for the device.
 pub run_holds : {D A : Type 0} (step : D → Event → D → Type 0) (properties : D → Properties) (objects : D → ℕ → Option Object) (old new : SessionState D) (commands : List (Command A)) (replies : List (Reply A))
     → Run (SoundStep step properties objects) old commands replies new → HoldsWritten (objects new.device) new.books (written commands replies)
+unfolding HoldsWritten
 run_holds step properties objects old new commands replies run name byte b at low some =
     elim (known_of (objects new.device) new.books name byte (seen_along name byte commands replies unseen) b at (run_seen step properties objects name byte old new commands replies unseen run (inl refl))) [
       | inl none ↦ absurd (some none)
@@ -258,6 +259,7 @@ module _ {D A : Type 0} (step : D → Event → D → Type 0) (properties : D �
     (run : Run (SoundStep step properties objects) old commands replies mid) where
   byte_told : (new : SessionState D) (name offset len : ℕ) (bytes : List ℕ) → SoundStep {A = A} step properties objects mid (Read name offset len) (Bytes bytes) new
       → (j : ℕ) → j < length bytes → (written commands replies name (offset + j) ≡ [] → ⊥) → HasOneOf (written commands replies name (offset + j)) (slice_get bytes j)
+  unfolding HoldsWritten
   byte_told new name offset len bytes s j low some =
       let b = s.taken.2.1.0 in
       let at = s.taken.2.1.1 in

@@ -109,7 +109,7 @@ abbrev pub HasBoth : List ℕ → Option Object → ℕ → Type 0
 HasBoth values o k = HasOneOf values (host_at o k) × HasOneOf values (device_at o k)
 
 -- each byte of a live block that has values by what was written has one of them for the host, and one for the device
-abbrev pub HoldsWritten : (ℕ → Option Object) → Books → ((name byte : ℕ) → List ℕ) → Type 0
+unfoldable pub HoldsWritten : (ℕ → Option Object) → Books → ((name byte : ℕ) → List ℕ) → Type 0
 HoldsWritten objects s values =
     (name byte : ℕ) (b : Block) → finite.get s.blocks name ≡ Some b → byte < b.size → values name byte ≢ []
     → HasBoth (values name byte) (objects b.object) (b.offset + byte)

@@ -3,13 +3,16 @@
 ghost use Rattle.std.specs.Prelude.{◌≡◌, All, IfOk, OnOk};
 ghost use Rattle.gpu_alloc.specs.State.{total};
 ghost use Rattle.gpu_alloc_types.specs.Properties.{IsUsable, properties_of};
+ghost use Rattle.gpu_session.specs.Isolation.{HoldsWritten};
 ghost use Rattle.gpu_session.specs.Run.{EndsWithCleanup};
 ghost use Rattle.gpu_session.specs.Sound.{HasNothingLeft, HasWholeObjects, IsForRequired, LeavesRemaining};
+ghost use Rattle.gpu_session.specs.Written.{written};
 
 use gpu_alloc::{Config, DeviceProperties};
 use gpu_alloc_types::{MemoryDevice, MemoryObject};
 use gpu_session::laws::{
-    required_runs_keep_whole_objects, runs_end_with_nothing_held, runs_keep_the_total,
+    required_runs_keep_whole_objects, runs_end_with_nothing_held, runs_hold_what_was_written,
+    runs_keep_the_total,
 };
 use gpu_session::{Command, Reply, Session};
 use std::alloc::{AllocError, Global};
@@ -67,6 +70,24 @@ pub fn answer_and_clean_up<M: MemoryObject, D: MemoryDevice<M>>(
     match session.run(commands) {
         Ok(replies) => {
             runs_end_with_nothing_held::<M, D, Global>();
+            Ok(replies)
+        }
+        Err(refusal) => Err(refusal),
+    }
+}
+
+/// Answers a list of commands: each byte of a live block that was written has one of the values that were written to it,
+/// for the host and for the device, whatever other blocks' commands did.
+pub fn answer_and_hold<M: MemoryObject, D: MemoryDevice<M>>(
+    session: &mut Session<M, D>,
+    commands: &[Command<Global>],
+) -> Result<Vec<Reply<Global>>, AllocError>
+    ensures { IfOk result (λ replies.
+        HoldsWritten (D.objects session.new.device) session.new.books (written commands.now replies.items)) }
+{
+    match session.run(commands) {
+        Ok(replies) => {
+            runs_hold_what_was_written::<M, D, Global>();
             Ok(replies)
         }
         Err(refusal) => Err(refusal),
