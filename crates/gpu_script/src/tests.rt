@@ -9,6 +9,7 @@ mod candidates;
 mod commands;
 mod ends;
 mod grants;
+mod lists;
 mod memory;
 mod refusals;
 mod scripts;

@@ -1,0 +1,654 @@
+//! Lists of commands drawn from a fixed seed, with refusals that are drawn too: what each `Read` gives is compared with
+//! what was written, and what a script of the same list prints with the replies.
+
+use crate::run_script;
+use crate::sim::{Question, Sim};
+use gpu_alloc::{Dedicated, MapError, Request, UsageFlags};
+use gpu_script_language::{Script, SimSession, open, parse, print_reply};
+use gpu_session::{Bytes, Command, Fault, Reply};
+use std::alloc::{AllocError, Global};
+use std::process::Abort;
+use std::test::Fail;
+
+/// How many lists are drawn.
+const LISTS: u64 = 200;
+
+/// How many commands a list has.
+const COMMANDS: u64 = 60;
+
+/// More than the greatest name that is drawn.
+const NAMES: usize = 7;
+
+/// How many bytes are kept of each block: no block that is drawn has more.
+const BLOCK: usize = 128;
+
+/// What commands a script has.
+#[derive(Clone, Copy, Debug, PartialEq, Eq)]
+enum Kind {
+    Alloc,
+    Required,
+    Preferred,
+    Import,
+    Free,
+    Map,
+    Unmap,
+    Write,
+    Read,
+    Put,
+    Get,
+    Remaining,
+    Cleanup,
+    Ranges,
+    Counts,
+}
+
+/// Each kind with its word, and how many numbers follow it.
+const KINDS: [(Kind, &str, usize); 15] = [
+    (Kind::Alloc, "alloc", 5),
+    (Kind::Required, "required", 5),
+    (Kind::Preferred, "preferred", 5),
+    (Kind::Import, "import", 5),
+    (Kind::Free, "free", 1),
+    (Kind::Map, "map", 3),
+    (Kind::Unmap, "unmap", 1),
+    (Kind::Write, "write", 2),
+    (Kind::Read, "read", 3),
+    (Kind::Put, "put", 2),
+    (Kind::Get, "get", 3),
+    (Kind::Remaining, "remaining", 1),
+    (Kind::Cleanup, "cleanup", 0),
+    (Kind::Ranges, "ranges", 1),
+    (Kind::Counts, "counts", 0),
+];
+
+/// How often kinds are drawn, by their places in `KINDS`: what moves bytes the most.
+const DRAWN: [usize; 32] = [
+    0, 0, 0, 0, 1, 2, 3, 3, 4, 5, 5, 5, 6, 7, 7, 7, 7, 7, 8, 8, 8, 8, 8, 8, 9, 9, 10, 11, 12, 13,
+    14, 6,
+];
+
+/// What often follows a kind, on the same name: so a put is often followed by an unmap, a write and a read.
+const NEXT: [usize; 15] = [7, 7, 7, 7, 0, 9, 7, 8, 5, 6, 9, 7, 7, 7, 7];
+
+/// Numbers that look like chance, the same in each run.
+#[derive(Drop)]
+struct Chance {
+    state: u64,
+}
+
+impl Chance {
+    /// The next number, below 2^31.
+    fn next(&mut self) -> u64 {
+        self.state = self
+            .state
+            .wrapping_mul(6364136223846793005)
+            .wrapping_add(1442695040888963407);
+        self.state >> 33
+    }
+}
+
+/// A command as the word and the numbers of its line, and the bytes that follow them where it has any.
+#[derive(Drop)]
+struct Line {
+    place: usize,
+    kind: Kind,
+    word: &'static str,
+    count: usize,
+    numbers: [u64; 5],
+    bytes: Vec<u8>,
+}
+
+/// The numbers of a command of this kind.
+fn numbers_of(kind: Kind, chance: &mut Chance) -> [u64; 5] {
+    let name = chance.next() % 6 + 1;
+    let first = chance.next();
+    let second = chance.next();
+    let third = chance.next();
+    match kind {
+        Kind::Alloc | Kind::Required | Kind::Preferred => {
+            let mask = if third % 4 == 0 { 31 } else { 0 };
+            let usage = if first % 3 == 0 { 18 } else { 2 };
+            let types = if third % 16 == 1 { 0 } else { 1 };
+            [name, second % 100 + 1, mask, usage, types]
+        }
+        Kind::Import => {
+            let size = (second % 4 + 1) * 16;
+            let end = if third % 8 == 0 { size + 1 } else { size };
+            [name, 0, 128, first % 3 * 16, end]
+        }
+        Kind::Remaining => [first % 4 + 1, 0, 0, 0, 0],
+        Kind::Ranges => [first % 5 / 4, 0, 0, 0, 0],
+        _ => [name, first % 12, second % 16 + 1, 0, 0],
+    }
+}
+
+/// Up to eight bytes, each of 1 to 63: no byte of fresh memory is among them.
+fn some_bytes(alloc: Global, chance: &mut Chance) -> Result<Vec<u8>, AllocError> {
+    let mut bytes = Vec::new(alloc);
+    for _ in 0..chance.next() % 9 {
+        bytes.push((chance.next() % 63 + 1) as u8)?;
+    }
+    Ok(bytes)
+}
+
+/// A command: two in three follow the last one, by its place in `KINDS` and its name.
+fn draw_line(
+    alloc: Global,
+    chance: &mut Chance,
+    last: usize,
+    name: u64,
+) -> Result<Line, AllocError> {
+    let follows = chance.next() % 3 != 0;
+    let place = if follows {
+        NEXT[last % NEXT.len()]
+    } else {
+        DRAWN[(chance.next() % 32) as usize]
+    };
+    let (kind, word, count) = KINDS[place % KINDS.len()];
+    let mut numbers = numbers_of(kind, chance);
+    if follows {
+        numbers[0] = name;
+    }
+    let bytes = some_bytes(alloc, chance)?;
+    Ok(Line {
+        place,
+        kind,
+        word,
+        count,
+        numbers,
+        bytes,
+    })
+}
+
+/// A list of commands.
+fn draw_list(alloc: Global, chance: &mut Chance) -> Result<Vec<Line>, AllocError> {
+    let mut lines = Vec::new(alloc);
+    let mut last = 0;
+    let mut name = 1;
+    for _ in 0..COMMANDS {
+        let line = draw_line(alloc, chance, last, name)?;
+        last = line.place;
+        name = line.numbers[0];
+        lines.push(line)?;
+    }
+    Ok(lines)
+}
+
+/// Setup lines: one type of non-coherent memory that the host sees, and questions that are refused.
+fn draw_setup(alloc: Global, chance: &mut Chance) -> Result<String, AllocError> {
+    let mut text = String::new(alloc);
+    text.push_str("heap 1048576\ntype 0 2\natom 16\n")?;
+    for question in [
+        "flush",
+        "flush",
+        "invalidate",
+        "invalidate",
+        "map",
+        "allocate",
+    ] {
+        let nth = chance.next() % 7 + 1;
+        let cause = if nth % 2 == 0 { "host" } else { "device" };
+        writeln!(text, "refuse {question} {nth} {cause}")?;
+    }
+    Ok(text)
+}
+
+/// Whether bytes follow the numbers of a line.
+fn has_bytes(kind: Kind) -> bool {
+    kind == Kind::Write || kind == Kind::Put
+}
+
+/// Adds a command's line to a script.
+fn add_line(text: &mut String, line: &Line) -> Result<(), AllocError> {
+    text.push_str(line.word)?;
+    for number in line.numbers.iter().take(line.count) {
+        write!(text, " {number}")?;
+    }
+    if has_bytes(line.kind) {
+        add_bytes(text, line.bytes.as_slice())?;
+    }
+    text.push('\n')
+}
+
+/// Adds a field of bytes.
+fn add_bytes(text: &mut String, bytes: &[u8]) -> Result<(), AllocError> {
+    text.push(' ')?;
+    if bytes.is_empty() {
+        text.push('-')?;
+    }
+    for byte in bytes {
+        write!(text, "{byte:02x}")?;
+    }
+    Ok(())
+}
+
+/// A number of a line as one of 32 bits.
+fn as_u32(number: u64) -> u32 {
+    (number % (1 << 32)) as u32
+}
+
+/// What the numbers of a line ask for.
+fn request_of(numbers: &[u64; 5]) -> Request {
+    Request {
+        size: numbers[1],
+        align_mask: numbers[2],
+        usage: UsageFlags::from_bits_truncate((numbers[3] % 256) as u8),
+        memory_types: as_u32(numbers[4]),
+    }
+}
+
+/// The command of a line that asks for a block.
+fn asking(kind: Kind, numbers: &[u64; 5]) -> Command {
+    let name = as_u32(numbers[0]);
+    let request = request_of(numbers);
+    match kind {
+        Kind::Alloc => Command::Alloc { name, request },
+        Kind::Required => Command::Dedicated {
+            name,
+            request,
+            dedicated: Dedicated::Required,
+        },
+        _ => Command::Dedicated {
+            name,
+            request,
+            dedicated: Dedicated::Preferred,
+        },
+    }
+}
+
+/// The command of a line that moves bytes.
+fn moving(alloc: Global, line: &Line) -> Result<Command, AllocError> {
+    let [first, offset, len, ..] = line.numbers;
+    let name = as_u32(first);
+    Ok(match line.kind {
+        Kind::Read => Command::Read { name, offset, len },
+        Kind::Get => Command::Get { name, offset, len },
+        Kind::Write => Command::Write {
+            name,
+            offset,
+            bytes: bytes_of(alloc, line)?,
+        },
+        _ => Command::Put {
+            name,
+            offset,
+            bytes: bytes_of(alloc, line)?,
+        },
+    })
+}
+
+/// The bytes of a line.
+fn bytes_of(alloc: Global, line: &Line) -> Result<Bytes, AllocError> {
+    let mut bytes = Vec::new(alloc);
+    bytes.extend_from_slice(line.bytes.as_slice())?;
+    Ok(Bytes::from_vec(bytes))
+}
+
+/// The command of a line.
+fn command_of(alloc: Global, line: &Line) -> Result<Command, AllocError> {
+    let [first, second, third, fourth, fifth] = line.numbers;
+    let name = as_u32(first);
+    Ok(match line.kind {
+        Kind::Alloc | Kind::Required | Kind::Preferred => asking(line.kind, &line.numbers),
+        Kind::Import => Command::Import {
+            name,
+            memory_type: as_u32(second),
+            object_size: third,
+            offset: fourth,
+            size: fifth,
+        },
+        Kind::Free => Command::Free { name },
+        Kind::Map => Command::Map {
+            name,
+            offset: second,
+            size: third,
+        },
+        Kind::Unmap => Command::Unmap { name },
+        Kind::Write | Kind::Read | Kind::Put | Kind::Get => moving(alloc, line)?,
+        Kind::Remaining => Command::SetRemaining { remaining: name },
+        Kind::Cleanup => Command::Cleanup,
+        Kind::Ranges => Command::FreeRanges { memory_type: name },
+        Kind::Counts => Command::Counts,
+    })
+}
+
+/// The commands of a list.
+fn commands_of(alloc: Global, lines: &[Line]) -> Result<Vec<Command>, AllocError> {
+    let mut commands = Vec::new(alloc);
+    for line in lines {
+        commands.push(command_of(alloc, line)?)?;
+    }
+    Ok(commands)
+}
+
+/// What was written to the blocks of each name, a number for each byte: it has the bit `v` where the byte may have the
+/// value `v`, and none where no write has covered the byte since the block was granted.
+#[derive(Drop)]
+struct Written {
+    values: Vec<u64>,
+    mapped_from: Vec<u64>,
+}
+
+impl Written {
+    /// Nothing was written.
+    fn new(alloc: Global) -> Result<Written, AllocError> {
+        let values = vec![in alloc; 0u64; NAMES * BLOCK]?;
+        let mapped_from = vec![in alloc; 0u64; NAMES]?;
+        Ok(Written {
+            values,
+            mapped_from,
+        })
+    }
+
+    /// The bits of a byte, if it is kept.
+    fn at(&mut self, name: u64, byte: u64) -> Option<&mut u64> {
+        let place = name.wrapping_mul(BLOCK as u64).wrapping_add(byte);
+        if byte < BLOCK as u64 && place < self.values.len() as u64 {
+            self.values.get_mut(place as usize)
+        } else {
+            None
+        }
+    }
+
+    /// No byte of the block has values.
+    fn clear(&mut self, name: u64) {
+        for byte in 0..BLOCK as u64 {
+            if let Some(bits) = self.at(name, byte) {
+                *bits = 0;
+            }
+        }
+    }
+
+    /// These bytes are the values from an offset on; where they only may be, they are so beside those that there are.
+    fn cover(&mut self, name: u64, offset: u64, bytes: &[u8], is_sure: bool) {
+        let mut byte = offset;
+        for value in bytes {
+            if let Some(bits) = self.at(name, byte) {
+                let bit = 1u64 << (*value % 64);
+                if is_sure {
+                    *bits = bit;
+                } else if *bits != 0 {
+                    *bits |= bit;
+                }
+            }
+            byte = byte.wrapping_add(1);
+        }
+    }
+
+    /// Whether each of these bytes, read from an offset on, is one of its values where it has some.
+    fn fits(&mut self, name: u64, offset: u64, bytes: &[u8]) -> bool {
+        let mut byte = offset;
+        for value in bytes {
+            let Some(bits) = self.at(name, byte) else {
+                return false;
+            };
+            if *bits != 0 && (*value >= 64 || (*bits >> (*value % 64)) & 1 == 0) {
+                return false;
+            }
+            byte = byte.wrapping_add(1);
+        }
+        true
+    }
+
+    /// Where the latest mapping of a block starts in it.
+    fn mapping(&mut self, name: u64) -> Option<&mut u64> {
+        self.mapped_from.get_mut((name % NAMES as u64) as usize)
+    }
+
+    /// After a command that was done.
+    fn done(&mut self, line: &Line) {
+        let [name, offset, ..] = line.numbers;
+        match line.kind {
+            Kind::Free => self.clear(name),
+            Kind::Write => self.cover(name, offset, line.bytes.as_slice(), true),
+            Kind::Put => {
+                let start = self.mapping(name).map_or(0, |start| *start);
+                self.cover(
+                    name,
+                    start.wrapping_add(offset),
+                    line.bytes.as_slice(),
+                    false,
+                );
+            }
+            _ => (),
+        }
+    }
+
+    /// After a command: whether its reply gives no byte a value that it may not have.
+    fn after(&mut self, line: &Line, reply: &Reply) -> bool {
+        let [name, offset, ..] = line.numbers;
+        match reply {
+            Reply::Granted { .. } => self.clear(name),
+            Reply::Done => self.done(line),
+            Reply::Mapped(_) => {
+                if let Some(start) = self.mapping(name) {
+                    *start = offset;
+                }
+            }
+            Reply::MapRefused(error) if line.kind == Kind::Write && may_have_moved(*error) => {
+                self.cover(name, offset, line.bytes.as_slice(), false);
+            }
+            Reply::Bytes(bytes) if line.kind == Kind::Read => {
+                return self.fits(name, offset, bytes.as_slice());
+            }
+            _ => (),
+        }
+        true
+    }
+}
+
+/// Whether a write that was refused so may have moved bytes.
+fn may_have_moved(error: MapError) -> bool {
+    error != MapError::AlreadyMapped && error != MapError::MapFailed
+}
+
+/// How many replies there are, by kind.
+const REPLIES: usize = 9;
+
+/// Which kind of reply it is, faults apart.
+fn reply_index(reply: &Reply) -> Option<usize> {
+    match reply {
+        Reply::Granted { .. } => Some(0),
+        Reply::Refused(_) => Some(1),
+        Reply::Done => Some(2),
+        Reply::Mapped(_) => Some(3),
+        Reply::MapRefused(_) => Some(4),
+        Reply::Unmapped(_) => Some(5),
+        Reply::Bytes(_) => Some(6),
+        Reply::Ranges(_) => Some(7),
+        Reply::Counts { .. } => Some(8),
+        Reply::Fault(_) => None,
+    }
+}
+
+/// Adds one to a number of a list.
+fn count_one(counts: &mut Vec<u64>, index: usize) {
+    if let Some(count) = counts.get_mut(index) {
+        *count = count.saturating_add(1);
+    }
+}
+
+/// How often each thing occurred in the lists.
+#[derive(Drop)]
+struct Tally {
+    /// How often each kind of command succeeded.
+    served: Vec<u64>,
+
+    /// How often each kind of reply came.
+    answered: Vec<u64>,
+
+    /// How often a block came from a chunk of buddies, and how often from the end of one; how often a write and a read
+    /// were refused by the device.
+    special: Vec<u64>,
+}
+
+impl Tally {
+    /// Nothing occurred.
+    fn new(alloc: Global) -> Result<Tally, AllocError> {
+        let served = vec![in alloc; 0u64; KINDS.len()]?;
+        let answered = vec![in alloc; 0u64; REPLIES]?;
+        let special = vec![in alloc; 0u64; 4]?;
+        Ok(Tally {
+            served,
+            answered,
+            special,
+        })
+    }
+
+    /// Counts a command with its reply.
+    fn count(&mut self, line: &Line, reply: &Reply) {
+        let Some(index) = reply_index(reply) else {
+            return;
+        };
+        count_one(&mut self.answered, index);
+        match reply {
+            Reply::Refused(_) => (),
+            Reply::MapRefused(error) => self.count_refusal(line, *error),
+            _ => {
+                count_one(&mut self.served, line.kind as usize);
+                if line.kind == Kind::Alloc {
+                    count_one(&mut self.special, if line.numbers[3] == 2 { 0 } else { 1 });
+                }
+            }
+        }
+    }
+
+    /// Counts a write or a read that the device refused.
+    fn count_refusal(&mut self, line: &Line, error: MapError) {
+        if !may_have_moved(error) {
+            return;
+        }
+        match line.kind {
+            Kind::Write => count_one(&mut self.special, 2),
+            Kind::Read => count_one(&mut self.special, 3),
+            _ => (),
+        }
+    }
+
+    /// Each thing has to have occurred.
+    fn has_all(&self, rt: &impl Abort) {
+        for (index, count) in self.served.iter().enumerate() {
+            assert!(rt; *count > 0, "no command {index} of KINDS was served");
+        }
+        for (index, count) in self.answered.iter().enumerate() {
+            assert!(rt; *count > 0, "no reply {index} came");
+        }
+        for (index, count) in self.special.iter().enumerate() {
+            assert!(rt; *count > 0, "nothing special {index} occurred");
+        }
+    }
+}
+
+/// Compares each reply with what was written, and counts what occurs.
+fn check_replies(
+    rt: &impl Abort,
+    alloc: Global,
+    lines: &[Line],
+    replies: &[Reply],
+    tally: &mut Tally,
+) -> Result<(), Fail> {
+    assert_eq!(rt; replies.len(), lines.len());
+    let mut written = Written::new(alloc)?;
+    for (line, reply) in lines.iter().zip(replies) {
+        let has_memory = !matches!(reply, Reply::Fault(Fault::NoMemory));
+        assert!(rt; has_memory);
+        tally.count(line, reply);
+        let fits = written.after(line, reply);
+        assert!(rt; fits, "a read gives what was not written");
+    }
+    Ok(())
+}
+
+/// The session of a setup.
+fn session_of(rt: &impl Abort, alloc: Global, setup: &str) -> Result<SimSession<Global>, Fail> {
+    let script: Script<Global> = match parse(alloc, setup.as_bytes()) {
+        Ok(script) => script,
+        Err(_) => return Err(Fail::from("a bad setup")),
+    };
+    assert!(rt; script.setup.properties().is_usable());
+    Ok(open(alloc, &script.setup)?)
+}
+
+/// Runs commands as one list: the replies, and the device at the end.
+fn run_list(
+    mut session: SimSession<Global>,
+    commands: &[Command],
+) -> (Result<Vec<Reply>, AllocError>, Sim<Global>) {
+    let replies = session.run(commands);
+    (replies, session.finish())
+}
+
+/// What a script prints that is answered so.
+fn printed(
+    alloc: Global,
+    replies: &[Reply],
+    objects: usize,
+    asked: u64,
+) -> Result<String, AllocError> {
+    let mut text = String::new(alloc);
+    for reply in replies {
+        print_reply(&mut text, reply)?;
+        text.push('\n')?;
+    }
+    writeln!(text, "end objects {objects} allocations {asked}")?;
+    Ok(text)
+}
+
+/// The replies to a list, and what a script of it has to print.
+fn answers(
+    rt: &impl Abort,
+    alloc: Global,
+    setup: &str,
+    commands: &[Command],
+) -> Result<(Vec<Reply>, String), Fail> {
+    let session = session_of(rt, alloc, setup)?;
+    let (replies, device) = run_list(session, commands);
+    let objects = device.objects();
+    let asked = device.asked(Question::Allocate);
+    drop(device);
+    let replies = replies?;
+    let text = printed(alloc, replies.as_slice(), objects, asked)?;
+    Ok((replies, text))
+}
+
+/// Runs a list as a script, and compares what it prints.
+fn compare_script(rt: &impl Abort, alloc: Global, script: &str, expected: &str) {
+    let mut input = script.as_bytes();
+    let mut output = Vec::new(alloc);
+    let ended = run_script(alloc, &mut input, &mut output);
+    assert_eq!(rt; ended, 0, "the status of {script:?}");
+    assert_eq!(rt;
+        output.as_slice(),
+        expected.as_bytes(),
+        "what {script:?} prints"
+    );
+}
+
+/// Draws a list, and runs it by a session and as a script.
+fn try_list(
+    rt: &impl Abort,
+    alloc: Global,
+    chance: &mut Chance,
+    tally: &mut Tally,
+) -> Result<(), Fail> {
+    let mut text = draw_setup(alloc, chance)?;
+    let lines = draw_list(alloc, chance)?;
+    let commands = commands_of(alloc, lines.as_slice())?;
+    let (replies, expected) = answers(rt, alloc, text.as_str(), commands.as_slice())?;
+    check_replies(rt, alloc, lines.as_slice(), replies.as_slice(), tally)?;
+    for line in &lines {
+        add_line(&mut text, line)?;
+    }
+    compare_script(rt, alloc, text.as_str(), expected.as_str());
+    Ok(())
+}
+
+#[test]
+fn reads_of_drawn_lists_give_what_was_written(rt: HostRuntime) -> Result<(), Fail> {
+    let mut chance = Chance { state: 20 };
+    let mut tally = Tally::new(rt.alloc())?;
+    for _ in 0..LISTS {
+        try_list(&rt, rt.alloc(), &mut chance, &mut tally)?;
+    }
+    tally.has_all(&rt);
+    Ok(())
+}
