@@ -15,3 +15,4 @@ mod refusals;
 mod scripts;
 mod transient;
 mod whole;
+mod written;

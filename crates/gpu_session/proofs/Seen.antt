@@ -12,8 +12,9 @@ use Rattle.gpu_alloc.specs.State.{Block}
 use Rattle.gpu_alloc.specs.Types.Mapping.{Mapping}
 use Rattle.gpu_session.specs.Books.{Books, OfBlock}
 use Rattle.gpu_session.specs.Isolation.{HasAll, HasBoth, HasOneOf, HasOnlyOtherMapping, IsRefusedRead, LeavesOthers, MovesNoByte, device_at, host_at}
-use Rattle.gpu_session.specs.Written.{Seen, given, is_about, maybe, surely, with_more}
+use Rattle.gpu_session.specs.Written.{Seen, given, is_about, maybe, seen_along, surely, with_more}
 use Rattle.gpu_session.specs.declared.command.Command.{Command}
+use Rattle.gpu_session.specs.declared.command.Reply.{Reply}
 
 -- What is known of a byte of a live block: it has one of the values on both sides, and where the block is mapped, the
 -- mapping starts where the latest one did.
@@ -291,3 +292,9 @@ surely_known f g seen byte b offset bytes before unmapped within aside here = el
 pub seen_again : (g : ℕ → Option Object) (s new : Books) (name byte : ℕ) (seen : Seen) (b : Block) → new ≡ s → finite.get s.blocks name ≡ Some b → (seen.values ≡ []) ⊎ IsKnown g seen byte b → IsSeen g new name byte seen
 seen_again g s new name byte seen b same at (inl none) = inl none
 seen_again g s new name byte seen b same at (inr known) = seen_at g s new name byte seen b same at known
+
+-- where one of the lists is at its end, nothing more comes to be known
+pub along_end : {A : Type 0} (name byte : ℕ) (commands : List (Command A)) (replies : List (Reply A)) (seen : Seen) → (commands ≡ []) ⊎ (replies ≡ []) → seen_along name byte commands replies seen ≡ seen
+along_end name byte commands replies seen (inl none) = rw none refl
+along_end name byte [] replies seen (inr none) = refl
+along_end name byte (c ∷ commands) replies seen (inr none) = rw none refl

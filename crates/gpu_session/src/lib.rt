@@ -6,7 +6,9 @@ mod items;
 pub mod laws;
 mod offer;
 mod session;
+mod written;
 
 pub use command::{Command, Fault, Reply};
 pub use items::{Bytes, Items, Ledgers, Ranges};
 pub use session::{Session, SessionOpenError};
+pub use written::values_of;

@@ -5,7 +5,7 @@ use crate::run_script;
 use crate::sim::{Question, Sim};
 use gpu_alloc::{Dedicated, MapError, Request, UsageFlags};
 use gpu_script_language::{Script, SimSession, open, parse, print_reply};
-use gpu_session::{Bytes, Command, Fault, Reply};
+use gpu_session::{Bytes, Command, Fault, Reply, values_of};
 use std::alloc::{AllocError, Global};
 use std::process::Abort;
 use std::test::Fail;
@@ -477,7 +477,7 @@ struct Tally {
     answered: Vec<u64>,
 
     /// How often a block came from a chunk of buddies, and how often from the end of one; how often a write and a read
-    /// were refused by the device.
+    /// were refused by the device; how many bytes could have one value in the end, and how many more than one.
     special: Vec<u64>,
 }
 
@@ -486,7 +486,7 @@ impl Tally {
     fn new(alloc: Global) -> Result<Tally, AllocError> {
         let served = vec![in alloc; 0u64; KINDS.len()]?;
         let answered = vec![in alloc; 0u64; REPLIES]?;
-        let special = vec![in alloc; 0u64; 4]?;
+        let special = vec![in alloc; 0u64; 6]?;
         Ok(Tally {
             served,
             answered,
@@ -538,14 +538,14 @@ impl Tally {
     }
 }
 
-/// Compares each reply with what was written, and counts what occurs.
+/// Compares each reply with what was written, and counts what occurs: all that was written in the end.
 fn check_replies(
     rt: &impl Abort,
     alloc: Global,
     lines: &[Line],
     replies: &[Reply],
     tally: &mut Tally,
-) -> Result<(), Fail> {
+) -> Result<Written, Fail> {
     assert_eq!(rt; replies.len(), lines.len());
     let mut written = Written::new(alloc)?;
     for (line, reply) in lines.iter().zip(replies) {
@@ -554,6 +554,38 @@ fn check_replies(
         tally.count(line, reply);
         let fits = written.after(line, reply);
         assert!(rt; fits, "a read gives what was not written");
+    }
+    Ok(written)
+}
+
+/// The values as bits.
+fn bits_of(values: &[u8]) -> u64 {
+    values
+        .iter()
+        .fold(0, |bits, value| bits | 1u64 << (*value % 64))
+}
+
+/// Compares what is told of each byte by the commands and their replies with what was written, and counts the bytes
+/// that have values.
+fn compare_told(
+    rt: &impl Abort,
+    alloc: Global,
+    commands: &[Command],
+    replies: &[Reply],
+    written: &mut Written,
+    tally: &mut Tally,
+) -> Result<(), AllocError> {
+    for name in 0..NAMES as u32 {
+        for byte in 0..BLOCK as u64 {
+            let told = values_of(alloc, commands, replies, name, byte)?;
+            let bits = written.at(u64::from(name), byte).map_or(0, |bits| *bits);
+            assert_eq!(rt; bits_of(told.as_slice()), bits, "byte {byte} of {name}");
+            match told.len() {
+                0 => (),
+                1 => count_one(&mut tally.special, 4),
+                _ => count_one(&mut tally.special, 5),
+            }
+        }
     }
     Ok(())
 }
@@ -569,7 +601,7 @@ fn session_of(rt: &impl Abort, alloc: Global, setup: &str) -> Result<SimSession<
 }
 
 /// Runs commands as one list: the replies, and the device at the end.
-fn run_list(
+pub(super) fn run_list(
     mut session: SimSession<Global>,
     commands: &[Command],
 ) -> (Result<Vec<Reply>, AllocError>, Sim<Global>) {
@@ -634,7 +666,15 @@ fn try_list(
     let lines = draw_list(alloc, chance)?;
     let commands = commands_of(alloc, lines.as_slice())?;
     let (replies, expected) = answers(rt, alloc, text.as_str(), commands.as_slice())?;
-    check_replies(rt, alloc, lines.as_slice(), replies.as_slice(), tally)?;
+    let mut written = check_replies(rt, alloc, lines.as_slice(), replies.as_slice(), tally)?;
+    compare_told(
+        rt,
+        alloc,
+        commands.as_slice(),
+        replies.as_slice(),
+        &mut written,
+        tally,
+    )?;
     for line in &lines {
         add_line(&mut text, line)?;
     }

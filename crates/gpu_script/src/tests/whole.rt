@@ -119,7 +119,7 @@ fn chunks_split_join_and_go_back(rt: HostRuntime) {
 }
 
 /// Bytes of non-coherent memory, of neighbours in one atom and of imports.
-const BYTES: [(&str, &str, u8); 4] = [
+pub(super) const BYTES: [(&str, &str, u8); 4] = [
     (
         "\
 heap 1048576
