@@ -1,5 +1,5 @@
 -- Each step keeps what is known of each byte that was written, and so does a run.
-use Rattle.std.proofs.Common.{◌≡◌, ◌⊎◌, inl, inr, ℕ, zero, suc, ◌+◌, ◌<◌, ◌≤◌, ◌==◌, Bool, true, false, cond, is_some, List, [], ◌∷◌, length, slice_get, take, Option, Some, None, refl, sym, ◌∙◌, ap, subst, arith}
+use Rattle.std.proofs.Common.{◌≡◌, ◌⊎◌, inl, inr, ℕ, zero, suc, ◌+◌, ◌<◌, ◌≤◌, ◌==◌, Bool, true, false, cond, is_some, List, [], ◌∷◌, ◌++◌, length, slice_get, take, Option, Some, None, refl, sym, ◌∙◌, ap, subst, arith}
 use Rattle.std.proofs.lemmas.Bool.Decides.{nat_tests}
 use Rattle.std.specs.FinMap as finite
 use Rattle.gpu_alloc_types.specs.Device.{Changes, Event, IsOutside, IsPut, Object}
@@ -14,10 +14,10 @@ use Rattle.gpu_alloc.specs.Types.MapError.TheVariants.{AlreadyMapped, MapFailed,
 use Rattle.gpu_alloc.specs.Types.Mapping.{Mapping}
 use Rattle.gpu_alloc_base.proofs.Names.{get_put}
 use Rattle.gpu_session.specs.Books.{Books, SessionState}
-use Rattle.gpu_session.specs.Isolation.{GoesOn, HasBoth, HasOneOf, HoldsAlong, HoldsWritten, IsOneOf, IsRefusedWrite, MovesNoByte, PutsBytes, TellsWritten, WritesBytes, device_at}
+use Rattle.gpu_session.specs.Isolation.{GoesOn, HasBoth, HasOneOf, HoldsAlong, HoldsWritten, IsRefusedWrite, IsTold, MovesNoByte, PutsBytes, TellAlong, TellsWritten, WritesBytes, device_at}
 use Rattle.gpu_session.specs.Run.{Run, Step}
 use Rattle.gpu_session.specs.Sound.{Keeps, SoundStep}
-use Rattle.gpu_session.specs.Written.{Seen, given, is_about, maybe, own_after, seen_after, seen_along, surely, unseen, written}
+use Rattle.gpu_session.specs.Written.{IsLatestWrite, LeaveByte, LeavesByte, Seen, given, is_about, mapped_after, maybe, own_after, seen_after, seen_along, surely, unseen, written}
 use Rattle.gpu_session.specs.declared.command.Command.{Command}
 use Rattle.gpu_session.specs.declared.command.Command.TheVariants.{Alloc, Dedicated, Import, Free, Map, Unmap, Write, Read, Put, Get, SetRemaining, Cleanup, FreeRanges, Counts}
 use Rattle.gpu_session.specs.declared.command.Reply.{Reply}
@@ -252,8 +252,70 @@ the_only v None h = absurd h
 the_only v (Some w) (inl is) = ap Some is
 the_only v (Some w) (inr none) = absurd none
 
-one_of_these : (values : List ℕ) (x : Option ℕ) → ((values ≡ [] → ⊥) → HasOneOf values x) → IsOneOf values x
-one_of_these values x known = record { known = known; only = λ v is. the_only v x (subst (λ vs. HasOneOf vs x) is (known (λ none. let e = sym is ∙ none in absurd (cc)))) }
+-- a write that is done, and covers the byte
+after_write : (A : Type 0) (name byte offset : ℕ) (bytes : List ℕ) (v : ℕ) (seen : Seen) → given offset bytes byte ≡ Some v → seen_after {A = A} name byte (Write name offset bytes) Done seen ≡ record seen { values = v ∷ [] }
+after_write A name byte offset bytes v seen gives = rw (own_name) (rw (gives) refl)
+  where
+    own_name : (name == name) ≡ true
+    own_name = grind (arith, nat_tests)
+
+module _ {A : Type 0} (name byte : ℕ) where
+  -- after a command that leaves the byte alone
+  own_left : (command : Command A) (reply : Reply A) (seen : Seen) → is_about name command ≡ true → LeavesByte name byte seen.mapped_from command reply
+      → ((own_after byte command reply seen).values ≡ seen.values) × ((own_after byte command reply seen).mapped_from ≡ mapped_after name command reply seen.mapped_from)
+  own_left (Write n offset bytes) Done seen is leaves = rw (leaves (same_name n name is)) (refl, refl)
+  own_left (Write n offset bytes) (MapRefused AlreadyMapped) seen is leaves = (refl, refl)
+  own_left (Write n offset bytes) (MapRefused MapFailed) seen is leaves = (refl, refl)
+  own_left (Write n offset bytes) (MapRefused NonHostVisible) seen is leaves = rw (leaves (same_name n name is)) (refl, refl)
+  own_left (Write n offset bytes) (MapRefused OutOfDeviceMemory) seen is leaves = rw (leaves (same_name n name is)) (refl, refl)
+  own_left (Write n offset bytes) (MapRefused OutOfHostMemory) seen is leaves = rw (leaves (same_name n name is)) (refl, refl)
+  own_left (Put n offset bytes) Done seen is leaves = rw (leaves (same_name n name is)) (refl, refl)
+  own_left (Map n offset size) (MappedTo m) seen is leaves = (refl, rw (is) refl)
+  own_left (Free n) Done seen is leaves = absurd (leaves (same_name n name is))
+  own_left command (Granted memory_type object offset size) seen is leaves = absurd (let e = sym is ∙ leaves in cc)
+  own_left command reply seen is leaves = (refl, refl)
+
+  other_left : (command : Command A) (reply : Reply A) (mapped_from : ℕ) → is_about name command ≡ false → mapped_after name command reply mapped_from ≡ mapped_from
+  other_left (Map n offset size) (MappedTo m) mapped_from is = rw (is) refl
+  other_left command reply mapped_from is = refl
+
+  step_left : (command : Command A) (reply : Reply A) (seen : Seen) → LeavesByte name byte seen.mapped_from command reply
+      → ((seen_after name byte command reply seen).values ≡ seen.values) × ((seen_after name byte command reply seen).mapped_from ≡ mapped_after name command reply seen.mapped_from)
+  step_left command reply seen leaves =
+      elim (is_about name command) as (λ t. is_about name command ≡ t → ((cond t (own_after byte command reply seen) seen).values ≡ seen.values) × ((cond t (own_after byte command reply seen) seen).mapped_from ≡ mapped_after name command reply seen.mapped_from)) [
+        | true ↦ λ is. own_left command reply seen is leaves
+        | false ↦ λ is. (refl, sym (other_left command reply seen.mapped_from is))
+      ] refl
+
+  all_left : (commands : List (Command A)) (replies : List (Reply A)) (seen : Seen) → LeaveByte name byte seen.mapped_from commands replies → (seen_along name byte commands replies seen).values ≡ seen.values
+  all_left [] replies seen leave = refl
+  all_left (c ∷ commands) [] seen leave = refl
+  all_left (c ∷ commands) (r ∷ replies) seen leave =
+      let one = step_left c r seen leave.0 in
+      all_left commands replies (seen_after name byte c r seen) (subst (λ from. LeaveByte name byte from commands replies) (sym one.1) leave.1) ∙ one.0
+
+  along_joined : (commands later : List (Command A)) (replies answers : List (Reply A)) (seen : Seen) → length replies ≡ length commands
+      → seen_along name byte (commands ++ later) (replies ++ answers) seen ≡ seen_along name byte later answers (seen_along name byte commands replies seen)
+  along_joined [] later [] answers seen same = refl
+  along_joined [] later (r ∷ replies) answers seen same = absurd (cc)
+  along_joined (c ∷ commands) later [] answers seen same = absurd (cc)
+  along_joined (c ∷ commands) later (r ∷ replies) answers seen same = along_joined commands later replies answers (seen_after name byte c r seen) (omega (arith, same))
+
+  -- the latest write leaves one value
+  pub latest_is_only : (commands : List (Command A)) (replies : List (Reply A)) (v : ℕ) → IsLatestWrite commands replies name byte v → written commands replies name byte ≡ v ∷ []
+  latest_is_only commands replies v l =
+      let there = seen_along name byte l.before l.answers unseen in
+      let now : Seen = record there { values = v ∷ [] } in
+      let both = ap (λ (cs : List (Command A)). seen_along name byte cs replies unseen) l.asked ∙ ap (λ (rs : List (Reply A)). seen_along name byte (l.before ++ Write name l.offset l.bytes ∷ l.later) rs unseen) l.answered in
+      let joined = along_joined l.before (Write name l.offset l.bytes ∷ l.later) l.answers (Done ∷ l.later_answers) unseen l.each in
+      let wrote = ap (seen_along name byte l.later l.later_answers) (after_write A name byte l.offset l.bytes v there l.gives) in
+      ap (λ (s : Seen). s.values) (both ∙ joined ∙ wrote) ∙ all_left l.later l.later_answers now l.since
+
+told : {A : Type 0} (commands : List (Command A)) (replies : List (Reply A)) (name byte : ℕ) (x : Option ℕ) → ((written commands replies name byte ≡ [] → ⊥) → HasOneOf (written commands replies name byte) x) → IsTold commands replies name byte x
+told commands replies name byte x known = record { known = known; only = only; latest = λ v l. only v (latest_is_only name byte commands replies v l) }
+  where
+    only : (v : ℕ) → written commands replies name byte ≡ v ∷ [] → x ≡ Some v
+    only v is = the_only v x (subst (λ vs. HasOneOf vs x) is (known (λ none. let e = sym is ∙ none in absurd (cc))))
 
 module _ {D A : Type 0} (step : D → Event → D → Type 0) (properties : D → Properties) (objects : D → ℕ → Option Object) (old mid : SessionState D) (commands : List (Command A)) (replies : List (Reply A))
     (run : Run (SoundStep step properties objects) old commands replies mid) where
@@ -273,6 +335,26 @@ module _ {D A : Type 0} (step : D → Event → D → Type 0) (properties : D �
       ap (λ x. device_at x (b.offset + (offset + j))) c.1 ∙ ap (slice_get c.0.device_bytes) here ∙ sym (c.2.1.told j low) in
       subst (HasOneOf (written commands replies name (offset + j))) there held
 
-  pub next_tells : (new : SessionState D) (command : Command A) (reply : Reply A) → SoundStep step properties objects mid command reply new → TellsWritten (written commands replies) command reply
-  next_tells new (Read name offset len) (Bytes bytes) s = λ j low. one_of_these _ _ (byte_told new name offset len bytes s j low)
+  pub next_tells : (new : SessionState D) (command : Command A) (reply : Reply A) → SoundStep step properties objects mid command reply new → TellsWritten commands replies command reply
+  next_tells new (Read name offset len) (Bytes bytes) s = λ j low. told commands replies name (offset + j) _ (byte_told new name offset len bytes s j low)
   next_tells new command reply s = tt
+
+-- A run, parted at the place of one of its commands.
+run_parted : {S A : Type 0} (Steps : S → Command A → Reply A → S → Type 0) (old new : S) (commands : List (Command A)) (replies : List (Reply A)) (n : ℕ) (command : Command A) (reply : Reply A) → Run Steps old commands replies new
+    → slice_get commands n ≡ Some command → slice_get replies n ≡ Some reply → (mid : S) × (next : S) × Run Steps old (take n commands) (take n replies) mid × Steps mid command reply next
+run_parted Steps old new [] replies n command reply run c r = absurd (cc)
+run_parted Steps old new (x ∷ commands) [] n command reply run c r = absurd run
+run_parted Steps old new (x ∷ commands) (y ∷ replies) zero command reply run c r =
+    let command_is : x ≡ command = cc in
+    let reply_is : y ≡ reply = cc in
+    (old, run.0, refl, subst (λ t. Steps old t reply run.0) command_is (subst (λ t. Steps old x t run.0) reply_is run.1))
+run_parted Steps old new (x ∷ commands) (y ∷ replies) (suc n) command reply run c r =
+    let rest = run_parted Steps run.0 new commands replies n command reply run.2 c r in
+    (rest.0, rest.1, (run.0, run.1, rest.2), rest.3)
+
+-- Each read of a run tells what was written by the commands before it.
+pub run_tells : {D A : Type 0} (step : D → Event → D → Type 0) (properties : D → Properties) (objects : D → ℕ → Option Object) (old new : SessionState D) (commands : List (Command A)) (replies : List (Reply A))
+    → Run (SoundStep step properties objects) old commands replies new → TellAlong commands replies
+run_tells step properties objects old new commands replies run n command reply c r =
+    let parted = run_parted (SoundStep step properties objects) old new commands replies n command reply run c r in
+    next_tells step properties objects old parted.0 (take n commands) (take n replies) parted.2 parted.1 command reply parted.3

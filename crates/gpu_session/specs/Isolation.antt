@@ -13,7 +13,7 @@ use Rattle.gpu_alloc.specs.Types.MapError.{MapError}
 use Rattle.gpu_alloc.specs.Types.Mapping.{Mapping}
 use Rattle.gpu_session.specs.Books.{Books, OfBlock, SessionState}
 use Rattle.gpu_session.specs.Run.{Run}
-use Rattle.gpu_session.specs.Written.{Seen, is_about, seen_along, written}
+use Rattle.gpu_session.specs.Written.{IsLatestWrite, Seen, is_about, seen_along, written}
 use Rattle.gpu_session.specs.declared.command.Command.{Command}
 use Rattle.gpu_session.specs.declared.command.Command.TheVariants.{Map, Unmap, Write, Read, Put, Get}
 use Rattle.gpu_session.specs.declared.command.Reply.{Reply}
@@ -121,16 +121,25 @@ HoldsAlong {D} Steps objects old commands replies =
     (n : ℕ) (mid : SessionState D) → Run Steps old (take n commands) (take n replies) mid
     → HoldsWritten (objects mid.device) mid.books (written (take n commands) (take n replies))
 
--- A byte that was read has one of its values, and this one where it is the only one.
-pub record IsOneOf (values : List ℕ) (byte : Option ℕ) : Type 0 where
-  pub known : values ≢ [] → HasOneOf values byte
-  pub only : (v : ℕ) → values ≡ v ∷ [] → byte ≡ Some v
+-- What was read of a byte after these commands: one of the values that the byte may have, where it has some; the only
+-- one, where there is one; and that of the latest write, where nothing came to the byte since.
+pub record IsTold {A : Type 0} (commands : List (Command A)) (replies : List (Reply A)) (name byte : ℕ) (read : Option ℕ)
+    : Type 0 where
+  pub known : written commands replies name byte ≢ [] → HasOneOf (written commands replies name byte) read
+  pub only : (v : ℕ) → written commands replies name byte ≡ v ∷ [] → read ≡ Some v
+  pub latest : (v : ℕ) → IsLatestWrite commands replies name byte v → read ≡ Some v
 
--- A read that is answered by bytes tells values of what was written.
-abbrev pub TellsWritten : {A : Type 0} → ((name byte : ℕ) → List ℕ) → Command A → Reply A → Type 0
-TellsWritten values (Read name offset len) (Bytes bytes) =
-    (j : ℕ) → j < length bytes → IsOneOf (values name (offset + j)) (slice_get bytes j)
-TellsWritten values command reply = Unit {0}
+-- A read that is answered by bytes tells what was written by the commands before it.
+abbrev pub TellsWritten : {A : Type 0} → List (Command A) → List (Reply A) → Command A → Reply A → Type 0
+TellsWritten commands replies (Read name offset len) (Bytes bytes) =
+    (j : ℕ) → j < length bytes → IsTold commands replies name (offset + j) (slice_get bytes j)
+TellsWritten commands replies command reply = Unit {0}
+
+-- Each read of a list does.
+abbrev pub TellAlong : {A : Type 0} → List (Command A) → List (Reply A) → Type 0
+TellAlong {A} commands replies =
+    (n : ℕ) (command : Command A) (reply : Reply A) → slice_get commands n ≡ Some command → slice_get replies n ≡ Some reply
+    → TellsWritten (take n commands) (take n replies) command reply
 
 -- What is known of a byte along joined lists is what the later ones make of what the earlier ones left.
 abbrev pub GoesOn : {A : Type 0} → List (Command A) → List (Reply A) → Type 0

@@ -1,5 +1,6 @@
 -- What a byte of a block may hold, by the commands and their replies alone.
-use Rattle.std.specs.Prelude.{ℕ, ◌+◌, ◌-◌, ◌==◌, Bool, false, cond, List, [], ◌∷◌, Option, Some, None, slice_get, nat_le}
+use Rattle.std.specs.Prelude.{◌≡◌, ◌≢◌, ℕ, ◌+◌, ◌-◌, ◌==◌, Bool, false, cond, List, [], ◌∷◌, ◌++◌, length, Option, Some, None, slice_get}
+use Rattle.std.specs.Prelude.{nat_le}
 use Rattle.gpu_alloc.specs.Types.MapError.TheVariants.{AlreadyMapped, MapFailed}
 use Rattle.gpu_session.specs.declared.command.Command.{Command}
 use Rattle.gpu_session.specs.declared.command.Command.TheVariants.{Alloc, Dedicated, Import, Free, Map, Unmap, Write}
@@ -53,8 +54,9 @@ abbrev pub maybe : Option ℕ → Seen → Seen
 maybe None seen = seen
 maybe (Some v) seen = record seen { values = with_more v seen.values }
 
--- After a command that names the block: a write that is done gives its bytes; a put gives its bytes to the host, and a
--- refused write may have given them to either side, unless it is known to have moved none.
+-- After a command that names the block: a write that is done gives its bytes; a put may give its bytes to the host
+-- alone, and a refused write may have given them to either side, but for one that was refused since the block is mapped
+-- or by a mapping that failed.
 abbrev pub own_after : {A : Type 0} → ℕ → Command A → Reply A → Seen → Seen
 own_after byte (Write name offset bytes) Done seen = surely (given offset bytes byte) seen
 own_after byte (Write name offset bytes) (MapRefused AlreadyMapped) seen = seen
@@ -79,3 +81,40 @@ seen_along name byte (command ∷ commands) (reply ∷ replies) seen =
 -- has covered it
 abbrev pub written : {A : Type 0} → List (Command A) → List (Reply A) → (name byte : ℕ) → List ℕ
 written commands replies name byte = (seen_along name byte commands replies unseen).values
+
+-- The command, answered so, leaves the byte alone: it neither takes the block nor gives it anew, and no byte of it comes
+-- there. A put's bytes count from where the block is mapped.
+abbrev pub LeavesByte : {A : Type 0} → (name byte mapped_from : ℕ) → Command A → Reply A → Type 0
+LeavesByte name byte mapped_from (Write n offset bytes) Done = n ≡ name → given offset bytes byte ≡ None
+LeavesByte name byte mapped_from (Write n offset bytes) (MapRefused e) = n ≡ name → given offset bytes byte ≡ None
+LeavesByte name byte mapped_from (Put n offset bytes) Done = n ≡ name → given (mapped_from + offset) bytes byte ≡ None
+LeavesByte name byte mapped_from (Free n) Done = n ≢ name
+LeavesByte name byte mapped_from command (Granted memory_type object offset size) = is_about name command ≡ false
+LeavesByte name byte mapped_from command reply = Unit {0}
+
+-- where the latest mapping of the block starts, after a command
+abbrev pub mapped_after : {A : Type 0} → ℕ → Command A → Reply A → ℕ → ℕ
+mapped_after name (Map n offset size) (MappedTo mapping) mapped_from = cond (n == name) offset mapped_from
+mapped_after name command reply mapped_from = mapped_from
+
+-- each of these commands, answered so, leaves the byte alone
+abbrev pub LeaveByte : {A : Type 0} → (name byte mapped_from : ℕ) → List (Command A) → List (Reply A) → Type 0
+LeaveByte name byte mapped_from [] replies = Unit {0}
+LeaveByte name byte mapped_from (command ∷ commands) [] = Unit {0}
+LeaveByte name byte mapped_from (command ∷ commands) (reply ∷ replies) =
+    LeavesByte name byte mapped_from command reply
+    × LeaveByte name byte (mapped_after name command reply mapped_from) commands replies
+
+-- The latest write gave a byte this value: it was done, and each command after it leaves the byte alone.
+pub record IsLatestWrite {A : Type 0} (commands : List (Command A)) (replies : List (Reply A)) (name byte v : ℕ) : Type 0 where
+  pub before : List (Command A)
+  pub answers : List (Reply A)
+  pub offset : ℕ
+  pub bytes : List ℕ
+  pub later : List (Command A)
+  pub later_answers : List (Reply A)
+  pub asked : commands ≡ before ++ Write name offset bytes ∷ later
+  pub answered : replies ≡ answers ++ Done ∷ later_answers
+  pub each : length answers ≡ length before
+  pub gives : given offset bytes byte ≡ Some v
+  pub since : LeaveByte name byte (seen_along name byte before answers unseen).mapped_from later later_answers

@@ -50,10 +50,12 @@ pub fn runs_hold_what_was_written<M: MemoryObject, D: MemoryDevice<M>, A: Alloca
 {}
 
 /// A read after a run, where it is answered by bytes, tells for each byte that has values by what was written one of
-/// them: that of the latest write, where no put and no refused write covered it since.
+/// them; and that of the latest write, where its block stayed and nothing came to the byte since, by a write, done or
+/// refused, or by a put. (Of reads among the commands of a run, the clause `told` of
+/// [`Session::run`](crate::Session::run) says the same.)
 pub fn reads_tell_what_was_written<M: MemoryObject, D: MemoryDevice<M>, A: Allocator>()
     ensures { EachRun {A = A} (SoundStep D.step D.properties D.objects) (λ old commands replies mid.
-        EachNext {A = A} (SoundStep D.step D.properties D.objects) mid (TellsWritten (written commands replies))) }
+        EachNext {A = A} (SoundStep D.step D.properties D.objects) mid (TellsWritten commands replies)) }
 {}
 
 /// Where each live block is the whole of an object of its own, a run that asks for no block but with the hint `Required`

@@ -6,7 +6,7 @@ ghost use Rattle.gpu_alloc_types.specs.Properties.{IsUsable, properties_of};
 ghost use Rattle.gpu_alloc_types.specs.Device.{Event, Chain};
 ghost use Rattle.gpu_alloc.specs.Opening.{opened};
 ghost use Rattle.gpu_session.specs.Books.{Books, SessionState};
-ghost use Rattle.gpu_session.specs.Isolation.{HoldsAlong};
+ghost use Rattle.gpu_session.specs.Isolation.{HoldsAlong, TellAlong};
 ghost use Rattle.gpu_session.specs.Run.{Step, Run};
 ghost use Rattle.gpu_session.specs.Sound.{IsSound, Keeps, KeepsGiven, HasWholeObjects, SoundStep, ReturnsAll};
 
@@ -107,7 +107,9 @@ impl<M: MemoryObject, D: MemoryDevice<M>, A: Allocator + Copy> Session<M, D, A> 
     /// every state between two commands is sound: live blocks are memory of their own. Each step grants as asked,
     /// changes nothing where it refuses, leaves each block that it does not name with all its bytes, and leaves how many
     /// objects are held or may still be, but where it is told otherwise. After each number of commands each byte that
-    /// was written has one of the values that were written to it, for the host and for the device.
+    /// was written by one of them that was done has one of the values that it may have by what was written, for the host
+    /// and for the device; and each `Read` among them tells one of these values, and that of the latest write where
+    /// nothing came to the byte since.
     ///
     /// Places for all replies are taken first: an error means that there was no memory for them, and nothing ran. What
     /// a run keeps, [`laws`](crate::laws) tell.
@@ -117,6 +119,7 @@ impl<M: MemoryObject, D: MemoryDevice<M>, A: Allocator + Copy> Session<M, D, A> 
         ensures err { OnErr result (self.new ≡ self.old) }
         ensures isolated { IfOk result (λ replies.
             HoldsAlong (SoundStep D.step D.properties D.objects) D.objects self.old commands.now replies.items) }
+        ensures told { IfOk result (λ replies. TellAlong commands.now replies.items) }
         ensures sound { IsSound (D.properties self.new.device) (D.objects self.new.device) self.new.books }
         ensures given { KeepsGiven (self.old.books).allocator (self.new.books).allocator }
     {

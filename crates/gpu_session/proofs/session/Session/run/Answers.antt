@@ -1,6 +1,7 @@
 use Rattle.std.proofs.Common.{◌+◌, ◌∙◌, ap, arith}
+use Rattle.std.proofs.lemmas.List.{take_all}
 use Rattle.gpu_session.specs.Sound.{SoundStep}
-use Rattle.gpu_session.proofs.Holding.{run_holds_along}
+use Rattle.gpu_session.proofs.Holding.{run_holds_along, run_tells}
 use Rattle.gpu_session.proofs.Runs.{run_next_is}
 use Rattle.gpu_session.proofs.session.Session.run.Goals as goal
 
@@ -20,3 +21,8 @@ loop-command-preserved g c =
 
 pub returns-clause-isolated : goal.returns-clause-isolated
 returns-clause-isolated g c = run_holds_along g.D.MemoryDevice.step g.D.MemoryDevice.properties g.D.MemoryDevice.objects _ c.args.commands.now _
+
+pub returns-clause-told : goal.returns-clause-told
+returns-clause-told g c =
+    let so_far = rw (take_all c.loop-command.command-index c.args.commands.now c.loop-command-test.false) at c.loop-command.invariant.so_far in
+    run_tells g.D.MemoryDevice.step g.D.MemoryDevice.properties g.D.MemoryDevice.objects _ _ c.args.commands.now _ so_far
