@@ -14,7 +14,7 @@ use Rattle.gpu_alloc.specs.Types.MapError.TheVariants.{AlreadyMapped, MapFailed,
 use Rattle.gpu_alloc.specs.Types.Mapping.{Mapping}
 use Rattle.gpu_alloc_base.proofs.Names.{get_put}
 use Rattle.gpu_session.specs.Books.{Books, SessionState}
-use Rattle.gpu_session.specs.Isolation.{GoesOn, HasBoth, HasOneOf, HoldsAlong, HoldsWritten, IsRefusedWrite, IsTold, MovesNoByte, PutsBytes, TellAlong, TellsWritten, WritesBytes, device_at}
+use Rattle.gpu_session.specs.Isolation.{GoesOn, HasBoth, HasOneOf, HoldsAlong, HoldsWritten, IsRefusedWrite, TellsByte, MovesNoByte, PutsBytes, TellAlong, TellsWritten, WritesBytes, device_at}
 use Rattle.gpu_session.specs.Run.{Run, Step}
 use Rattle.gpu_session.specs.Sound.{Keeps, SoundStep}
 use Rattle.gpu_session.specs.Written.{IsLatestWrite, LeaveByte, LeavesByte, Seen, given, is_about, mapped_after, maybe, own_after, seen_after, seen_along, surely, unseen, written}
@@ -311,7 +311,7 @@ module _ {A : Type 0} (name byte : ℕ) where
       let wrote = ap (seen_along name byte l.later l.later_answers) (after_write A name byte l.offset l.bytes v there l.gives) in
       ap (λ (s : Seen). s.values) (both ∙ joined ∙ wrote) ∙ all_left l.later l.later_answers now l.since
 
-told : {A : Type 0} (commands : List (Command A)) (replies : List (Reply A)) (name byte : ℕ) (x : Option ℕ) → ((written commands replies name byte ≡ [] → ⊥) → HasOneOf (written commands replies name byte) x) → IsTold commands replies name byte x
+told : {A : Type 0} (commands : List (Command A)) (replies : List (Reply A)) (name byte : ℕ) (x : Option ℕ) → ((written commands replies name byte ≡ [] → ⊥) → HasOneOf (written commands replies name byte) x) → TellsByte commands replies name byte x
 told commands replies name byte x known = record { known = known; only = only; latest = λ v l. only v (latest_is_only name byte commands replies v l) }
   where
     only : (v : ℕ) → written commands replies name byte ≡ v ∷ [] → x ≡ Some v

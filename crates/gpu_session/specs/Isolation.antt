@@ -123,7 +123,7 @@ HoldsAlong {D} Steps objects old commands replies =
 
 -- What was read of a byte after these commands: one of the values that the byte may have, where it has some; the only
 -- one, where there is one; and that of the latest write, where nothing came to the byte since.
-pub record IsTold {A : Type 0} (commands : List (Command A)) (replies : List (Reply A)) (name byte : ℕ) (read : Option ℕ)
+pub record TellsByte {A : Type 0} (commands : List (Command A)) (replies : List (Reply A)) (name byte : ℕ) (read : Option ℕ)
     : Type 0 where
   pub known : written commands replies name byte ≢ [] → HasOneOf (written commands replies name byte) read
   pub only : (v : ℕ) → written commands replies name byte ≡ v ∷ [] → read ≡ Some v
@@ -132,7 +132,7 @@ pub record IsTold {A : Type 0} (commands : List (Command A)) (replies : List (Re
 -- A read that is answered by bytes tells what was written by the commands before it.
 abbrev pub TellsWritten : {A : Type 0} → List (Command A) → List (Reply A) → Command A → Reply A → Type 0
 TellsWritten commands replies (Read name offset len) (Bytes bytes) =
-    (j : ℕ) → j < length bytes → IsTold commands replies name (offset + j) (slice_get bytes j)
+    (j : ℕ) → j < length bytes → TellsByte commands replies name (offset + j) (slice_get bytes j)
 TellsWritten commands replies command reply = Unit {0}
 
 -- Each read of a list does.

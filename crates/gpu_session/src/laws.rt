@@ -5,7 +5,7 @@ ghost use Rattle.gpu_alloc.specs.Request.{IsAskable};
 ghost use Rattle.gpu_alloc.specs.State.{total};
 ghost use Rattle.gpu_alloc.specs.declared.request.Request.{Request};
 ghost use Rattle.gpu_session.specs.Faults.{fault_of_request};
-ghost use Rattle.gpu_session.specs.Isolation.{GoesOn, HoldsWritten, TellsWritten};
+ghost use Rattle.gpu_session.specs.Isolation.{GoesOn, HoldsWritten, TellAlong, TellsWritten};
 ghost use Rattle.gpu_session.specs.Run.{Step, Run, Joins, EachRun, EachNext, EndsWithCleanup};
 ghost use Rattle.gpu_session.specs.Sound.{SoundStep, LeavesRemaining, HasNothingLeft, HasWholeObjects, IsForRequired};
 ghost use Rattle.gpu_session.specs.Written.{written};
@@ -49,12 +49,12 @@ pub fn runs_hold_what_was_written<M: MemoryObject, D: MemoryDevice<M>, A: Alloca
         HoldsWritten (D.objects new.device) new.books (written commands replies)) }
 {}
 
-/// A read after a run, where it is answered by bytes, tells for each byte that has values by what was written one of
-/// them; and that of the latest write, where its block stayed and nothing came to the byte since, by a write, done or
-/// refused, or by a put. (Of reads among the commands of a run, the clause `told` of
-/// [`Session::run`](crate::Session::run) says the same.)
+/// Of a run, as the joined one of two, each read that is answered by bytes tells for each byte that has values by what was
+/// written before it one of them; and that of the latest write, where its block stayed and nothing came to the byte
+/// since, by a write, done or refused, or by a put. So does a read that is answered next after a run.
 pub fn reads_tell_what_was_written<M: MemoryObject, D: MemoryDevice<M>, A: Allocator>()
-    ensures { EachRun {A = A} (SoundStep D.step D.properties D.objects) (λ old commands replies mid.
+    ensures along { EachRun {A = A} (SoundStep D.step D.properties D.objects) (λ old commands replies new. TellAlong commands replies) }
+    ensures next { EachRun {A = A} (SoundStep D.step D.properties D.objects) (λ old commands replies mid.
         EachNext {A = A} (SoundStep D.step D.properties D.objects) mid (TellsWritten commands replies)) }
 {}
 

@@ -128,10 +128,12 @@ fn is_about<A: Allocator>(name: u32, command: &Command<A>) -> bool
     }
 }
 
-/// The values that a byte of the block of a name may have after these commands with these replies, the latest first;
-/// none where no write has covered it since the block was granted. A write that was done gives its bytes. A put gives its
-/// bytes to the host alone, and a write that the device refused may have given them to either side, so these come
-/// beside what was there. A `Session` holds one of the values on either side
+/// The values that a byte of the block of a name may have after these commands with these replies, the latest first (a
+/// value may come twice); none where no write that was done has covered it since the block was granted.
+///
+/// A write that was done gives its bytes. A put may give its bytes to the host alone, and a write that was refused for
+/// want of memory may have given them to either side, so these come beside what was there. Where the lists are those of
+/// all runs of a session from some state on, the host's byte and the device's are each one of the values
 /// ([`laws::runs_hold_what_was_written`](crate::laws::runs_hold_what_was_written)).
 ///
 /// `byte` counts from the block's start. Where one list is longer its rest is not looked at. An error means that there

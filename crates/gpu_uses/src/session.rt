@@ -1,18 +1,18 @@
 //! A list of commands, as one session answers it.
 
-ghost use Rattle.std.specs.Prelude.{◌≡◌, All, IfOk, OnOk};
+ghost use Rattle.std.specs.Prelude.{◌≡◌, ◌++◌, All, IfOk, OnOk};
 ghost use Rattle.gpu_alloc.specs.State.{total};
 ghost use Rattle.gpu_alloc_types.specs.Properties.{IsUsable, properties_of};
-ghost use Rattle.gpu_session.specs.Isolation.{HoldsWritten};
-ghost use Rattle.gpu_session.specs.Run.{EndsWithCleanup};
-ghost use Rattle.gpu_session.specs.Sound.{HasNothingLeft, HasWholeObjects, IsForRequired, LeavesRemaining};
+ghost use Rattle.gpu_session.specs.Isolation.{HoldsWritten, TellAlong};
+ghost use Rattle.gpu_session.specs.Run.{EndsWithCleanup, Run};
+ghost use Rattle.gpu_session.specs.Sound.{HasNothingLeft, HasWholeObjects, IsForRequired, LeavesRemaining, SoundStep};
 ghost use Rattle.gpu_session.specs.Written.{written};
 
 use gpu_alloc::{Config, DeviceProperties};
 use gpu_alloc_types::{MemoryDevice, MemoryObject};
 use gpu_session::laws::{
-    required_runs_keep_whole_objects, runs_end_with_nothing_held, runs_hold_what_was_written,
-    runs_keep_the_total,
+    reads_tell_what_was_written, required_runs_keep_whole_objects, runs_end_with_nothing_held,
+    runs_hold_what_was_written, runs_join, runs_keep_the_total,
 };
 use gpu_session::{Command, Reply, Session};
 use std::alloc::{AllocError, Global};
@@ -76,8 +76,8 @@ pub fn answer_and_clean_up<M: MemoryObject, D: MemoryDevice<M>>(
     }
 }
 
-/// Answers a list of commands: each byte of a live block that was written has one of the values that were written to it,
-/// for the host and for the device, whatever other blocks' commands did.
+/// Answers a list of commands: each byte of a live block that was written by one of them that was done has one of the
+/// values that it may have by them, for the host and for the device, whatever other blocks' commands did.
 pub fn answer_and_hold<M: MemoryObject, D: MemoryDevice<M>>(
     session: &mut Session<M, D>,
     commands: &[Command<Global>],
@@ -92,6 +92,54 @@ pub fn answer_and_hold<M: MemoryObject, D: MemoryDevice<M>>(
         }
         Err(refusal) => Err(refusal),
     }
+}
+
+/// The replies to two lists.
+type Answers = (Vec<Reply<Global>>, Vec<Reply<Global>>);
+
+/// Answers two lists of commands, one after the other: together they are a run of the joined lists.
+pub fn answer_both<M: MemoryObject, D: MemoryDevice<M>>(
+    session: &mut Session<M, D>,
+    commands: &[Command<Global>],
+    later: &[Command<Global>],
+) -> Result<Answers, AllocError>
+    ensures { IfOk result (λ answers. Run (SoundStep D.step D.properties D.objects) session.old
+        (commands.now ++ later.now) ((answers.0).items ++ (answers.1).items) session.new) }
+{
+    let replies = session.run(commands)?;
+    let answers = session.run(later)?;
+    runs_join::<M, D, Global>();
+    Ok((replies, answers))
+}
+
+/// Answers two lists of commands, one after the other: each byte of a live block that was written by one of them that was
+/// done has one of the values that it may have by the joined lists.
+pub fn answer_both_and_hold<M: MemoryObject, D: MemoryDevice<M>>(
+    session: &mut Session<M, D>,
+    commands: &[Command<Global>],
+    later: &[Command<Global>],
+) -> Result<Answers, AllocError>
+    ensures { IfOk result (λ answers. HoldsWritten (D.objects session.new.device) session.new.books
+        (written (commands.now ++ later.now) ((answers.0).items ++ (answers.1).items))) }
+{
+    let held = answer_both(session, commands, later)?;
+    runs_hold_what_was_written::<M, D, Global>();
+    Ok(held)
+}
+
+/// Answers two lists of commands, one after the other: each read of the second tells what both lists wrote before it, as
+/// each one of the first does.
+pub fn answer_both_and_tell<M: MemoryObject, D: MemoryDevice<M>>(
+    session: &mut Session<M, D>,
+    commands: &[Command<Global>],
+    later: &[Command<Global>],
+) -> Result<Answers, AllocError>
+    ensures { IfOk result (λ answers.
+        TellAlong (commands.now ++ later.now) ((answers.0).items ++ (answers.1).items)) }
+{
+    let told = answer_both(session, commands, later)?;
+    reads_tell_what_was_written::<M, D, Global>();
+    Ok(told)
 }
 
 /// Opens a session and answers a list of commands that asks for no block but with the hint `Required`: each live block is

@@ -174,23 +174,43 @@ fn draw_list(alloc: Global, chance: &mut Chance) -> Result<Vec<Line>, AllocError
     Ok(lines)
 }
 
-/// Setup lines: one type of non-coherent memory that the host sees, and questions that are refused.
-fn draw_setup(alloc: Global, chance: &mut Chance) -> Result<String, AllocError> {
-    let mut text = String::new(alloc);
-    text.push_str("heap 1048576\ntype 0 2\natom 16\n")?;
-    for question in [
-        "flush",
-        "flush",
-        "invalidate",
-        "invalidate",
-        "map",
-        "allocate",
-    ] {
-        let nth = chance.next() % 7 + 1;
-        let cause = if nth % 2 == 0 { "host" } else { "device" };
-        writeln!(text, "refuse {question} {nth} {cause}")?;
+/// Kinds of questions of which one is refused, with their words.
+const REFUSED: [(Question, &str); 6] = [
+    (Question::Flush, "flush"),
+    (Question::Flush, "flush"),
+    (Question::Invalidate, "invalidate"),
+    (Question::Invalidate, "invalidate"),
+    (Question::Map, "map"),
+    (Question::Allocate, "allocate"),
+];
+
+/// The setup of a list: its lines, and which question of a kind is refused.
+#[derive(Drop)]
+struct Plan {
+    text: String,
+    refused: Vec<(Question, u64)>,
+}
+
+/// Why a question is refused, by its number.
+fn cause_of(question: Question, nth: u64) -> &'static str {
+    match nth % 3 {
+        0 if question == Question::Map => "failed",
+        1 => "host",
+        _ => "device",
     }
-    Ok(text)
+}
+
+/// One type of non-coherent memory that the host sees, and questions that are refused.
+fn draw_plan(alloc: Global, chance: &mut Chance) -> Result<Plan, AllocError> {
+    let mut text = String::new(alloc);
+    let mut refused = Vec::new(alloc);
+    text.push_str("heap 1048576\ntype 0 2\natom 16\n")?;
+    for (question, word) in REFUSED {
+        let nth = chance.next() % 7 + 1;
+        writeln!(text, "refuse {word} {nth} {}", cause_of(question, nth))?;
+        refused.push((question, nth))?;
+    }
+    Ok(Plan { text, refused })
 }
 
 /// Whether bytes follow the numbers of a line.
@@ -467,6 +487,30 @@ fn count_one(counts: &mut Vec<u64>, index: usize) {
     }
 }
 
+/// A block came from a chunk of buddies.
+const BUDDY: usize = 0;
+
+/// A block came from the end of a chunk.
+const TAIL: usize = 1;
+
+/// The device refused a flush.
+const FLUSH_REFUSED: usize = 2;
+
+/// The device refused an invalidate.
+const INVALIDATE_REFUSED: usize = 3;
+
+/// A mapping failed.
+const MAPPING_FAILED: usize = 4;
+
+/// A byte could have one value in the end.
+const ONE_VALUE: usize = 5;
+
+/// A byte could have several values in the end.
+const MORE_VALUES: usize = 6;
+
+/// How many special things there are.
+const SPECIAL: usize = 7;
+
 /// How often each thing occurred in the lists.
 #[derive(Drop)]
 struct Tally {
@@ -476,8 +520,7 @@ struct Tally {
     /// How often each kind of reply came.
     answered: Vec<u64>,
 
-    /// How often a block came from a chunk of buddies, and how often from the end of one; how often a write and a read
-    /// were refused by the device; how many bytes could have one value in the end, and how many more than one.
+    /// How often each special thing occurred.
     special: Vec<u64>,
 }
 
@@ -486,7 +529,7 @@ impl Tally {
     fn new(alloc: Global) -> Result<Tally, AllocError> {
         let served = vec![in alloc; 0u64; KINDS.len()]?;
         let answered = vec![in alloc; 0u64; REPLIES]?;
-        let special = vec![in alloc; 0u64; 6]?;
+        let special = vec![in alloc; 0u64; SPECIAL]?;
         Ok(Tally {
             served,
             answered,
@@ -502,25 +545,28 @@ impl Tally {
         count_one(&mut self.answered, index);
         match reply {
             Reply::Refused(_) => (),
-            Reply::MapRefused(error) => self.count_refusal(line, *error),
+            Reply::MapRefused(MapError::MapFailed) => count_one(&mut self.special, MAPPING_FAILED),
+            Reply::MapRefused(_) => (),
             _ => {
                 count_one(&mut self.served, line.kind as usize);
                 if line.kind == Kind::Alloc {
-                    count_one(&mut self.special, if line.numbers[3] == 2 { 0 } else { 1 });
+                    let kind = if line.numbers[3] == 2 { BUDDY } else { TAIL };
+                    count_one(&mut self.special, kind);
                 }
             }
         }
     }
 
-    /// Counts a write or a read that the device refused.
-    fn count_refusal(&mut self, line: &Line, error: MapError) {
-        if !may_have_moved(error) {
-            return;
-        }
-        match line.kind {
-            Kind::Write => count_one(&mut self.special, 2),
-            Kind::Read => count_one(&mut self.special, 3),
-            _ => (),
+    /// Counts the planned refusals that the device came to.
+    fn count_refused(&mut self, plan: &Plan, device: &Sim<Global>) {
+        for (question, nth) in &plan.refused {
+            if *nth <= device.asked(*question) {
+                match question {
+                    Question::Flush => count_one(&mut self.special, FLUSH_REFUSED),
+                    Question::Invalidate => count_one(&mut self.special, INVALIDATE_REFUSED),
+                    _ => (),
+                }
+            }
         }
     }
 
@@ -580,10 +626,10 @@ fn compare_told(
             let told = values_of(alloc, commands, replies, name, byte)?;
             let bits = written.at(u64::from(name), byte).map_or(0, |bits| *bits);
             assert_eq!(rt; bits_of(told.as_slice()), bits, "byte {byte} of {name}");
-            match told.len() {
+            match bits.count_ones() {
                 0 => (),
-                1 => count_one(&mut tally.special, 4),
-                _ => count_one(&mut tally.special, 5),
+                1 => count_one(&mut tally.special, ONE_VALUE),
+                _ => count_one(&mut tally.special, MORE_VALUES),
             }
         }
     }
@@ -629,11 +675,13 @@ fn printed(
 fn answers(
     rt: &impl Abort,
     alloc: Global,
-    setup: &str,
+    plan: &Plan,
     commands: &[Command],
+    tally: &mut Tally,
 ) -> Result<(Vec<Reply>, String), Fail> {
-    let session = session_of(rt, alloc, setup)?;
+    let session = session_of(rt, alloc, plan.text.as_str())?;
     let (replies, device) = run_list(session, commands);
+    tally.count_refused(plan, &device);
     let objects = device.objects();
     let asked = device.asked(Question::Allocate);
     drop(device);
@@ -662,10 +710,10 @@ fn try_list(
     chance: &mut Chance,
     tally: &mut Tally,
 ) -> Result<(), Fail> {
-    let mut text = draw_setup(alloc, chance)?;
+    let mut plan = draw_plan(alloc, chance)?;
     let lines = draw_list(alloc, chance)?;
     let commands = commands_of(alloc, lines.as_slice())?;
-    let (replies, expected) = answers(rt, alloc, text.as_str(), commands.as_slice())?;
+    let (replies, expected) = answers(rt, alloc, &plan, commands.as_slice(), tally)?;
     let mut written = check_replies(rt, alloc, lines.as_slice(), replies.as_slice(), tally)?;
     compare_told(
         rt,
@@ -676,9 +724,9 @@ fn try_list(
         tally,
     )?;
     for line in &lines {
-        add_line(&mut text, line)?;
+        add_line(&mut plan.text, line)?;
     }
-    compare_script(rt, alloc, text.as_str(), expected.as_str());
+    compare_script(rt, alloc, plan.text.as_str(), expected.as_str());
     Ok(())
 }
 

@@ -12,7 +12,18 @@ use std::test::Fail;
 /// first.
 type Told = (u32, u64, &'static [u8]);
 
-/// Compares what is told of bytes after the commands of a script.
+/// What a table tells of a byte.
+fn row_of(rows: &[Told], name: u32, byte: u64) -> &'static [u8] {
+    for (of, at, values) in rows {
+        if *of == name && *at == byte {
+            return values;
+        }
+    }
+    &[]
+}
+
+/// Compares what is told of the first bytes of two blocks after the commands of a script: of these bytes this, and of all
+/// others nothing.
 fn compare_told(
     rt: &impl Abort,
     alloc: Global,
@@ -28,9 +39,11 @@ fn compare_told(
     let commands = script.commands.as_slice();
     let (replies, _device) = run_list(session, commands);
     let replies = replies?;
-    for (name, byte, values) in rows {
-        let told = values_of(alloc, commands, replies.as_slice(), *name, *byte)?;
-        assert_eq!(rt; told.as_slice(), *values, "byte {byte} of {name}");
+    for name in 1..3 {
+        for byte in 0..64 {
+            let told = values_of(alloc, commands, replies.as_slice(), name, byte)?;
+            assert_eq!(rt; told.as_slice(), row_of(rows, name, byte), "byte {byte} of {name}");
+        }
     }
     Ok(())
 }
@@ -60,36 +73,24 @@ required 2 64 0 2 1
 
 #[test]
 fn values_of_bytes_that_scripts_write(rt: HostRuntime) -> Result<(), Fail> {
-    // A neighbour's refused write adds no value, and nothing was written before it where it writes.
+    // A neighbour's refused write gives a byte no first value.
     compare_told(
         &rt,
         rt.alloc(),
         BYTES[0].0,
-        &[
-            (1, 2, &[]),
-            (1, 3, &[0x61]),
-            (1, 5, &[0x63]),
-            (1, 6, &[]),
-            (2, 0, &[]),
-        ],
+        &[(1, 3, &[0x61]), (1, 4, &[0x62]), (1, 5, &[0x63])],
     )?;
     // A put alone tells nothing, since the device may see any byte there.
     compare_told(
         &rt,
         rt.alloc(),
         BYTES[1].0,
-        &[(1, 0, &[0xaa]), (1, 1, &[0xbb]), (2, 0, &[])],
+        &[(1, 0, &[0xaa]), (1, 1, &[0xbb])],
     )?;
     compare_told(
         &rt,
         rt.alloc(),
         PUTS,
-        &[
-            (1, 3, &[]),
-            (1, 4, &[0xee, 0xaa]),
-            (1, 5, &[0x11, 0xff, 0xdd]),
-            (1, 6, &[]),
-            (2, 0, &[]),
-        ],
+        &[(1, 4, &[0xee, 0xaa]), (1, 5, &[0x11, 0xff, 0xdd])],
     )
 }
