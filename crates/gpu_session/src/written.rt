@@ -1,7 +1,7 @@
 //! What a byte of a block may hold, by the commands and their replies alone.
 
-ghost use Rattle.std.specs.Prelude.{◌≡◌, ℕ, Bool, IfOk, Option};
-ghost use Rattle.gpu_session.specs.Written.{given, is_about, maybe, own_after, seen_along, seen_after, surely, unseen, written};
+ghost use Rattle.std.specs.Prelude.{◌≡◌, IfOk};
+ghost use Rattle.gpu_session.specs.Written.{given, is_about, maybe, own_after, surely, unseen, written};
 
 use crate::{Command, Reply};
 use gpu_alloc::MapError;

@@ -24,12 +24,7 @@ fn row_of(rows: &[Told], name: u32, byte: u64) -> &'static [u8] {
 
 /// Compares what is told of the first bytes of two blocks after the commands of a script: of these bytes this, and of all
 /// others nothing.
-fn compare_told(
-    rt: &impl Abort,
-    alloc: Global,
-    script: &str,
-    rows: &[Told],
-) -> Result<(), Fail> {
+fn compare_told(rt: &impl Abort, alloc: Global, script: &str, rows: &[Told]) -> Result<(), Fail> {
     let script: Script<Global> = match parse(alloc, script.as_bytes()) {
         Ok(script) => script,
         Err(_) => return Err(Fail::from("a bad script")),
@@ -42,7 +37,11 @@ fn compare_told(
     for name in 1..3 {
         for byte in 0..64 {
             let told = values_of(alloc, commands, replies.as_slice(), name, byte)?;
-            assert_eq!(rt; told.as_slice(), row_of(rows, name, byte), "byte {byte} of {name}");
+            assert_eq!(rt;
+                told.as_slice(),
+                row_of(rows, name, byte),
+                "byte {byte} of {name}"
+            );
         }
     }
     Ok(())
