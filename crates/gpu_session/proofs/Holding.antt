@@ -17,7 +17,7 @@ use Rattle.gpu_session.specs.Books.{Books, SessionState}
 use Rattle.gpu_session.specs.Isolation.{GoesOn, HasBoth, HasOneOf, HoldsAlong, HoldsWritten, IsRefusedWrite, TellsByte, MovesNoByte, PutsBytes, TellAlong, TellsWritten, WritesBytes, device_at}
 use Rattle.gpu_session.specs.Run.{Run, Step}
 use Rattle.gpu_session.specs.Sound.{Keeps, SoundStep}
-use Rattle.gpu_session.specs.Written.{IsLatestWrite, LeaveByte, LeavesByte, Seen, given, is_about, mapped_after, maybe, own_after, seen_after, seen_along, surely, unseen, written}
+use Rattle.gpu_session.specs.Written.{IsWrittenLast, AllLeaveByte, LeavesByte, Seen, given, is_about, mapped_after, maybe, own_after, seen_after, seen_along, surely, unseen, written}
 use Rattle.gpu_session.specs.declared.command.Command.{Command}
 use Rattle.gpu_session.specs.declared.command.Command.TheVariants.{Alloc, Dedicated, Import, Free, Map, Unmap, Write, Read, Put, Get, SetRemaining, Cleanup, FreeRanges, Counts}
 use Rattle.gpu_session.specs.declared.command.Reply.{Reply}
@@ -287,12 +287,12 @@ module _ {A : Type 0} (name byte : ℕ) where
         | false ↦ λ is. (refl, sym (other_left command reply seen.mapped_from is))
       ] refl
 
-  all_left : (commands : List (Command A)) (replies : List (Reply A)) (seen : Seen) → LeaveByte name byte seen.mapped_from commands replies → (seen_along name byte commands replies seen).values ≡ seen.values
+  all_left : (commands : List (Command A)) (replies : List (Reply A)) (seen : Seen) → AllLeaveByte name byte seen.mapped_from commands replies → (seen_along name byte commands replies seen).values ≡ seen.values
   all_left [] replies seen leave = refl
   all_left (c ∷ commands) [] seen leave = refl
   all_left (c ∷ commands) (r ∷ replies) seen leave =
       let one = step_left c r seen leave.0 in
-      all_left commands replies (seen_after name byte c r seen) (subst (λ from. LeaveByte name byte from commands replies) (sym one.1) leave.1) ∙ one.0
+      all_left commands replies (seen_after name byte c r seen) (subst (λ from. AllLeaveByte name byte from commands replies) (sym one.1) leave.1) ∙ one.0
 
   along_joined : (commands later : List (Command A)) (replies answers : List (Reply A)) (seen : Seen) → length replies ≡ length commands
       → seen_along name byte (commands ++ later) (replies ++ answers) seen ≡ seen_along name byte later answers (seen_along name byte commands replies seen)
@@ -302,7 +302,7 @@ module _ {A : Type 0} (name byte : ℕ) where
   along_joined (c ∷ commands) later (r ∷ replies) answers seen same = along_joined commands later replies answers (seen_after name byte c r seen) (omega (arith, same))
 
   -- the latest write leaves one value
-  pub latest_is_only : (commands : List (Command A)) (replies : List (Reply A)) (v : ℕ) → IsLatestWrite commands replies name byte v → written commands replies name byte ≡ v ∷ []
+  pub latest_is_only : (commands : List (Command A)) (replies : List (Reply A)) (v : ℕ) → IsWrittenLast commands replies name byte v → written commands replies name byte ≡ v ∷ []
   latest_is_only commands replies v l =
       let there = seen_along name byte l.before l.answers unseen in
       let now : Seen = record there { values = v ∷ [] } in

@@ -13,7 +13,7 @@ use Rattle.gpu_alloc.specs.Types.MapError.{MapError}
 use Rattle.gpu_alloc.specs.Types.Mapping.{Mapping}
 use Rattle.gpu_session.specs.Books.{Books, OfBlock, SessionState}
 use Rattle.gpu_session.specs.Run.{Run}
-use Rattle.gpu_session.specs.Written.{IsLatestWrite, Seen, is_about, seen_along, written}
+use Rattle.gpu_session.specs.Written.{IsWrittenLast, Seen, is_about, seen_along, written}
 use Rattle.gpu_session.specs.declared.command.Command.{Command}
 use Rattle.gpu_session.specs.declared.command.Command.TheVariants.{Map, Unmap, Write, Read, Put, Get}
 use Rattle.gpu_session.specs.declared.command.Reply.{Reply}
@@ -121,13 +121,13 @@ HoldsAlong {D} Steps objects old commands replies =
     (n : ℕ) (mid : SessionState D) → Run Steps old (take n commands) (take n replies) mid
     → HoldsWritten (objects mid.device) mid.books (written (take n commands) (take n replies))
 
--- What was read of a byte after these commands: one of the values that the byte may have, where it has some; the only
--- one, where there is one; and that of the latest write, where nothing came to the byte since.
+-- What was read of a byte after these commands: one of the values that it may have, where it has some; the only one,
+-- where there is one; and that of the latest write, where no write or put went there since and the block stayed.
 pub record TellsByte {A : Type 0} (commands : List (Command A)) (replies : List (Reply A)) (name byte : ℕ) (read : Option ℕ)
     : Type 0 where
   pub known : written commands replies name byte ≢ [] → HasOneOf (written commands replies name byte) read
   pub only : (v : ℕ) → written commands replies name byte ≡ v ∷ [] → read ≡ Some v
-  pub latest : (v : ℕ) → IsLatestWrite commands replies name byte v → read ≡ Some v
+  pub latest : (v : ℕ) → IsWrittenLast commands replies name byte v → read ≡ Some v
 
 -- A read that is answered by bytes tells what was written by the commands before it.
 abbrev pub TellsWritten : {A : Type 0} → List (Command A) → List (Reply A) → Command A → Reply A → Type 0

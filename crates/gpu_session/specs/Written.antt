@@ -82,8 +82,8 @@ seen_along name byte (command ∷ commands) (reply ∷ replies) seen =
 abbrev pub written : {A : Type 0} → List (Command A) → List (Reply A) → (name byte : ℕ) → List ℕ
 written commands replies name byte = (seen_along name byte commands replies unseen).values
 
--- The command, answered so, leaves the byte alone: it neither takes the block nor gives it anew, and no byte of it comes
--- there. A put's bytes count from where the block is mapped.
+-- The command, answered so, leaves the byte alone: it neither takes the block nor gives it anew, and no write or put of it
+-- goes there, done or (a write) refused, whatever the cause. A put's bytes count from where the block is mapped.
 abbrev pub LeavesByte : {A : Type 0} → (name byte mapped_from : ℕ) → Command A → Reply A → Type 0
 LeavesByte name byte mapped_from (Write n offset bytes) Done = n ≡ name → given offset bytes byte ≡ None
 LeavesByte name byte mapped_from (Write n offset bytes) (MapRefused e) = n ≡ name → given offset bytes byte ≡ None
@@ -98,15 +98,15 @@ mapped_after name (Map n offset size) (MappedTo mapping) mapped_from = cond (n =
 mapped_after name command reply mapped_from = mapped_from
 
 -- each of these commands, answered so, leaves the byte alone
-abbrev pub LeaveByte : {A : Type 0} → (name byte mapped_from : ℕ) → List (Command A) → List (Reply A) → Type 0
-LeaveByte name byte mapped_from [] replies = Unit {0}
-LeaveByte name byte mapped_from (command ∷ commands) [] = Unit {0}
-LeaveByte name byte mapped_from (command ∷ commands) (reply ∷ replies) =
+abbrev pub AllLeaveByte : {A : Type 0} → (name byte mapped_from : ℕ) → List (Command A) → List (Reply A) → Type 0
+AllLeaveByte name byte mapped_from [] replies = Unit {0}
+AllLeaveByte name byte mapped_from (command ∷ commands) [] = Unit {0}
+AllLeaveByte name byte mapped_from (command ∷ commands) (reply ∷ replies) =
     LeavesByte name byte mapped_from command reply
-    × LeaveByte name byte (mapped_after name command reply mapped_from) commands replies
+    × AllLeaveByte name byte (mapped_after name command reply mapped_from) commands replies
 
--- The latest write gave a byte this value: it was done, and each command after it leaves the byte alone.
-pub record IsLatestWrite {A : Type 0} (commands : List (Command A)) (replies : List (Reply A)) (name byte v : ℕ) : Type 0 where
+-- A byte was written last with this value: by a write that was done, and each command after that leaves the byte alone.
+pub record IsWrittenLast {A : Type 0} (commands : List (Command A)) (replies : List (Reply A)) (name byte v : ℕ) : Type 0 where
   pub before : List (Command A)
   pub answers : List (Reply A)
   pub offset : ℕ
@@ -117,4 +117,4 @@ pub record IsLatestWrite {A : Type 0} (commands : List (Command A)) (replies : L
   pub answered : replies ≡ answers ++ Done ∷ later_answers
   pub each : length answers ≡ length before
   pub gives : given offset bytes byte ≡ Some v
-  pub since : LeaveByte name byte (seen_along name byte before answers unseen).mapped_from later later_answers
+  pub since : AllLeaveByte name byte (seen_along name byte before answers unseen).mapped_from later later_answers

@@ -50,8 +50,8 @@ pub fn runs_hold_what_was_written<M: MemoryObject, D: MemoryDevice<M>, A: Alloca
 {}
 
 /// Of a run, as the joined one of two, each read that is answered by bytes tells for each byte that has values by what was
-/// written before it one of them; and that of the latest write, where its block stayed and nothing came to the byte
-/// since, by a write, done or refused, or by a put. So does a read that is answered next after a run.
+/// written before it one of them; and that of the latest write, where its block stayed and no write, done or refused, or
+/// put went there since. So does a read that is answered next after a run.
 pub fn reads_tell_what_was_written<M: MemoryObject, D: MemoryDevice<M>, A: Allocator>()
     ensures along { EachRun {A = A} (SoundStep D.step D.properties D.objects) (λ old commands replies new. TellAlong commands replies) }
     ensures next { EachRun {A = A} (SoundStep D.step D.properties D.objects) (λ old commands replies mid.

@@ -105,11 +105,12 @@ impl<M: MemoryObject, D: MemoryDevice<M>, A: Allocator + Copy> Session<M, D, A> 
 
     /// Answers the commands in order, one reply for each. The replies and the state after them are a run, in which
     /// every state between two commands is sound: live blocks are memory of their own. Each step grants as asked,
-    /// changes nothing where it refuses, leaves each block that it does not name with all its bytes, and leaves how many
-    /// objects are held or may still be, but where it is told otherwise. After each number of commands each byte that
-    /// was written by one of them that was done has one of the values that it may have by what was written, for the host
-    /// and for the device; and each `Read` among them tells one of these values, and that of the latest write where
-    /// nothing came to the byte since.
+    /// changes nothing where an allocation is refused or a condition missed, leaves each block that it does not name
+    /// with all its bytes, and leaves how many objects are held or may still be, but where it is told otherwise. After
+    /// each number of commands each byte of a live block that a `Write` among them gave a value has one of those that
+    /// it may have by what was written, for the host and for the device. Each `Read` among them that is answered by
+    /// bytes tells such a value for each byte that has some, and that of the latest write where no write or put went
+    /// there since.
     ///
     /// Places for all replies are taken first: an error means that there was no memory for them, and nothing ran. What
     /// a run keeps, [`laws`](crate::laws) tell.

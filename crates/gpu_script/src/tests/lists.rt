@@ -1,6 +1,8 @@
 //! Lists of commands drawn from a fixed seed, with refusals that are drawn too: what each `Read` gives is compared with
 //! what was written, and what a script of the same list prints with the replies.
 
+mod tally;
+
 use crate::run_script;
 use crate::sim::{Question, Sim};
 use gpu_alloc::{Dedicated, MapError, Request, UsageFlags};
@@ -9,6 +11,7 @@ use gpu_session::{Bytes, Command, Fault, Reply, values_of};
 use std::alloc::{AllocError, Global};
 use std::process::Abort;
 use std::test::Fail;
+use tally::{ONE_VALUE, SEVERAL_VALUES, Tally};
 
 /// How many lists are drawn.
 const LISTS: u64 = 200;
@@ -19,8 +22,8 @@ const COMMANDS: u64 = 60;
 /// More than the greatest name that is drawn.
 const NAMES: usize = 7;
 
-/// How many bytes are kept of each block: no block that is drawn has more.
-const BLOCK: usize = 128;
+/// How many bytes are kept of each block: no command that is drawn moves a byte beyond.
+const BLOCK: usize = 40;
 
 /// What commands a script has.
 #[derive(Clone, Copy, Debug, PartialEq, Eq)]
@@ -369,6 +372,16 @@ impl Written {
         }
     }
 
+    /// The values of a byte, none where it is not kept.
+    fn bits(&mut self, name: u64, byte: u64) -> u64 {
+        self.at(name, byte).map_or(0, |bits| *bits)
+    }
+
+    /// Whether one of these bytes, from an offset on, has values.
+    fn goes_over_values(&mut self, name: u64, offset: u64, bytes: &[u8]) -> bool {
+        (0..bytes.len() as u64).any(|place| self.bits(name, offset.wrapping_add(place)) != 0)
+    }
+
     /// No byte of the block has values.
     fn clear(&mut self, name: u64) {
         for byte in 0..BLOCK as u64 {
@@ -461,147 +474,34 @@ fn may_have_moved(error: MapError) -> bool {
     error != MapError::AlreadyMapped && error != MapError::MapFailed
 }
 
-/// How many replies there are, by kind.
-const REPLIES: usize = 9;
+/// After how many commands what is told of each byte is compared.
+const PART: usize = 20;
 
-/// Which kind of reply it is, faults apart.
-fn reply_index(reply: &Reply) -> Option<usize> {
-    match reply {
-        Reply::Granted { .. } => Some(0),
-        Reply::Refused(_) => Some(1),
-        Reply::Done => Some(2),
-        Reply::Mapped(_) => Some(3),
-        Reply::MapRefused(_) => Some(4),
-        Reply::Unmapped(_) => Some(5),
-        Reply::Bytes(_) => Some(6),
-        Reply::Ranges(_) => Some(7),
-        Reply::Counts { .. } => Some(8),
-        Reply::Fault(_) => None,
-    }
-}
-
-/// Adds one to a number of a list.
-fn count_one(counts: &mut Vec<u64>, index: usize) {
-    if let Some(count) = counts.get_mut(index) {
-        *count = count.saturating_add(1);
-    }
-}
-
-/// A block came from a chunk of buddies.
-const BUDDY: usize = 0;
-
-/// A block came from the end of a chunk.
-const TAIL: usize = 1;
-
-/// The device refused a flush.
-const FLUSH_REFUSED: usize = 2;
-
-/// The device refused an invalidate.
-const INVALIDATE_REFUSED: usize = 3;
-
-/// A mapping failed.
-const MAPPING_FAILED: usize = 4;
-
-/// A byte could have one value in the end.
-const ONE_VALUE: usize = 5;
-
-/// A byte could have several values in the end.
-const MORE_VALUES: usize = 6;
-
-/// How many special things there are.
-const SPECIAL: usize = 7;
-
-/// How often each thing occurred in the lists.
-#[derive(Drop)]
-struct Tally {
-    /// How often each kind of command succeeded.
-    served: Vec<u64>,
-
-    /// How often each kind of reply came.
-    answered: Vec<u64>,
-
-    /// How often each special thing occurred.
-    special: Vec<u64>,
-}
-
-impl Tally {
-    /// Nothing occurred.
-    fn new(alloc: Global) -> Result<Tally, AllocError> {
-        let served = vec![in alloc; 0u64; KINDS.len()]?;
-        let answered = vec![in alloc; 0u64; REPLIES]?;
-        let special = vec![in alloc; 0u64; SPECIAL]?;
-        Ok(Tally {
-            served,
-            answered,
-            special,
-        })
-    }
-
-    /// Counts a command with its reply.
-    fn count(&mut self, line: &Line, reply: &Reply) {
-        let Some(index) = reply_index(reply) else {
-            return;
-        };
-        count_one(&mut self.answered, index);
-        match reply {
-            Reply::Refused(_) => (),
-            Reply::MapRefused(MapError::MapFailed) => count_one(&mut self.special, MAPPING_FAILED),
-            Reply::MapRefused(_) => (),
-            _ => {
-                count_one(&mut self.served, line.kind as usize);
-                if line.kind == Kind::Alloc {
-                    let kind = if line.numbers[3] == 2 { BUDDY } else { TAIL };
-                    count_one(&mut self.special, kind);
-                }
-            }
-        }
-    }
-
-    /// Counts the planned refusals that the device came to.
-    fn count_refused(&mut self, plan: &Plan, device: &Sim<Global>) {
-        for (question, nth) in &plan.refused {
-            if *nth <= device.asked(*question) {
-                match question {
-                    Question::Flush => count_one(&mut self.special, FLUSH_REFUSED),
-                    Question::Invalidate => count_one(&mut self.special, INVALIDATE_REFUSED),
-                    _ => (),
-                }
-            }
-        }
-    }
-
-    /// Each thing has to have occurred.
-    fn has_all(&self, rt: &impl Abort) {
-        for (index, count) in self.served.iter().enumerate() {
-            assert!(rt; *count > 0, "no command {index} of KINDS was served");
-        }
-        for (index, count) in self.answered.iter().enumerate() {
-            assert!(rt; *count > 0, "no reply {index} came");
-        }
-        for (index, count) in self.special.iter().enumerate() {
-            assert!(rt; *count > 0, "nothing special {index} occurred");
-        }
-    }
-}
-
-/// Compares each reply with what was written, and counts what occurs: all that was written in the end.
+/// Compares each reply with what was written, and what is told of each byte after each part of the list; counts what
+/// occurs.
 fn check_replies(
     rt: &impl Abort,
     alloc: Global,
     lines: &[Line],
+    commands: &[Command],
     replies: &[Reply],
     tally: &mut Tally,
-) -> Result<Written, Fail> {
+) -> Result<(), Fail> {
     assert_eq!(rt; replies.len(), lines.len());
     let mut written = Written::new(alloc)?;
-    for (line, reply) in lines.iter().zip(replies) {
+    for (index, (line, reply)) in lines.iter().zip(replies).enumerate() {
         let has_memory = !matches!(reply, Reply::Fault(Fault::NoMemory));
         assert!(rt; has_memory);
-        tally.count(line, reply);
+        tally.count(line, reply, &mut written);
         let fits = written.after(line, reply);
         assert!(rt; fits, "a read gives what was not written");
+        if index % PART == PART - 1 {
+            let commands = commands.get(..=index).unwrap_or(&[]);
+            let replies = replies.get(..=index).unwrap_or(&[]);
+            compare_told(rt, alloc, commands, replies, &mut written, tally)?;
+        }
     }
-    Ok(written)
+    Ok(())
 }
 
 /// The values as bits.
@@ -624,13 +524,9 @@ fn compare_told(
     for name in 0..NAMES as u32 {
         for byte in 0..BLOCK as u64 {
             let told = values_of(alloc, commands, replies, name, byte)?;
-            let bits = written.at(u64::from(name), byte).map_or(0, |bits| *bits);
+            let bits = written.bits(u64::from(name), byte);
             assert_eq!(rt; bits_of(told.as_slice()), bits, "byte {byte} of {name}");
-            match bits.count_ones() {
-                0 => (),
-                1 => count_one(&mut tally.special, ONE_VALUE),
-                _ => count_one(&mut tally.special, MORE_VALUES),
-            }
+            tally.count_byte(bits, ONE_VALUE, SEVERAL_VALUES);
         }
     }
     Ok(())
@@ -714,13 +610,12 @@ fn try_list(
     let lines = draw_list(alloc, chance)?;
     let commands = commands_of(alloc, lines.as_slice())?;
     let (replies, expected) = answers(rt, alloc, &plan, commands.as_slice(), tally)?;
-    let mut written = check_replies(rt, alloc, lines.as_slice(), replies.as_slice(), tally)?;
-    compare_told(
+    check_replies(
         rt,
         alloc,
+        lines.as_slice(),
         commands.as_slice(),
         replies.as_slice(),
-        &mut written,
         tally,
     )?;
     for line in &lines {

@@ -2,9 +2,9 @@
 
 use super::lists::run_list;
 use super::whole::BYTES;
-use gpu_script_language::{Script, open, parse};
-use gpu_session::values_of;
-use std::alloc::Global;
+use gpu_script_language::{Script, SimSession, open, parse};
+use gpu_session::{Command, Reply, values_of};
+use std::alloc::{AllocError, Global};
 use std::process::Abort;
 use std::test::Fail;
 
@@ -22,21 +22,35 @@ fn row_of(rows: &[Told], name: u32, byte: u64) -> &'static [u8] {
     &[]
 }
 
-/// Compares what is told of the first bytes of two blocks after the commands of a script: of these bytes this, and of all
-/// others nothing.
-fn compare_told(rt: &impl Abort, alloc: Global, script: &str, rows: &[Told]) -> Result<(), Fail> {
-    let script: Script<Global> = match parse(alloc, script.as_bytes()) {
-        Ok(script) => script,
-        Err(_) => return Err(Fail::from("a bad script")),
-    };
-    assert!(rt; script.setup.properties().is_usable());
-    let session = open(alloc, &script.setup)?;
-    let commands = script.commands.as_slice();
-    let (replies, _device) = run_list(session, commands);
-    let replies = replies?;
-    for name in 1..3 {
+/// Runs commands as two lists, one after the other: the replies to both.
+fn run_halves(
+    mut session: SimSession<Global>,
+    commands: &[Command],
+) -> Result<Vec<Reply>, AllocError> {
+    let (first, second) = commands.split_at(commands.len() / 2);
+    let replies = session.run(first);
+    let later = session.run(second);
+    drop(session.finish());
+    let mut replies = replies?;
+    for reply in later? {
+        replies.push(reply)?;
+    }
+    Ok(replies)
+}
+
+/// Compares what is told of the first bytes of four blocks by commands and their replies: of the bytes of a table that,
+/// and of all others nothing.
+fn compare_told(
+    rt: &impl Abort,
+    alloc: Global,
+    commands: &[Command],
+    replies: &[Reply],
+    rows: &[Told],
+) -> Result<(), AllocError> {
+    assert_eq!(rt; replies.len(), commands.len());
+    for name in 1..5 {
         for byte in 0..64 {
-            let told = values_of(alloc, commands, replies.as_slice(), name, byte)?;
+            let told = values_of(alloc, commands, replies, name, byte)?;
             assert_eq!(rt;
                 told.as_slice(),
                 row_of(rows, name, byte),
@@ -47,12 +61,27 @@ fn compare_told(rt: &impl Abort, alloc: Global, script: &str, rows: &[Told]) -> 
     Ok(())
 }
 
-/// Puts and a refused write over bytes that were written, and a block that goes and comes again.
+/// Compares what is told after the commands of a script, run as one list and as two.
+fn compare(rt: &impl Abort, alloc: Global, script: &str, rows: &[Told]) -> Result<(), Fail> {
+    let script: Script<Global> = match parse(alloc, script.as_bytes()) {
+        Ok(script) => script,
+        Err(_) => return Err(Fail::from("a bad script")),
+    };
+    assert!(rt; script.setup.properties().is_usable());
+    let commands = script.commands.as_slice();
+    let (replies, _device) = run_list(open(alloc, &script.setup)?, commands);
+    compare_told(rt, alloc, commands, replies?.as_slice(), rows)?;
+    let replies = run_halves(open(alloc, &script.setup)?, commands)?;
+    Ok(compare_told(rt, alloc, commands, replies.as_slice(), rows)?)
+}
+
+/// Puts and refused writes over bytes that were written, and blocks that go and come again.
 const PUTS: &str = "\
 heap 1048576
 type 0 2
 atom 64
 refuse flush 3 device
+refuse map 5 failed
 alloc 1 64 0 2 1
 write 1 4 aabb
 map 1 4 8
@@ -62,34 +91,46 @@ write 1 5 dd
 write 1 4 ee
 map 1 5 2
 put 1 0 ff
+put 1 0 ff
 put 1 0 1122
+write 1 4 99
 unmap 1
+required 3 64 0 2 1
+write 3 0 55
+free 3
 required 2 64 0 2 1
-write 2 0 77
+write 2 0 66
 free 2
 required 2 64 0 2 1
+write 2 0 77
+write 2 0 88
 ";
 
 #[test]
 fn values_of_bytes_that_scripts_write(rt: HostRuntime) -> Result<(), Fail> {
     // A neighbour's refused write gives a byte no first value.
-    compare_told(
+    compare(
         &rt,
         rt.alloc(),
         BYTES[0].0,
         &[(1, 3, &[0x61]), (1, 4, &[0x62]), (1, 5, &[0x63])],
     )?;
     // A put alone tells nothing, since the device may see any byte there.
-    compare_told(
+    compare(
         &rt,
         rt.alloc(),
         BYTES[1].0,
         &[(1, 0, &[0xaa]), (1, 1, &[0xbb])],
     )?;
-    compare_told(
+    // A write that is refused since its block is mapped, or by a mapping that failed, gives no byte a value.
+    compare(
         &rt,
         rt.alloc(),
         PUTS,
-        &[(1, 4, &[0xee, 0xaa]), (1, 5, &[0x11, 0xff, 0xdd])],
+        &[
+            (1, 4, &[0xee, 0xaa]),
+            (1, 5, &[0x11, 0xff, 0xff, 0xdd]),
+            (2, 0, &[0x77]),
+        ],
     )
 }
