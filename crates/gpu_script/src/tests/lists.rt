@@ -1,13 +1,15 @@
 //! Lists of commands drawn from a fixed seed, with refusals that are drawn too: what each `Read` gives is compared with
 //! what was written, and what a script of the same list prints with the replies.
 
+mod printed;
 mod tally;
 
 use crate::run_script;
 use crate::sim::{Question, Sim};
 use gpu_alloc::{Dedicated, MapError, Request, UsageFlags};
-use gpu_script_language::{Script, SimSession, open, parse, print_reply};
+use gpu_script_language::{Script, SimSession, open, parse};
 use gpu_session::{Bytes, Command, Fault, Reply, values_of};
+use printed::printed;
 use std::alloc::{AllocError, Global};
 use std::process::Abort;
 use std::test::Fail;
@@ -549,22 +551,6 @@ pub(super) fn run_list(
 ) -> (Result<Vec<Reply>, AllocError>, Sim<Global>) {
     let replies = session.run(commands);
     (replies, session.finish())
-}
-
-/// What a script prints that is answered so.
-fn printed(
-    alloc: Global,
-    replies: &[Reply],
-    objects: usize,
-    asked: u64,
-) -> Result<String, AllocError> {
-    let mut text = String::new(alloc);
-    for reply in replies {
-        print_reply(&mut text, reply)?;
-        text.push('\n')?;
-    }
-    writeln!(text, "end objects {objects} allocations {asked}")?;
-    Ok(text)
 }
 
 /// The replies to a list, and what a script of it has to print.

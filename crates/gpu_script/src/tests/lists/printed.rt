@@ -1,0 +1,119 @@
+//! What a script prints for replies, by patterns: written apart from the program's own printer.
+
+use super::add_bytes;
+use gpu_session::{Fault, Reply};
+use std::alloc::{AllocError, Global};
+
+/// Each fault with its line.
+const FAULTS: [(Fault, &str); 12] = [
+    (Fault::NameInUse, "fault 1 NameInUse"),
+    (Fault::UnknownName, "fault 2 UnknownName"),
+    (Fault::BadSize, "fault 3 BadSize"),
+    (Fault::BadAlignment, "fault 4 BadAlignment"),
+    (Fault::NoDeviceAddress, "fault 5 NoDeviceAddress"),
+    (Fault::BadRange, "fault 6 BadRange"),
+    (Fault::BadType, "fault 7 BadType"),
+    (Fault::NoRemaining, "fault 8 NoRemaining"),
+    (Fault::TooManyRemaining, "fault 9 TooManyRemaining"),
+    (Fault::BadImportEnd, "fault 10 BadImportEnd"),
+    (Fault::NotMapped, "fault 11 NotMapped"),
+    (Fault::NoMemory, "fault 12 NoMemory"),
+];
+
+/// The line of a fault.
+fn fault_line(fault: Fault) -> &'static str {
+    for (of, line) in FAULTS {
+        if of == fault {
+            return line;
+        }
+    }
+    ""
+}
+
+/// Adds a pattern, with the next number for each `#` of it.
+fn fill(text: &mut String, pattern: &str, numbers: &[u128]) -> Result<(), AllocError> {
+    let mut next = numbers.iter();
+    for part in pattern.chars() {
+        if part == '#'
+            && let Some(number) = next.next()
+        {
+            write!(text, "{number}")?;
+        } else {
+            text.push(part)?;
+        }
+    }
+    Ok(())
+}
+
+/// Adds the line of a reply.
+fn add_reply(text: &mut String, reply: &Reply) -> Result<(), AllocError> {
+    match reply {
+        Reply::Granted {
+            memory_type,
+            object,
+            offset,
+            size,
+        } => {
+            let of_type = u128::from(*memory_type);
+            let [object, offset, size] = [*object, *offset, *size].map(u128::from);
+            let numbers = [of_type, object, offset, size];
+            fill(text, "block type # object # offset # size #", &numbers)
+        }
+        Reply::Refused(error) => write!(text, "refused: {error}"),
+        Reply::MapRefused(error) => write!(text, "refused: {error}"),
+        Reply::Done => fill(text, "ok", &[]),
+        Reply::Mapped(mapping) => {
+            let numbers = [mapping.start, mapping.len].map(u128::from);
+            fill(text, "mapped # #", &numbers)
+        }
+        Reply::Unmapped(true) => fill(text, "unmapped yes", &[]),
+        Reply::Unmapped(false) => fill(text, "unmapped no", &[]),
+        Reply::Bytes(bytes) => {
+            text.push_str("bytes")?;
+            add_bytes(text, bytes.as_slice())
+        }
+        Reply::Ranges(ranges) => {
+            text.push_str("ranges")?;
+            for range in ranges.as_slice() {
+                let numbers = [range.object, range.start, range.end].map(u128::from);
+                fill(text, " #:#-#", &numbers)?;
+            }
+            let rest = if ranges.as_slice().is_empty() {
+                " none"
+            } else {
+                ""
+            };
+            text.push_str(rest)
+        }
+        Reply::Counts {
+            remaining,
+            held,
+            used,
+        } => {
+            let numbers = [*remaining, *held].map(u128::from);
+            fill(text, "counts remaining # held # used", &numbers)?;
+            for ledger in used.as_slice() {
+                fill(text, " #", &[*ledger])?;
+            }
+            Ok(())
+        }
+        Reply::Fault(fault) => text.push_str(fault_line(*fault)),
+    }
+}
+
+/// What a script prints that is answered so, and then holds so many objects and has asked to allocate so often.
+pub(super) fn printed(
+    alloc: Global,
+    replies: &[Reply],
+    objects: usize,
+    asked: u64,
+) -> Result<String, AllocError> {
+    let mut text = String::new(alloc);
+    for reply in replies {
+        add_reply(&mut text, reply)?;
+        text.push('\n')?;
+    }
+    let numbers = [objects as u128, u128::from(asked)];
+    fill(&mut text, "end objects # allocations #\n", &numbers)?;
+    Ok(text)
+}
