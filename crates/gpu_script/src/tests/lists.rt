@@ -534,11 +534,15 @@ fn compare_told(
     Ok(())
 }
 
-/// The session of a setup.
-fn session_of(rt: &impl Abort, alloc: Global, setup: &str) -> Result<SimSession<Global>, Fail> {
-    let script: Script<Global> = match parse(alloc, setup.as_bytes()) {
+/// A new session by a script's setup.
+pub(super) fn session_of(
+    rt: &impl Abort,
+    alloc: Global,
+    script: &str,
+) -> Result<SimSession<Global>, Fail> {
+    let script: Script<Global> = match parse(alloc, script.as_bytes()) {
         Ok(script) => script,
-        Err(_) => return Err(Fail::from("a bad setup")),
+        Err(_) => return Err(Fail::from("a bad script")),
     };
     assert!(rt; script.setup.properties().is_usable());
     Ok(open(alloc, &script.setup)?)

@@ -1,8 +1,8 @@
 //! What `values_of` tells of bytes, by the commands of a script and their replies.
 
-use super::lists::run_list;
+use super::lists::{run_list, session_of};
 use super::whole::BYTES;
-use gpu_script_language::{Script, SimSession, open, parse};
+use gpu_script_language::{Script, SimSession, parse};
 use gpu_session::{Command, Reply, values_of};
 use std::alloc::{AllocError, Global};
 use std::process::Abort;
@@ -62,16 +62,15 @@ fn compare_told(
 }
 
 /// Compares what is told after the commands of a script, run as one list and as two.
-fn compare(rt: &impl Abort, alloc: Global, script: &str, rows: &[Told]) -> Result<(), Fail> {
-    let script: Script<Global> = match parse(alloc, script.as_bytes()) {
+fn compare(rt: &impl Abort, alloc: Global, text: &str, rows: &[Told]) -> Result<(), Fail> {
+    let script: Script<Global> = match parse(alloc, text.as_bytes()) {
         Ok(script) => script,
         Err(_) => return Err(Fail::from("a bad script")),
     };
-    assert!(rt; script.setup.properties().is_usable());
     let commands = script.commands.as_slice();
-    let (replies, _device) = run_list(open(alloc, &script.setup)?, commands);
+    let (replies, _device) = run_list(session_of(rt, alloc, text)?, commands);
     compare_told(rt, alloc, commands, replies?.as_slice(), rows)?;
-    let replies = run_halves(open(alloc, &script.setup)?, commands)?;
+    let replies = run_halves(session_of(rt, alloc, text)?, commands)?;
     Ok(compare_told(rt, alloc, commands, replies.as_slice(), rows)?)
 }
 
