@@ -549,7 +549,7 @@ pub(super) fn session_of(
 }
 
 /// Runs commands as one list: the replies, and the device at the end.
-pub(super) fn run_list(
+fn run_list(
     mut session: SimSession<Global>,
     commands: &[Command],
 ) -> (Result<Vec<Reply>, AllocError>, Sim<Global>) {

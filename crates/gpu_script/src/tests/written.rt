@@ -1,8 +1,8 @@
 //! What `values_of` tells of bytes, by the commands of a script and their replies.
 
-use super::lists::{run_list, session_of};
+use super::lists::session_of;
 use super::whole::BYTES;
-use gpu_script_language::{Script, SimSession, parse};
+use gpu_script_language::{Script, parse};
 use gpu_session::{Command, Reply, values_of};
 use std::alloc::{AllocError, Global};
 use std::process::Abort;
@@ -22,12 +22,16 @@ fn row_of(rows: &[Told], name: u32, byte: u64) -> &'static [u8] {
     &[]
 }
 
-/// Runs commands as two lists, one after the other: the replies to both.
-fn run_halves(
-    mut session: SimSession<Global>,
+/// The replies to commands that a new session by a script's setup runs as two lists: up to a place, and from it on.
+fn answered(
+    rt: &impl Abort,
+    alloc: Global,
+    text: &str,
     commands: &[Command],
-) -> Result<Vec<Reply>, AllocError> {
-    let (first, second) = commands.split_at(commands.len() / 2);
+    place: usize,
+) -> Result<Vec<Reply>, Fail> {
+    let mut session = session_of(rt, alloc, text)?;
+    let (first, second) = commands.split_at(place.min(commands.len()));
     let replies = session.run(first);
     let later = session.run(second);
     drop(session.finish());
@@ -68,10 +72,11 @@ fn compare(rt: &impl Abort, alloc: Global, text: &str, rows: &[Told]) -> Result<
         Err(_) => return Err(Fail::from("a bad script")),
     };
     let commands = script.commands.as_slice();
-    let (replies, _device) = run_list(session_of(rt, alloc, text)?, commands);
-    compare_told(rt, alloc, commands, replies?.as_slice(), rows)?;
-    let replies = run_halves(session_of(rt, alloc, text)?, commands)?;
-    Ok(compare_told(rt, alloc, commands, replies.as_slice(), rows)?)
+    for place in [0, commands.len() / 2] {
+        let replies = answered(rt, alloc, text, commands, place)?;
+        compare_told(rt, alloc, commands, replies.as_slice(), rows)?;
+    }
+    Ok(())
 }
 
 /// Puts and refused writes over bytes that were written, and blocks that go and come again.
