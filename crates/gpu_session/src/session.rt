@@ -109,8 +109,8 @@ impl<M: MemoryObject, D: MemoryDevice<M>, A: Allocator + Copy> Session<M, D, A> 
     /// with all its bytes, and leaves how many objects are held or may still be, but where it is told otherwise. After
     /// each number of commands each byte of a live block that a `Write` among them gave a value has one of those that
     /// it may have by what was written, for the host and for the device. Each `Read` among them that is answered by
-    /// bytes tells such a value for each byte that has some, and that of the latest write where no write or put went
-    /// there since.
+    /// bytes tells such a value for each byte that has some, and that of the latest write where its block stayed and no
+    /// write or put went there since.
     ///
     /// Places for all replies are taken first: an error means that there was no memory for them, and nothing ran. What
     /// a run keeps, [`laws`](crate::laws) tell.
