@@ -118,8 +118,8 @@ fn numbers_of(kind: Kind, chance: &mut Chance) -> [u64; 5] {
         }
         Kind::Import => {
             let size = (second % 4 + 1) * 16;
-            let end = if third % 8 == 0 { size + 1 } else { size };
-            [name, 0, 128, first % 3 * 16, end]
+            let span = if third % 8 == 0 { size + 1 } else { size };
+            [name, 0, 128, first % 3 * 16, span]
         }
         Kind::Remaining => [first % 4 + 1, 0, 0, 0, 0],
         Kind::Ranges => [first % 5 / 4, 0, 0, 0, 0],
@@ -329,9 +329,13 @@ fn command_of(alloc: Global, line: &Line) -> Result<Command, AllocError> {
         },
         Kind::Unmap => Command::Unmap { name },
         Kind::Write | Kind::Read | Kind::Put | Kind::Get => moving(alloc, line)?,
-        Kind::Remaining => Command::SetRemaining { remaining: name },
+        Kind::Remaining => Command::SetRemaining {
+            remaining: as_u32(first),
+        },
         Kind::Cleanup => Command::Cleanup,
-        Kind::Ranges => Command::FreeRanges { memory_type: name },
+        Kind::Ranges => Command::FreeRanges {
+            memory_type: as_u32(first),
+        },
         Kind::Counts => Command::Counts,
     })
 }
@@ -489,7 +493,6 @@ fn check_replies(
     replies: &[Reply],
     tally: &mut Tally,
 ) -> Result<(), Fail> {
-    assert_eq!(rt; replies.len(), lines.len());
     let mut written = Written::new(alloc)?;
     for (index, (line, reply)) in lines.iter().zip(replies).enumerate() {
         let has_memory = !matches!(reply, Reply::Fault(Fault::NoMemory));
@@ -596,7 +599,7 @@ fn try_list(
     chance: &mut Chance,
     tally: &mut Tally,
 ) -> Result<(), Fail> {
-    let mut plan = draw_plan(alloc, chance)?;
+    let plan = draw_plan(alloc, chance)?;
     let lines = draw_list(alloc, chance)?;
     let commands = commands_of(alloc, lines.as_slice())?;
     let (replies, expected) = answers(rt, alloc, &plan, commands.as_slice(), tally)?;
@@ -608,10 +611,14 @@ fn try_list(
         replies.as_slice(),
         tally,
     )?;
+    let Plan {
+        text: mut script,
+        ..
+    } = plan;
     for line in &lines {
-        add_line(&mut plan.text, line)?;
+        add_line(&mut script, line)?;
     }
-    compare_script(rt, alloc, plan.text.as_str(), expected.as_str());
+    compare_script(rt, alloc, script.as_str(), expected.as_str());
     Ok(())
 }
 

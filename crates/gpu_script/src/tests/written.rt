@@ -112,7 +112,7 @@ write 2 0 88
 
 #[test]
 fn values_of_bytes_that_scripts_write(rt: HostRuntime) -> Result<(), Fail> {
-    // A neighbour's refused write gives a byte no first value.
+    // A refused write alone gives its bytes no value.
     compare(
         &rt,
         rt.alloc(),

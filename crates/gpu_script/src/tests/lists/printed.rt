@@ -1,4 +1,5 @@
-//! What a script prints for replies, by patterns: written apart from the program's own printer.
+//! What a script prints for replies, by patterns: written apart from the program's own printer, but for the texts of
+//! errors, which contracts say.
 
 use super::add_bytes;
 use gpu_session::{Fault, Reply};

@@ -1,6 +1,6 @@
 //! How often each thing occurs in lists of commands, so that a test fails where one is missing.
 
-use super::{KINDS, Kind, Line, Plan, Written};
+use super::{KINDS, Kind, Line, NAMES, Plan, Written, has_bytes};
 use crate::sim::{Question, Sim};
 use gpu_alloc::MapError;
 use gpu_session::Reply;
@@ -33,16 +33,16 @@ fn count_one(counts: &mut Vec<u64>, index: usize) {
     }
 }
 
-/// A block came from a chunk of buddies.
-const BUDDY: usize = 0;
+/// A block was granted in a buddy chunk, behind its front.
+const IN_BUDDY_CHUNK: usize = 0;
 
-/// A block came from the end of a chunk.
-const TAIL: usize = 1;
+/// A block was granted in a free list's chunk, behind its front.
+const IN_FREE_LIST: usize = 1;
 
-/// The device refused a flush.
+/// A flush was asked for that the plan refuses.
 const FLUSH_REFUSED: usize = 2;
 
-/// The device refused an invalidate.
+/// An invalidate was asked for that the plan refuses.
 const INVALIDATE_REFUSED: usize = 3;
 
 /// A byte could have one value.
@@ -66,20 +66,47 @@ const NOT_WRITTEN_AS_MAPPED: usize = 9;
 /// It was refused by a mapping that failed.
 const NOT_WRITTEN_AS_MAP_FAILED: usize = 10;
 
-/// How many special things there are.
-const SPECIAL: usize = 11;
+/// Bytes with values were read of a block in a shared chunk, behind its front.
+const SHARED_READ: usize = 11;
+
+/// They were read of a block that is an object of its own.
+const OWN_READ: usize = 12;
+
+/// They were read of an import.
+const IMPORT_READ: usize = 13;
+
+/// What else has to occur in the lists, by these numbers.
+const EVENTS: [&str; 14] = [
+    "block in a buddy chunk",
+    "block in a free list's chunk",
+    "refused flush",
+    "refused invalidate",
+    "byte of one value",
+    "byte of several values",
+    "read byte of one value",
+    "read byte of several values",
+    "refused write that may have moved bytes",
+    "write refused by its block's mapping",
+    "write refused by a mapping that failed",
+    "read of a block in a shared chunk",
+    "read of a block that is an object",
+    "read of an import",
+];
 
 /// How often each thing occurred in the lists.
 #[derive(Drop)]
 pub(super) struct Tally {
-    /// How often each kind of command succeeded.
+    /// How often each kind of command was served to some effect, by the places of `KINDS`.
     served: Vec<u64>,
 
     /// How often each kind of reply came.
     answered: Vec<u64>,
 
-    /// How often each special thing occurred.
-    special: Vec<u64>,
+    /// How often each of `EVENTS` occurred.
+    events: Vec<u64>,
+
+    /// Which event a read of the block of each name is, none if it is beyond them.
+    reads: Vec<usize>,
 }
 
 impl Tally {
@@ -87,20 +114,22 @@ impl Tally {
     pub(super) fn new(alloc: Global) -> Result<Tally, AllocError> {
         let served = vec![in alloc; 0u64; KINDS.len()]?;
         let answered = vec![in alloc; 0u64; REPLIES]?;
-        let special = vec![in alloc; 0u64; SPECIAL]?;
+        let events = vec![in alloc; 0u64; EVENTS.len()]?;
+        let reads = vec![in alloc; EVENTS.len(); NAMES]?;
         Ok(Tally {
             served,
             answered,
-            special,
+            events,
+            reads,
         })
     }
 
-    /// Counts a byte by how many values it may have, as one thing or as another.
+    /// Counts a byte by how many values it may have, as one event or as another.
     pub(super) fn count_byte(&mut self, bits: u64, one: usize, several: usize) {
         match bits.count_ones() {
             0 => (),
-            1 => count_one(&mut self.special, one),
-            _ => count_one(&mut self.special, several),
+            1 => count_one(&mut self.events, one),
+            _ => count_one(&mut self.events, several),
         }
     }
 
@@ -111,15 +140,42 @@ impl Tally {
             MapError::MapFailed => NOT_WRITTEN_AS_MAP_FAILED,
             _ => MAY_BE_WRITTEN,
         };
-        count_one(&mut self.special, cause);
+        count_one(&mut self.events, cause);
     }
 
-    /// Counts a command that was served.
-    fn count_served(&mut self, line: &Line) {
-        count_one(&mut self.served, line.kind as usize);
-        if line.kind == Kind::Alloc {
-            let kind = if line.numbers[3] == 2 { BUDDY } else { TAIL };
-            count_one(&mut self.special, kind);
+    /// Counts a block that starts so in its object: behind the front it lies in a shared chunk, but for an import.
+    fn count_granted(&mut self, line: &Line, start: u64) {
+        let [name, _, _, usage, _] = line.numbers;
+        let event = match line.kind {
+            Kind::Import => IMPORT_READ,
+            Kind::Required => OWN_READ,
+            _ if start > 0 => SHARED_READ,
+            _ => EVENTS.len(),
+        };
+        if event == SHARED_READ {
+            let chunk = if usage == 2 {
+                IN_BUDDY_CHUNK
+            } else {
+                IN_FREE_LIST
+            };
+            count_one(&mut self.events, chunk);
+        }
+        if let Some(read) = self.reads.get_mut((name % NAMES as u64) as usize) {
+            *read = event;
+        }
+    }
+
+    /// Counts the bytes that a command read.
+    fn count_read(&mut self, line: &Line, len: u64, written: &mut Written) {
+        let [name, offset, ..] = line.numbers;
+        for place in 0..len {
+            let bits = written.bits(name, offset.wrapping_add(place));
+            self.count_byte(bits, ONE_READ, SEVERAL_READ);
+            if bits != 0
+                && let Some(event) = self.reads.get((name % NAMES as u64) as usize)
+            {
+                count_one(&mut self.events, *event);
+            }
         }
     }
 
@@ -136,15 +192,14 @@ impl Tally {
                     && written.goes_over_values(name, offset, line.bytes.as_slice()) => {
                 self.count_refused_write(*error);
             }
-            Reply::Refused(_) | Reply::MapRefused(_) => (),
+            Reply::Granted { offset: start, .. } => self.count_granted(line, *start),
             Reply::Bytes(bytes) if line.kind == Kind::Read => {
-                self.count_served(line);
-                for place in 0..bytes.as_slice().len() as u64 {
-                    let bits = written.bits(name, offset.wrapping_add(place));
-                    self.count_byte(bits, ONE_READ, SEVERAL_READ);
-                }
+                self.count_read(line, bytes.as_slice().len() as u64, written);
             }
-            _ => self.count_served(line),
+            _ => (),
+        }
+        if has_effect(line, reply) {
+            count_one(&mut self.served, line.place);
         }
     }
 
@@ -153,8 +208,8 @@ impl Tally {
         for (question, nth) in &plan.refused {
             if *nth <= device.asked(*question) {
                 match question {
-                    Question::Flush => count_one(&mut self.special, FLUSH_REFUSED),
-                    Question::Invalidate => count_one(&mut self.special, INVALIDATE_REFUSED),
+                    Question::Flush => count_one(&mut self.events, FLUSH_REFUSED),
+                    Question::Invalidate => count_one(&mut self.events, INVALIDATE_REFUSED),
                     _ => (),
                 }
             }
@@ -163,14 +218,26 @@ impl Tally {
 
     /// Each thing has to have occurred.
     pub(super) fn has_all(&self, rt: &impl Abort) {
-        for (index, count) in self.served.iter().enumerate() {
-            assert!(rt; *count > 0, "no command {index} of KINDS was served");
+        for ((_, word, _), count) in KINDS.iter().zip(&self.served) {
+            assert!(rt; *count > 0, "no {word} was served");
         }
         for (index, count) in self.answered.iter().enumerate() {
             assert!(rt; *count > 0, "no reply {index} came");
         }
-        for (index, count) in self.special.iter().enumerate() {
-            assert!(rt; *count > 0, "nothing special {index} occurred");
+        for (event, count) in EVENTS.iter().zip(&self.events) {
+            assert!(rt; *count > 0, "no {event} occurred");
         }
+    }
+}
+
+/// Whether a command was served, and not without bytes, a mapping or a range.
+fn has_effect(line: &Line, reply: &Reply) -> bool {
+    match reply {
+        Reply::Refused(_) | Reply::MapRefused(_) | Reply::Fault(_) => false,
+        Reply::Done => !has_bytes(line.kind) || !line.bytes.is_empty(),
+        Reply::Unmapped(was_mapped) => *was_mapped,
+        Reply::Bytes(bytes) => !bytes.as_slice().is_empty(),
+        Reply::Ranges(ranges) => !ranges.as_slice().is_empty(),
+        Reply::Granted { .. } | Reply::Mapped(_) | Reply::Counts { .. } => true,
     }
 }
