@@ -278,7 +278,7 @@ fn a_program_without_memory_says_so_alone(rt: HostRuntime) -> Result<(), Fail> {
 }
 
 /// What is printed of each fault.
-const FAULTS: [(Fault, &str); 12] = [
+pub(super) const FAULTS: [(Fault, &str); 12] = [
     (Fault::NameInUse, "fault 1 NameInUse"),
     (Fault::UnknownName, "fault 2 UnknownName"),
     (Fault::BadSize, "fault 3 BadSize"),

@@ -2,24 +2,9 @@
 //! errors, which contracts say.
 
 use super::add_bytes;
+use crate::tests::memory::FAULTS;
 use gpu_session::{Fault, Reply};
 use std::alloc::{AllocError, Global};
-
-/// Each fault with its line.
-const FAULTS: [(Fault, &str); 12] = [
-    (Fault::NameInUse, "fault 1 NameInUse"),
-    (Fault::UnknownName, "fault 2 UnknownName"),
-    (Fault::BadSize, "fault 3 BadSize"),
-    (Fault::BadAlignment, "fault 4 BadAlignment"),
-    (Fault::NoDeviceAddress, "fault 5 NoDeviceAddress"),
-    (Fault::BadRange, "fault 6 BadRange"),
-    (Fault::BadType, "fault 7 BadType"),
-    (Fault::NoRemaining, "fault 8 NoRemaining"),
-    (Fault::TooManyRemaining, "fault 9 TooManyRemaining"),
-    (Fault::BadImportEnd, "fault 10 BadImportEnd"),
-    (Fault::NotMapped, "fault 11 NotMapped"),
-    (Fault::NoMemory, "fault 12 NoMemory"),
-];
 
 /// The line of a fault.
 fn fault_line(fault: Fault) -> &'static str {
