@@ -2,10 +2,10 @@
 use Rattle.std.proofs.Common.{◌≡◌, ◌≤◌, ◌<◌, ◌⊎◌, inl, inr, ◌*◌, ◌+◌, ◌-◌, ◌^◌, ℕ, zero, suc, true, false, cond, nat_le, refl, sym, ◌∙◌, ap, subst, arith, w64, ◌/◌, ◌%◌, IsTrue, ◌==◌, count_ones}
 use Rattle.std.specs.Prelude.{max}
 use Rattle.std.specs.Int.{trailing_zeros, bit_at, is_power_of_two}
-use Rattle.std.specs.Int.Count.{ones_step}
+use Rattle.std.specs.Int.Count.{ones_step, count_leading_zeros}
 use Rattle.std.proofs.lemmas.Bool.{cases_eq}
 use Rattle.std.proofs.lemmas.Bool.Decides.{nat_tests}
-use Rattle.std.proofs.lemmas.Nat.{pow_pos, zero_from_ones, ones_le_self}
+use Rattle.std.proofs.lemmas.Nat.{pow_pos, zero_from_ones, ones_le_self, leading_length}
 use Rattle.std.proofs.lemmas.Nat.Bits.{bit_at-trailing_zeros, bit_at-pow_other}
 use Rattle.std.proofs.Math.Pow.{pow_mono}
 use Rattle.gpu_alloc_base.specs.AlignMasks.{IsAlignMask}
@@ -78,6 +78,17 @@ least_exponent x r bound enough least =
     let le : r ≤ j = least j (omega (arith, n.enough, e)) in
     let down : 2 ^ r ≤ 2 ^ j = pow_mono le in
     omega (arith, up, e, down)
+
+-- it is the number of digits of the number below
+pub digits_are_least : (x : ℕ) → x < 2 ^ 64 → next_power_of_two x ≡ 2 ^ (64 - count_leading_zeros 64 (x - 1))
+digits_are_least x short =
+    let below = leading_length 64 (x - 1) (omega arith) in
+    let m = below.0 in
+    let same : m ≡ 64 - count_leading_zeros 64 (x - 1) = omega (arith, below.1) in
+    let least : (k : ℕ) → x ≤ 2 ^ k → m ≤ k = λ k is.
+        let positive = pow_pos k in
+        let lt : m < suc k = exponent m (suc k) (omega (arith, below.3, is, positive)) in omega (arith, lt) in
+    subst (λ r. next_power_of_two x ≡ 2 ^ r) same (least_exponent x m (omega arith) (omega (arith, below.2)) least)
 
 -- a number with one bit set is a power of two
 power_within : (d n : ℕ) → n ≤ d → count_ones n ≡ 1 → (k : ℕ) × (n ≡ 2 ^ k)

@@ -9,11 +9,7 @@ pub fn next_order(n: u64) -> u32
     ensures least { next_power_of_two n ≡ 2 ^ result }
     ensures bound { result ≤ 64 }
 {
-    let mut order = 0;
-    while order < 64 && (1u64 << order) < n {
-        order += 1;
-    }
-    order
+    64 - n.saturating_sub(1).leading_zeros()
 }
 
 /// The least power of two that is not below a number of at most 2^63.
