@@ -1,33 +1,48 @@
 -- Candidates that are tried in turn, and what a refusal comes to.
-use Rattle.std.proofs.Common.{◌≡◌, ℕ, suc, ◌<◌, ◌≤◌, List, [], ◌++◌, length, drop, get_or, Option, Result, Err, refl, subst, inl, inr, append_assoc, append-nil, drop-cons}
+use Rattle.std.proofs.Common.{◌≡◌, ℕ, suc, ◌<◌, ◌≤◌, Bool, true, false, List, [], ◌∷◌, ◌++◌, ◌/◌, ◌^◌, ◌==◌, bit_and, arith, ap, filter, length, drop, get_or, Option, Result, Err, refl, subst, ◌∙◌, inl, inr, append_assoc, append-nil, drop-cons}
+use Rattle.std.proofs.lemmas.Bool.Decides.{nat_tests}
+use Rattle.std.proofs.lemmas.Nat.Bits.{shr_and_one}
 use Rattle.std.proofs.Math.ListN.{drop_of_length-le}
+use Rattle.gpu_alloc_types.specs.Flags.{usage_bits}
+use Rattle.gpu_alloc_usage.specs.Ranking.{implied, is_allowed, named, ranking}
+use Rattle.gpu_alloc_usage.proofs.Ranking.Candidates.{implied-named}
 use Rattle.gpu_alloc_types.specs.Device.{Event, Object}
 use Rattle.gpu_alloc_block.specs.State.{State, Block}
 use Rattle.gpu_alloc_base.specs.Case as case
 use Rattle.gpu_alloc_base.specs.Case.{Case}
-use Rattle.gpu_alloc.specs.Allocation.{passing, IsPassed, Decides, TriesAll, ObjectsTried}
+use Rattle.gpu_alloc.specs.Allocation.{candidates_of, passing, IsPassed, Decides, TriesAll, ObjectsTried}
 use Rattle.gpu_alloc_base.specs.declared.error.AllocationError.{AllocationError}
 use Rattle.gpu_alloc_base.specs.declared.error.AllocationError.TheVariants.{OutOfDeviceMemory, OutOfHostMemory, NoCompatibleMemoryTypes, TooManyObjects}
 use Rattle.gpu_alloc.specs.declared.request.Request.{Request}
 use Rattle.gpu_alloc.specs.declared.request.Dedicated.{Dedicated}
 
-module _ (s : State) (r : Request) (hint : Option Dedicated) (ts : List ℕ) where
-  -- after these events, what the candidates from i on make is what all of them make
+-- The candidates are those of the ranked types ts that are allowed.
+module _ (s : State) (r : Request) (hint : Option Dedicated) (allowed : ℕ → Bool) (ts : List ℕ) where
+  -- after these events, what the candidates from rank i on make is what all of them make
   abbrev pub Continues : ℕ → List Event → Type 0
-  Continues i es = (fs : List Event) (answer : Result Block AllocationError) (new : State) → TriesAll s r hint (drop i ts) fs answer new → TriesAll s r hint ts (es ++ fs) answer new
+  Continues i es = (fs : List Event) (answer : Result Block AllocationError) (new : State)
+      → TriesAll s r hint (filter allowed (drop i ts)) fs answer new → TriesAll s r hint (filter allowed ts) (es ++ fs) answer new
 
-  pub continues_next : (i : ℕ) (es first : List Event) → i < length ts → Continues i es → IsPassed s r hint (get_or ts i 0) first → Continues (suc i) (es ++ first)
-  continues_next i es first lt goes passed fs answer new h =
-      rw append_assoc (goes (first ++ fs) answer new (rw (drop-cons ts i 0 lt) (inl (first, fs, refl, passed, h))))
+  -- the type at rank i is a candidate, the first of those from i on
+  first : (i : ℕ) → i < length ts → allowed (get_or ts i 0) ≡ true → filter allowed (drop i ts) ≡ get_or ts i 0 ∷ filter allowed (drop (suc i) ts)
+  first i lt is = rw (drop-cons ts i 0 lt, is) refl
 
-  -- the candidate at i decides, in a state that is equal
+  pub continues_past : (i : ℕ) (es : List Event) → i < length ts → allowed (get_or ts i 0) ≡ false → Continues i es → Continues (suc i) es
+  continues_past i es lt is goes fs answer new h = goes fs answer new (rw (drop-cons ts i 0 lt, is) h)
+
+  pub continues_next : (i : ℕ) (es first_events : List Event) → i < length ts → allowed (get_or ts i 0) ≡ true
+      → Continues i es → IsPassed s r hint (get_or ts i 0) first_events → Continues (suc i) (es ++ first_events)
+  continues_next i es first_events lt is goes passed fs answer new h =
+      rw append_assoc (goes (first_events ++ fs) answer new (rw (first i lt is) (inl (first_events, fs, refl, passed, h))))
+
+  -- the candidate at rank i decides, in a state that is equal
   pub continues_decided : (now : State) (i : ℕ) (es fs : List Event) (answer : Result Block AllocationError) (new : State) → now ≡ s → i < length ts
-      → Continues i es → Decides now r hint (get_or ts i 0) fs answer new → TriesAll s r hint ts (es ++ fs) answer new
-  continues_decided now i es fs answer new same lt goes decides =
-      goes fs answer new (rw (drop-cons ts i 0 lt) (inr (subst (λ x. Decides x r hint (get_or ts i 0) fs answer new) same decides)))
+      → allowed (get_or ts i 0) ≡ true → Continues i es → Decides now r hint (get_or ts i 0) fs answer new → TriesAll s r hint (filter allowed ts) (es ++ fs) answer new
+  continues_decided now i es fs answer new same lt is goes decides =
+      goes fs answer new (rw (first i lt is) (inr (subst (λ x. Decides x r hint (get_or ts i 0) fs answer new) same decides)))
 
   -- all were passed
-  pub continues_end : (i : ℕ) (es : List Event) → length ts ≤ i → Continues i es → TriesAll s r hint ts es (Err OutOfDeviceMemory) s
+  pub continues_end : (i : ℕ) (es : List Event) → length ts ≤ i → Continues i es → TriesAll s r hint (filter allowed ts) es (Err OutOfDeviceMemory) s
   continues_end i es le goes =
       let h = goes [] (Err OutOfDeviceMemory) s (rw (drop_of_length-le ts le) (refl, refl, refl)) in rw append-nil at h
 
@@ -45,3 +60,22 @@ nothing_made s OutOfDeviceMemory after old new same = same
 nothing_made s OutOfHostMemory after old new same = same
 nothing_made s NoCompatibleMemoryTypes after old new same = same
 nothing_made s TooManyObjects after old new same = same
+
+-- What the walk over the ranked types tests.
+
+pub allowed_by_shift : (mask t : ℕ) → bit_and (mask / 2 ^ t) 1 ≡ 1 → is_allowed mask t ≡ true
+allowed_by_shift mask t is = rw (← shr_and_one mask t, is) refl
+
+pub not_by_shift : (mask t : ℕ) → (bit_and (mask / 2 ^ t) 1 ≡ 1 → ⊥) → is_allowed mask t ≡ false
+not_by_shift mask t is = rw (← shr_and_one mask t) (elim (bit_and (mask / 2 ^ t) 1 == 1) as (λ b. (bit_and (mask / 2 ^ t) 1 == 1) ≡ b → b ≡ false) [
+  | true ↦ λ e. absurd (is (grind (arith, nat_tests)))
+  | false ↦ λ e. refl
+] refl)
+
+-- what the ranked types make that are allowed, ranked for what the request's usage means, its candidates make
+pub tries_as_meant : (s : State) (r : Request) (hint : Option Dedicated) (meant : ℕ) (es : List Event) (answer : Result Block AllocationError) (new : State)
+    → meant ≡ implied (usage_bits r.usage) → TriesAll s r hint (filter (is_allowed r.memory_types) (ranking (named meant) s.properties.memory_types)) es answer new
+    → TriesAll s r hint (candidates_of s r) es answer new
+tries_as_meant s r hint meant es answer new is h =
+    let same : named meant ≡ implied (usage_bits r.usage) = ap named is ∙ implied-named (usage_bits r.usage) in
+    subst (λ u. TriesAll s r hint (filter (is_allowed r.memory_types) (ranking u s.properties.memory_types)) es answer new) same h

@@ -1,7 +1,7 @@
 //! The allocator.
 
 ghost use Rattle.std.specs.Prelude.{◌≡◌, ◌↔◌, ℕ, ◌+◌, ◌/◌, ◌^◌, ◌<◌, true, length, List, All, IsTrue, IfOk, IfErr};
-ghost use Rattle.std.specs.Prelude.{OnErr, Some, None, cond, false, is_some};
+ghost use Rattle.std.specs.Prelude.{OnErr, Some, None, cond, false, is_some, not, ◌==◌};
 ghost use Rattle.std.specs.FinMap as map;
 ghost use Rattle.std.specs.FinSet as set;
 ghost use Rattle.gpu_alloc_types.specs.Properties.{IsUsable, properties_of, heap_size};
@@ -9,7 +9,8 @@ ghost use Rattle.gpu_alloc_types.specs.Flags.{has_bit, usage_bits};
 ghost use Rattle.gpu_alloc_types.specs.Device.{Event, Chain};
 ghost use Rattle.gpu_alloc_block.specs.Agreement.{Agrees, BlockAgrees, KeepsBlocks};
 ghost use Rattle.gpu_alloc.specs.Allocation.{passing, strategy, unhinted, fits_a_chunk, Tries, TriesBy, TriesAll};
-ghost use Rattle.gpu_alloc.specs.Allocation.{Allocates, ObjectsAfter, ObjectsTried, IsGranted};
+ghost use Rattle.gpu_alloc_usage.specs.Ranking.{implied, named, ranking};
+ghost use Rattle.gpu_alloc.specs.Allocation.{Allocates, ObjectsAfter, ObjectsTried, IsGranted, candidates_of};
 ghost use Rattle.gpu_alloc.specs.Atoms.{KeepsAtoms};
 ghost use Rattle.gpu_alloc.specs.declared.allocator.Strategy.TheVariants.{OwnObject, InBuddyChunk, InFreeList};
 ghost use Rattle.gpu_alloc.specs.Opening.{opened};
@@ -36,6 +37,7 @@ use gpu_alloc_block::Kind;
 use gpu_alloc_buddy::BuddyAllocator;
 use gpu_alloc_freelist::FreeListAllocator;
 use gpu_alloc_types::{DeviceProperties, MemoryDevice, MemoryObject, OutOfMemory, UsageFlags};
+use gpu_alloc_usage::meaning;
 use rows::{add_leaf, add_slot};
 use std::alloc::{AllocError, Allocator, Global};
 use std::marker::Model;
@@ -267,33 +269,54 @@ impl<M: MemoryObject, A: Allocator> GpuAllocator<M, A> {
         if is_required(hint) && self.remaining_allocations() == 0 {
             return Err(AllocationError::TooManyObjects);
         }
-        let candidates = self.limits.candidates(request);
-        let types = candidates.types();
-        if types.is_empty() {
+        let usage = meaning(request.usage);
+        if !self.has_candidate(request, usage) {
             return Err(AllocationError::NoCompatibleMemoryTypes);
         }
-        self.try_all(device, request, hint, types)
+        self.try_all(device, request, hint, usage)
     }
 
-    /// Tries the candidates in rank.
+    /// Whether any memory type that serves a request, which has this meaning, is one of those that it allows.
+    fn has_candidate(&self, request: Request, usage: UsageFlags) -> bool
+        requires meant { usage_bits usage ≡ implied (usage_bits request.usage) }
+        ensures { result ≡ not (length (candidates_of self.now request) == 0) }
+    {
+        self.limits
+            .memory_for_usage
+            .has_any(usage, request.memory_types)
+    }
+
+    /// The memory types that serve a usage, the best first.
+    fn ranked(&self, usage: UsageFlags) -> &[u32]
+        ensures ranked { result.now ≡ ranking (named (usage_bits usage)) (self.now.properties).memory_types }
+        ensures few { All (λ t. t < 32) result.now }
+    {
+        self.limits.memory_for_usage.types(usage)
+    }
+
+    /// Tries the candidates in rank: the memory types that serve a request, which has this meaning, where it allows
+    /// them.
     fn try_all<D: MemoryDevice<M>>(
         &mut self,
         device: &mut D,
         request: Request,
         hint: Option<Dedicated>,
-        candidates: &[u32],
+        usage: UsageFlags,
     ) -> Result<MemoryBlock<M>, AllocationError>
         requires askable { IsAskable (self.old.properties).buffer_device_address request }
-        requires known { All (λ t. t < length (self.old.properties).memory_types) candidates.now }
+        requires meant { usage_bits usage ≡ implied (usage_bits request.usage) }
         requires agrees { Agrees self.old (D.properties device.old) (D.objects device.old) }
         ensures tries { (es : List Event) × Chain D.step device.old es device.new
-            × TriesAll self.old request hint candidates.now es result self.new }
+            × TriesAll self.old request hint (candidates_of self.old request) es result self.new }
         ensures objects { ObjectsAfter self.old result self.new (D.objects device.old) (D.objects device.new) }
     {
-        for &memory_type in candidates {
-            match self.try_type(device, request, hint, memory_type)? {
-                Some(block) => return Ok(block),
-                None => {}
+        for rank in 0..self.ranked(usage).len() {
+            let memory_type = self.ranked(usage)[rank];
+            if request.memory_types >> memory_type & 1 == 1 {
+                match self.try_type(device, request, hint, memory_type)? {
+                    Some(block) => return Ok(block),
+                    None => {}
+                }
             }
         }
         Err(AllocationError::OutOfDeviceMemory)

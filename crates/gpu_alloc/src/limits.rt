@@ -1,16 +1,14 @@
 //! What an allocator was given and keeps.
 
 ghost use Rattle.std.specs.Prelude.{◌≡◌, ◌<◌, length, cond, slice_get};
-ghost use Rattle.gpu_alloc_types.specs.Flags.{allocation_bits, property_bits, usage_bits};
+ghost use Rattle.gpu_alloc_types.specs.Flags.{allocation_bits, property_bits};
 ghost use Rattle.gpu_alloc_types.specs.Properties.{heap_of, bits_of};
 ghost use Rattle.gpu_alloc_base.specs.Sizes.{atom_where};
-ghost use Rattle.gpu_alloc_usage.specs.Ranked.{ranked_types};
-ghost use Rattle.gpu_alloc_usage.specs.Ranking.{candidates, IsTable};
+ghost use Rattle.gpu_alloc_usage.specs.Ranking.{IsTable};
 
-use crate::Request;
 use gpu_alloc_base::Config;
 use gpu_alloc_types::{AllocationFlags, MemoryPropertyFlags, MemoryType};
-use gpu_alloc_usage::{MemoryForOneUsage, MemoryForUsage};
+use gpu_alloc_usage::MemoryForUsage;
 use std::alloc::{Allocator, Global};
 
 /// What stays as `new` was given it.
@@ -41,15 +39,6 @@ impl<A: Allocator> Limits<A> {
         ensures { property_bits result ≡ bits_of (slice_get self.now.memory_types.items memory_type) }
     {
         self.memory_types[memory_type as usize].props
-    }
-
-    /// The memory types to be tried for a request, the best first.
-    pub(crate) fn candidates(&self, request: Request) -> MemoryForOneUsage
-        ensures { ranked_types result ≡ candidates self.now.memory_types.items (usage_bits request.usage)
-            request.memory_types }
-    {
-        self.memory_for_usage
-            .candidates(request.usage, request.memory_types)
     }
 
     /// The flags of every question.

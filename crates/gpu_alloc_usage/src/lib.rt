@@ -4,4 +4,4 @@
 pub mod laws;
 mod usage;
 
-pub use usage::{MemoryForOneUsage, MemoryForUsage};
+pub use usage::{MemoryForUsage, meaning};

@@ -2,12 +2,12 @@
 
 mod ranked;
 
-ghost use Rattle.std.specs.Prelude.{◌≡◌, ◌≤◌, length, filter};
+ghost use Rattle.std.specs.Prelude.{◌≡◌, ◌≤◌, ◌==◌, not, length, filter};
 ghost use Rattle.gpu_alloc_types.specs.Flags.{usage_bits};
 ghost use Rattle.gpu_alloc_usage.specs.Ranking.{implied, is_allowed, row, IsMaskOf, IsTable};
 ghost use Rattle.gpu_alloc_usage.specs.Ranked.{ranked_types};
 
-pub use crate::usage::ranked::MemoryForOneUsage;
+use crate::usage::ranked::MemoryForOneUsage;
 use gpu_alloc_types::{MemoryType, UsageFlags};
 use std::marker::Model;
 
@@ -67,12 +67,11 @@ impl MemoryForUsage {
         self.row(usage).types()
     }
 
-    /// The memory types to be tried for a request, the best first: those that serve what its usage means and whose bit
-    /// is set in `mask`. It is public for the allocator.
-    pub fn candidates(&self, usage: UsageFlags, mask: u32) -> MemoryForOneUsage
-        ensures { ranked_types result ≡ filter (is_allowed mask) (row self.now (implied (usage_bits usage))) }
+    /// Whether any type that serves a usage has its bit set in `mask`. Bits of the usage without a name are dropped.
+    pub fn has_any(&self, usage: UsageFlags, mask: u32) -> bool
+        ensures { result ≡ not (length (filter (is_allowed mask) (row self.now (usage_bits usage))) == 0) }
     {
-        self.row(meaning(usage)).within(mask)
+        self.mask(usage) & mask != 0
     }
 
     fn row(&self, usage: UsageFlags) -> &MemoryForOneUsage
@@ -82,8 +81,9 @@ impl MemoryForUsage {
     }
 }
 
-/// The usage that is meant: no flag means `FAST_DEVICE_ACCESS`, and `DOWNLOAD` and `UPLOAD` mean `HOST_ACCESS` too.
-fn meaning(usage: UsageFlags) -> UsageFlags
+/// What a request's usage means: no flag means `FAST_DEVICE_ACCESS`, and `DOWNLOAD` and `UPLOAD` mean `HOST_ACCESS` too
+/// (the original crate's rule). Bits without a name are dropped.
+pub fn meaning(usage: UsageFlags) -> UsageFlags
     ensures { usage_bits result ≡ implied (usage_bits usage) }
 {
     let named = UsageFlags::from_bits_retain(usage.bits() & NAMED);

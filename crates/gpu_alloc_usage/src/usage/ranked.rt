@@ -1,10 +1,10 @@
 //! The memory types that serve one usage, the best first.
 
-ghost use Rattle.std.specs.Prelude.{◌≡◌, ◌<◌, ◌≤◌, ◌+◌, true, [], ◌∷◌, ◌++◌, length, take, filter, if◌then◌else◌};
+ghost use Rattle.std.specs.Prelude.{◌≡◌, ◌<◌, ◌≤◌, ◌+◌, true, [], ◌∷◌, ◌++◌, length, take, if◌then◌else◌};
 ghost use Rattle.gpu_alloc_types.specs.Flags.{usage_bits, property_bits};
 ghost use Rattle.gpu_alloc_usage.specs.Masks.{with_bits};
 ghost use Rattle.gpu_alloc_usage.specs.KeyByKey.{has_key, of_key};
-ghost use Rattle.gpu_alloc_usage.specs.Ranking.{by_host, is_fast, compatible, where_differ, key, is_allowed, ranking};
+ghost use Rattle.gpu_alloc_usage.specs.Ranking.{by_host, is_fast, compatible, where_differ, key, ranking};
 ghost use Rattle.gpu_alloc_usage.specs.Ranking.{IsMaskOf};
 
 use gpu_alloc_types::{MemoryPropertyFlags, MemoryType, UsageFlags};
@@ -12,10 +12,9 @@ use gpu_alloc_types::{MemoryPropertyFlags, MemoryType, UsageFlags};
 /// More than any key of a type.
 const KEYS: u8 = 16;
 
-/// Memory types of one usage, by index, the best first, at most 32; and the mask that has exactly their bits. It is
-/// public for the allocator: users have the lists and masks of [`MemoryForUsage`](crate::MemoryForUsage).
+/// Memory types of one usage, by index, the best first, at most 32; and the mask that has exactly their bits.
 #[derive(Clone, Copy)]
-pub struct MemoryForOneUsage {
+pub(crate) struct MemoryForOneUsage {
     types: [u32; 32],
     count: usize,
     mask: u32,
@@ -27,7 +26,7 @@ impl MemoryForOneUsage {
     ghost use Rattle.gpu_alloc_usage.specs.Ranked.{ranked_types};
 
     /// The types, the best first.
-    pub fn types(&self) -> &[u32]
+    pub(crate) fn types(&self) -> &[u32]
         ensures { result.now ≡ ranked_types self.now }
     {
         &self.types[..self.count]
@@ -50,17 +49,6 @@ impl MemoryForOneUsage {
             ranked.add_key(usage, key, memory_types);
         }
         ranked
-    }
-
-    /// Those of these types whose bit is set in a mask, in the same order.
-    pub(crate) fn within(&self, mask: u32) -> MemoryForOneUsage
-        ensures { ranked_types result ≡ filter (is_allowed mask) (ranked_types self.now) }
-    {
-        let mut within = MemoryForOneUsage::none();
-        for memory_type in self.types() {
-            within.add_where(mask >> *memory_type & 1 == 1, *memory_type);
-        }
-        within
     }
 
     /// Adds the types that serve a usage and have a key, by rising index.

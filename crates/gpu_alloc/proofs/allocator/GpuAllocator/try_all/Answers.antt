@@ -1,46 +1,88 @@
-use Rattle.std.proofs.Common.{add-one, ◌∙◌}
+use Rattle.std.proofs.Common.{◌≡◌, ◌<◌, ◌≤◌, ◌∙◌, length, get_or, add-one, ap, subst, true, Err, arith}
 use Rattle.std.proofs.lemmas.Result.{err_from_is_err_and}
 use Rattle.gpu_alloc_types.specs.Chains.{chain_append}
+use Rattle.gpu_alloc_types.specs.Flags.{usage_bits}
+use Rattle.gpu_alloc_usage.specs.Ranking.{is_allowed, named, ranking}
+use Rattle.gpu_alloc_usage.proofs.Ranking.Candidates.{ranking-within}
+use Rattle.gpu_alloc.specs.Allocation.{Decides}
 use Rattle.gpu_alloc.proofs.Agreed.{chain_keeps}
 use Rattle.gpu_alloc.proofs.Agreeing.{agrees_kept}
-use Rattle.gpu_alloc.proofs.Trials.{continues_next, continues_decided, continues_end}
+use Rattle.gpu_alloc.proofs.Trials.{continues_past, continues_next, continues_decided, continues_end, allowed_by_shift, not_by_shift, tries_as_meant}
 use Rattle.gpu_alloc.proofs.allocator.GpuAllocator.try_all.Goals as goal
+use Rattle.gpu_alloc.proofs.allocator.GpuAllocator.try_all.Goals.{then-request-memory_type-eq1+in_ok-block+in-None, else-request-memory_type-eq1}
 
-pub returns-clause-tries : goal.returns-clause-tries
-returns-clause-tries g c =
-    let before = c.loop-memory_type.invariant.passed in
-    rw c.loop-memory_type.invariant.same (before.0, before.1, continues_end c.args.self.now c.args.request c.args.hint _ _ before.0 c.loop-memory_type-test.false before.2)
+pub try_type-requires-clause-known : goal.try_type-requires-clause-known
+try_type-requires-clause-known g c =
+    let inside : c.loop-rank.rank < length c.ranked.result.now = rw (c.ranked.ensures.ranked, c.loop-rank.invariant.same, ← c.ranked-rank-end.ensures.ranked) c.loop-rank-test.true in
+    let within = ranking-within (named (usage_bits c.args.usage)) c.loop-rank.self.properties.memory_types c.loop-rank.rank 0 (rw (← c.ranked.ensures.ranked) inside) in
+    rw c.ranked.ensures.ranked within
 
 pub try_type-requires-clause-agrees : goal.try_type-requires-clause-agrees
 try_type-requires-clause-agrees g c =
-    let before = c.loop-memory_type.invariant in
+    let before = c.loop-rank.invariant in
     let properties = chain_keeps g.D.MemoryDevice.step g.D.MemoryDevice.properties g.met.D.MemoryDevice.keeps_properties _ _ _ before.passed.1 in
     agrees_kept c.args.self.now _ _ _ _ _ c.requires.agrees before.same properties before.objects
 
-pub loop-memory_type-preserved : goal.loop-memory_type-preserved
-loop-memory_type-preserved g c =
-    let before = c.loop-memory_type.invariant.passed in
-    let tried = rw (c.in-None.is, c.loop-memory_type.invariant.same) at c.in_ok-block.ensures.tries in
-    record {
-      same = tried.2.1;
-      passed = rw add-one (_, chain_append g.D.MemoryDevice.step _ _ _ _ _ before.1 tried.1, continues_next c.args.self.now c.args.request c.args.hint _ _ _ _ c.loop-memory_type-test.true before.2 tried.2.0);
-      objects = rw c.in-None.is at c.in_ok-block.ensures.objects ∙ c.loop-memory_type.invariant.objects;
-    }
+pub returns-clause-tries : goal.returns-clause-tries
+returns-clause-tries g c =
+    let before = c.loop-rank.invariant.passed in
+    let row = ranking (named (usage_bits c.args.usage)) c.args.self.now.properties.memory_types in
+    let past : length row ≤ c.loop-rank.rank = rw (← c.ranked-rank-end.ensures.ranked) (omega (arith, c.loop-rank-test.false)) in
+    let ends = continues_end c.args.self.now c.args.request c.args.hint (is_allowed c.args.request.memory_types) row c.loop-rank.rank before.0 past before.2 in
+    rw c.loop-rank.invariant.same (before.0, before.1, tries_as_meant c.args.self.now c.args.request c.args.hint (usage_bits c.args.usage) _ _ _ c.requires.meant ends)
+
+pub loop-rank-preserved : goal.loop-rank-preserved
+loop-rank-preserved g c = elim c.if-request-memory_type-eq1.branch [
+  | then-request-memory_type-eq1+in_ok-block+in-None w ↦
+      let before = c.loop-rank.invariant.passed in
+      let row = ranking (named (usage_bits c.args.usage)) c.args.self.now.properties.memory_types in
+      let at_rank = c.ranked.ensures.ranked ∙ ap (λ s. ranking (named (usage_bits c.args.usage)) s.properties.memory_types) c.loop-rank.invariant.same in
+      let inside : c.loop-rank.rank < length row = rw (← c.ranked-rank-end.ensures.ranked) c.loop-rank-test.true in
+      let allowed : is_allowed c.args.request.memory_types (get_or row c.loop-rank.rank 0) ≡ true = allowed_by_shift c.args.request.memory_types (get_or row c.loop-rank.rank 0) (rw at_rank at w.if-request-memory_type-eq1.true) in
+      let tried = rw (w.in-None.is, c.loop-rank.invariant.same, at_rank) at w.in_ok-block.ensures.tries in
+      record {
+        same = w.self-is ∙ tried.2.1;
+        passed = rw (w.device-is, add-one) (_, chain_append g.D.MemoryDevice.step _ _ _ _ _ before.1 tried.1, continues_next c.args.self.now c.args.request c.args.hint (is_allowed c.args.request.memory_types) row c.loop-rank.rank _ _ inside allowed before.2 tried.2.0);
+        objects = rw w.device-is (rw w.in-None.is at w.in_ok-block.ensures.objects ∙ c.loop-rank.invariant.objects);
+      }
+  | else-request-memory_type-eq1 w ↦
+      let before = c.loop-rank.invariant.passed in
+      let row = ranking (named (usage_bits c.args.usage)) c.args.self.now.properties.memory_types in
+      let at_rank = c.ranked.ensures.ranked ∙ ap (λ s. ranking (named (usage_bits c.args.usage)) s.properties.memory_types) c.loop-rank.invariant.same in
+      let inside : c.loop-rank.rank < length row = rw (← c.ranked-rank-end.ensures.ranked) c.loop-rank-test.true in
+      let past = not_by_shift c.args.request.memory_types (get_or row c.loop-rank.rank 0) (rw at_rank at w.if-request-memory_type-eq1.false) in
+      record {
+        same = w.self-is ∙ c.loop-rank.invariant.same;
+        passed = rw (w.device-is, add-one) (before.0, before.1, continues_past c.args.self.now c.args.request c.args.hint (is_allowed c.args.request.memory_types) row c.loop-rank.rank before.0 inside past before.2);
+        objects = rw w.device-is c.loop-rank.invariant.objects;
+      }
+]
 
 pub returns-in-Some-clause-tries : goal.returns-in-Some-clause-tries
 returns-in-Some-clause-tries g c =
-    let before = c.loop-memory_type.invariant.passed in
-    let tried = rw c.in-Some.is at c.in_ok-block.ensures.tries in
-    (_, chain_append g.D.MemoryDevice.step _ _ _ _ _ before.1 tried.1, continues_decided c.args.self.now c.args.request c.args.hint _ _ _ before.0 tried.0 _ _ c.loop-memory_type.invariant.same c.loop-memory_type-test.true before.2 tried.2)
+    let before = c.loop-rank.invariant.passed in
+    let row = ranking (named (usage_bits c.args.usage)) c.args.self.now.properties.memory_types in
+    let at_rank = c.ranked.ensures.ranked ∙ ap (λ s. ranking (named (usage_bits c.args.usage)) s.properties.memory_types) c.loop-rank.invariant.same in
+    let inside : c.loop-rank.rank < length row = rw (← c.ranked-rank-end.ensures.ranked) c.loop-rank-test.true in
+    let allowed : is_allowed c.args.request.memory_types (get_or row c.loop-rank.rank 0) ≡ true = allowed_by_shift c.args.request.memory_types (get_or row c.loop-rank.rank 0) (rw at_rank at c.if-request-memory_type-eq1.true) in
+    let tried = rw (c.in-Some.is, at_rank) at c.in_ok-block.ensures.tries in
+    let decided = continues_decided c.args.self.now c.args.request c.args.hint (is_allowed c.args.request.memory_types) row c.loop-rank.self c.loop-rank.rank before.0 tried.0 _ _ c.loop-rank.invariant.same inside allowed before.2 tried.2 in
+    (_, chain_append g.D.MemoryDevice.step _ _ _ _ _ before.1 tried.1, tries_as_meant c.args.self.now c.args.request c.args.hint (usage_bits c.args.usage) _ _ _ c.requires.meant decided)
 
 pub returns-in_err-block-clause-tries : goal.returns-in_err-block-clause-tries
 returns-in_err-block-clause-tries g c =
-    let before = c.loop-memory_type.invariant.passed in
+    let before = c.loop-rank.invariant.passed in
+    let row = ranking (named (usage_bits c.args.usage)) c.args.self.now.properties.memory_types in
+    let at_rank = c.ranked.ensures.ranked ∙ ap (λ s. ranking (named (usage_bits c.args.usage)) s.properties.memory_types) c.loop-rank.invariant.same in
+    let inside : c.loop-rank.rank < length row = rw (← c.ranked-rank-end.ensures.ranked) c.loop-rank-test.true in
+    let allowed : is_allowed c.args.request.memory_types (get_or row c.loop-rank.rank 0) ≡ true = allowed_by_shift c.args.request.memory_types (get_or row c.loop-rank.rank 0) (rw at_rank at c.if-request-memory_type-eq1.true) in
     let p = err_from_is_err_and c.from_residual.result c.from_residual.ensures.1 in
     let tried = c.in_err-block.ensures.tries in
-    rw (p.1, p.2) (_, chain_append g.D.MemoryDevice.step _ _ _ _ _ before.1 tried.1, continues_decided c.args.self.now c.args.request c.args.hint _ _ _ before.0 tried.0 _ _ c.loop-memory_type.invariant.same c.loop-memory_type-test.true before.2 tried.2)
+    let here = subst (λ ts. Decides c.loop-rank.self c.args.request c.args.hint (get_or ts c.loop-rank.rank 0) tried.0 (Err c.in_err-block.field-0.0) c.try_type.new.self) at_rank tried.2 in
+    let decided = continues_decided c.args.self.now c.args.request c.args.hint (is_allowed c.args.request.memory_types) row c.loop-rank.self c.loop-rank.rank before.0 tried.0 _ _ c.loop-rank.invariant.same inside allowed before.2 here in
+    rw (p.1, p.2) (_, chain_append g.D.MemoryDevice.step _ _ _ _ _ before.1 tried.1, tries_as_meant c.args.self.now c.args.request c.args.hint (usage_bits c.args.usage) _ _ _ c.requires.meant decided)
 
 pub returns-in_err-block-clause-objects : goal.returns-in_err-block-clause-objects
 returns-in_err-block-clause-objects g c =
     let p = err_from_is_err_and c.from_residual.result c.from_residual.ensures.1 in
-    rw p.1 (c.in_err-block.ensures.objects ∙ c.loop-memory_type.invariant.objects)
+    rw p.1 (c.in_err-block.ensures.objects ∙ c.loop-rank.invariant.objects)
