@@ -5,7 +5,7 @@ use Rattle.std.specs.Prelude.{Option, Some, None, Result, Ok, Err, cond, min, na
 use Rattle.std.specs.Int.{bit_at}
 use Rattle.std.specs.List.{Contains}
 use Rattle.std.specs.FinMap as map
-use Rattle.gpu_alloc_types.specs.Flags.{usage_bits, has_bit}
+use Rattle.gpu_alloc_types.specs.Flags.{usage_bits, has_bit, transient}
 use Rattle.gpu_alloc_types.specs.Properties.{Properties, heap_size, props_at, atom_of, is_host_visible}
 use Rattle.gpu_alloc_types.specs.Device.{Object, Event}
 use Rattle.gpu_alloc_base.specs.Case as case
@@ -40,7 +40,7 @@ fits_a_chunk s r t =
 
 abbrev pub unhinted : State → Request → ℕ → Strategy
 unhinted s r t =
-    cond (has_bit (usage_bits r.usage) 16)
+    cond (has_bit (usage_bits r.usage) transient)
     (cond (is_small s r (transient_threshold s.config) t && fits_a_chunk s r t) InFreeList OwnObject)
     (cond (is_small s r s.config.dedicated_threshold t) InBuddyChunk OwnObject)
 

@@ -4,7 +4,7 @@ use Rattle.std.specs.Prelude.{◌≡◌, ℕ, ◌+◌, ◌^◌, ◌<◌, ◌≤�
 use Rattle.std.specs.FinMap as map
 use Rattle.std.specs.Ordering.{nat_cmp}
 use Rattle.gpu_alloc_types.specs.Device.{Object, HeldWith}
-use Rattle.gpu_alloc_types.specs.Flags.{has_bit}
+use Rattle.gpu_alloc_types.specs.Flags.{has_bit, host_visible}
 use Rattle.gpu_alloc_types.specs.Properties.{Properties, props_at}
 use Rattle.gpu_alloc_base.specs.Chunks.{Chunk, IsThere, IsNew}
 use Rattle.gpu_alloc_base.specs.NewObject.{ObjectsGiven}
@@ -44,13 +44,13 @@ pub record Agrees (memory_type props : ℕ) (chunks : HeldChunks) (p : Propertie
   pub known : memory_type < length p.memory_types
   pub same : props_at p memory_type ≡ props
   pub holds : (key : ℕ) → IfSome (map.get chunks key)
-      (λ chunk. HeldWith objects chunk.object (IsThere memory_type (has_bit props 2) chunk))
+      (λ chunk. HeldWith objects chunk.object (IsThere memory_type (has_bit props host_visible) chunk))
 
 -- What a request makes of the device's objects, of which a block has the chunk and the object that are told: one object
 -- more where that chunk was not held before, as it is held after, and else nothing.
 abbrev pub ObjectsAfter : {B : Type 0} → (B → ℕ) → (B → ℕ) → ℕ → ℕ → HeldChunks → Result B AllocationError → HeldChunks
     → (ℕ → Option Object) → (ℕ → Option Object) → Type 0
 ObjectsAfter chunk object memory_type props before (Ok b) after old new =
-    ObjectsGiven (IsNew memory_type (has_bit props 2)) (map.get before (chunk b)) (map.get after (chunk b)) (object b)
+    ObjectsGiven (IsNew memory_type (has_bit props host_visible)) (map.get before (chunk b)) (map.get after (chunk b)) (object b)
     old new
 ObjectsAfter chunk object memory_type props before (Err e) after old new = new ≡ old

@@ -2,7 +2,7 @@
 use Rattle.std.specs.Prelude.{◌≡◌, ◌≢◌, ◌⊎◌, ℕ, ◌+◌, ◌%◌, ◌<◌, ◌≤◌, true, false, Option, Some, None}
 use Rattle.std.specs.Prelude.{IfSome, IsSome}
 use Rattle.std.specs.FinMap as map
-use Rattle.gpu_alloc_types.specs.Flags.{has_bit}
+use Rattle.gpu_alloc_types.specs.Flags.{has_bit, host_visible}
 use Rattle.gpu_alloc_types.specs.Properties.{Properties, is_host_visible, is_non_coherent, props_at, atom_of}
 use Rattle.gpu_alloc_types.specs.Device.{Object, HeldWith, Range}
 use Rattle.gpu_alloc_block.specs.InHand.{AreTwo}
@@ -65,7 +65,7 @@ pub record IsHeldFor (b : Block) (p : Properties) (objects : ℕ → Option Obje
   pub atom : b.atom ≡ atom_of p b.memory_type
   pub mapping : IfSome b.mapping (IsOfBlock b)
   -- what has a mapping is seen by the host
-  pub visible : IsSome b.mapping → has_bit b.props 2 ≡ true
+  pub visible : IsSome b.mapping → has_bit b.props host_visible ≡ true
   pub there : HeldWith objects b.object (IsBeneath p b)
 
 -- A block agrees with a device that offers these properties and holds these objects.

@@ -4,7 +4,7 @@ use Rattle.std.specs.Prelude.{Option, Result, Ok, Err}
 use Rattle.gpu_alloc_types.specs.Device.{Object, Event, Range, Changes, IsWritten, IsCopied, IsPartlyCopied}
 use Rattle.gpu_alloc_types.specs.Device.{IsOutside, IsFlushable}
 use Rattle.gpu_alloc_types.specs.Device.Event.{Mapped, Unmapped, Flushed, Invalidated, BytesPut, BytesGot}
-use Rattle.gpu_alloc_types.specs.Flags.{has_bit}
+use Rattle.gpu_alloc_types.specs.Flags.{has_bit, host_visible}
 use Rattle.gpu_alloc_types.specs.Properties.{Properties, props_at, are_non_coherent}
 use Rattle.gpu_alloc_types.specs.declared.types.OutOfMemory.{OutOfMemory}
 use Rattle.gpu_alloc_base.specs.Errors.{map_like_memory}
@@ -139,7 +139,7 @@ pub record ReadsWithin (b : Block) (offset len : ℕ) (o new : Object) : Type 0 
 -- While a call moves bytes: the host sees the object, which has the block's memory type, and a range of it is mapped
 -- that may be flushed.
 pub record IsOpen (p : Properties) (b : Block) (r : Range) (o : Object) : Type 0 where
-  pub visible : has_bit b.props 2 ≡ true
+  pub visible : has_bit b.props host_visible ≡ true
   pub props : b.props ≡ props_at p b.memory_type
   pub of_type : o.memory_type ≡ b.memory_type
   pub ready : IsFlushable p r o

@@ -3,7 +3,7 @@ use Rattle.std.specs.Prelude.{◌≡◌, ◌⊎◌, ℕ, ◌+◌, Bool, true, fa
 use Rattle.std.specs.Prelude.{Result, Ok, Err}
 use Rattle.gpu_alloc_types.specs.Device.{Object, Event, Range, Changes, IsMappedOver, IsUnmapped}
 use Rattle.gpu_alloc_types.specs.Device.Event.{Mapped, Unmapped}
-use Rattle.gpu_alloc_types.specs.Flags.{has_bit}
+use Rattle.gpu_alloc_types.specs.Flags.{has_bit, host_visible}
 use Rattle.gpu_alloc_types.specs.declared.types.DeviceMapError.{DeviceMapError}
 use Rattle.gpu_alloc_base.specs.Errors.{map_like_device}
 use Rattle.gpu_alloc_base.specs.declared.error.MapError.{MapError}
@@ -14,7 +14,7 @@ use Rattle.gpu_alloc_block.specs.declared.block.Mapping.{Mapping}
 
 -- why the block itself refuses: the host does not see its memory, or it is mapped already
 abbrev pub refusal : Block → Option MapError
-refusal b = cond (has_bit b.props 2) (cond (is_some b.mapping) (Some AlreadyMapped) None) (Some NonHostVisible)
+refusal b = cond (has_bit b.props host_visible) (cond (is_some b.mapping) (Some AlreadyMapped) None) (Some NonHostVisible)
 
 -- what is asked only where the object is the block's own
 abbrev pub of_own : Block → List Event → List Event

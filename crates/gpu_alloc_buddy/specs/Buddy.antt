@@ -3,7 +3,7 @@ use Rattle.std.specs.Prelude.{◌≡◌, ◌⊎◌, ℕ, ◌+◌, ◌-◌, ◌*�
 use Rattle.std.specs.Prelude.{Some, None, Result, Ok, Err}
 use Rattle.std.specs.FinMap as map
 use Rattle.std.specs.FinSet as set
-use Rattle.gpu_alloc_types.specs.Flags.{allocation_bits, has_bit}
+use Rattle.gpu_alloc_types.specs.Flags.{allocation_bits, has_bit, host_visible}
 use Rattle.gpu_alloc_types.specs.Properties.{Properties}
 use Rattle.gpu_alloc_types.specs.Device.{Object, Event, put}
 use Rattle.gpu_alloc_types.specs.declared.allocation_flags.AllocationFlags.{AllocationFlags}
@@ -40,7 +40,7 @@ Fits size = 2 * size < 2 ^ 64
 
 -- whether the host sees the chunks
 abbrev pub sees_chunks : Buddy → Bool
-sees_chunks b = has_bit b.props 2
+sees_chunks b = has_bit b.props host_visible
 
 abbrev pub question : Buddy → ℕ → ℕ → ChunkQuestion
 question b size flags =

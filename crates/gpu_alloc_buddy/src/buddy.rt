@@ -4,7 +4,7 @@ ghost use Rattle.std.specs.Prelude.{◌≡◌, ℕ, ◌+◌, ◌≤◌, ◌<◌,
 ghost use Rattle.std.specs.Prelude.{Contains, IsSome, IsTrue, Some, None, vec_len, vec_capacity};
 ghost use Rattle.std.specs.FinMap as map;
 ghost use Rattle.std.specs.FinSet as set;
-ghost use Rattle.gpu_alloc_types.specs.Flags.{allocation_bits, property_bits, has_bit};
+ghost use Rattle.gpu_alloc_types.specs.Flags.{allocation_bits, property_bits, has_bit, with_device_address};
 ghost use Rattle.gpu_alloc_types.specs.Device.{Asked, IsAskable};
 ghost use Rattle.gpu_alloc_types.specs.Properties.{is_host_visible};
 ghost use Rattle.gpu_alloc_types.specs.declared.types.FreeRange.{FreeRange as Range};
@@ -191,7 +191,7 @@ impl<M: MemoryObject, A: Allocator> BuddyAllocator<M, A> {
     ) -> Result<BuddyBlock<M>, AllocationError>
         requires nonempty { 0 < size }
         requires alignment { IsAlignMask align_mask }
-        requires address { IsTrue (has_bit (allocation_bits flags) 1)
+        requires address { IsTrue (has_bit (allocation_bits flags) with_device_address)
             → IsTrue (D.properties device.old).buffer_device_address }
         requires agrees { Agrees self.old (D.properties device.old) (D.objects device.old) }
         requires counted { IsCounted self.old.chunks heap.old allocations_remains.old }
@@ -377,7 +377,7 @@ impl<M: MemoryObject, A: Allocator> BuddyAllocator<M, A> {
         heap: &mut Heap,
         allocations_remains: &mut u32,
     ) -> Result<BuddyBlock<M>, AllocationError>
-        requires address { IsTrue (has_bit (allocation_bits flags) 1)
+        requires address { IsTrue (has_bit (allocation_bits flags) with_device_address)
             → IsTrue (D.properties device.old).buffer_device_address }
         requires agrees { Agrees self.old (D.properties device.old) (D.objects device.old) }
         requires counted { IsCounted self.old.chunks heap.old allocations_remains.old }
@@ -456,7 +456,7 @@ impl<M: MemoryObject, A: Allocator> BuddyAllocator<M, A> {
         requires short { order ≤ 62 }
         requires asks { Asks (buddy_case (account self.old heap.old allocations_remains.old) (2 ^ order)
             (allocation_bits flags)) }
-        requires address { IsTrue (has_bit (allocation_bits flags) 1)
+        requires address { IsTrue (has_bit (allocation_bits flags) with_device_address)
             → IsTrue (D.properties device.old).buffer_device_address }
         requires agrees { Agrees self.old (D.properties device.old) (D.objects device.old) }
         requires counted { IsCounted self.old.chunks heap.old allocations_remains.old }

@@ -6,7 +6,7 @@ use Rattle.std.specs.Prelude as list
 use Rattle.std.specs.List.{Contains}
 use Rattle.std.specs.FinMap as map
 use Rattle.std.specs.Ordering.{nat_cmp}
-use Rattle.gpu_alloc_types.specs.Flags.{allocation_bits, has_bit}
+use Rattle.gpu_alloc_types.specs.Flags.{allocation_bits, has_bit, host_visible}
 use Rattle.gpu_alloc_types.specs.Properties.{Properties}
 use Rattle.gpu_alloc_types.specs.Device.{Asked, Object, Event, put}
 use Rattle.gpu_alloc_types.specs.declared.allocation_flags.AllocationFlags.{AllocationFlags}
@@ -47,7 +47,7 @@ next_size l size = doubled_chunk l.final_chunk size
 
 -- whether the host sees the chunks
 abbrev pub sees_chunks : Listing → Bool
-sees_chunks l = has_bit l.props 2
+sees_chunks l = has_bit l.props host_visible
 
 abbrev pub question : Listing → ℕ → ℕ → ChunkQuestion
 question l size flags =

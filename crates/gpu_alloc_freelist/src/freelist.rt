@@ -4,7 +4,7 @@ ghost use Rattle.std.specs.Prelude.{◌≡◌, ℕ, ◌+◌, ◌≤◌, ◌<◌,
 ghost use Rattle.std.specs.Prelude.{IsSome, IsTrue, Some, None, true, false};
 ghost use Rattle.std.specs.FinMap as map;
 ghost use Rattle.std.specs.Int.{is_power_of_two};
-ghost use Rattle.gpu_alloc_types.specs.Flags.{allocation_bits, property_bits, has_bit};
+ghost use Rattle.gpu_alloc_types.specs.Flags.{allocation_bits, property_bits, has_bit, with_device_address};
 ghost use Rattle.gpu_alloc_types.specs.Device.{Asked};
 ghost use Rattle.gpu_alloc_types.specs.declared.types.FreeRange.{FreeRange as Range};
 ghost use Rattle.gpu_alloc_base.specs.Wanted.{requested, wanted};
@@ -176,7 +176,7 @@ impl<M: MemoryObject, A: Allocator> FreeListAllocator<M, A> {
         requires nonempty { 0 < size }
         requires fits { up size (self.old).atom ≤ (self.old).final_chunk }
         requires alignment { IsAlignMask align_mask }
-        requires address { IsTrue (has_bit (allocation_bits flags) 1)
+        requires address { IsTrue (has_bit (allocation_bits flags) with_device_address)
             → IsTrue (D.properties device.old).buffer_device_address }
         requires agrees { Agrees self.old (D.properties device.old) (D.objects device.old) }
         requires counted { IsCounted (self.old).space.chunks heap.old allocations_remains.old }
@@ -398,7 +398,7 @@ impl<M: MemoryObject, A: Allocator> FreeListAllocator<M, A> {
         allocations_remains: &mut u32,
     ) -> Result<FreeListBlock<M>, AllocationError>
         requires fits { FitsAChunk self.old size align_mask }
-        requires address { IsTrue (has_bit (allocation_bits flags) 1)
+        requires address { IsTrue (has_bit (allocation_bits flags) with_device_address)
             → IsTrue (D.properties device.old).buffer_device_address }
         requires agrees { Agrees self.old (D.properties device.old) (D.objects device.old) }
         requires counted { IsCounted (self.old).space.chunks heap.old allocations_remains.old }
@@ -434,7 +434,7 @@ impl<M: MemoryObject, A: Allocator> FreeListAllocator<M, A> {
         requires fits { FitsAChunk self.old size align_mask }
         requires asks { Asks (list_case (account self.old heap.old allocations_remains.old) size (align_mask + 1)
             (allocation_bits flags)) }
-        requires address { IsTrue (has_bit (allocation_bits flags) 1)
+        requires address { IsTrue (has_bit (allocation_bits flags) with_device_address)
             → IsTrue (D.properties device.old).buffer_device_address }
         requires agrees { Agrees self.old (D.properties device.old) (D.objects device.old) }
         requires counted { IsCounted (self.old).space.chunks heap.old allocations_remains.old }

@@ -1,7 +1,7 @@
 -- The objects that a device holds, what may be asked of it, and what each call does to them.
 use Rattle.std.specs.Prelude.{◌≡◌, ◌⊎◌, ℕ, ◌+◌, ◌%◌, ◌<◌, ◌≤◌, ◌==◌, Bool, true, false, cond, List, [], ◌∷◌, length}
 use Rattle.std.specs.Prelude.{slice_get, Option, Some, None, Result, Ok, Err, IsTrue, IfSome, IsSome, All}
-use Rattle.gpu_alloc_types.specs.Flags.{has_bit}
+use Rattle.gpu_alloc_types.specs.Flags.{has_bit, with_device_address}
 use Rattle.gpu_alloc_types.specs.Properties.{Properties, is_host_visible, is_coherent, atom_of}
 use Rattle.gpu_alloc_types.specs.declared.types.MappedMemoryRange.{MappedMemoryRange}
 use Rattle.gpu_alloc_types.specs.declared.types.OutOfMemory.{OutOfMemory}
@@ -57,7 +57,7 @@ pub record IsWellFormed (p : Properties) (o : Object) : Type 0 where
 pub record IsAskable (p : Properties) (size memory_type flags : ℕ) : Type 0 where
   pub nonempty : 0 < size
   pub known : memory_type < length p.memory_types
-  pub address : IsTrue (has_bit flags 1) → IsTrue p.buffer_device_address
+  pub address : IsTrue (has_bit flags with_device_address) → IsTrue p.buffer_device_address
 
 -- a range of an object that may be mapped: some bytes inside an unmapped object that the host sees
 pub record IsMappable (p : Properties) (offset size : ℕ) (o : Object) : Type 0 where

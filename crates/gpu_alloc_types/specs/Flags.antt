@@ -26,6 +26,50 @@ named_property_bits = 63
 abbrev pub named_allocation_bits : ℕ
 named_allocation_bits = 1
 
+-- Each flag's number, under the name of the code's constant. Sets of flags are sums.
+
+-- of UsageFlags
+abbrev pub fast_device_access : ℕ
+fast_device_access = 1
+
+abbrev pub host_access : ℕ
+host_access = 2
+
+abbrev pub download : ℕ
+download = 4
+
+abbrev pub upload : ℕ
+upload = 8
+
+abbrev pub transient : ℕ
+transient = 16
+
+abbrev pub device_address : ℕ
+device_address = 32
+
+-- of MemoryPropertyFlags
+abbrev pub device_local : ℕ
+device_local = 1
+
+abbrev pub host_visible : ℕ
+host_visible = 2
+
+abbrev pub host_coherent : ℕ
+host_coherent = 4
+
+abbrev pub host_cached : ℕ
+host_cached = 8
+
+abbrev pub lazily_allocated : ℕ
+lazily_allocated = 16
+
+abbrev pub protected : ℕ
+protected = 32
+
+-- DEVICE_ADDRESS of AllocationFlags
+abbrev pub with_device_address : ℕ
+with_device_address = 1
+
 -- whether a number has any bit of a mask
 abbrev pub has_bit : ℕ → ℕ → Bool
 has_bit bits mask = not (bit_and bits mask == 0)

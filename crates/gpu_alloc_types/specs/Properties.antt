@@ -2,7 +2,7 @@
 use Rattle.std.specs.Prelude.{ℕ, ◌<◌, ◌≤◌, ◌^◌, Bool, List, length, All, Option, Some, None, IsTrue, slice_get, not}
 use Rattle.std.specs.Prelude.{◌&&◌, cond}
 use Rattle.std.specs.Int.{is_power_of_two}
-use Rattle.gpu_alloc_types.specs.Flags.{property_bits, has_bit}
+use Rattle.gpu_alloc_types.specs.Flags.{property_bits, has_bit, host_visible, host_coherent}
 use Rattle.gpu_alloc_types.specs.declared.types.MemoryType.{MemoryType}
 use Rattle.gpu_alloc_types.specs.declared.types.MemoryHeap.{MemoryHeap}
 use Rattle.gpu_alloc_types.specs.declared.types.DeviceProperties.{DeviceProperties}
@@ -59,14 +59,14 @@ abbrev pub heap_size : Properties → ℕ → ℕ
 heap_size p t = size_of (slice_get p.memory_heaps (heap_at p t))
 
 abbrev pub is_host_visible : Properties → ℕ → Bool
-is_host_visible p t = has_bit (props_at p t) 2
+is_host_visible p t = has_bit (props_at p t) host_visible
 
 abbrev pub is_coherent : Properties → ℕ → Bool
-is_coherent p t = has_bit (props_at p t) 4
+is_coherent p t = has_bit (props_at p t) host_coherent
 
 -- the host sees memory with these property bits, and has to flush and invalidate it
 abbrev pub are_non_coherent : ℕ → Bool
-are_non_coherent bits = has_bit bits 2 && not (has_bit bits 4)
+are_non_coherent bits = has_bit bits host_visible && not (has_bit bits host_coherent)
 
 abbrev pub is_non_coherent : Properties → ℕ → Bool
 is_non_coherent p t = are_non_coherent (props_at p t)

@@ -4,7 +4,8 @@ use Rattle.std.specs.Prelude.{length, filter, nat_lt, slice_get, slice_index, sl
 use Rattle.std.specs.Prelude.{bit_and, bit_or}
 use Rattle.std.specs.Int.{bit_at}
 use Rattle.std.specs.List.{range_with_len}
-use Rattle.gpu_alloc_types.specs.Flags.{named_usage_bits, has_bit}
+use Rattle.gpu_alloc_types.specs.Flags.{named_usage_bits, has_bit, fast_device_access, host_access, download, upload}
+use Rattle.gpu_alloc_types.specs.Flags.{device_local, host_visible, host_coherent, host_cached, lazily_allocated, protected}
 use Rattle.gpu_alloc_types.specs.Properties.{bits_of}
 use Rattle.gpu_alloc_types.specs.declared.types.MemoryType.{MemoryType}
 
@@ -14,13 +15,13 @@ use Rattle.gpu_alloc_types.specs.declared.types.MemoryType.{MemoryType}
 abbrev pub named : ℕ → ℕ
 named usage = bit_and usage named_usage_bits
 
--- no flag means FAST_DEVICE_ACCESS, which is 1
+-- no flag means FAST_DEVICE_ACCESS
 abbrev pub with_fast : ℕ → ℕ
-with_fast usage = if usage == 0 then 1 else usage
+with_fast usage = if usage == 0 then fast_device_access else usage
 
--- DOWNLOAD and UPLOAD, 4 and 8, mean HOST_ACCESS too, which is 2
+-- DOWNLOAD and UPLOAD mean HOST_ACCESS too
 abbrev pub with_host : ℕ → ℕ
-with_host usage = if has_bit usage 12 then bit_or usage 2 else usage
+with_host usage = if has_bit usage (download + upload) then bit_or usage host_access else usage
 
 -- what a usage means. Bits without a name fall away first
 abbrev pub implied : ℕ → ℕ
@@ -30,15 +31,15 @@ implied usage = with_host (with_fast (named usage))
 
 -- the host reads or writes: HOST_ACCESS, DOWNLOAD or UPLOAD
 abbrev pub by_host : ℕ → Bool
-by_host usage = has_bit usage 14
+by_host usage = has_bit usage (host_access + download + upload)
 
 -- the device's own memory is wanted: no flag, or FAST_DEVICE_ACCESS
 abbrev pub is_fast : ℕ → Bool
-is_fast usage = (usage == 0) || has_bit usage 1
+is_fast usage = (usage == 0) || has_bit usage fast_device_access
 
 -- memory may serve a usage: neither LAZILY_ALLOCATED nor PROTECTED, and HOST_VISIBLE where the host reads or writes
 abbrev pub compatible : ℕ → ℕ → Bool
-compatible usage props = not (has_bit props 48) && (not (by_host usage) || has_bit props 2)
+compatible usage props = not (has_bit props (lazily_allocated + protected)) && (not (by_host usage) || has_bit props host_visible)
 
 -- n where the two differ, else 0
 abbrev pub where_differ : ℕ → Bool → Bool → ℕ
@@ -50,10 +51,10 @@ where_differ n false false = 0
 -- how far memory is from what a usage wants: DEVICE_LOCAL counts 8, HOST_VISIBLE 4, HOST_CACHED 2, HOST_COHERENT 1
 abbrev pub key : ℕ → ℕ → ℕ
 key usage props =
-    where_differ 8 (has_bit props 1) (is_fast usage)
-    + where_differ 4 (has_bit props 2) (by_host usage)
-    + where_differ 2 (has_bit props 8) (has_bit usage 4)
-    + where_differ 1 (has_bit props 4) (has_bit usage 12)
+    where_differ 8 (has_bit props device_local) (is_fast usage)
+    + where_differ 4 (has_bit props host_visible) (by_host usage)
+    + where_differ 2 (has_bit props host_cached) (has_bit usage download)
+    + where_differ 1 (has_bit props host_coherent) (has_bit usage (download + upload))
 
 -- The ranking: the types that may serve a usage, put in order.
 

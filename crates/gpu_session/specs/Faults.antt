@@ -3,7 +3,7 @@ use Rattle.std.specs.Prelude.{ℕ, ◌+◌, ◌%◌, ◌^◌, ◌==◌, ◌&&◌
 use Rattle.std.specs.Prelude.{None, is_some, nat_lt, nat_le}
 use Rattle.std.specs.Int.{is_power_of_two}
 use Rattle.std.specs.FinMap as map
-use Rattle.gpu_alloc_types.specs.Flags.{usage_bits, has_bit}
+use Rattle.gpu_alloc_types.specs.Flags.{usage_bits, has_bit, device_address}
 use Rattle.gpu_alloc_types.specs.Properties.{Properties, is_non_coherent}
 use Rattle.gpu_alloc.specs.State.{Block, State}
 use Rattle.gpu_alloc.specs.Types.Mapping.{Mapping}
@@ -34,7 +34,7 @@ abbrev pub fault_of_request : Bool → Request → Option Fault
 fault_of_request address r =
     where_true (r.size == 0) BadSize (
     where_true (not (is_alignment (r.align_mask + 1))) BadAlignment (
-    where_true (has_bit (usage_bits r.usage) 32 && not address) NoDeviceAddress None))
+    where_true (has_bit (usage_bits r.usage) device_address && not address) NoDeviceAddress None))
 
 -- there must be such a memory type
 abbrev pub fault_of_type : Properties → ℕ → Option Fault → Option Fault

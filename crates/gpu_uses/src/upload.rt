@@ -3,7 +3,7 @@
 ghost use Rattle.std.specs.Prelude.{◌≡◌, ◌+◌, ◌≤◌, true, IfSome, IsTrue};
 ghost use Rattle.std.specs.FinMap as map;
 ghost use Rattle.std.specs.Int.{bit_at};
-ghost use Rattle.gpu_alloc_types.specs.Flags.{has_bit};
+ghost use Rattle.gpu_alloc_types.specs.Flags.{has_bit, host_visible};
 ghost use Rattle.gpu_alloc_types.specs.Properties.{props_at, atom_of};
 ghost use Rattle.gpu_alloc.specs.Agreement.{Agrees};
 ghost use Rattle.gpu_alloc.specs.State.{span_of, AreApart, IsOwned};
@@ -24,7 +24,7 @@ pub fn upload_buffer<M: MemoryObject, D: MemoryDevice<M>>(
     ensures agrees { Agrees allocator.new (D.properties device.new) (D.objects device.new) }
     ensures owned { IfSome result (IsOwned allocator.new) }
     ensures permitted { IfSome result (λ block. bit_at memory_types block.memory_type ≡ 1) }
-    ensures visible { IfSome result (λ block. has_bit block.props 2 ≡ true) }
+    ensures visible { IfSome result (λ block. has_bit block.props host_visible ≡ true) }
     ensures props { IfSome result (λ block. block.props ≡ props_at allocator.new.properties block.memory_type) }
     ensures atom { IfSome result (λ block. block.atom ≡ atom_of allocator.new.properties block.memory_type) }
     ensures objects { map.len allocator.new.held ≤ map.len allocator.old.held + 1 }

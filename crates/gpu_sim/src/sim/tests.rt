@@ -1,7 +1,7 @@
 //! Tests of what no clause says: that calls succeed, and what a few of them answer in turn.
 
 ghost use Rattle.std.specs.Prelude.{◌≡◌, ◌<◌, length, IsTrue};
-ghost use Rattle.gpu_alloc_types.specs.Flags.{has_bit, property_bits};
+ghost use Rattle.gpu_alloc_types.specs.Flags.{has_bit, host_visible, property_bits};
 ghost use Rattle.gpu_sim.specs.Question.{CanRefuse};
 
 use super::*;
@@ -39,7 +39,7 @@ impl OneType {
 
     // One whose memory type has these properties.
     fn of_type(alloc: Global, props: MemoryPropertyFlags) -> Result<OneType, AllocError>
-        requires { IsTrue (has_bit (property_bits props) 2) }
+        requires { IsTrue (has_bit (property_bits props) host_visible) }
     {
         let props = DeviceProperties {
             memory_types: &[MemoryType { heap: 0, props }],
