@@ -27,11 +27,12 @@ ghost use Rattle.gpu_alloc_base.specs.AlignMasks.{IsAlignMask};
 mod pieces;
 mod space;
 
+use gpu_alloc_base::buddy_block::{Leaf, into_parts};
 use gpu_alloc_base::heap::Heap;
 use gpu_alloc_base::new_chunk::new_chunk_with_handle;
 use gpu_alloc_base::range_order::put_in_order;
 use gpu_alloc_base::sizes::next_order;
-use gpu_alloc_base::{AllocationError, BuddyBlock, Leaf, Piece};
+use gpu_alloc_base::{AllocationError, BuddyBlock, Piece};
 use gpu_alloc_types::{
     AllocationFlags, FreeRange, MemoryDevice, MemoryObject, MemoryPropertyFlags,
 };
@@ -314,7 +315,7 @@ impl<M: MemoryObject, A: Allocator> BuddyAllocator<M, A> {
         ensures total { chunks_and_remaining self.new.chunks allocations_remains.new
             ≡ chunks_and_remaining self.old.chunks allocations_remains.old }
     {
-        let (memory, leaf) = block.into_parts();
+        let (memory, leaf) = into_parts(block);
         forget(&mut self.live, leaf);
         let piece = Piece {
             chunk: leaf.chunk,

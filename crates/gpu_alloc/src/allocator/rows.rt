@@ -8,7 +8,8 @@ ghost use Rattle.gpu_alloc.specs.Inside.{with_chunk_of_slot};
 ghost use Rattle.gpu_alloc.specs.Spans.{span_in, place_in};
 
 use crate::spans::{HeldRow, LiveSpan, Spans};
-use gpu_alloc_base::{Leaf, Slot};
+use gpu_alloc_base::buddy_block::Leaf;
+use gpu_alloc_base::free_list_block::Slot;
 use gpu_alloc_block::Kind;
 use std::alloc::Allocator;
 
