@@ -273,7 +273,7 @@ impl<M: MemoryObject> MemoryBlock<M> {
     /// specification's rule on `VkMappedMemoryRange`).
     ///
     /// The block has to be unmapped. Its object is mapped for the call where it is the block's own, and unmapped after
-    /// it in every case. No bytes at all are written without a question to the device.
+    /// it in every case. An empty slice asks the device nothing.
     ///
     /// The range has to be inside the block, and the device has to hold the block's object as the allocator left it
     /// (`BlockAgrees`). The refusals: `NonHostVisible` where the host does not see the block's memory, then
@@ -331,7 +331,7 @@ impl<M: MemoryObject> MemoryBlock<M> {
     /// specification's rule on `VkMappedMemoryRange`).
     ///
     /// The block has to be unmapped. Its object is mapped for the call where it is the block's own, and unmapped after
-    /// it in every case. No bytes at all are read without a question to the device.
+    /// it in every case. An empty slice asks the device nothing.
     ///
     /// The conditions and the refusals are those of [`write_bytes`](MemoryBlock::write_bytes). After a refusal `bytes`
     /// is as before. After a refused invalidate each of the host's bytes of its range is that of before or the

@@ -105,7 +105,7 @@ impl<M: MemoryObject, A: Allocator + Copy> BuddyAllocator<M, A> {
     ///
     /// `alloc` gives the memory of its lists. The only refusal is `OutOfHostMemory`.
     ///
-    /// Nothing is held or live yet (`empty`): by [`agrees_at_first`](crate::laws::agrees_at_first) a caller learns that
+    /// Nothing is held or live (`empty`): by [`agrees_at_first`](crate::laws::agrees_at_first) a caller learns that
     /// the allocator agrees with a device that offers the memory type.
     pub fn new(
         alloc: A,
@@ -225,6 +225,9 @@ impl<M: MemoryObject, A: Allocator> BuddyAllocator<M, A> {
     /// The refusal that `alloc` gives such a request before it takes any memory or asks anything: `OutOfDeviceMemory`
     /// where a chunk for it would be of 2^64 bytes or more, `TooManyObjects` where a chunk is wanted and no more
     /// objects may be held. None where it goes further. It takes no memory.
+    ///
+    /// The size has to be at least 1, and `align_mask + 1` a power of two of at most 2^63, as of `alloc`. What `heap`
+    /// counts decides nothing.
     pub fn refuses(
         &self,
         size: u64,

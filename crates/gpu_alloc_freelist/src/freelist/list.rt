@@ -77,7 +77,7 @@ impl<M: MemoryObject, A: Allocator> Model for FreeList<M, A> {
 }
 
 impl<M: MemoryObject, A: Allocator + Copy> FreeList<M, A> {
-    /// A list of no chunk. `alloc` gives the memory of its vectors, none of which is taken yet.
+    /// A list of no chunk. `alloc` gives the memory of its vectors, of which this call takes none.
     pub fn new(alloc: A) -> Self
         ensures empty { result.space ≡ no_space }
         ensures sound { IsSoundSpace result.space }
@@ -119,7 +119,7 @@ impl<M: MemoryObject, A: Allocator> FreeList<M, A> {
     /// `align_mask + 1` a power of two of at most 2^63, room has to be made (`reserve`), and the latest number below
     /// 2^64 - 1. The call takes one chunk's room at most.
     ///
-    /// Where there is no host memory for a second handle of the object, the first is handed back and nothing has
+    /// Where there is no host memory for a second handle of the object, `memory` itself is handed back and nothing has
     /// changed.
     pub fn get_block_from_new_memory(
         &mut self,
