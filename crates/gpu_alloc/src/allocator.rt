@@ -32,7 +32,7 @@ use crate::spans::{HeldRow, LiveSpan, Spans};
 use crate::{Dedicated, MemoryBlock, MemoryForUsage, Request};
 use by_type::{close_buddies, close_free_lists, empty_buddies, empty_free_lists, unused_heaps};
 use gpu_alloc_base::heap::Heap;
-use gpu_alloc_base::{AllocationError, Config};
+use gpu_alloc_base::{AllocationError, Config, buddy_block, free_list_block};
 use gpu_alloc_block::Kind;
 use gpu_alloc_buddy::BuddyAllocator;
 use gpu_alloc_freelist::FreeListAllocator;
@@ -495,7 +495,7 @@ impl<M: MemoryObject, A: Allocator> GpuAllocator<M, A> {
             Ok(block) => {
                 let props = self.limits.props(memory_type);
                 let atom = self.limits.atom(memory_type);
-                let (memory, leaf) = block.into_parts();
+                let (memory, leaf) = buddy_block::into_parts(block);
                 let chunk_size = self.buddies[own].chunk_size(leaf.chunk);
                 let key = add_leaf(&mut self.spans, leaf, memory_type, chunk_size);
                 Ok(Some(MemoryBlock::new(
@@ -555,7 +555,7 @@ impl<M: MemoryObject, A: Allocator> GpuAllocator<M, A> {
             Ok(block) => {
                 let props = self.limits.props(memory_type);
                 let atom = self.limits.atom(memory_type);
-                let (memory, slot) = block.into_parts();
+                let (memory, slot) = free_list_block::into_parts(block);
                 let chunk_size = self.free_lists[own].chunk_size(slot.chunk);
                 let key = add_slot(&mut self.spans, slot, memory_type, chunk_size);
                 Ok(Some(MemoryBlock::new(

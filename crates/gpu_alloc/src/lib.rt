@@ -13,10 +13,10 @@ pub mod steps;
 
 pub use allocator::GpuAllocator;
 pub use gpu_alloc_base::{AllocationError, Config, MapError};
-pub use gpu_alloc_block::{Mapping, MemoryBlock};
+pub use gpu_alloc_block::{Kind, Mapping, MemoryBlock};
 pub use gpu_alloc_types::{
     AllocationFlags, DeviceMapError, DeviceProperties, FreeRange, MappedMemoryRange, MemoryDevice,
     MemoryHeap, MemoryObject, MemoryPropertyFlags, MemoryType, OutOfMemory, UsageFlags,
 };
-pub use gpu_alloc_usage::MemoryForUsage;
+pub use gpu_alloc_usage::{MemoryForOneUsage, MemoryForUsage};
 pub use request::{Dedicated, Request};

@@ -9,7 +9,7 @@ ghost use Rattle.gpu_alloc.specs.Spans.{span_at, span_in, place_in, held_of, obj
 ghost use Rattle.gpu_alloc.specs.Spans.{IsUnder, IsNowhere};
 ghost use Rattle.indexmap.specs.IndexMap.{spare};
 
-pub use gpu_alloc_block::Kind;
+use gpu_alloc_block::Kind;
 use indexmap::IndexMap;
 use slab::Slab;
 use std::alloc::{AllocError, Allocator, Global};
@@ -165,7 +165,7 @@ fn let_go<A: Allocator>(objects: &mut Objects<A>, name: u64, asked: bool) -> Opt
 }
 
 impl<A: Allocator + Copy> Spans<A> {
-    /// A table of no object and no span, which takes no memory yet.
+    /// A table of no object and no span. It takes no memory.
     pub fn new(alloc: A) -> Self
         ensures held { result.held ≡ map.empty }
         ensures live { result.live ≡ set.empty }

@@ -1,11 +1,12 @@
-//! Blocks of a buddy allocator.
+//! Blocks of a buddy allocator. What takes one apart is no method of theirs: `gpu_alloc`, from which users have the
+//! type, does not give it on.
 
 ghost use Rattle.std.specs.Prelude.{◌≡◌};
 
 use gpu_alloc_types::MemoryObject;
 use std::marker::Model;
 
-/// What a live block of a buddy allocator is known by. It is public for the crates above: users have a [`BuddyBlock`].
+/// What a live block of a buddy allocator is known by, as [`into_parts`] tells it.
 #[derive(Clone, Copy, PartialEq, Eq)]
 pub struct Leaf {
     /// The name of its chunk's object.
@@ -67,29 +68,6 @@ impl<M: MemoryObject> BuddyBlock<M> {
         }
     }
 
-    /// Takes the block apart, for its handle and what it was known by. It is public for the crates above: users give
-    /// their blocks back.
-    pub fn into_parts(self) -> (M, Leaf)
-        ensures handle { M.object result.0 ≡ self.object }
-        ensures leaf { result.1 ≡ self }
-    {
-        let BuddyBlock {
-            memory,
-            chunk,
-            offset,
-            size,
-            index,
-        } = self;
-        let leaf = Leaf {
-            object: memory.object(),
-            chunk,
-            offset,
-            size,
-            index,
-        };
-        (memory, leaf)
-    }
-
     /// A handle of the chunk's memory object.
     pub fn memory(&self) -> &M
         ensures { M.object result.now ≡ self.now.object }
@@ -118,10 +96,32 @@ impl<M: MemoryObject> BuddyBlock<M> {
         self.chunk
     }
 
-    /// Its place in its allocator's own store: 0, as long as that is a plain list.
+    /// Its place in its allocator's own store: 0, since that is a plain list.
     pub fn index(&self) -> usize
         ensures { result ≡ self.now.index }
     {
         self.index
     }
+}
+
+/// Takes a block apart, for its handle and what it was known by.
+pub fn into_parts<M: MemoryObject>(block: BuddyBlock<M>) -> (M, Leaf)
+    ensures handle { M.object result.0 ≡ block.object }
+    ensures leaf { result.1 ≡ block }
+{
+    let BuddyBlock {
+        memory,
+        chunk,
+        offset,
+        size,
+        index,
+    } = block;
+    let leaf = Leaf {
+        object: memory.object(),
+        chunk,
+        offset,
+        size,
+        index,
+    };
+    (memory, leaf)
 }

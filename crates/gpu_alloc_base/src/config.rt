@@ -15,7 +15,7 @@ const KIBIBYTE: u64 = 1 << 10;
 /// 1024 KiB, in bytes.
 const MEBIBYTE: u64 = 1 << 20;
 
-/// The sizes by which an allocator decides, all in bytes. Any values will do, 0 among them.
+/// The sizes by which an allocator decides, all in bytes. Any values serve, 0 among them.
 ///
 /// `serde` writes it by the names of its fields, and reads them in any order, or a list of the seven values. A text
 /// that lacks a field, has one twice, or has a value that is no `u64` is an error; a field of another name is skipped,

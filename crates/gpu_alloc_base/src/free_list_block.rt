@@ -1,11 +1,12 @@
-//! Blocks of a free list.
+//! Blocks of a free list. What takes one apart is no method of theirs: `gpu_alloc`, from which users have the type, does
+//! not give it on.
 
 ghost use Rattle.std.specs.Prelude.{◌≡◌};
 
 use gpu_alloc_types::MemoryObject;
 use std::marker::Model;
 
-/// What a live block of a free list is known by. It is public for the crates above: users have a [`FreeListBlock`].
+/// What a live block of a free list is known by, as [`into_parts`] and [`slot_of`] tell it.
 #[derive(Clone, Copy, PartialEq, Eq)]
 pub struct Slot {
     /// The name of its chunk's object.
@@ -56,34 +57,6 @@ impl<M: MemoryObject> FreeListBlock<M> {
         }
     }
 
-    /// Takes the block apart, for its handle and what it was known by. It is public for the crates above: users give
-    /// their blocks back.
-    pub fn into_parts(self) -> (M, Slot)
-        ensures handle { M.object result.0 ≡ self.object }
-        ensures slot { result.1 ≡ self }
-    {
-        let slot = self.slot();
-        let FreeListBlock {
-            memory,
-            chunk: _,
-            offset: _,
-            size: _,
-        } = self;
-        (memory, slot)
-    }
-
-    /// What the block is known by. It is public for the free list.
-    pub fn slot(&self) -> Slot
-        ensures { result ≡ self.now }
-    {
-        Slot {
-            object: self.memory.object(),
-            chunk: self.chunk,
-            offset: self.offset,
-            size: self.size,
-        }
-    }
-
     /// A handle of the chunk's memory object.
     pub fn memory(&self) -> &M
         ensures { M.object result.now ≡ self.now.object }
@@ -111,4 +84,31 @@ impl<M: MemoryObject> FreeListBlock<M> {
     {
         self.size
     }
+}
+
+/// What a block is known by.
+pub fn slot_of<M: MemoryObject>(block: &FreeListBlock<M>) -> Slot
+    ensures { result ≡ block.now }
+{
+    Slot {
+        object: block.memory.object(),
+        chunk: block.chunk,
+        offset: block.offset,
+        size: block.size,
+    }
+}
+
+/// Takes a block apart, for its handle and what it was known by.
+pub fn into_parts<M: MemoryObject>(block: FreeListBlock<M>) -> (M, Slot)
+    ensures handle { M.object result.0 ≡ block.object }
+    ensures slot { result.1 ≡ block }
+{
+    let slot = slot_of(&block);
+    let FreeListBlock {
+        memory,
+        chunk: _,
+        offset: _,
+        size: _,
+    } = block;
+    (memory, slot)
 }

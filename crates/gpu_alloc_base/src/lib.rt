@@ -2,10 +2,10 @@
 //! free space, and new chunks of a device. Users find what is theirs of it in `gpu_alloc`.
 #![tactic(auto)]
 
-mod buddy_block;
+pub mod buddy_block;
 mod config;
 mod error;
-mod free_list_block;
+pub mod free_list_block;
 pub mod heap;
 pub mod laws;
 pub mod new_chunk;
@@ -15,9 +15,9 @@ mod region;
 pub mod sizes;
 pub mod steps;
 
-pub use buddy_block::{BuddyBlock, Leaf};
+pub use buddy_block::BuddyBlock;
 pub use config::Config;
 pub use error::{AllocationError, MapError};
-pub use free_list_block::{FreeListBlock, Slot};
+pub use free_list_block::FreeListBlock;
 pub use piece::Piece;
 pub use region::FreeListRegion;

@@ -1,4 +1,5 @@
-//! A block of memory, which has to be given back.
+//! A block of memory, which has to be given back. What takes one apart is no method of it: `gpu_alloc`, from which users
+//! have the type, does not give it on.
 
 ghost use Rattle.std.specs.Prelude.{◌≡◌, ℕ, ◌+◌, ◌<◌, ◌≤◌, true, false, None, Some, length, List, [], ◌∷◌, is_some, cond};
 ghost use Rattle.std.specs.Prelude.{IfOk, IfErr, OnOk, OnErr};
@@ -61,8 +62,7 @@ pub struct Mapping {
     pub len: u64,
 }
 
-/// A block of memory: a span of a memory object. It cannot be dropped: it is given back to its allocator. (What takes a
-/// block apart without that is [`into_memory`](MemoryBlock::into_memory), which is for the crate above alone.)
+/// A block of memory: a span of a memory object. It cannot be dropped: it is given back to its allocator.
 pub struct MemoryBlock<M: MemoryObject> {
     memory: M,
     offset: u64,
@@ -139,25 +139,6 @@ impl<M: MemoryObject> MemoryBlock<M> {
             mapping: None,
             key,
         }
-    }
-
-    /// Takes the block apart, for its handle. It is public for the crate above, which lets the handle go once the
-    /// block's span is free: it gives nothing back, so a user never calls it.
-    pub fn into_memory(self) -> M
-        ensures { M.object result ≡ self.object }
-    {
-        let MemoryBlock {
-            memory,
-            offset: _,
-            size: _,
-            memory_type: _,
-            props: _,
-            atom: _,
-            kind: _,
-            mapping: _,
-            key: _,
-        } = self;
-        memory
     }
 
     /// A handle of the block's memory object.
@@ -292,7 +273,7 @@ impl<M: MemoryObject> MemoryBlock<M> {
     /// specification's rule on `VkMappedMemoryRange`).
     ///
     /// The block has to be unmapped. Its object is mapped for the call where it is the block's own, and unmapped after
-    /// it in every case. No bytes at all are written without a question to the device.
+    /// it in every case. An empty slice asks the device nothing.
     ///
     /// The range has to be inside the block, and the device has to hold the block's object as the allocator left it
     /// (`BlockAgrees`). The refusals: `NonHostVisible` where the host does not see the block's memory, then
@@ -350,7 +331,7 @@ impl<M: MemoryObject> MemoryBlock<M> {
     /// specification's rule on `VkMappedMemoryRange`).
     ///
     /// The block has to be unmapped. Its object is mapped for the call where it is the block's own, and unmapped after
-    /// it in every case. No bytes at all are read without a question to the device.
+    /// it in every case. An empty slice asks the device nothing.
     ///
     /// The conditions and the refusals are those of [`write_bytes`](MemoryBlock::write_bytes). After a refusal `bytes`
     /// is as before. After a refused invalidate each of the host's bytes of its range is that of before or the
@@ -611,4 +592,23 @@ impl<M: MemoryObject> MemoryBlock<M> {
             Err(cause) => Err(cause),
         }
     }
+}
+
+/// Takes a block apart, for its handle. It gives nothing back: `gpu_alloc` lets the handle go once the block's span is
+/// free.
+pub fn into_memory<M: MemoryObject>(block: MemoryBlock<M>) -> M
+    ensures { M.object result ≡ block.object }
+{
+    let MemoryBlock {
+        memory,
+        offset: _,
+        size: _,
+        memory_type: _,
+        props: _,
+        atom: _,
+        kind: _,
+        mapping: _,
+        key: _,
+    } = block;
+    memory
 }

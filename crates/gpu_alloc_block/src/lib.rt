@@ -1,7 +1,7 @@
 //! Blocks of memory, and how their bytes are mapped, written and read. Users find what is theirs of it in `gpu_alloc`.
 #![tactic(auto)]
 
-mod block;
+pub mod block;
 pub mod laws;
 
 pub use block::{Kind, Mapping, MemoryBlock};

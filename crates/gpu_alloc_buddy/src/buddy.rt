@@ -27,11 +27,12 @@ ghost use Rattle.gpu_alloc_base.specs.AlignMasks.{IsAlignMask};
 mod pieces;
 mod space;
 
+use gpu_alloc_base::buddy_block::{Leaf, into_parts};
 use gpu_alloc_base::heap::Heap;
 use gpu_alloc_base::new_chunk::new_chunk_with_handle;
 use gpu_alloc_base::range_order::put_in_order;
 use gpu_alloc_base::sizes::next_order;
-use gpu_alloc_base::{AllocationError, BuddyBlock, Leaf, Piece};
+use gpu_alloc_base::{AllocationError, BuddyBlock, Piece};
 use gpu_alloc_types::{
     AllocationFlags, FreeRange, MemoryDevice, MemoryObject, MemoryPropertyFlags,
 };
@@ -104,7 +105,7 @@ impl<M: MemoryObject, A: Allocator + Copy> BuddyAllocator<M, A> {
     ///
     /// `alloc` gives the memory of its lists. The only refusal is `OutOfHostMemory`.
     ///
-    /// Nothing is held or live yet (`empty`): by [`agrees_at_first`](crate::laws::agrees_at_first) a caller learns that
+    /// Nothing is held or live (`empty`): by [`agrees_at_first`](crate::laws::agrees_at_first) a caller learns that
     /// the allocator agrees with a device that offers the memory type.
     pub fn new(
         alloc: A,
@@ -224,6 +225,9 @@ impl<M: MemoryObject, A: Allocator> BuddyAllocator<M, A> {
     /// The refusal that `alloc` gives such a request before it takes any memory or asks anything: `OutOfDeviceMemory`
     /// where a chunk for it would be of 2^64 bytes or more, `TooManyObjects` where a chunk is wanted and no more
     /// objects may be held. None where it goes further. It takes no memory.
+    ///
+    /// The size has to be at least 1, and `align_mask + 1` a power of two of at most 2^63, as of `alloc`. What `heap`
+    /// counts decides nothing.
     pub fn refuses(
         &self,
         size: u64,
@@ -314,7 +318,7 @@ impl<M: MemoryObject, A: Allocator> BuddyAllocator<M, A> {
         ensures total { chunks_and_remaining self.new.chunks allocations_remains.new
             ≡ chunks_and_remaining self.old.chunks allocations_remains.old }
     {
-        let (memory, leaf) = block.into_parts();
+        let (memory, leaf) = into_parts(block);
         forget(&mut self.live, leaf);
         let piece = Piece {
             chunk: leaf.chunk,

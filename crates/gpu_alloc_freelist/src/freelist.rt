@@ -81,9 +81,9 @@ impl<M: MemoryObject, A: Allocator + Copy> FreeListAllocator<M, A> {
     /// which is at least one atom, and none has more than `final_chunk_size`, which is no less and at most 2^62. (The
     /// original crate asserts the multiples.)
     ///
-    /// `alloc` gives the memory of its lists, none of which is taken yet.
+    /// `alloc` gives the memory of its lists, of which this call takes none.
     ///
-    /// Nothing is held or live yet (`empty`): by [`agrees_at_first`](crate::laws::agrees_at_first) a caller learns that
+    /// Nothing is held or live (`empty`): by [`agrees_at_first`](crate::laws::agrees_at_first) a caller learns that
     /// the allocator agrees with a device that offers the memory type.
     pub fn new(
         alloc: A,
@@ -210,8 +210,10 @@ impl<M: MemoryObject, A: Allocator> FreeListAllocator<M, A> {
 
     /// The refusal that `alloc` gives such a request before it takes any memory or asks anything: `TooManyObjects`
     /// where a chunk is wanted and no more objects may be held, or no number is left for it. None where it goes
-    /// further. It takes no memory. The conditions on size and alignment are those of `alloc`; what `heap` counts
-    /// decides nothing yet.
+    /// further. It takes no memory.
+    ///
+    /// The size has to be at least 1, and at most the final size when it is rounded; `align_mask + 1` a power of two of
+    /// at most 2^63, as of `alloc`. What `heap` counts decides nothing.
     pub fn refuses(
         &self,
         size: u64,

@@ -10,8 +10,10 @@ ghost use Rattle.gpu_alloc_block.specs.State.{IsOwned, is_shared, total};
 use super::GpuAllocator;
 use super::rows::leaf_in;
 use crate::MemoryBlock;
-use gpu_alloc_base::{BuddyBlock, FreeListBlock, Slot};
+use gpu_alloc_base::free_list_block::Slot;
+use gpu_alloc_base::{BuddyBlock, FreeListBlock};
 use gpu_alloc_block::Kind;
+use gpu_alloc_block::block::into_memory;
 use gpu_alloc_types::{MemoryDevice, MemoryObject};
 use std::alloc::Allocator;
 
@@ -43,7 +45,7 @@ impl<M: MemoryObject, A: Allocator> GpuAllocator<M, A> {
         ensures sound { Sound.IsSound self.new }
     {
         let (key, offset, size) = (block.key(), block.offset(), block.size());
-        let memory = block.into_memory();
+        let memory = into_memory(block);
         device.deallocate_memory(&memory);
         let removed = self.spans.remove(key, memory.object(), offset, size, true);
         let object = removed.object.unwrap();
@@ -65,7 +67,7 @@ impl<M: MemoryObject, A: Allocator> GpuAllocator<M, A> {
     {
         let (key, memory_type) = (block.key(), block.memory_type());
         let (offset, size) = (block.offset(), block.size());
-        let memory = block.into_memory();
+        let memory = into_memory(block);
         let object = memory.object();
         let span = self.spans.find(key, object, offset, size).unwrap();
         let heap = self.limits.heap_index(memory_type);
@@ -108,7 +110,7 @@ impl<M: MemoryObject, A: Allocator> GpuAllocator<M, A> {
     {
         let (key, memory_type) = (block.key(), block.memory_type());
         let (offset, size) = (block.offset(), block.size());
-        let memory = block.into_memory();
+        let memory = into_memory(block);
         let slot = Slot {
             object: memory.object(),
             chunk: number,

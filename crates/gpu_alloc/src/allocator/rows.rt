@@ -8,11 +8,12 @@ ghost use Rattle.gpu_alloc.specs.Inside.{with_chunk_of_slot};
 ghost use Rattle.gpu_alloc.specs.Spans.{span_in, place_in};
 
 use crate::spans::{HeldRow, LiveSpan, Spans};
-use gpu_alloc_base::{Leaf, Slot};
+use gpu_alloc_base::buddy_block::Leaf;
+use gpu_alloc_base::free_list_block::Slot;
 use gpu_alloc_block::Kind;
 use std::alloc::Allocator;
 
-/// Adds the span of a buddy allocator's block, and its chunk where it was not held yet, into room that was made.
+/// Adds the span of a buddy allocator's block, and its chunk where it was not held, into room that was made.
 pub(super) fn add_leaf<A: Allocator>(
     spans: &mut Spans<A>,
     leaf: Leaf,
@@ -44,7 +45,7 @@ pub(super) fn add_leaf<A: Allocator>(
     spans.insert(span, chunk)
 }
 
-/// Adds the span of a free list's block, and its chunk where it was not held yet, into room that was made.
+/// Adds the span of a free list's block, and its chunk where it was not held, into room that was made.
 pub(super) fn add_slot<A: Allocator>(
     spans: &mut Spans<A>,
     slot: Slot,

@@ -147,8 +147,8 @@ pub(super) fn join(piece: Piece, other: Piece) -> Piece
     }
 }
 
-/// Puts a block back into the list: it is joined with its other half as long as that one is free. A block that has
-/// become as long as its chunk, whose order is the limit, is not put into the list but handed out.
+/// Puts a block back into the list: it is joined with its other half while that one is free. A block that has become as
+/// long as its chunk, whose order is the limit, is not put into the list but handed out.
 pub(super) fn put_back<A: Allocator>(
     pieces: &mut Vec<Piece, A>,
     block: Piece,

@@ -6,7 +6,8 @@ ghost use Rattle.std.specs.FinSet as set;
 ghost use Rattle.gpu_alloc_buddy.specs.BuddyInside.{same_leaf, same_fields, leaf_set};
 
 use super::pieces::bytes;
-use gpu_alloc_base::{Leaf, Piece};
+use gpu_alloc_base::Piece;
+use gpu_alloc_base::buddy_block::Leaf;
 use std::alloc::{AllocError, Allocator};
 
 /// Makes room for one block more: for the rests of the piece that it is taken from, for itself, and for the piece that

@@ -22,9 +22,10 @@ ghost use Rattle.gpu_alloc_base.specs.NewChunk.{AsksBlock, ChunkAfter, chunk_que
 ghost use Rattle.gpu_alloc_base.specs.declared.region.FreeListRegion.{FreeListRegion as Region};
 
 use super::regions::{insert, last_with_room, tail_of, take_tail};
+use gpu_alloc_base::free_list_block::{Slot, into_parts, slot_of};
 use gpu_alloc_base::new_chunk::new_chunk;
 use gpu_alloc_base::steps::Steps;
-use gpu_alloc_base::{AllocationError, FreeListBlock, FreeListRegion, Slot};
+use gpu_alloc_base::{AllocationError, FreeListBlock, FreeListRegion};
 use gpu_alloc_types::{AllocationFlags, MemoryDevice, MemoryObject};
 use std::alloc::{AllocError, Allocator, Global};
 use std::marker::Model;
@@ -76,7 +77,7 @@ impl<M: MemoryObject, A: Allocator> Model for FreeList<M, A> {
 }
 
 impl<M: MemoryObject, A: Allocator + Copy> FreeList<M, A> {
-    /// A list of no chunk. `alloc` gives the memory of its vectors, none of which is taken yet.
+    /// A list of no chunk. `alloc` gives the memory of its vectors, of which this call takes none.
     pub fn new(alloc: A) -> Self
         ensures empty { result.space ≡ no_space }
         ensures sound { IsSoundSpace result.space }
@@ -118,7 +119,7 @@ impl<M: MemoryObject, A: Allocator> FreeList<M, A> {
     /// `align_mask + 1` a power of two of at most 2^63, room has to be made (`reserve`), and the latest number below
     /// 2^64 - 1. The call takes one chunk's room at most.
     ///
-    /// Where there is no host memory for a second handle of the object, the first is handed back and nothing has
+    /// Where there is no host memory for a second handle of the object, `memory` itself is handed back and nothing has
     /// changed.
     pub fn get_block_from_new_memory(
         &mut self,
@@ -136,7 +137,7 @@ impl<M: MemoryObject, A: Allocator> FreeList<M, A> {
             (λ slot. slot ≡ first_tail self.old.space (M.object memory) memory_size size (align_mask + 1)) }
         ensures chunk { IfOk result
             (λ slot. self.new.space ≡ with_slot (with_chunk self.old.space (M.object memory) memory_size) slot) }
-        ensures refused { IfErr result (λ back. (M.object back ≡ M.object memory) × (self.new ≡ self.old)) }
+        ensures refused { IfErr result (λ back. (back ≡ memory) × (self.new ≡ self.old)) }
         ensures room { OnOk result (self.old.room ≤ self.new.room + 1) }
         ensures sound { IsSoundSpace self.new.space }
     {
@@ -283,9 +284,9 @@ impl<M: MemoryObject, A: Allocator> FreeList<M, A> {
         ensures room { self.old.room ≤ self.new.room }
         ensures sound { IsSoundSpace self.new.space }
     {
-        forget(&mut self.live, block.slot());
+        forget(&mut self.live, slot_of(&block));
         insert(&mut self.regions, &mut self.spare, &block, steps);
-        let _ = block.into_parts();
+        let _ = into_parts(block);
     }
 
     /// Takes the wholly free chunk of the least number out of the list: its memory, its size in bytes and its number.

@@ -11,8 +11,9 @@ ghost use Rattle.gpu_alloc_base.specs.FreeRuns.{AreRuns, AreRunsBeside, AreRisin
 ghost use Rattle.gpu_alloc_base.specs.AlignMasks.{IsAlignMask};
 ghost use Rattle.gpu_alloc_base.specs.declared.region.FreeListRegion.{FreeListRegion as Region};
 
+use gpu_alloc_base::free_list_block::{Slot, slot_of};
 use gpu_alloc_base::steps::Steps;
-use gpu_alloc_base::{FreeListBlock, FreeListRegion, Slot};
+use gpu_alloc_base::{FreeListBlock, FreeListRegion};
 use gpu_alloc_types::MemoryObject;
 use std::alloc::Allocator;
 use std::cmp::Ordering;
@@ -214,7 +215,7 @@ pub(super) fn insert<M: MemoryObject, A: Allocator, L: Ledger>(
     ensures spare_capacity { vec_capacity spare.new ≡ vec_capacity regions.old }
 {
     let place = place_of(regions.as_slice(), block, steps);
-    let joint = join(regions.as_slice(), place, block.slot());
+    let joint = join(regions.as_slice(), place, slot_of(block));
     copy_with(regions.as_slice(), spare, joint);
     std::mem::swap(regions, spare);
 }

@@ -21,7 +21,7 @@ returns-clause-joined g c = λ s beside.
     let within = rw c.as_slice.ensures.value at c.place_of-place.ensures.within in
     let before = rw c.as_slice.ensures.value at c.place_of-place.ensures.before in
     let here = rw c.as_slice.ensures.value at c.place_of-place.ensures.at in
-    let joint = rw (c.as_slice-2.ensures.value, c.slot.ensures) at (c.join-joint.ensures d) in
+    let joint = rw (c.as_slice-2.ensures.value, c.slot_of.ensures) at (c.join-joint.ensures d) in
     rw (c.swap.ensures.x_after, c.copy_with.ensures.items, c.as_slice-3.ensures.value)
     (block_joined (IsFreeIn s) regions d beside (omega (arith, c.requires.fits)) place before here within d _ _ _ joint)
 

@@ -11,7 +11,7 @@ invariant_of-self g c = (
   listed_without_slot _ c.self.inside.live.items c.forget.new.live.items c.self.inside.latest c.self.inside.regions.items c.insert.new.regions.items _ _ c.args.block
       c.self.invariant.1
       (rw (← c.self.view_is) at c.requires)
-      (c.forget.ensures.live ∙ ap (set.remove (slot_set c.self.inside.live.items)) c.slot.ensures)
+      (c.forget.ensures.live ∙ ap (set.remove (slot_set c.self.inside.live.items)) c.slot_of.ensures)
       c.forget.ensures.once
       c.insert.ensures.joined
       (omega (arith, c.self.invariant.1.room, c.insert.ensures.one_more, c.insert.ensures.capacity, c.insert.ensures.spare_capacity, c.forget.ensures.len, c.self.inside.regions.ok, c.insert.new.regions.ok, c.self.inside.live.ok, c.forget.new.live.ok)),
