@@ -277,6 +277,7 @@ impl<M: MemoryObject, A: Allocator> GpuAllocator<M, A> {
     }
 
     /// Whether any memory type that serves a request, which has this meaning, is one of those that it allows.
+    #[inline(always)]
     fn has_candidate(&self, request: Request, usage: UsageFlags) -> bool
         requires meant { usage_bits usage ≡ implied (usage_bits request.usage) }
         ensures { result ≡ not (length (candidates_of self.now request) == 0) }
@@ -287,6 +288,7 @@ impl<M: MemoryObject, A: Allocator> GpuAllocator<M, A> {
     }
 
     /// The memory types that serve a usage, the best first.
+    #[inline(always)]
     fn ranked(&self, usage: UsageFlags) -> &[u32]
         ensures ranked { result.now ≡ ranking (named (usage_bits usage)) (self.now.properties).memory_types }
         ensures few { All (λ t. t < 32) result.now }
@@ -348,6 +350,7 @@ impl<M: MemoryObject, A: Allocator> GpuAllocator<M, A> {
     }
 
     /// Which way a memory type serves a request.
+    #[inline(always)]
     fn strategy(&self, request: Request, hint: Option<Dedicated>, memory_type: u32) -> Strategy
         requires known { memory_type < length (self.now.properties).memory_types }
         ensures { result ≡ strategy self.now request hint memory_type }
@@ -363,6 +366,7 @@ impl<M: MemoryObject, A: Allocator> GpuAllocator<M, A> {
     }
 
     /// Which way a memory type serves a request by its size and its usage.
+    #[inline(always)]
     fn unhinted(&self, request: Request, memory_type: u32) -> Strategy
         requires known { memory_type < length (self.now.properties).memory_types }
         ensures { result ≡ unhinted self.now request memory_type }
@@ -385,6 +389,7 @@ impl<M: MemoryObject, A: Allocator> GpuAllocator<M, A> {
     }
 
     /// Whether a request in whole atoms fits a largest free-list chunk. Its size is below a 32nd part of a heap.
+    #[inline(always)]
     fn fits_a_chunk(&self, request: Request, memory_type: u32) -> bool
         requires known { memory_type < length (self.now.properties).memory_types }
         requires small { request.size < heap_size self.now.properties memory_type / 32 }
@@ -574,6 +579,7 @@ impl<M: MemoryObject, A: Allocator> GpuAllocator<M, A> {
     }
 
     /// The size of a memory type's heap, in bytes.
+    #[inline(always)]
     fn heap_size(&self, memory_type: u32) -> u64
         requires { memory_type < length (self.now.properties).memory_types }
         ensures { result ≡ heap_size self.now.properties memory_type }

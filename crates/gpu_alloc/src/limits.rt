@@ -26,6 +26,7 @@ pub(crate) struct Limits<A: Allocator = Global> {
 
 impl<A: Allocator> Limits<A> {
     /// The index of a memory type's heap.
+    #[inline(always)]
     pub(crate) fn heap_index(&self, memory_type: u32) -> usize
         requires { memory_type < length self.now.memory_types.items }
         ensures { result ≡ heap_of (slice_get self.now.memory_types.items memory_type) }
@@ -34,6 +35,7 @@ impl<A: Allocator> Limits<A> {
     }
 
     /// The properties of a memory type.
+    #[inline(always)]
     pub(crate) fn props(&self, memory_type: u32) -> MemoryPropertyFlags
         requires { memory_type < length self.now.memory_types.items }
         ensures { property_bits result ≡ bits_of (slice_get self.now.memory_types.items memory_type) }
@@ -42,6 +44,7 @@ impl<A: Allocator> Limits<A> {
     }
 
     /// The flags of every question.
+    #[inline(always)]
     pub(crate) fn flags(&self) -> AllocationFlags
         ensures { allocation_bits result ≡ cond self.now.buffer_device_address 1 0 }
     {
@@ -53,6 +56,7 @@ impl<A: Allocator> Limits<A> {
     }
 
     /// The atom of a memory type, in bytes.
+    #[inline(always)]
     pub(crate) fn atom(&self, memory_type: u32) -> u64
         requires { memory_type < length self.now.memory_types.items }
         ensures { result ≡ atom_where self.now.non_coherent_atom_size

@@ -37,6 +37,7 @@ pub struct LiveSpan {
 
 impl LiveSpan {
     /// Whether it is this span, wherever its block stands.
+    #[inline(always)]
     fn is(&self, object: u64, offset: u64, size: u64) -> bool
         ensures { IsTrue result ↔ (span_in self.now ≡ span_at object offset size) }
     {
@@ -59,6 +60,7 @@ pub struct HeldRow {
 
 impl HeldRow {
     /// Whether the object is of this memory type, and held for this.
+    #[inline(always)]
     pub(crate) fn is_of(&self, memory_type: u32, kind: Kind) -> bool
         ensures { IsTrue result ↔ ((self.now.memory_type ≡ memory_type) × (self.now.kind ≡ kind)) }
     {
@@ -106,6 +108,7 @@ impl<A: Allocator> Model for Spans<A> {
 }
 
 /// The key of a span's row: this one where its row is the span's, and else the one that a search over all rows finds.
+#[inline(always)]
 fn key_of<A: Allocator>(
     spans: &Slab<LiveSpan, A>,
     key: usize,
@@ -141,6 +144,7 @@ fn search<A: Allocator>(
 }
 
 /// Puts an object among those that are held, where there is a new one.
+#[inline(always)]
 fn hold<A: Allocator>(objects: &mut Objects<A>, name: u64, new_object: Option<HeldRow>)
     requires { 0 < spare objects.old }
     ensures held { objects_in objects.new.entries ≡ with_new (objects_in objects.old.entries) name new_object }
@@ -152,6 +156,7 @@ fn hold<A: Allocator>(objects: &mut Objects<A>, name: u64, new_object: Option<He
 }
 
 /// Takes an object off those that are held, where it is asked for.
+#[inline(always)]
 fn let_go<A: Allocator>(objects: &mut Objects<A>, name: u64, asked: bool) -> Option<HeldRow>
     ensures object { option_map held_of result ≡ cond asked (map.get (objects_in objects.old.entries) name) None }
     ensures held { objects_in objects.new.entries ≡ without_old (objects_in objects.old.entries) name asked }
@@ -189,6 +194,7 @@ impl<A: Allocator> Spans<A> {
     /// Makes room for one more span and one more object, so that one `insert` cannot fail.
     ///
     /// The only refusal is want of memory. Nothing but the room changes, after a refusal too.
+    #[inline(always)]
     pub fn reserve(&mut self) -> Result<(), AllocError>
         ensures room { OnOk result (0 < self.new.room) }
         ensures succeeds { 0 < self.old.room → IsOk result }
@@ -202,6 +208,7 @@ impl<A: Allocator> Spans<A> {
     ///
     /// Where the span is of an object that is not held, `new_object` says what the object is, and it is held from then
     /// on. Where the object is held, `new_object` has to be `None`.
+    #[inline(always)]
     pub fn insert(&mut self, span: LiveSpan, new_object: Option<HeldRow>) -> usize
         requires room { 0 < self.old.room }
         requires free { set.contains self.old.live (span_in span) ≡ false }
@@ -219,6 +226,7 @@ impl<A: Allocator> Spans<A> {
     /// A span of an object, from `offset` on and of `size` bytes, with its block's place, exactly where it is live.
     ///
     /// The answer is the same whatever the key is. The key that `insert` gave for the span makes it fast.
+    #[inline(always)]
     pub fn find(&self, key: usize, object: u64, offset: u64, size: u64) -> Option<LiveSpan>
         ensures live { is_some result ≡ set.contains self.now.live (span_at object offset size) }
         ensures span { IfSome result (λ span. span_in span ≡ span_at object offset size) }
@@ -231,6 +239,7 @@ impl<A: Allocator> Spans<A> {
     }
 
     /// What an object is, exactly where it is held.
+    #[inline(always)]
     pub fn held(&self, object: u64) -> Option<HeldRow>
         ensures { option_map held_of result ≡ map.get self.now.held object }
     {
@@ -241,6 +250,7 @@ impl<A: Allocator> Spans<A> {
     /// which has to be held then. Other spans of that object stay live. It takes no memory and cannot fail.
     ///
     /// What comes of it is the same whatever the key is. The key that `insert` gave for the span makes it fast.
+    #[inline(always)]
     pub fn remove(
         &mut self,
         key: usize,
@@ -271,6 +281,7 @@ impl<A: Allocator> Spans<A> {
 
     /// Takes an object off those that are held, where it is one. Spans stay as they are. It takes no memory and cannot
     /// fail.
+    #[inline(always)]
     pub(crate) fn let_go(&mut self, object: u64)
         ensures held { self.new.held ≡ map.remove self.old.held object }
         ensures live { self.new.live ≡ self.old.live }

@@ -86,8 +86,8 @@ digits_are_least x short =
     let m = below.0 in
     let same : m ≡ 64 - count_leading_zeros 64 (x - 1) = omega (arith, below.1) in
     let least : (k : ℕ) → x ≤ 2 ^ k → m ≤ k = λ k is.
-        let positive = pow_pos k in
-        let lt : m < suc k = exponent m (suc k) (omega (arith, below.3, is, positive)) in omega (arith, lt) in
+    let positive = pow_pos k in
+    let lt : m < suc k = exponent m (suc k) (omega (arith, below.3, is, positive)) in omega (arith, lt) in
     subst (λ r. next_power_of_two x ≡ 2 ^ r) same (least_exponent x m (omega arith) (omega (arith, below.2)) least)
 
 -- a number with one bit set is a power of two

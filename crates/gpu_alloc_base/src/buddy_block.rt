@@ -55,6 +55,7 @@ impl<M: MemoryObject> Model for BuddyBlock<M> {
 impl<M: MemoryObject> BuddyBlock<M> {
     /// The block with this handle of its chunk's object. It is public for the crates above: users get their blocks from
     /// a buddy allocator.
+    #[inline(always)]
     pub fn new(memory: M, leaf: Leaf) -> Self
         requires { leaf.object ≡ M.object memory }
         ensures { result ≡ leaf }
@@ -69,6 +70,7 @@ impl<M: MemoryObject> BuddyBlock<M> {
     }
 
     /// A handle of the chunk's memory object.
+    #[inline(always)]
     pub fn memory(&self) -> &M
         ensures { M.object result.now ≡ self.now.object }
     {
@@ -76,6 +78,7 @@ impl<M: MemoryObject> BuddyBlock<M> {
     }
 
     /// Where the block starts in its object, in bytes.
+    #[inline(always)]
     pub fn offset(&self) -> u64
         ensures { result ≡ self.now.offset }
     {
@@ -83,6 +86,7 @@ impl<M: MemoryObject> BuddyBlock<M> {
     }
 
     /// The block's size, in bytes: a power of two.
+    #[inline(always)]
     pub fn size(&self) -> u64
         ensures { result ≡ self.now.size }
     {
@@ -90,6 +94,7 @@ impl<M: MemoryObject> BuddyBlock<M> {
     }
 
     /// The key of its chunk in its allocator.
+    #[inline(always)]
     pub fn chunk(&self) -> usize
         ensures { result ≡ self.now.chunk }
     {
@@ -97,6 +102,7 @@ impl<M: MemoryObject> BuddyBlock<M> {
     }
 
     /// Its place in its allocator's own store: 0, since that is a plain list.
+    #[inline(always)]
     pub fn index(&self) -> usize
         ensures { result ≡ self.now.index }
     {
@@ -105,6 +111,7 @@ impl<M: MemoryObject> BuddyBlock<M> {
 }
 
 /// Takes a block apart, for its handle and what it was known by.
+#[inline(always)]
 pub fn into_parts<M: MemoryObject>(block: BuddyBlock<M>) -> (M, Leaf)
     ensures handle { M.object result.0 ≡ block.object }
     ensures leaf { result.1 ≡ block }

@@ -45,6 +45,7 @@ impl<M: MemoryObject> Model for FreeListBlock<M> {
 impl<M: MemoryObject> FreeListBlock<M> {
     /// The block with this handle of its chunk's object. It is public for the crates above: users get their blocks from
     /// a free list.
+    #[inline(always)]
     pub fn new(memory: M, slot: Slot) -> Self
         requires { slot.object ≡ M.object memory }
         ensures { result ≡ slot }
@@ -58,6 +59,7 @@ impl<M: MemoryObject> FreeListBlock<M> {
     }
 
     /// A handle of the chunk's memory object.
+    #[inline(always)]
     pub fn memory(&self) -> &M
         ensures { M.object result.now ≡ self.now.object }
     {
@@ -65,6 +67,7 @@ impl<M: MemoryObject> FreeListBlock<M> {
     }
 
     /// The number of its chunk in its list: at least 1.
+    #[inline(always)]
     pub fn chunk(&self) -> u64
         ensures { result ≡ self.now.chunk }
     {
@@ -72,6 +75,7 @@ impl<M: MemoryObject> FreeListBlock<M> {
     }
 
     /// Where the block starts in its object, in bytes.
+    #[inline(always)]
     pub fn offset(&self) -> u64
         ensures { result ≡ self.now.offset }
     {
@@ -79,6 +83,7 @@ impl<M: MemoryObject> FreeListBlock<M> {
     }
 
     /// The block's size, in bytes: at least what was asked for.
+    #[inline(always)]
     pub fn size(&self) -> u64
         ensures { result ≡ self.now.size }
     {
@@ -87,6 +92,7 @@ impl<M: MemoryObject> FreeListBlock<M> {
 }
 
 /// What a block is known by.
+#[inline(always)]
 pub fn slot_of<M: MemoryObject>(block: &FreeListBlock<M>) -> Slot
     ensures { result ≡ block.now }
 {
@@ -99,6 +105,7 @@ pub fn slot_of<M: MemoryObject>(block: &FreeListBlock<M>) -> Slot
 }
 
 /// Takes a block apart, for its handle and what it was known by.
+#[inline(always)]
 pub fn into_parts<M: MemoryObject>(block: FreeListBlock<M>) -> (M, Slot)
     ensures handle { M.object result.0 ≡ block.object }
     ensures slot { result.1 ≡ block }

@@ -19,6 +19,7 @@ impl Heap {
     }
 
     /// The heap's size, in bytes.
+    #[inline(always)]
     pub fn size(&self) -> u64
         ensures { result ≡ self.now.size }
     {
@@ -26,6 +27,7 @@ impl Heap {
     }
 
     /// How many bytes are held of it. They may be more than its size: the device decides what it gives.
+    #[inline(always)]
     pub fn used(&self) -> u128
         ensures { result ≡ self.now.used }
     {
@@ -33,6 +35,7 @@ impl Heap {
     }
 
     /// Counts `size` bytes more as held. They may be more than the heap's size, and have to stay below 2^128 in all.
+    #[inline(always)]
     pub fn alloc(&mut self, size: u64)
         requires { self.old.used + size < 2 ^ 128 }
         ensures { self.new ≡ record self.old { used = self.old.used + size } }
@@ -41,6 +44,7 @@ impl Heap {
     }
 
     /// Counts `size` bytes of those that are held as given back. No more than are held may be.
+    #[inline(always)]
     pub fn dealloc(&mut self, size: u64)
         requires { size ≤ self.old.used }
         ensures { self.new ≡ record self.old { used = self.old.used - size } }

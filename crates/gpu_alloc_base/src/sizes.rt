@@ -5,6 +5,7 @@ ghost use Rattle.std.specs.Int.{is_power_of_two};
 ghost use Rattle.gpu_alloc_base.specs.Sizes.{next_power_of_two};
 
 /// The exponent of the least power of two that is not below a number: at most 64.
+#[inline(always)]
 pub fn next_order(n: u64) -> u32
     ensures least { next_power_of_two n ≡ 2 ^ result }
     ensures bound { result ≤ 64 }
@@ -13,6 +14,7 @@ pub fn next_order(n: u64) -> u32
 }
 
 /// The least power of two that is not below a number of at most 2^63.
+#[inline(always)]
 pub fn next_power_of_two(n: u64) -> u64
     requires { n ≤ 2 ^ 63 }
     ensures is { result ≡ next_power_of_two n }

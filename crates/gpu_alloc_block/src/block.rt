@@ -42,6 +42,7 @@ pub enum Kind {
 
 impl Kind {
     /// Whether many blocks may lie in an object that is held so.
+    #[inline(always)]
     pub fn is_shared(self) -> bool
         ensures { result ≡ is_shared self }
     {
@@ -106,6 +107,7 @@ impl<M: MemoryObject> Model for MemoryBlock<M> {
 impl<M: MemoryObject> MemoryBlock<M> {
     /// An unmapped block, whose span stands under a key. It is public for the crate above, whose table of live spans
     /// confirms each block: users get theirs of a `GpuAllocator`.
+    #[inline(always)]
     pub fn new(
         memory: M,
         offset: u64,
@@ -142,6 +144,7 @@ impl<M: MemoryObject> MemoryBlock<M> {
     }
 
     /// A handle of the block's memory object.
+    #[inline(always)]
     pub fn memory(&self) -> &M
         ensures { M.object result.now ≡ self.now.object }
     {
@@ -149,6 +152,7 @@ impl<M: MemoryObject> MemoryBlock<M> {
     }
 
     /// Where the block starts in its object, in bytes.
+    #[inline(always)]
     pub fn offset(&self) -> u64
         ensures { result ≡ self.now.offset }
     {
@@ -156,6 +160,7 @@ impl<M: MemoryObject> MemoryBlock<M> {
     }
 
     /// The block's size, in bytes: at least what was asked for.
+    #[inline(always)]
     pub fn size(&self) -> u64
         ensures { result ≡ self.now.size }
     {
@@ -163,6 +168,7 @@ impl<M: MemoryObject> MemoryBlock<M> {
     }
 
     /// The properties of its memory type.
+    #[inline(always)]
     pub fn props(&self) -> MemoryPropertyFlags
         ensures { property_bits result ≡ self.now.props }
     {
@@ -170,6 +176,7 @@ impl<M: MemoryObject> MemoryBlock<M> {
     }
 
     /// The index of its memory type.
+    #[inline(always)]
     pub fn memory_type(&self) -> u32
         ensures { result ≡ self.now.memory_type }
     {
@@ -177,6 +184,7 @@ impl<M: MemoryObject> MemoryBlock<M> {
     }
 
     /// Whether the block is mapped.
+    #[inline(always)]
     pub fn is_mapped(&self) -> bool
         ensures { result ≡ is_some self.now.mapping }
     {
@@ -184,6 +192,7 @@ impl<M: MemoryObject> MemoryBlock<M> {
     }
 
     /// What the block has mapped of its object, in bytes, while it is mapped.
+    #[inline(always)]
     pub fn mapping(&self) -> Option<Mapping>
         ensures { result ≡ self.now.mapping }
     {
@@ -384,6 +393,7 @@ impl<M: MemoryObject> MemoryBlock<M> {
     }
 
     /// What its object is held for. It is public for the crate above.
+    #[inline(always)]
     pub fn kind(&self) -> Kind
         ensures { result ≡ self.now.kind }
     {
@@ -391,6 +401,7 @@ impl<M: MemoryObject> MemoryBlock<M> {
     }
 
     /// The key of its span, which the table confirms before it is used. It is public for the crate above.
+    #[inline(always)]
     pub fn key(&self) -> usize {
         self.key
     }
@@ -596,6 +607,7 @@ impl<M: MemoryObject> MemoryBlock<M> {
 
 /// Takes a block apart, for its handle. It gives nothing back: `gpu_alloc` lets the handle go once the block's span is
 /// free.
+#[inline(always)]
 pub fn into_memory<M: MemoryObject>(block: MemoryBlock<M>) -> M
     ensures { M.object result ≡ block.object }
 {

@@ -54,6 +54,7 @@ impl MemoryForUsage {
 
     /// The mask that has exactly the bits of the types that serve a usage: bit 0 for the type with index 0. Bits of the
     /// usage without a name are dropped.
+    #[inline(always)]
     pub fn mask(&self, usage: UsageFlags) -> u32
         ensures { IsMaskOf result (row self.now (usage_bits usage)) }
     {
@@ -61,6 +62,7 @@ impl MemoryForUsage {
     }
 
     /// The indices of the types that serve a usage, the best first. Bits of the usage without a name are dropped.
+    #[inline(always)]
     pub fn types(&self, usage: UsageFlags) -> &[u32]
         ensures { result.now ≡ row self.now (usage_bits usage) }
     {
@@ -68,12 +70,14 @@ impl MemoryForUsage {
     }
 
     /// Whether any type that serves a usage has its bit set in `mask`. Bits of the usage without a name are dropped.
+    #[inline(always)]
     pub fn has_any(&self, usage: UsageFlags, mask: u32) -> bool
         ensures { result ≡ not (length (filter (is_allowed mask) (row self.now (usage_bits usage))) == 0) }
     {
         self.mask(usage) & mask != 0
     }
 
+    #[inline(always)]
     fn row(&self, usage: UsageFlags) -> &MemoryForOneUsage
         ensures { ranked_types result.now ≡ row self.now (usage_bits usage) }
     {
@@ -83,6 +87,7 @@ impl MemoryForUsage {
 
 /// What a request's usage means: no flag means `FAST_DEVICE_ACCESS`, and `DOWNLOAD` and `UPLOAD` mean `HOST_ACCESS` too
 /// (the original crate's rule). Bits without a name are dropped.
+#[inline(always)]
 pub fn meaning(usage: UsageFlags) -> UsageFlags
     ensures { usage_bits result ≡ implied (usage_bits usage) }
 {

@@ -14,6 +14,7 @@ use gpu_alloc_block::Kind;
 use std::alloc::Allocator;
 
 /// Adds the span of a buddy allocator's block, and its chunk where it was not held, into room that was made.
+#[inline(always)]
 pub(super) fn add_leaf<A: Allocator>(
     spans: &mut Spans<A>,
     leaf: Leaf,
@@ -46,6 +47,7 @@ pub(super) fn add_leaf<A: Allocator>(
 }
 
 /// Adds the span of a free list's block, and its chunk where it was not held, into room that was made.
+#[inline(always)]
 pub(super) fn add_slot<A: Allocator>(
     spans: &mut Spans<A>,
     slot: Slot,
@@ -81,6 +83,7 @@ pub(super) fn add_slot<A: Allocator>(
 }
 
 /// A live span's block in its buddy allocator.
+#[inline(always)]
 pub(super) fn leaf_in(span: LiveSpan) -> Leaf
     ensures { result ≡ leaf_at (span_in span) (place_in span) }
 {

@@ -26,6 +26,7 @@ impl MemoryForOneUsage {
     ghost use Rattle.gpu_alloc_usage.specs.Ranked.{ranked_types};
 
     /// The types, the best first.
+    #[inline(always)]
     pub(crate) fn types(&self) -> &[u32]
         ensures { result.now ≡ ranked_types self.now }
     {
@@ -33,6 +34,7 @@ impl MemoryForOneUsage {
     }
 
     /// The mask that has exactly the bits of the types.
+    #[inline(always)]
     pub(crate) fn mask(&self) -> u32
         ensures { IsMaskOf result (ranked_types self.now) }
     {
