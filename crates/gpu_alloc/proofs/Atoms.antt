@@ -1,5 +1,5 @@
 -- The atom of a memory type, by its properties.
-use Rattle.std.proofs.Common.{◌≡◌, ℕ, ◌+◌, ◌-◌, ◌*◌, ◌^◌, ◌<◌, Bool, true, false, cond, not, ◌&&◌, ◌==◌, IsTrue, sym, ◌∙◌, ap, subst, arith, inl, inr}
+use Rattle.std.proofs.Common.{◌≡◌, ℕ, ◌+◌, ◌-◌, ◌*◌, ◌^◌, ◌<◌, Bool, true, false, cond, not, ◌==◌, IsTrue, sym, ◌∙◌, ap, subst, arith, inl, inr}
 use Rattle.std.proofs.lemmas.Bool.{cases_eq}
 use Rattle.std.proofs.lemmas.Bool.Decides.{nat_tests}
 use Rattle.std.proofs.lemmas.Nat.{pow_pos}
@@ -7,7 +7,6 @@ use Rattle.std.proofs.lemmas.Nat.Bits.{and_pow}
 use Rattle.std.specs.Int.{bit_at, is_power_of_two}
 use Rattle.std.specs.Int.Bits.{bit_and}
 use Rattle.gpu_alloc_types.specs.Flags.{has_bit, has_all_bits}
-use Rattle.gpu_alloc_base.specs.Sizes.{atom_where}
 use Rattle.gpu_alloc_base.proofs.PowersOfTwo.{bit_of_power, power_of_bit}
 
 -- a mask of one bit
@@ -28,11 +27,6 @@ one_bit-all bits k =
           let any : (bit_and bits (2 ^ k) == 0) ≡ false = grind (arith, nat_tests) in
           all ∙ ap not (sym any)
     ]
-
--- the atom by two tests of the properties
-pub atom_by_tests : (bits size atom : ℕ) (seen coherent : Bool) → seen ≡ has_all_bits bits 2 → coherent ≡ has_all_bits bits 4 → atom ≡ cond (seen && not coherent) size 1 → atom ≡ atom_where size bits
-atom_by_tests bits size atom seen coherent see flush is =
-    is ∙ (λ k. cond ((see ∙ one_bit-all bits 1) k && not ((flush ∙ one_bit-all bits 2) k)) size 1)
 
 -- an atom is a power of two
 pub atom_power : (size atom : ℕ) (b : Bool) → IsTrue (is_power_of_two size) → atom ≡ cond b size 1 → IsTrue (is_power_of_two atom)

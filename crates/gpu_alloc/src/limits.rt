@@ -48,11 +48,7 @@ impl<A: Allocator> Limits<A> {
     pub(crate) fn flags(&self) -> AllocationFlags
         ensures { allocation_bits result ≡ cond self.now.buffer_device_address 1 0 }
     {
-        if self.buffer_device_address {
-            AllocationFlags::DEVICE_ADDRESS
-        } else {
-            AllocationFlags::empty()
-        }
+        AllocationFlags::by_feature(self.buffer_device_address)
     }
 
     /// The atom of a memory type, in bytes.
@@ -71,9 +67,7 @@ impl<A: Allocator> Limits<A> {
 pub(crate) fn atom_of(props: MemoryPropertyFlags, non_coherent_atom_size: u64) -> u64
     ensures { result ≡ atom_where non_coherent_atom_size (property_bits props) }
 {
-    let by_host = props.contains(MemoryPropertyFlags::HOST_VISIBLE);
-    let coherent = props.contains(MemoryPropertyFlags::HOST_COHERENT);
-    if by_host && !coherent {
+    if props.is_non_coherent() {
         non_coherent_atom_size
     } else {
         1

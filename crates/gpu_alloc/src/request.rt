@@ -30,7 +30,7 @@ impl Request {
         self.size > 0
             && self.align_mask < 1 << 63
             && (self.align_mask + 1).is_power_of_two()
-            && (address || !self.usage.intersects(UsageFlags::DEVICE_ADDRESS))
+            && !self.usage.lacks_address(address)
     }
 }
 

@@ -426,14 +426,6 @@ impl<M: MemoryObject> MemoryBlock<M> {
         }
     }
 
-    /// Whether what one side writes to the block has to be flushed or invalidated for the other to see it.
-    fn is_non_coherent(&self) -> bool
-        ensures { result ≡ are_non_coherent self.now.props }
-    {
-        let visible = self.props.intersects(MemoryPropertyFlags::HOST_VISIBLE);
-        visible && !self.props.intersects(MemoryPropertyFlags::HOST_COHERENT)
-    }
-
     /// The end of the first atom that ends at this place of the block's object or behind it, or the block's end where
     /// that comes first.
     fn atom_end(&self, place: u64) -> u64
@@ -518,7 +510,7 @@ impl<M: MemoryObject> MemoryBlock<M> {
         ensures cause { OnErr result (are_non_coherent self.now.props ≡ true) }
         ensures properties { D.properties device.new ≡ D.properties device.old }
     {
-        if !self.is_non_coherent() {
+        if !self.props.is_non_coherent() {
             return Ok(());
         }
         let range = self.rounded(offset, len);
@@ -543,7 +535,7 @@ impl<M: MemoryObject> MemoryBlock<M> {
         ensures cause { OnErr result (are_non_coherent self.now.props ≡ true) }
         ensures properties { D.properties device.new ≡ D.properties device.old }
     {
-        if !self.is_non_coherent() {
+        if !self.props.is_non_coherent() {
             return Ok(());
         }
         let range = self.rounded(offset, len);

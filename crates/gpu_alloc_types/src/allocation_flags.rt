@@ -1,7 +1,7 @@
 //! What is asked of a device, as a set of flags.
 
 ghost use Rattle.std.specs.Prelude.{⊤, ◌≡◌, ◌↔◌, ◌==◌, [], ◌∷◌, codes, bit_and, bit_or, bit_xor, if◌then◌else◌, IsTrue};
-ghost use Rattle.std.specs.Prelude.{IsSome, IfSome};
+ghost use Rattle.std.specs.Prelude.{IsSome, IfSome, cond};
 ghost use Rattle.gpu_alloc_types.specs.Flags.{allocation_bits, named_allocation_bits, has_bit, has_all_bits};
 ghost use Rattle.gpu_alloc_types.specs.Flags.{bits_without};
 
@@ -24,6 +24,18 @@ impl AllocationFlags {
     /// The device will address the memory by a `u64` (Vulkan's `VK_MEMORY_ALLOCATE_DEVICE_ADDRESS_BIT`; the number is
     /// the original crate's).
     pub const DEVICE_ADDRESS: AllocationFlags = AllocationFlags { bits: 1 };
+
+    /// What each object of a device is asked for with: `DEVICE_ADDRESS` exactly where the device has the feature (the
+    /// original crate's rule).
+    pub fn by_feature(buffer_device_address: bool) -> AllocationFlags
+        ensures { allocation_bits result ≡ cond buffer_device_address 1 0 }
+    {
+        if buffer_device_address {
+            AllocationFlags::DEVICE_ADDRESS
+        } else {
+            AllocationFlags::empty()
+        }
+    }
 
     /// The value with no bit set.
     pub fn empty() -> AllocationFlags

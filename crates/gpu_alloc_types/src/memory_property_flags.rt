@@ -3,6 +3,7 @@
 ghost use Rattle.std.specs.Prelude.{⊤, ◌≡◌, ◌↔◌, ◌==◌, [], ◌∷◌, codes, bit_and, bit_or, bit_xor, if◌then◌else◌, IsTrue};
 ghost use Rattle.std.specs.Prelude.{IsSome, IfSome};
 ghost use Rattle.gpu_alloc_types.specs.Flags.{property_bits, named_property_bits, has_bit, has_all_bits, bits_without};
+ghost use Rattle.gpu_alloc_types.specs.Properties.{are_non_coherent};
 
 use bitflags::{Flag, Flags};
 use std::ops::{
@@ -110,6 +111,15 @@ impl MemoryPropertyFlags {
         ensures { result ≡ has_bit (property_bits self.now) (property_bits other) }
     {
         <MemoryPropertyFlags as Flags>::intersects(self, other)
+    }
+
+    /// Whether what the host or the device writes to such memory has to be flushed or invalidated for the other to see
+    /// it: the host sees the memory, and it is not coherent.
+    pub fn is_non_coherent(&self) -> bool
+        ensures { result ≡ are_non_coherent (property_bits self.now) }
+    {
+        self.intersects(MemoryPropertyFlags::HOST_VISIBLE)
+            && !self.intersects(MemoryPropertyFlags::HOST_COHERENT)
     }
 
     /// The bits of either.

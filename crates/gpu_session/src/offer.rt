@@ -56,11 +56,7 @@ impl<A: Allocator> Offer<A> {
     pub(crate) fn flags(&self) -> AllocationFlags
         ensures { (p : Properties) → IsOffer p self.now → allocation_bits result ≡ flags_of p }
     {
-        if self.buffer_device_address {
-            AllocationFlags::DEVICE_ADDRESS
-        } else {
-            AllocationFlags::empty()
-        }
+        AllocationFlags::by_feature(self.buffer_device_address)
     }
 
     /// Whether an import of this memory type may not end there: what has to be flushed has to end on the atom or where
@@ -69,9 +65,6 @@ impl<A: Allocator> Offer<A> {
         ensures { (p : Properties) → IsOffer p self.now → result ≡ is_bad_end p memory_type object_size end }
     {
         let props = self.props(memory_type);
-        props.intersects(MemoryPropertyFlags::HOST_VISIBLE)
-            && !props.intersects(MemoryPropertyFlags::HOST_COHERENT)
-            && end % self.non_coherent_atom_size != 0
-            && end != object_size
+        props.is_non_coherent() && end % self.non_coherent_atom_size != 0 && end != object_size
     }
 }

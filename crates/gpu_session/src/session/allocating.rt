@@ -12,7 +12,7 @@ use super::{Blocks, Session};
 use crate::{Command, Fault, Reply};
 use gpu_alloc::laws::{made_objects_may_be_imported, objects_of_others_may_go};
 use gpu_alloc::{AllocationError, Dedicated, MemoryBlock, Request};
-use gpu_alloc_types::{MemoryDevice, MemoryObject, UsageFlags};
+use gpu_alloc_types::{MemoryDevice, MemoryObject};
 use std::alloc::Allocator;
 
 /// Why a request cannot be asked for: the first condition that it misses.
@@ -25,7 +25,7 @@ fn fault_of(request: Request, buffer_device_address: bool) -> Option<Fault>
     if request.align_mask >= 1 << 63 || !(request.align_mask + 1).is_power_of_two() {
         return Some(Fault::BadAlignment);
     }
-    if request.usage.intersects(UsageFlags::DEVICE_ADDRESS) && !buffer_device_address {
+    if request.usage.lacks_address(buffer_device_address) {
         return Some(Fault::NoDeviceAddress);
     }
     None
