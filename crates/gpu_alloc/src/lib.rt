@@ -18,5 +18,5 @@ pub use gpu_alloc_types::{
     AllocationFlags, DeviceMapError, DeviceProperties, FreeRange, MappedMemoryRange, MemoryDevice,
     MemoryHeap, MemoryObject, MemoryPropertyFlags, MemoryType, OutOfMemory, UsageFlags,
 };
-pub use gpu_alloc_usage::{MemoryForOneUsage, MemoryForUsage};
+pub use gpu_alloc_usage::MemoryForUsage;
 pub use request::{Dedicated, Request};

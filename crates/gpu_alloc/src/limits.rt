@@ -1,7 +1,7 @@
 //! What an allocator was given and keeps.
 
 ghost use Rattle.std.specs.Prelude.{◌≡◌, ◌<◌, length, cond, slice_get};
-ghost use Rattle.gpu_alloc_types.specs.Flags.{allocation_bits, property_bits};
+ghost use Rattle.gpu_alloc_types.specs.Flags.{allocation_bits, property_bits, with_device_address};
 ghost use Rattle.gpu_alloc_types.specs.Properties.{heap_of, bits_of};
 ghost use Rattle.gpu_alloc_base.specs.Sizes.{atom_where};
 ghost use Rattle.gpu_alloc_usage.specs.Ranking.{IsTable};
@@ -46,7 +46,7 @@ impl<A: Allocator> Limits<A> {
     /// The flags of every question.
     #[inline(always)]
     pub(crate) fn flags(&self) -> AllocationFlags
-        ensures { allocation_bits result ≡ cond self.now.buffer_device_address 1 0 }
+        ensures { allocation_bits result ≡ cond self.now.buffer_device_address with_device_address 0 }
     {
         AllocationFlags::by_feature(self.buffer_device_address)
     }

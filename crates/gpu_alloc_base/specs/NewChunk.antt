@@ -3,6 +3,7 @@ use Rattle.std.specs.Prelude.{◌≡◌, ◌≢◌, ◌⊎◌, ℕ, Bool, List, 
 use Rattle.std.specs.Prelude.{cond}
 use Rattle.std.specs.Result.{result_map_both}
 use Rattle.gpu_alloc_types.specs.Device.{Object, Event, Range, put}
+use Rattle.gpu_alloc_types.specs.Flags.{with_device_address}
 use Rattle.gpu_alloc_types.specs.Properties.{Properties}
 use Rattle.gpu_alloc_types.specs.Device.Event.{Allocated, Deallocated, Mapped}
 use Rattle.gpu_alloc_types.specs.declared.types.OutOfMemory.TheVariants.{OutOfDeviceMemory as DeviceFull}
@@ -16,7 +17,7 @@ use Rattle.gpu_alloc_base.specs.declared.error.AllocationError.TheVariants.{NoCo
 
 -- the flags of every question: the address flag exactly where the device has the feature
 abbrev pub flags_of : Properties → ℕ
-flags_of p = cond p.buffer_device_address 1 0
+flags_of p = cond p.buffer_device_address with_device_address 0
 
 -- what is asked for: so many bytes of a memory type with these flags, and whether the object is then mapped whole
 pub record ChunkQuestion : Type 0 where

@@ -3,7 +3,7 @@
 ghost use Rattle.std.specs.Prelude.{⊤, ◌≡◌, ◌↔◌, ◌==◌, [], ◌∷◌, codes, bit_and, bit_or, bit_xor, if◌then◌else◌, IsTrue};
 ghost use Rattle.std.specs.Prelude.{IsSome, IfSome, cond};
 ghost use Rattle.gpu_alloc_types.specs.Flags.{allocation_bits, named_allocation_bits, has_bit, has_all_bits};
-ghost use Rattle.gpu_alloc_types.specs.Flags.{bits_without};
+ghost use Rattle.gpu_alloc_types.specs.Flags.{bits_without, with_device_address};
 
 use bitflags::{Flag, Flags};
 use std::ops::{
@@ -28,7 +28,7 @@ impl AllocationFlags {
     /// What each object of a device is asked for with: `DEVICE_ADDRESS` exactly where the device has the feature (the
     /// original crate's rule).
     pub fn by_feature(buffer_device_address: bool) -> AllocationFlags
-        ensures { allocation_bits result ≡ cond buffer_device_address 1 0 }
+        ensures { allocation_bits result ≡ cond buffer_device_address with_device_address 0 }
     {
         if buffer_device_address {
             AllocationFlags::DEVICE_ADDRESS

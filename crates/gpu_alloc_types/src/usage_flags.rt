@@ -2,7 +2,7 @@
 
 ghost use Rattle.std.specs.Prelude.{⊤, ◌≡◌, ◌↔◌, ◌==◌, [], ◌∷◌, codes, bit_and, bit_or, bit_xor, if◌then◌else◌, IsTrue};
 ghost use Rattle.std.specs.Prelude.{IsSome, IfSome, ◌&&◌, not};
-ghost use Rattle.gpu_alloc_types.specs.Flags.{usage_bits, named_usage_bits, has_bit, has_all_bits, bits_without};
+ghost use Rattle.gpu_alloc_types.specs.Flags.{usage_bits, named_usage_bits, has_bit, has_all_bits, bits_without, device_address};
 
 use bitflags::{Flag, Flags};
 use std::ops::{
@@ -114,7 +114,7 @@ impl UsageFlags {
 
     /// Whether the usage asks for an address of which a device cannot tell: `DEVICE_ADDRESS`, without the feature.
     pub fn lacks_address(&self, buffer_device_address: bool) -> bool
-        ensures { result ≡ (has_bit (usage_bits self.now) 32 && not buffer_device_address) }
+        ensures { result ≡ (has_bit (usage_bits self.now) device_address && not buffer_device_address) }
     {
         self.intersects(UsageFlags::DEVICE_ADDRESS) && !buffer_device_address
     }
