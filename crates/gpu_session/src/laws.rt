@@ -51,9 +51,8 @@ pub fn runs_hold_what_was_written<M: MemoryObject, D: MemoryDevice<M>, A: Alloca
         HoldsWritten (D.objects new.device) new.books (written commands replies)) }
 {}
 
-/// Where a byte was written last with a value (a write that was done gave it, and since then the block stayed and no write,
-/// done or refused, or put went there), what was written tells this value alone:
-/// [`values_of`](crate::values_of) answers the one value.
+/// [`values_of`](crate::values_of) answers one value alone where a write that was done gave it to the byte, and since
+/// then the block stayed and no write, done or refused, or put went there.
 pub fn latest_is_only<A: Allocator>()
     ensures { (commands : List (Command A)) (replies : List (Reply A)) (name byte v : ℕ)
         → IsWrittenLast commands replies name byte v → written commands replies name byte ≡ v ∷ [] }
