@@ -21,7 +21,7 @@ pub struct AllocationFlags {
 }
 
 impl AllocationFlags {
-    /// The device will address the memory by a `u64` (Vulkan's `VK_MEMORY_ALLOCATE_DEVICE_ADDRESS_BIT`; the number is
+    /// The device addresses the memory by a `u64` (Vulkan's `VK_MEMORY_ALLOCATE_DEVICE_ADDRESS_BIT`; the number is
     /// the original crate's).
     pub const DEVICE_ADDRESS: AllocationFlags = AllocationFlags { bits: 1 };
 

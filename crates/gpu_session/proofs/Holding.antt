@@ -238,12 +238,12 @@ pub run_holds_along : {D A : Type 0} (step : D → Event → D → Type 0) (prop
     → HoldsAlong (SoundStep step properties objects) objects old commands replies
 run_holds_along step properties objects old commands replies n mid run = run_holds step properties objects old mid (take n commands) (take n replies) run
 
--- what is known along joined lists, where the first are those of a run
-pub run_goes_on : {S A : Type 0} (Steps : S → Command A → Reply A → S → Type 0) (old new : S) (commands : List (Command A)) (replies : List (Reply A)) → Run Steps old commands replies new → GoesOn commands replies
-run_goes_on Steps old new [] [] run later answers name byte seen = refl
-run_goes_on Steps old new [] (r ∷ replies) run later answers name byte seen = absurd run
-run_goes_on Steps old new (c ∷ commands) [] run later answers name byte seen = absurd run
-run_goes_on Steps old new (c ∷ commands) (r ∷ replies) run later answers name byte seen = run_goes_on Steps run.0 new commands replies run.2 later answers name byte (seen_after name byte c r seen)
+-- what is known along joined lists, where each of the first commands has its reply
+pub goes_on : {A : Type 0} (commands : List (Command A)) (replies : List (Reply A)) → length replies ≡ length commands → GoesOn commands replies
+goes_on [] [] each later answers name byte seen = refl
+goes_on [] (r ∷ replies) each later answers name byte seen = absurd (cc)
+goes_on (c ∷ commands) [] each later answers name byte seen = absurd (cc)
+goes_on (c ∷ commands) (r ∷ replies) each later answers name byte seen = goes_on commands replies (omega (arith, each)) later answers name byte (seen_after name byte c r seen)
 
 -- A read tells what was written.
 
@@ -294,20 +294,13 @@ module _ {A : Type 0} (name byte : ℕ) where
       let one = step_left c r seen leave.0 in
       all_left commands replies (seen_after name byte c r seen) (subst (λ from. AllLeaveByte name byte from commands replies) (sym one.1) leave.1) ∙ one.0
 
-  along_joined : (commands later : List (Command A)) (replies answers : List (Reply A)) (seen : Seen) → length replies ≡ length commands
-      → seen_along name byte (commands ++ later) (replies ++ answers) seen ≡ seen_along name byte later answers (seen_along name byte commands replies seen)
-  along_joined [] later [] answers seen same = refl
-  along_joined [] later (r ∷ replies) answers seen same = absurd (cc)
-  along_joined (c ∷ commands) later [] answers seen same = absurd (cc)
-  along_joined (c ∷ commands) later (r ∷ replies) answers seen same = along_joined commands later replies answers (seen_after name byte c r seen) (omega (arith, same))
-
   -- the latest write leaves one value
   pub latest_is_only : (commands : List (Command A)) (replies : List (Reply A)) (v : ℕ) → IsWrittenLast commands replies name byte v → written commands replies name byte ≡ v ∷ []
   latest_is_only commands replies v l =
       let there = seen_along name byte l.before l.answers unseen in
       let now : Seen = record there { values = v ∷ [] } in
       let both = ap (λ (cs : List (Command A)). seen_along name byte cs replies unseen) l.asked ∙ ap (λ (rs : List (Reply A)). seen_along name byte (l.before ++ Write name l.offset l.bytes ∷ l.later) rs unseen) l.answered in
-      let joined = along_joined l.before (Write name l.offset l.bytes ∷ l.later) l.answers (Done ∷ l.later_answers) unseen l.each in
+      let joined = goes_on l.before l.answers l.each (Write name l.offset l.bytes ∷ l.later) (Done ∷ l.later_answers) name byte unseen in
       let wrote = ap (seen_along name byte l.later l.later_answers) (after_write A name byte l.offset l.bytes v there l.gives) in
       ap (λ (s : Seen). s.values) (both ∙ joined ∙ wrote) ∙ all_left l.later l.later_answers now l.since
 

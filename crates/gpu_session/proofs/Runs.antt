@@ -1,11 +1,18 @@
 -- Runs, one after the other.
-use Rattle.std.proofs.Common.{◌≡◌, ℕ, ◌+◌, ◌<◌, List, [], ◌∷◌, ◌++◌, length, take, get_or, add-one, refl, subst}
+use Rattle.std.proofs.Common.{◌≡◌, ℕ, ◌+◌, ◌<◌, List, [], ◌∷◌, ◌++◌, length, take, get_or, add-one, suc, ap, refl, subst}
 use Rattle.std.proofs.Math.Seq.{take-suc}
 use Rattle.gpu_session.specs.Run.{Run}
 use Rattle.gpu_session.specs.declared.command.Command.{Command}
 use Rattle.gpu_session.specs.declared.command.Reply.{Reply}
 
 module _ {S A : Type 0} (Steps : S → Command A → Reply A → S → Type 0) where
+  -- a run has a reply for each command
+  pub run_answers_each : (old new : S) (commands : List (Command A)) (replies : List (Reply A)) → Run Steps old commands replies new → length replies ≡ length commands
+  run_answers_each old new [] [] run = refl
+  run_answers_each old new [] (r ∷ replies) run = absurd run
+  run_answers_each old new (c ∷ commands) [] run = absurd run
+  run_answers_each old new (c ∷ commands) (r ∷ replies) run = ap suc (run_answers_each run.0 new commands replies run.2)
+
   -- a run goes on by one step
   pub run_more : (old mid new : S) (commands : List (Command A)) (replies : List (Reply A)) (command : Command A) (reply : Reply A)
       → Run Steps old commands replies mid → Steps mid command reply new → Run Steps old (commands ++ command ∷ []) (replies ++ reply ∷ []) new

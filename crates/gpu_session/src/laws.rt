@@ -1,6 +1,6 @@
 //! Laws of runs and faults, over the definitions alone. The functions do nothing.
 
-ghost use Rattle.std.specs.Prelude.{◌≡◌, ◌↔◌, Bool, All, None};
+ghost use Rattle.std.specs.Prelude.{◌≡◌, ◌↔◌, ℕ, Bool, List, [], ◌∷◌, All, None};
 ghost use Rattle.gpu_alloc.specs.Request.{IsAskable};
 ghost use Rattle.gpu_alloc.specs.State.{total};
 ghost use Rattle.gpu_alloc.specs.declared.request.Request.{Request};
@@ -8,7 +8,9 @@ ghost use Rattle.gpu_session.specs.Faults.{fault_of_request};
 ghost use Rattle.gpu_session.specs.Isolation.{GoesOn, HoldsWritten, TellAlong, TellsWritten};
 ghost use Rattle.gpu_session.specs.Run.{Step, Run, Joins, EachRun, EachNext, EndsWithCleanup};
 ghost use Rattle.gpu_session.specs.Sound.{SoundStep, LeavesRemaining, HasNothingLeft, HasWholeObjects, IsForRequired};
-ghost use Rattle.gpu_session.specs.Written.{written};
+ghost use Rattle.gpu_session.specs.Written.{IsWrittenLast, written};
+ghost use Rattle.gpu_session.specs.declared.command.Command.{Command};
+ghost use Rattle.gpu_session.specs.declared.command.Reply.{Reply};
 
 use gpu_alloc_types::{MemoryDevice, MemoryObject};
 use std::alloc::Allocator;
@@ -47,6 +49,13 @@ pub fn runs_end_with_nothing_held<M: MemoryObject, D: MemoryDevice<M>, A: Alloca
 pub fn runs_hold_what_was_written<M: MemoryObject, D: MemoryDevice<M>, A: Allocator>()
     ensures { EachRun {A = A} (SoundStep D.step D.properties D.objects) (λ old commands replies new.
         HoldsWritten (D.objects new.device) new.books (written commands replies)) }
+{}
+
+/// [`values_of`](crate::values_of) answers one value alone where a write that was done gave it to the byte, and since
+/// then the block stayed and no write, done or refused, or put went there.
+pub fn latest_is_only<A: Allocator>()
+    ensures { (commands : List (Command A)) (replies : List (Reply A)) (name byte v : ℕ)
+        → IsWrittenLast commands replies name byte v → written commands replies name byte ≡ v ∷ [] }
 {}
 
 /// Of a run, as the joined one of two, each read that is answered by bytes tells for each byte that has values by what was

@@ -134,7 +134,8 @@ fn is_about<A: Allocator>(name: u32, command: &Command<A>) -> bool
 /// A write that was done gives its bytes. A put may give its bytes to the host alone, and a write that was refused for
 /// want of memory may have given them to either side, so these come beside what was there. Where the lists are those of
 /// all runs of a session from some state on and there are values, the host's byte and the device's are each one of them
-/// ([`laws::runs_hold_what_was_written`](crate::laws::runs_hold_what_was_written)).
+/// ([`laws::runs_hold_what_was_written`](crate::laws::runs_hold_what_was_written)). There is one alone where a
+/// write was done and nothing has gone there since ([`laws::latest_is_only`](crate::laws::latest_is_only)).
 ///
 /// `byte` counts from the block's start. Where one list is longer its rest is not looked at. An error means that there
 /// was no memory for the values.

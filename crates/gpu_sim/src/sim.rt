@@ -98,7 +98,8 @@ impl<A: Allocator + Copy> Sim<A> {
     }
 
     /// Plans that the `nth` question of a kind, counted from 1 since [`new`](Sim::new), is refused with the cause. Of
-    /// two plans for one question the first counts.
+    /// two plans for one question the first counts. Question 0 never comes, so a plan for it refuses none. The count
+    /// stays at `u64::MAX`: this is the number of each question from there on, and a plan for it refuses them all.
     ///
     /// `Cause::Failed` is for `Question::Map` alone. Fails only for want of memory, and all is as before then.
     pub fn refuse(&mut self, kind: Question, nth: u64, cause: Cause) -> Result<(), AllocError>

@@ -1,4 +1,4 @@
-//! Memory that lives as long as a frame.
+//! Memory that is taken and given back within a frame.
 
 ghost use Rattle.std.specs.Prelude.{◌≡◌};
 ghost use Rattle.std.specs.FinSet as set;

@@ -1,5 +1,5 @@
-use Rattle.gpu_session.proofs.Runs.{run_append, run_coarser}
-use Rattle.gpu_session.proofs.Holding.{run_goes_on}
+use Rattle.gpu_session.proofs.Runs.{run_answers_each, run_append, run_coarser}
+use Rattle.gpu_session.proofs.Holding.{goes_on}
 use Rattle.gpu_session.proofs.laws.runs_join.Goals as goal
 
 pub returns-clause-any : goal.returns-clause-any
@@ -12,4 +12,4 @@ pub returns-clause-steps : goal.returns-clause-steps
 returns-clause-steps g c = λ old new commands replies. run_coarser _ _ (λ before command reply after s. s.taken) old new commands replies
 
 pub returns-clause-seen : goal.returns-clause-seen
-returns-clause-seen g c = λ old new commands replies run. run_goes_on _ old new commands replies run
+returns-clause-seen g c = λ old new commands replies run. goes_on commands replies (run_answers_each _ old new commands replies run)
