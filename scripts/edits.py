@@ -1,9 +1,17 @@
 """What an edit of crates/*/must-fail says: the wrong bodies that it holds, each under a line 'FUNCTION: what it does', and the texts that they stand in."""
+import os
 
 
 def read(path):
     with open(path, encoding="utf-8") as file:
         return file.read()
+
+
+def named(root):
+    """Each edit of the repository, as its crate and its own name."""
+    for crate in sorted(os.listdir(f"{root}/crates")):
+        folder = f"{root}/crates/{crate}/must-fail"
+        yield from ((crate, it) for it in (sorted(os.listdir(folder)) if os.path.isdir(folder) else []) if it.endswith(".edit"))
 
 
 def applied(edit, crate):

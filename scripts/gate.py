@@ -14,13 +14,15 @@ import tempfile
 import threading
 import time
 
-from edits import applied, read
+from edits import applied, named, read
 
 LAST = re.compile(r"\d+ passed, \d+ failed")
 BEGUN = time.monotonic()
 TELLING = threading.Lock()
 RUNNER = ("runner",)
 UNKNOWN = ("", 0)
+# The most memory that a check of a crate is seen to take, and a little more.
+EACH = 3_500_000_000
 # What is told of a block in which something is not proved.
 REASON = re.compile(r"error|no proof|NOT|: not proved|^rt: (?!chose)")
 
@@ -33,16 +35,31 @@ def tell(text, log=None):
             print(line, file=to, flush=True)
 
 
+def jobs():
+    """How many checks run at once: one a processor, as many as memory holds. Without this number rt ci sets memory aside for each crate by its size, and the
+    largest two wait for each other."""
+    found = len(os.sched_getaffinity(0))
+    free = 1024 * int(re.search(r"MemAvailable:\s+(\d+)", read("/proc/meminfo"))[1])
+    try:
+        quota, period = read("/sys/fs/cgroup/cpu.max").split()
+        found = min(found, int(quota) // int(period))
+    except (OSError, ValueError):
+        pass
+    try:
+        free = min(free, int(read("/sys/fs/cgroup/memory.max")))
+    except (OSError, ValueError):
+        pass
+    return max(1, min(found, free // EACH))
+
+
 def bodies(root):
     """The edits of each crate: the functions that they name and the texts that they leave. One that cannot be applied is for rt ci to refuse."""
     found = {}
-    for crate in sorted(os.listdir(f"{root}/crates")):
-        folder = f"{root}/crates/{crate}"
-        for edit in sorted(os.listdir(f"{folder}/must-fail")) if os.path.isdir(f"{folder}/must-fail") else []:
-            try:
-                found[crate, edit] = applied(f"{folder}/must-fail/{edit}", folder)
-            except (AssertionError, KeyError, OSError, UnicodeDecodeError):
-                found[crate, edit] = [], {}
+    for crate, edit in named(root):
+        try:
+            found[crate, edit] = applied(f"{root}/crates/{crate}/must-fail/{edit}", f"{root}/crates/{crate}")
+        except (AssertionError, KeyError, OSError, UnicodeDecodeError):
+            found[crate, edit] = [], {}
     return found
 
 
@@ -148,7 +165,7 @@ class Gate:
             self.block.append(line)
         elif line.startswith("rt: must-fail ") and ": refused, as it must be" in line:
             self.refused, self.is_reason = self.refused + 1, False
-        elif line.startswith("test "):
+        elif re.match(r"test .* \.\.\. ", line):
             is_well = line.endswith(" ok") or " ok - " in line
             name = line.split(" ... ")[0][len("test "):]
             took = self.watch.took.get(("test", name))
@@ -156,7 +173,7 @@ class Gate:
             self.tests, self.is_reason = self.tests + is_well, not is_well
         elif line.startswith("rt: ") and "trying" not in line or self.is_reason:
             tell(line.removeprefix("rt: "))
-            self.ran, self.is_reason = self.ran + (" ran, and wrote" in line), self.is_reason or "must-fail" in line
+            self.ran, self.is_reason = self.ran + bool(re.search(r" ran\b.* wrote what", line)), self.is_reason or "must-fail" in line
         elif line.startswith("rt: "):
             tell(line.removeprefix("rt: "))
 
