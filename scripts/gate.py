@@ -166,16 +166,18 @@ class Gate:
         elif line.startswith("rt: must-fail ") and ": refused, as it must be" in line:
             self.refused, self.is_reason = self.refused + 1, False
         elif re.match(r"test .* \.\.\. ", line):
-            is_well = line.endswith(" ok") or " ok - " in line
-            name = line.split(" ... ")[0][len("test "):]
-            took = self.watch.took.get(("test", name))
+            self.is_reason = not (line.endswith(" ok") or " ok - " in line)
+            took = self.watch.took.get(("test", line.split(" ... ")[0][len("test "):]), 0)
             tell(f"{line}, {f'{took:.1f} s' if took else 'under 0.5 s'}")
-            self.tests, self.is_reason = self.tests + is_well, not is_well
-        elif line.startswith("rt: ") and "trying" not in line or self.is_reason:
-            tell(line.removeprefix("rt: "))
-            self.ran, self.is_reason = self.ran + bool(re.search(r" ran\b.* wrote what", line)), self.is_reason or "must-fail" in line
+            self.tests += not self.is_reason
         elif line.startswith("rt: "):
-            tell(line.removeprefix("rt: "))
+            tell(line[len("rt: "):])
+            self.ran, self.is_reason = self.ran + bool(re.search(r" ran\b.* wrote what", line)), "must-fail " in line
+        elif line.startswith(("tests: ", "test result: ")):
+            self.is_reason = False
+        elif self.is_reason:
+            # (the rest of what failed)
+            tell(line)
 
     def counts(self):
         """What passed, in one sentence."""

@@ -4,7 +4,6 @@ import fcntl
 import glob
 import hashlib
 import os
-import re
 import shutil
 import subprocess
 import sys
@@ -16,8 +15,7 @@ MADE = f"{ROOT}/crates/gpu_script/out/gpu_script"
 
 
 def say(text):
-    """Says it on standard error, in one line."""
-    print(f"{os.path.relpath(sys.argv[0], os.getcwd()) if os.path.isabs(sys.argv[0]) else sys.argv[0]}: {text}", file=sys.stderr, flush=True)
+    print(f"scripts/{os.path.basename(sys.argv[0])}: {text}", file=sys.stderr, flush=True)
 
 
 def place():
