@@ -36,8 +36,7 @@ def tell(text, log=None):
 
 
 def jobs():
-    """How many checks run at once: one a processor, as many as memory holds. Without this number rt ci sets memory aside for each crate by its size, and the
-    largest two wait for each other."""
+    """How many checks run at once: one a processor, as many as memory holds."""
     found = len(os.sched_getaffinity(0))
     free = 1024 * int(re.search(r"MemAvailable:\s+(\d+)", read("/proc/meminfo"))[1])
     try:
@@ -129,6 +128,7 @@ class Gate:
             # (rt ci runs programs as nobody, below this folder)
             os.chmod(room, 0o711)
             how = {"stdin": subprocess.DEVNULL, "stdout": subprocess.PIPE, "stderr": subprocess.STDOUT, "text": True, "errors": "replace"}
+            # Without a number of jobs rt ci sets memory aside for each crate by its size, and the largest two wait for each other.
             how["env"] = {**os.environ, "RT_JOBS": str(jobs), "TMPDIR": room}
             with subprocess.Popen(["rt", "ci"], cwd=root, **how) as ran:
                 self.watch = Watch(ran.pid, self.edits, log)
@@ -159,7 +159,8 @@ class Gate:
             if ended[4]:
                 self.proved.append((crate, bool(of_tests)))
             else:
-                print(*[it[:300] for it in self.block or [] if REASON.search(it)][:20], sep="\n", flush=True)
+                for it in [it[:300] for it in self.block or [] if REASON.search(it)][:20]:
+                    print(it, flush=True)
             self.block = None
         elif self.block is not None:
             self.block.append(line)
