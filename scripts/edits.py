@@ -25,7 +25,7 @@ def applied(edit, crate):
             old = line[len("old: "):]
         elif line.startswith("new:"):
             assert texts[path].count(old) == 1, f"{edit}: '{old}' stands {texts[path].count(old)} times in {path}"
-            texts[path] = texts[path].replace(old, line[len("new:"):].removeprefix(" "))
+            texts[path] = texts[path].replace(old, line[len("new: "):])
         elif line.strip():
             functions.append(line.partition(": ")[0])
     return functions, texts

@@ -37,17 +37,13 @@ def tell(text, log=None):
 
 def jobs():
     """How many checks run at once: one a processor, as many as memory holds."""
-    found = len(os.sched_getaffinity(0))
-    free = 1024 * int(re.search(r"MemAvailable:\s+(\d+)", read("/proc/meminfo"))[1])
-    try:
+    found, free = len(os.sched_getaffinity(0)), 1024 * int(re.search(r"MemAvailable:\s+(\d+)", read("/proc/meminfo"))[1])
+    # (a control group may grant less)
+    with contextlib.suppress(OSError, ValueError):
         quota, period = read("/sys/fs/cgroup/cpu.max").split()
         found = min(found, int(quota) // int(period))
-    except (OSError, ValueError):
-        pass
-    try:
+    with contextlib.suppress(OSError, ValueError):
         free = min(free, int(read("/sys/fs/cgroup/memory.max")))
-    except (OSError, ValueError):
-        pass
     return max(1, min(found, free // EACH))
 
 
