@@ -1,0 +1,186 @@
+"""Runs the merge gate, rt ci, as it is, and tells meanwhile what it does.
+
+rt ci prints what was said of a crate when its proof has ended, and of the edits and tests only at its end. What it is at shows in the processes that it
+starts, which are watched here: a check of a crate in the crate's own folder, a check of an edit in a folder rt-edit-* with the edited texts, and each test as a
+process of rattle-test. Where nothing is seen, as with another kit, the lines come from what rt ci prints alone, and its verdict is its own in any case.
+"""
+import contextlib
+import os
+import re
+import resource
+import signal
+import subprocess
+import tempfile
+import threading
+import time
+
+from edits import applied, named, read
+
+LAST = re.compile(r"\d+ passed, \d+ failed")
+BEGUN = time.monotonic()
+TELLING = threading.Lock()
+RUNNER = ("runner",)
+UNKNOWN = ("", 0)
+# The most memory that a check of a crate is seen to take, and a little more.
+EACH = 3_500_000_000
+# What is told of a block in which something is not proved.
+REASON = re.compile(r"error|no proof|NOT|: not proved|^rt: (?!chose)")
+
+
+def tell(text, log=None):
+    """Prints a line with the time since the start, and keeps it in the log where it is given."""
+    line = f"{time.monotonic() - BEGUN:6.0f} s  {text}"
+    with TELLING:
+        for to in (None, log) if log else (None,):
+            print(line, file=to, flush=True)
+
+
+def jobs():
+    """How many checks run at once: one a processor, as many as memory holds."""
+    found, free = len(os.sched_getaffinity(0)), 1024 * int(re.search(r"MemAvailable:\s+(\d+)", read("/proc/meminfo"))[1])
+    # (a control group may grant less)
+    with contextlib.suppress(OSError, ValueError):
+        quota, period = read("/sys/fs/cgroup/cpu.max").split()
+        found = min(found, int(quota) // int(period))
+    with contextlib.suppress(OSError, ValueError):
+        free = min(free, int(read("/sys/fs/cgroup/memory.max")))
+    return max(1, min(found, free // EACH))
+
+
+def bodies(root):
+    """The edits of each crate: the functions that they name and the texts that they leave. One that cannot be applied is for rt ci to refuse."""
+    found = {}
+    for crate, edit in named(root):
+        try:
+            found[crate, edit] = applied(f"{root}/crates/{crate}/must-fail/{edit}", f"{root}/crates/{crate}")
+        except (AssertionError, KeyError, OSError, UnicodeDecodeError):
+            found[crate, edit] = [], {}
+    return found
+
+
+class Watch(threading.Thread):
+    """Sees the processes that rt ci starts, and how long each of them runs."""
+
+    def __init__(self, pid, edits, log):
+        super().__init__(daemon=True)
+        self.pid, self.edits, self.log, self.ended = str(pid), edits, log, threading.Event()
+        # What each process does and since when; when each work was first seen, and how long it took.
+        self.running, self.first, self.took = {}, {}, {}
+
+    def run(self):
+        while not self.ended.wait(0.2):
+            # (a process can end while it is looked at)
+            with contextlib.suppress(OSError, ValueError, IndexError, RuntimeError):
+                self.look()
+
+    def look(self):
+        seen, now = set(), time.monotonic()
+        for pid in (it for it in os.listdir("/proc") if it.isdigit()):
+            with contextlib.suppress(OSError, ValueError, IndexError):
+                parent = read(f"/proc/{pid}/stat").rpartition(") ")[2].split()[1]
+                if parent == self.pid or self.running.get(parent, UNKNOWN)[0] == RUNNER:
+                    seen.add(pid)
+                    if self.running.get(pid, UNKNOWN)[0] == "":
+                        work = self.work_of(pid, parent)
+                        self.running[pid] = work, now
+                        self.first.setdefault(work, now)
+        for pid in self.running.keys() - seen:
+            work, begun = self.running.pop(pid)
+            self.took[work] = now - begun
+            if work[:1] == ("edit",):
+                tell(f"{work[1]}/{work[2]}: its check took {now - begun:.0f} s", self.log)
+
+    def work_of(self, pid, parent):
+        """Says what a process does: the proof of a crate or of its tests, the check of an edit, a test or the runner of tests, or nothing of these."""
+        words, at = read(f"/proc/{pid}/cmdline").split("\0"), os.readlink(f"/proc/{pid}/cwd")
+        if parent != self.pid:
+            return "" if words[1].startswith("--") else ("test", words[1])
+        if words[0].endswith("/rattle-test"):
+            return RUNNER
+        if "--crate-name" not in words:
+            return ""
+        crate = words[words.index("--crate-name") + 1]
+        if not os.path.basename(at).startswith("rt-edit-"):
+            return "tests" if "--test" in words else "proof", crate
+        for (of, edit), (_, texts) in self.edits.items():
+            if of == crate and texts and all(read(f"{at}/{path}") == text for path, text in texts.items()):
+                return "edit", crate, edit
+        return "edit", crate, "(no edit, over what those checks kept)"
+
+    def since(self, *work):
+        """How long ago that began, to be put behind what ended; nothing where it wasn't seen."""
+        return f" in {time.monotonic() - self.first[work]:.0f} s" if work in self.first else ""
+
+
+class Gate:
+    """One run of rt ci, with what it told."""
+
+    def __init__(self, root, log, jobs):
+        self.log, self.block, self.is_reason = log, None, False
+        self.proved, self.tests, self.refused, self.ran, self.last = [], 0, 0, 0, ""
+        self.edits = bodies(root)
+        begun = time.monotonic()
+        with tempfile.TemporaryDirectory(prefix="wallthyme-gate-") as room:
+            # (rt ci runs programs as nobody, below this folder)
+            os.chmod(room, 0o711)
+            how = {"stdin": subprocess.DEVNULL, "stdout": subprocess.PIPE, "stderr": subprocess.STDOUT, "text": True, "errors": "replace"}
+            # Without a number of jobs rt ci sets memory aside for each crate by its size, and the largest two wait for each other.
+            how["env"] = {**os.environ, "RT_JOBS": str(jobs), "TMPDIR": room}
+            with subprocess.Popen(["rt", "ci"], cwd=root, **how) as ran:
+                self.watch = Watch(ran.pid, self.edits, log)
+                self.watch.start()
+                try:
+                    for line in ran.stdout:
+                        print(line, end="", file=log, flush=True)
+                        self.hear(line.rstrip("\n"))
+                except BaseException:
+                    ran.send_signal(signal.SIGTERM)
+                    raise
+                finally:
+                    self.watch.ended.set()
+            self.status = ran.returncode
+        used = resource.getrusage(resource.RUSAGE_CHILDREN)
+        self.minutes, self.processor = (time.monotonic() - begun) / 60, (used.ru_utime + used.ru_stime) / 60
+
+    def hear(self, line):
+        """Tells what a line of rt ci says, where a reader wants it: what ended, and the reasons of what failed."""
+        ended = re.fullmatch(r"rt: (\w+?)(: its tests are)? (NOT )?PROVED.*|rt: (\w+?)(: its tests are)? proved", line)
+        if LAST.fullmatch(line):
+            self.last = line
+        elif line.startswith("== "):
+            self.block = []
+        elif ended:
+            crate, of_tests = ended[1] or ended[4], ended[2] or ended[5]
+            tell(line[len("rt: "):] + self.watch.since("tests" if of_tests else "proof", crate))
+            if ended[4]:
+                self.proved.append((crate, bool(of_tests)))
+            else:
+                for it in [it[:300] for it in self.block or [] if REASON.search(it)][:20]:
+                    print(it, flush=True)
+            self.block = None
+        elif self.block is not None:
+            self.block.append(line)
+        elif line.startswith("rt: must-fail ") and ": refused, as it must be" in line:
+            self.refused, self.is_reason = self.refused + 1, False
+        elif re.match(r"test .* \.\.\. ", line):
+            self.is_reason = not (line.endswith(" ok") or " ok - " in line)
+            took = self.watch.took.get(("test", line.split(" ... ")[0][len("test "):]), 0)
+            tell(f"{line}, {f'{took:.1f} s' if took else 'under 0.5 s'}")
+            self.tests += not self.is_reason
+        elif line.startswith("rt: "):
+            tell(line[len("rt: "):])
+            self.ran, self.is_reason = self.ran + bool(re.search(r" ran\b.* wrote what", line)), "must-fail " in line
+        elif line.startswith(("tests: ", "test result: ")):
+            self.is_reason = False
+        elif self.is_reason:
+            # (the rest of what failed)
+            tell(line)
+
+    def counts(self):
+        """What passed, in one sentence."""
+        crates, tested = (sum(it[1] == of_tests for it in self.proved) for of_tests in (False, True))
+        held = sum(len(functions) for functions, _ in self.edits.values())
+        return (
+            f"{crates} crates proved and the tests of {tested}, {self.refused} of {len(self.edits)} edits refused ({held} wrong bodies), "
+            f"{self.tests} tests passed, {self.ran} runs of programs; {self.minutes:.0f} min, {self.processor:.0f} min of processor time"
+        )
