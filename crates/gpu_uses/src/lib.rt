@@ -13,6 +13,4 @@ pub mod returning;
 pub mod session;
 pub mod shared;
 pub mod staging;
-#[cfg(test)]
-mod tests;
 pub mod upload;

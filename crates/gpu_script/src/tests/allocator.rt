@@ -1,6 +1,7 @@
 //! The allocator by itself, over the simulated device, where it gives out objects of their own.
 
 use super::bench::{Bench, Counts, bytes, one_type, place_in};
+use super::same::same;
 use gpu_alloc::{
     AllocationFlags, Dedicated, DeviceProperties, MemoryPropertyFlags, Request, UsageFlags,
 };
@@ -26,7 +27,12 @@ fn take(rt: &impl Abort, bench: &mut Bench, object: u64, size: u64) {
         ..bytes(size)
     };
     let answer = bench.ask(rt, request, Some(Dedicated::Required));
-    assert_eq!(rt; answer, Ok(place_in(object, 0, size)));
+    same(
+        rt,
+        "an object of its own",
+        &answer,
+        &Ok(place_in(object, 0, size)),
+    );
 }
 
 /// Ends a bench, after which nothing is held. The device was asked so often.
@@ -38,25 +44,45 @@ fn end(rt: &impl Abort, mut bench: Bench, asked: u64) {
         remaining: 4096,
         used: 0,
     };
-    assert_eq!(rt; bench.counts(), counts);
-    assert_eq!(rt; bench.held_objects(), 0);
+    same(
+        rt,
+        "what is held once all is given back",
+        &bench.counts(),
+        &counts,
+    );
+    same(rt, "held objects", &bench.held_objects(), &0);
     bench.end(rt);
 }
 
 /// Compares what an allocator and its device tell that gave out a block of 100 bytes.
 fn compare_block(rt: &impl Abort, bench: &Bench) {
-    assert_eq!(rt; bench.max_allocation_size(), 1 << 30);
-    assert_eq!(rt; bench.latest_props(rt), MemoryPropertyFlags::DEVICE_LOCAL);
-    assert_eq!(rt;
-        bench.last_allocation(),
-        Some((100, 0, AllocationFlags::DEVICE_ADDRESS))
+    same(
+        rt,
+        "the largest object",
+        &bench.max_allocation_size(),
+        &(1 << 30),
+    );
+    let props = bench.latest_props(rt);
+    same(rt, "properties", &props, &MemoryPropertyFlags::DEVICE_LOCAL);
+    let asked = Some((100, 0, AllocationFlags::DEVICE_ADDRESS));
+    same(
+        rt,
+        "the device's last question",
+        &bench.last_allocation(),
+        &asked,
     );
     let Counts {
         asked,
         remaining,
         ..
     } = bench.counts();
-    assert_eq!(rt; (asked, remaining, bench.held_objects()), (1, 4095, 1));
+    let counts = (asked, remaining, bench.held_objects());
+    same(
+        rt,
+        "questions, remaining and held objects",
+        &counts,
+        &(1, 4095, 1),
+    );
 }
 
 #[test]

@@ -4,6 +4,7 @@ ghost use Rattle.std.specs.Prelude.{◌≡◌, ◌<◌, length, vec_len};
 ghost use Rattle.gpu_alloc_types.specs.Properties.{IsUsable, properties_of};
 ghost use Rattle.gpu_sim.specs.Question.{CanRefuse};
 
+use super::same::{same, same_at};
 use crate::sim::{Cause, Question, Sim, SimMemory};
 use gpu_alloc::{
     AllocationError, AllocationFlags, Config, Dedicated, DeviceProperties, GpuAllocator,
@@ -48,7 +49,7 @@ pub(super) fn one_type() -> DeviceProperties<'static> {
 }
 
 /// The same properties once more.
-fn again<'a>(props: &DeviceProperties<'a>) -> DeviceProperties<'a>
+pub(super) fn again<'a>(props: &DeviceProperties<'a>) -> DeviceProperties<'a>
     ensures { properties_of result ≡ properties_of props.now }
 {
     DeviceProperties {
@@ -204,15 +205,12 @@ impl<A: Allocator + Copy> Bench<A> {
         self.allocator.cleanup(&mut self.device);
     }
 
-    /// Gives back the latest block.
-    fn give_latest_back(&mut self, rt: &impl Abort) {
-        match self.blocks.pop() {
-            Some(block) => {
-                assert!(rt; self.allocator.owns(&block));
-                self.allocator.dealloc(&mut self.device, block);
-            }
-            None => panic!(rt; "no block"),
-        }
+    /// Gives back the block of this place in the list, which the latest one takes.
+    fn give_back_at(&mut self, rt: &impl Abort, at: usize) {
+        assert!(rt; at < self.blocks.len());
+        let block = self.blocks.swap_remove(at);
+        assert!(rt; self.allocator.owns(&block));
+        self.allocator.dealloc(&mut self.device, block);
     }
 
     pub(super) fn counts(&self) -> Counts {
@@ -232,7 +230,8 @@ impl<A: Allocator + Copy> Bench<A> {
     /// Gives all blocks back, the latest first.
     pub(super) fn give_all_back(&mut self, rt: &impl Abort) {
         for _ in 0..self.blocks.len() {
-            self.give_latest_back(rt);
+            let latest = self.blocks.len().saturating_sub(1);
+            self.give_back_at(rt, latest);
         }
     }
 
@@ -241,7 +240,12 @@ impl<A: Allocator + Copy> Bench<A> {
         self.give_all_back(rt);
         self.cleanup();
         let Counts { objects, used, .. } = self.counts();
-        assert_eq!(rt; (objects, used), (0, 0));
+        same(
+            rt,
+            "objects and bytes at the end",
+            &(objects, used),
+            &(0, 0),
+        );
         self.close(rt);
     }
 
@@ -273,7 +277,7 @@ impl Bench {
     {
         let mut bench = Bench::new(rt, alloc, offered)?;
         let planned = bench.refuse(kind, cause);
-        assert_eq!(rt; planned, Ok(()));
+        assert!(rt; planned.is_ok());
         Ok(bench)
     }
 
@@ -292,15 +296,14 @@ impl Bench {
                 found = Some(at);
             }
         }
-        match found {
-            Some(at) => {
-                assert!(rt; at < self.blocks.len());
-                let block = self.blocks.swap_remove(at);
-                assert!(rt; self.allocator.owns(&block));
-                self.allocator.dealloc(&mut self.device, block);
-            }
-            None => panic!(rt; "no block at {offset} of {object}"),
-        }
+        same_at(
+            rt,
+            "a block of object and offset",
+            &(object, offset),
+            &found.is_some(),
+            &true,
+        );
+        self.give_back_at(rt, found.unwrap_or(0));
     }
 
     /// Whether its allocator says that the latest block of another is live.
@@ -348,11 +351,8 @@ impl Bench {
 /// Asks for as many bytes as each pair says, and compares the places.
 pub(super) fn compare_grants(rt: &impl Abort, bench: &mut Bench, rows: &[(u64, Place)]) {
     for (size, place) in rows {
-        assert_eq!(rt;
-            bench.ask(rt, bytes(*size), None),
-            Ok(*place),
-            "{size} bytes"
-        );
+        let answer = bench.ask(rt, bytes(*size), None);
+        same_at(rt, "the block of bytes", size, &answer, &Ok(*place));
     }
 }
 
@@ -367,12 +367,12 @@ fn compare_refusal(
     asked: u64,
 ) {
     let before = bench.counts();
-    assert_eq!(rt; bench.ask(rt, request, hint), Err(error), "step {at}");
+    same_at(rt, "step", &at, &bench.ask(rt, request, hint), &Err(error));
     let after = Counts {
         asked: before.asked.saturating_add(asked),
         ..before
     };
-    assert_eq!(rt; bench.counts(), after, "step {at}");
+    same_at(rt, "what is held after step", &at, &bench.counts(), &after);
 }
 
 /// What is done with a bench, and what has to come of it.
@@ -411,7 +411,7 @@ pub(super) fn asked_for(size: u64, memory_type: u32) -> Step {
 fn take_step(rt: &impl Abort, bench: &mut Bench, at: usize, step: Step) {
     match step {
         Step::Grant(request, hint, place) => {
-            assert_eq!(rt; bench.ask(rt, request, hint), Ok(place), "step {at}");
+            same_at(rt, "step", &at, &bench.ask(rt, request, hint), &Ok(place));
         }
         Step::Refuse(request, hint, error, asked) => {
             compare_refusal(rt, bench, at, request, hint, error, asked);
@@ -419,16 +419,18 @@ fn take_step(rt: &impl Abort, bench: &mut Bench, at: usize, step: Step) {
         Step::Return(object, offset) => bench.give_back(rt, object, offset),
         Step::Cleanup => bench.cleanup(),
         Step::Asked(size, memory_type, flags) => {
-            let asked = bench.last_allocation();
-            assert_eq!(rt; asked, Some((size, memory_type, flags)), "step {at}");
+            let wanted = Some((size, memory_type, flags));
+            same_at(rt, "step", &at, &bench.last_allocation(), &wanted);
         }
         Step::Held(objects, remaining, used) => {
             let counts = bench.counts();
-            assert_eq!(rt;
-                (counts.objects, counts.remaining, counts.used),
-                (objects, remaining, used),
-                "step {at}"
-            );
+            let wanted = Counts {
+                asked: counts.asked,
+                objects,
+                remaining,
+                used,
+            };
+            same_at(rt, "step", &at, &counts, &wanted);
         }
     }
 }

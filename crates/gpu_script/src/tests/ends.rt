@@ -1,5 +1,6 @@
 //! Readers and writers that fail.
 
+use super::same::{same, same_at};
 use crate::run_script;
 use std::io;
 use std::io::{Error, ErrorKind, Read, Write};
@@ -81,12 +82,17 @@ fn a_failed_read_prints_nothing(rt: HostRuntime) {
             good,
         };
         let mut output = Vec::new(rt.alloc());
-        assert_eq!(rt;
+        let ended = (
             run_script(rt.alloc(), &mut input, &mut output),
-            1,
-            "at {good}"
+            output.len(),
         );
-        assert_eq!(rt; output.len(), 0, "at {good}");
+        same_at(
+            &rt,
+            "status and bytes printed after reads:",
+            &good,
+            &ended,
+            &(1, 0),
+        );
     }
 }
 
@@ -97,8 +103,14 @@ fn an_interrupted_read_is_tried_again(rt: HostRuntime) {
         is_ready: false,
     };
     let mut output = Vec::new(rt.alloc());
-    assert_eq!(rt; run_script(rt.alloc(), &mut input, &mut output), 0);
-    assert_eq!(rt; output.as_slice(), ANSWER.as_bytes());
+    let ended = run_script(rt.alloc(), &mut input, &mut output);
+    let came = (ended, output.as_slice());
+    same(
+        &rt,
+        "status and what is printed",
+        &came,
+        &(0, ANSWER.as_bytes()),
+    );
 }
 
 #[test]
@@ -109,15 +121,15 @@ fn a_failed_write_has_written_a_part(rt: HostRuntime) {
             taken: Vec::new(rt.alloc()),
             room,
         };
-        assert_eq!(rt;
-            run_script(rt.alloc(), &mut input, &mut output),
-            1,
-            "at {room}"
-        );
-        assert_eq!(rt;
-            output.taken.as_slice(),
-            &ANSWER.as_bytes()[..room],
-            "at {room}"
+        let ended = run_script(rt.alloc(), &mut input, &mut output);
+        let came = (ended, output.taken.as_slice());
+        let wanted = (1, &ANSWER.as_bytes()[..room]);
+        same_at(
+            &rt,
+            "status and what is printed with room for",
+            &room,
+            &came,
+            &wanted,
         );
     }
 }

@@ -4,7 +4,8 @@
 mod printed;
 mod tally;
 
-use crate::run_script;
+use super::same::{same, same_at};
+use super::scripts;
 use crate::sim::{Question, Sim};
 use gpu_alloc::{Dedicated, MapError, Request, UsageFlags};
 use gpu_script_language::{Script, SimSession, open, parse};
@@ -499,7 +500,7 @@ fn check_replies(
         assert!(rt; has_memory);
         tally.count(line, reply, &mut written);
         let fits = written.after(line, reply);
-        assert!(rt; fits, "a read gives what was not written");
+        same(rt, "a read gives what was written", &fits, &true);
         if index % PART == PART - 1 {
             let commands = commands.get(..=index).unwrap_or(&[]);
             let replies = replies.get(..=index).unwrap_or(&[]);
@@ -530,7 +531,8 @@ fn compare_told(
         for byte in 0..BLOCK as u64 {
             let told = values_of(alloc, commands, replies, name, byte)?;
             let bits = written.bits(u64::from(name), byte);
-            assert_eq!(rt; bits_of(told.as_slice()), bits, "byte {byte} of {name}");
+            let came = bits_of(told.as_slice());
+            same_at(rt, "name and byte", &(name, byte), &came, &bits);
             tally.count_byte(bits, ONE_VALUE, SEVERAL_VALUES);
         }
     }
@@ -579,19 +581,6 @@ fn answers(
     Ok((replies, text))
 }
 
-/// Runs a list as a script, and compares what it prints.
-fn compare_script(rt: &impl Abort, alloc: Global, script: &str, expected: &str) {
-    let mut input = script.as_bytes();
-    let mut output = Vec::new(alloc);
-    let ended = run_script(alloc, &mut input, &mut output);
-    assert_eq!(rt; ended, 0, "the status of {script:?}");
-    assert_eq!(rt;
-        output.as_slice(),
-        expected.as_bytes(),
-        "what {script:?} prints"
-    );
-}
-
 /// Draws a list, and runs it by a session and as a script.
 fn try_list(
     rt: &impl Abort,
@@ -618,7 +607,7 @@ fn try_list(
     for line in &lines {
         add_line(&mut script, line)?;
     }
-    compare_script(rt, alloc, script.as_str(), expected.as_str());
+    scripts::compare(rt, alloc, &[(script.as_str(), expected.as_str(), 0)]);
     Ok(())
 }
 

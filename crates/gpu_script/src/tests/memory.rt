@@ -3,6 +3,7 @@
 //! A heap of the test's own gives out all that it has but one hole. The hole grows from nothing until the command fits,
 //! so each of its requests for memory is refused at some hole.
 
+use super::same::{same, same_at};
 use crate::run_script;
 use gpu_alloc::AllocationError;
 use gpu_script_language::{Script, SimSession, open, parse, print_reply};
@@ -91,7 +92,7 @@ impl<'a> LocalSession<'a> {
         let device = session.finish();
         let objects = device.objects();
         drop(device);
-        assert_eq!(rt; objects, 0, "with {hole}");
+        same_at(rt, "objects at the end with a hole of", &hole, &objects, &0);
     }
 }
 
@@ -137,7 +138,7 @@ fn session_after<'a>(
 ) -> Result<LocalSession<'a>, Fail> {
     let mut session = LocalSession::new(rt, heap, script)?;
     let ran = session.run(script).is_ok();
-    assert!(rt; ran, "the earlier commands");
+    same(rt, "the earlier commands run", &ran, &true);
     Ok(session)
 }
 
@@ -244,7 +245,7 @@ const WANTS: [(&str, &str, [bool; 3]); 17] = [
 fn each_request_for_memory_is_refused_in_turn(rt: HostRuntime) -> Result<(), Fail> {
     for (earlier, command, wanted) in WANTS {
         let met = refusals(&rt, rt.alloc(), earlier, command)?;
-        assert_eq!(rt; met, wanted, "{command}");
+        same_at(&rt, "the refusals of", &command, &met, &wanted);
     }
     Ok(())
 }
@@ -266,14 +267,27 @@ fn a_program_without_memory_says_so_alone(rt: HostRuntime) -> Result<(), Fail> {
     for room in 0..512 {
         let (status, printed) = script_over(rt.alloc(), room << 4)?;
         if status == 3 {
-            assert_eq!(rt; printed, "out of memory\n".len(), "over {room}");
+            same_at(
+                &rt,
+                "bytes printed over",
+                &room,
+                &printed,
+                &"out of memory\n".len(),
+            );
             wanting = wanting.saturating_add(1);
         } else {
-            assert_eq!(rt; status, 0, "over {room}");
+            same_at(&rt, "the status over", &room, &status, &0);
             ran = ran.saturating_add(1);
         }
     }
-    assert!(rt; wanting > 0 && ran > 0, "{wanting} and {ran}");
+    let both = wanting > 0 && ran > 0;
+    same_at(
+        &rt,
+        "how many had no memory and how many ran:",
+        &(wanting, ran),
+        &both,
+        &true,
+    );
     Ok(())
 }
 
@@ -298,7 +312,7 @@ fn faults_print_their_numbers_and_names(rt: HostRuntime) -> Result<(), Fail> {
     for (fault, line) in FAULTS {
         let mut text = String::new(rt.alloc());
         print_reply(&mut text, &Reply::Fault(fault))?;
-        assert_eq!(rt; text.as_str(), line);
+        same(&rt, "what is printed of a fault", &text.as_str(), &line);
     }
     Ok(())
 }

@@ -5,6 +5,7 @@ use super::bench::{
     place_in, play_on, play_refused,
 };
 use super::memory::plug;
+use super::same::{same, same_at};
 use super::transient::transient;
 use crate::sim::{Cause, Question};
 use gpu_alloc::{
@@ -230,22 +231,31 @@ fn how_far(
     hole: usize,
 ) -> Reached {
     let counts = bench.counts();
-    assert_eq!(rt;
-        (counts.objects, counts.remaining, counts.used),
-        (before.objects, before.remaining, before.used),
-        "with {hole}"
-    );
+    let held = Counts {
+        asked: before.asked,
+        ..counts
+    };
+    same_at(rt, "what is held with a hole of", &hole, &held, &before);
     let later = bench.ask(rt, growth.request, None);
-    assert_eq!(rt;
-        bench.last_allocation(),
-        Some((growth.chunk, 0, AllocationFlags::empty())),
-        "with {hole}"
+    let chunk = Some((growth.chunk, 0, AllocationFlags::empty()));
+    same_at(
+        rt,
+        "the chunk after a hole of",
+        &hole,
+        &bench.last_allocation(),
+        &chunk,
+    );
+    same_at(
+        rt,
+        "the refusal after a hole of",
+        &hole,
+        &later.err(),
+        &None,
     );
     match later {
         Ok(place) if place.object > before.asked.saturating_add(1) => Reached::Object,
-        Ok(_) if counts.asked > before.asked => Reached::Question,
-        Ok(_) => Reached::Nothing,
-        Err(error) => panic!(rt; "with {hole}: {error}"),
+        _ if counts.asked > before.asked => Reached::Question,
+        _ => Reached::Nothing,
     }
 }
 
@@ -259,16 +269,16 @@ fn reached_in_hole(
     let heap = LocalHeap::new(alloc, 1 << 16)?;
     let mut bench = Bench::new(rt, &heap, one_type())?;
     for request in growth.before {
-        if let Err(error) = bench.ask(rt, *request, None) {
-            panic!(rt; "before: {error}");
-        }
+        let answer = bench.ask(rt, *request, None);
+        same(rt, "a refusal before the hole", &answer.err(), &None);
     }
     let before = bench.counts();
     let asked = ask_in_hole(rt, alloc, &heap, &mut bench, growth.request, hole);
     let answer = match asked {
         Ok(Ok(_)) => Ok(Reached::Block),
         Ok(Err(error)) => {
-            assert_eq!(rt; error, AllocationError::OutOfHostMemory, "with {hole}");
+            let wanted = AllocationError::OutOfHostMemory;
+            same_at(rt, "the refusal with a hole of", &hole, &error, &wanted);
             Ok(how_far(rt, &mut bench, growth, before, hole))
         }
         Err(_) => Err(Fail::from("no memory for the plugs")),
@@ -292,9 +302,14 @@ fn compare_wants(rt: &impl Abort, alloc: Global, growth: Growth<'_>) -> Result<(
             Reached::Question => question = question.saturating_add(1),
             Reached::Object => object = object.saturating_add(1),
             Reached::Block => {
-                assert!(rt;
-                    nothing > 0 && object <= 2 && (later || question > 0 && object > 0),
-                    "{nothing}, {question} and {object}"
+                let fits = nothing > 0 && object <= 2 && (later || question > 0 && object > 0);
+                let counts = (nothing, question, object);
+                same_at(
+                    rt,
+                    "how often nothing, a question, an object:",
+                    &counts,
+                    &fits,
+                    &true,
                 );
                 return Ok(());
             }

@@ -1,5 +1,6 @@
 //! Lines, good and bad, and small scripts over one object or two.
 
+use super::same::same_at;
 use crate::run_script;
 use std::alloc::{AllocError, Global};
 use std::process::Abort;
@@ -11,11 +12,13 @@ pub(super) fn compare(rt: &impl Abort, alloc: Global, rows: &[(&str, &str, u8)])
         let mut input = script.as_bytes();
         let mut output = Vec::new(alloc);
         let ended = run_script(alloc, &mut input, &mut output);
-        assert_eq!(rt; ended, *status, "the status of {script:?}");
-        assert_eq!(rt;
-            output.as_slice(),
-            printed.as_bytes(),
-            "what {script:?} prints"
+        same_at(rt, "the status of", script, &ended, status);
+        same_at(
+            rt,
+            "what is printed by",
+            script,
+            &output.as_slice(),
+            &printed.as_bytes(),
         );
     }
 }

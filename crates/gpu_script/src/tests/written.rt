@@ -1,6 +1,7 @@
 //! What `values_of` tells of bytes, by the commands of a script and their replies.
 
 use super::lists::session_of;
+use super::same::{same, same_at};
 use super::whole::BYTES;
 use gpu_script_language::{Script, parse};
 use gpu_session::{Command, Reply, values_of};
@@ -51,14 +52,17 @@ fn compare_told(
     replies: &[Reply],
     rows: &[Told],
 ) -> Result<(), AllocError> {
-    assert_eq!(rt; replies.len(), commands.len());
+    same(rt, "replies", &replies.len(), &commands.len());
     for name in 1..5 {
         for byte in 0..64 {
             let told = values_of(alloc, commands, replies, name, byte)?;
-            assert_eq!(rt;
-                told.as_slice(),
-                row_of(rows, name, byte),
-                "byte {byte} of {name}"
+            let wanted = row_of(rows, name, byte);
+            same_at(
+                rt,
+                "name and byte",
+                &(name, byte),
+                &told.as_slice(),
+                &wanted,
             );
         }
     }

@@ -17,7 +17,7 @@ fn fault_line(fault: Fault) -> &'static str {
 }
 
 /// Adds a pattern, with the next number for each `#` of it.
-fn fill(text: &mut String, pattern: &str, numbers: &[u128]) -> Result<(), AllocError> {
+fn fill(text: &mut String, pattern: &str, numbers: &[u64]) -> Result<(), AllocError> {
     let mut next = numbers.iter();
     for part in pattern.chars() {
         if part == '#'
@@ -40,18 +40,13 @@ fn add_reply(text: &mut String, reply: &Reply) -> Result<(), AllocError> {
             offset,
             size,
         } => {
-            let of_type = u128::from(*memory_type);
-            let [object, offset, size] = [*object, *offset, *size].map(u128::from);
-            let numbers = [of_type, object, offset, size];
+            let numbers = [u64::from(*memory_type), *object, *offset, *size];
             fill(text, "block type # object # offset # size #", &numbers)
         }
         Reply::Refused(error) => write!(text, "refused: {error}"),
         Reply::MapRefused(error) => write!(text, "refused: {error}"),
         Reply::Done => fill(text, "ok", &[]),
-        Reply::Mapped(mapping) => {
-            let numbers = [mapping.start, mapping.len].map(u128::from);
-            fill(text, "mapped # #", &numbers)
-        }
+        Reply::Mapped(mapping) => { fill(text, "mapped # #", &[mapping.start, mapping.len]) }
         Reply::Unmapped(true) => fill(text, "unmapped yes", &[]),
         Reply::Unmapped(false) => fill(text, "unmapped no", &[]),
         Reply::Bytes(bytes) => {
@@ -61,8 +56,7 @@ fn add_reply(text: &mut String, reply: &Reply) -> Result<(), AllocError> {
         Reply::Ranges(ranges) => {
             text.push_str("ranges")?;
             for range in ranges.as_slice() {
-                let numbers = [range.object, range.start, range.end].map(u128::from);
-                fill(text, " #:#-#", &numbers)?;
+                fill(text, " #:#-#", &[range.object, range.start, range.end])?;
             }
             let rest = if ranges.as_slice().is_empty() {
                 " none"
@@ -76,10 +70,10 @@ fn add_reply(text: &mut String, reply: &Reply) -> Result<(), AllocError> {
             held,
             used,
         } => {
-            let numbers = [*remaining, *held].map(u128::from);
+            let numbers = [u64::from(*remaining), u64::from(*held)];
             fill(text, "counts remaining # held # used", &numbers)?;
             for ledger in used.as_slice() {
-                fill(text, " #", &[*ledger])?;
+                write!(text, " {ledger}")?;
             }
             Ok(())
         }
@@ -99,7 +93,7 @@ pub(super) fn printed(
         add_reply(&mut text, reply)?;
         text.push('\n')?;
     }
-    let numbers = [objects as u128, u128::from(asked)];
+    let numbers = [objects as u64, asked];
     fill(&mut text, "end objects # allocations #\n", &numbers)?;
     Ok(text)
 }

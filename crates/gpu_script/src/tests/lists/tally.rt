@@ -2,6 +2,7 @@
 
 use super::{KINDS, Kind, Line, NAMES, Plan, Written, has_bytes};
 use crate::sim::{Question, Sim};
+use crate::tests::same::same_at;
 use gpu_alloc::MapError;
 use gpu_session::Reply;
 use std::alloc::{AllocError, Global};
@@ -219,13 +220,13 @@ impl Tally {
     /// Each thing has to have occurred.
     pub(super) fn has_all(&self, rt: &impl Abort) {
         for ((_, word, _), count) in KINDS.iter().zip(&self.served) {
-            assert!(rt; *count > 0, "no {word} was served");
+            same_at(rt, "it was served:", word, &(*count > 0), &true);
         }
         for (index, count) in self.answered.iter().enumerate() {
-            assert!(rt; *count > 0, "no reply {index} came");
+            same_at(rt, "it came: reply", &index, &(*count > 0), &true);
         }
         for (event, count) in EVENTS.iter().zip(&self.events) {
-            assert!(rt; *count > 0, "no {event} occurred");
+            same_at(rt, "it occurred:", event, &(*count > 0), &true);
         }
     }
 }

@@ -1,0 +1,20 @@
+//! Comparisons that tell what they compare. They stand here once, since the words of a failed one are dear to prove.
+
+use std::fmt::Debug;
+use std::process::Abort;
+
+/// What came has to be what is wanted.
+pub(super) fn same<T: PartialEq + Debug>(rt: &impl Abort, what: &str, came: &T, wanted: &T) {
+    assert_eq!(rt; *came, *wanted, "{what}");
+}
+
+/// The same in a row or a step, of which the message tells the number or the name.
+pub(super) fn same_at<T: PartialEq + Debug>(
+    rt: &impl Abort,
+    what: &str,
+    at: &impl Debug,
+    came: &T,
+    wanted: &T,
+) {
+    assert_eq!(rt; *came, *wanted, "{what} {at:?}");
+}
