@@ -11,4 +11,6 @@ mod offers;
 mod pair;
 mod plugs;
 mod ranges;
+mod sim;
+mod sim_bytes;
 mod usage;

@@ -274,7 +274,7 @@ fn take(
 }
 
 /// Plans a refusal, of a cause that a question of this kind can have.
-fn plan(
+pub(super) fn plan(
     rt: &impl Abort,
     device: &mut Sim,
     kind: Question,
