@@ -3,10 +3,11 @@
 ghost use Rattle.std.specs.Prelude.{◌≡◌, ◌<◌, length, IsTrue};
 ghost use Rattle.gpu_alloc_types.specs.Flags.{has_bit, property_bits};
 
+use super::offers::HEAPS;
 use super::pair::plan;
 use Cause::{Failed, Host};
 use gpu_alloc_types::{
-    AllocationFlags, DeviceMapError, DeviceProperties, MemoryDevice, MemoryHeap, MemoryObject,
+    AllocationFlags, DeviceMapError, DeviceProperties, MemoryDevice, MemoryObject,
     MemoryPropertyFlags, MemoryType, OutOfMemory,
 };
 use gpu_sim::{Cause, Question, Sim, SimMemory};
@@ -15,8 +16,6 @@ use std::alloc::{AllocError, Allocator, Global};
 use std::marker::Model;
 use std::process::Abort;
 use std::test::Fail;
-
-const HEAPS: [MemoryHeap; 1] = [MemoryHeap { size: 1 << 20 }];
 
 /// Which question of a kind is refused, and why.
 pub(super) type Plan = (Question, u64, Cause);
@@ -277,15 +276,12 @@ macro_rules! one_type {
 }
 
 /// A handle of the second object of a device, which is gone.
-fn handle_of_second<A: Allocator + Copy>(heap: A) -> Result<SimMemory<A>, Fail> {
+fn handle_of_second<A: Allocator + Copy>(heap: A) -> Result<Option<SimMemory<A>>, AllocError> {
     let mut sim: Sim<A> = Sim::new(heap, one_type!(1))?;
-    let first = ask(&mut sim, 1);
+    let _ = ask(&mut sim, 1);
     let answer = sim.allocate_memory(1, 0, AllocationFlags::from_bits_retain(0));
     drop(sim);
-    match (first, answer) {
-        (Ok(1), Ok(memory)) => Ok(memory),
-        _ => Err(Fail::from("no object")),
-    }
+    Ok(answer.ok())
 }
 
 /// Duplicates a handle until its heap is full. How many there are then.
@@ -306,7 +302,9 @@ fn count_duplicates(
 #[test]
 fn a_duplicate_is_refused_with_its_memory(rt: HostRuntime) -> Result<(), Fail> {
     let heap = LocalHeap::new(rt.alloc(), 1 << 12)?;
-    let memory = handle_of_second(&heap)?;
+    let Some(memory) = handle_of_second(&heap)? else {
+        panic!(rt; "no object");
+    };
     let fit = count_duplicates(rt.alloc(), &memory)?;
     assert!(rt; fit > Some(0));
     assert_eq!(rt; count_duplicates(rt.alloc(), &memory)?, fit);
