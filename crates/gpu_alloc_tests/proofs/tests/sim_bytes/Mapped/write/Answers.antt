@@ -1,4 +1,4 @@
-use Rattle.std.proofs.Common.{◌≡◌, ℕ, true, false, subst}
+use Rattle.std.proofs.Common.{◌≡◌, true, subst}
 use Rattle.gpu_sim.specs.Sim.{CommandWrites}
 use Rattle.gpu_alloc_tests.proofs.Ready.{after_write}
 use Rattle.gpu_alloc_tests.proofs.tests.sim_bytes.Mapped.write.Goals as goal
