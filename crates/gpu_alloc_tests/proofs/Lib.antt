@@ -3,3 +3,4 @@ mod EmptyMaps
 mod LiveLeaves
 mod LiveSlots
 mod OneChunk
+mod Ready

@@ -1,5 +1,6 @@
 //! What no contract says of these, and that the calls succeed.
 
+mod bench;
 mod buddy;
 mod bytes;
 mod config;
@@ -11,4 +12,6 @@ mod offers;
 mod pair;
 mod plugs;
 mod ranges;
+mod sim;
+mod sim_bytes;
 mod usage;

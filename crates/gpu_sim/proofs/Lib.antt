@@ -1,6 +1,5 @@
 pub mod Asked
 pub mod Copies
 pub mod NumberedEntries
-pub mod Ready
 pub mod SimNames
 pub mod SimSound

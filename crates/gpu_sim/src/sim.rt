@@ -304,6 +304,3 @@ fn note_last<A: Allocator + Copy>(
         *told = Some((range.memory.object(), range.offset, range.size));
     }
 }
-
-#[cfg(test)]
-mod tests;

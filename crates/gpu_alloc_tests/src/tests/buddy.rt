@@ -6,11 +6,12 @@ ghost use Rattle.gpu_alloc.specs.AlignMasks.{IsAlignMask};
 ghost use Rattle.gpu_alloc.specs.Types.Leaf.{Leaf};
 ghost use Rattle.gpu_sim.specs.Question.{CanRefuse};
 
+use super::offers::HEAPS;
+use super::ranges::compare_ranges;
 use gpu_alloc::buddy::{BuddyAllocator, BuddyBlock};
 use gpu_alloc::heap::Heap;
 use gpu_alloc::{
-    AllocationError, AllocationFlags, DeviceProperties, FreeRange, MemoryHeap, MemoryPropertyFlags,
-    MemoryType,
+    AllocationError, AllocationFlags, DeviceProperties, MemoryPropertyFlags, MemoryType,
 };
 use gpu_alloc_types::MemoryObject;
 use gpu_sim::{Cause, Question, Sim, SimMemory};
@@ -18,8 +19,6 @@ use std::alloc::{AllocError, Global};
 use std::marker::Model;
 use std::process::Abort;
 use std::test::Fail;
-
-const HEAPS: [MemoryHeap; 1] = [MemoryHeap { size: 1 << 20 }];
 
 /// A first request for one byte that is refused.
 #[derive(Drop)]
@@ -165,20 +164,12 @@ impl Chunks {
         assert_eq!(rt; self.heap.size(), 1 << 20);
     }
 
-    /// Compares the free ranges, all of the first object, each by its start and its end.
-    fn compare_ranges(&self, rt: &impl Abort, ranges: &[(u64, u64)]) {
+    /// Compares the free ranges, each by its object, its start and its end.
+    fn compare_ranges(&self, rt: &impl Abort, ranges: &[(u64, u64, u64)]) {
         let Ok(found) = self.allocator.free_ranges() else {
             panic!(rt; "no memory");
         };
-        assert_eq!(rt; found.len(), ranges.len());
-        for (range, (start, end)) in found.iter().zip(ranges) {
-            let wanted = FreeRange {
-                object: 1,
-                start: *start,
-                end: *end,
-            };
-            assert_eq!(rt; *range, wanted);
-        }
+        compare_ranges(rt, ranges.len(), &found, ranges);
     }
 
     /// Ends the allocator, which holds nothing.
@@ -276,7 +267,12 @@ fn place_of(block: &BuddyBlock<SimMemory>) -> (u64, u64, u64) {
 }
 
 /// What is free of a chunk with a block of 128 bytes at its start, from 512 bytes on.
-const LARGE: [(u64, u64); 4] = [(512, 1024), (1024, 2048), (2048, 4096), (4096, 8192)];
+const LARGE: [(u64, u64, u64); 4] = [
+    (1, 512, 1024),
+    (1, 1024, 2048),
+    (1, 2048, 4096),
+    (1, 4096, 8192),
+];
 
 /// What is free is told in order, and a half that comes back is not joined with a neighbour that is no half of one range
 /// with it. If not, a caller would see other pieces than those that blocks are taken from.
@@ -287,9 +283,9 @@ fn free_pieces_are_told_in_order(rt: HostRuntime) -> Result<(), Fail> {
     let first = chunks.take(&rt, 100);
     let second = chunks.take(&rt, 200);
     let [a, b, c, d] = LARGE;
-    chunks.compare_ranges(&rt, &[(128, 256), a, b, c, d]);
+    chunks.compare_ranges(&rt, &[(1, 128, 256), a, b, c, d]);
     chunks.give_back(second);
-    chunks.compare_ranges(&rt, &[(128, 256), (256, 512), a, b, c, d]);
+    chunks.compare_ranges(&rt, &[(1, 128, 256), (1, 256, 512), a, b, c, d]);
     chunks.give_back(first);
     chunks.compare_ranges(&rt, &[]);
     chunks.end(&rt);

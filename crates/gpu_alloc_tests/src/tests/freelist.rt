@@ -6,12 +6,12 @@ ghost use Rattle.gpu_alloc.specs.FreeListState.{IsLiveSlot};
 ghost use Rattle.gpu_alloc.specs.Types.Slot.{Slot};
 ghost use Rattle.gpu_sim.specs.Question.{CanRefuse};
 
+use super::offers::HEAPS;
 use gpu_alloc::freelist::{FreeList, FreeListAllocator, FreeListBlock, FreeListRegion};
 use gpu_alloc::heap::Heap;
 use gpu_alloc::steps::Steps;
 use gpu_alloc::{
-    AllocationError, AllocationFlags, DeviceProperties, FreeRange, MemoryHeap, MemoryPropertyFlags,
-    MemoryType,
+    AllocationError, AllocationFlags, DeviceProperties, FreeRange, MemoryPropertyFlags, MemoryType,
 };
 use gpu_alloc_types::MemoryObject;
 use gpu_sim::{Cause, Question, Sim, SimMemory};
@@ -21,8 +21,6 @@ use std::marker::{Brand, Model};
 use std::process::Abort;
 use std::sync::ledger::{Blank, Ledger};
 use std::test::Fail;
-
-const HEAPS: [MemoryHeap; 1] = [MemoryHeap { size: 1 << 20 }];
 
 /// A first request for 100 bytes that is refused.
 #[derive(Drop)]

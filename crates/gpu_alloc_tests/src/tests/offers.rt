@@ -3,7 +3,22 @@
 ghost use Rattle.std.specs.Prelude.{◌≡◌};
 ghost use Rattle.gpu_alloc_types.specs.Properties.{properties_of};
 
-use gpu_alloc::DeviceProperties;
+use gpu_alloc::{DeviceProperties, MemoryHeap, MemoryType};
+
+/// One heap of 1 MiB.
+pub(super) const HEAPS: [MemoryHeap; 1] = [MemoryHeap { size: 1 << 20 }];
+
+/// What a device offers that has these types in one heap.
+pub(super) fn offer<'a>(memory_types: &'a [MemoryType], atom: u64) -> DeviceProperties<'a> {
+    DeviceProperties {
+        memory_types,
+        memory_heaps: &HEAPS,
+        max_memory_allocation_count: 4096,
+        max_memory_allocation_size: 1 << 30,
+        non_coherent_atom_size: atom,
+        buffer_device_address: false,
+    }
+}
 
 /// The same properties once more.
 pub(super) fn again<'a>(props: &DeviceProperties<'a>) -> DeviceProperties<'a>

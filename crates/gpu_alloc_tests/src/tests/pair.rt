@@ -1,25 +1,22 @@
 //! An allocator over the simulated device with two blocks, whose bytes the host and the device write and read.
 
 ghost use Rattle.std.specs.Prelude.{◌≡◌, ◌+◌, ◌≤◌, IsTrue};
-ghost use Rattle.gpu_alloc_types.specs.Properties.{IsUsable, properties_of};
 ghost use Rattle.gpu_alloc.specs.Agreement.{Agrees, BlockAgrees, KeepsAgreement, KeepsBlocks};
 ghost use Rattle.gpu_alloc.specs.Owned.{Adds, IsSameBlock, Leaves};
 ghost use Rattle.gpu_sim.specs.Question.{CanRefuse};
 ghost use Rattle.gpu_sim.specs.Sim.{objects_of};
 
-use super::offers::again;
-use gpu_alloc::laws::{agrees_at_first, kept_blocks_agree};
+use super::bench::Bench;
+use gpu_alloc::laws::kept_blocks_agree;
 use gpu_alloc::{
-    Config, Dedicated, DeviceProperties, GpuAllocator, MapError, Mapping, MemoryBlock, MemoryHeap,
-    MemoryPropertyFlags, MemoryType, Request, UsageFlags,
+    Dedicated, GpuAllocator, MapError, Mapping, MemoryBlock, MemoryPropertyFlags, MemoryType,
+    Request, UsageFlags,
 };
 use gpu_sim::{Cause, Question, Sim, SimMemory};
 use std::alloc::{AllocError, Global};
 use std::marker::Model;
 use std::process::Abort;
 use std::test::Fail;
-
-const HEAPS: [MemoryHeap; 1] = [MemoryHeap { size: 1 << 20 }];
 
 /// What a buffer holds before bytes are read into it.
 const UNREAD: u8 = 0xC3;
@@ -105,46 +102,21 @@ impl Model for Pair {
 }
 
 impl Pair {
-    /// Two blocks of an allocator by the potato's sizes, over a device with one memory type and an atom of 64 bytes.
+    /// Two blocks of an allocator over a device with one kind of memory and an atom of 64 bytes.
     fn new(rt: &impl Abort, alloc: Global, asking: Asking) -> Result<Pair, Fail> {
-        let types = [MemoryType {
+        let memory_type = MemoryType {
             heap: 0,
             props: asking.props,
-        }];
-        let offered = DeviceProperties {
-            memory_types: &types,
-            memory_heaps: &HEAPS,
-            max_memory_allocation_count: 4096,
-            max_memory_allocation_size: 1 << 30,
-            non_coherent_atom_size: 64,
-            buffer_device_address: false,
         };
-        assert!(rt; offered.is_usable());
-        let device = Sim::new(alloc, again(&offered))?;
-        Pair::open(rt, alloc, offered, device, asking)
-    }
-
-    /// Two blocks of an allocator over a fresh device.
-    fn open(
-        rt: &impl Abort,
-        alloc: Global,
-        offered: DeviceProperties<'_>,
-        device: Sim,
-        asking: Asking,
-    ) -> Result<Pair, Fail>
-        requires usable { IsUsable (properties_of offered) }
-        requires same { device.properties ≡ properties_of offered }
-    {
-        match GpuAllocator::new(alloc, Config::i_am_potato(), offered) {
-            Ok(allocator) => {
-                agrees_at_first(&allocator, &device);
-                Ok(Pair::over(rt, allocator, device, asking))
-            }
-            Err(_) => {
-                drop(device);
-                Err(Fail::from("no memory for an allocator"))
-            }
-        }
+        let Bench {
+            allocator,
+            device,
+            props: _,
+            blocks,
+        } = Bench::new(rt, alloc, memory_type, 64)?;
+        assert!(rt; blocks.is_empty());
+        blocks.destroy_empty();
+        Ok(Pair::over(rt, allocator, device, asking))
     }
 
     /// Two blocks of an allocator.
@@ -274,7 +246,7 @@ fn take(
 }
 
 /// Plans a refusal, of a cause that a question of this kind can have.
-fn plan(
+pub(super) fn plan(
     rt: &impl Abort,
     device: &mut Sim,
     kind: Question,
@@ -325,8 +297,14 @@ fn call_block(
             let given = block.write_bytes(device, offset, bytes);
             assert_eq!(rt; given, answer, "step {at}");
         }
-        Call::Read(offset, bytes) => read(rt, device, block, at, offset, bytes),
-        Call::Unread(offset, len, error) => unread(rt, device, block, at, offset, len, error),
+        Call::Read(offset, bytes) => {
+            let given = read(rt, device, block, offset, bytes.len());
+            compare_read(rt, at, given, bytes);
+        }
+        Call::Unread(offset, len, error) => {
+            let given = read(rt, device, block, offset, len);
+            compare_unread(rt, at, given, error);
+        }
         Call::Map(offset, size, answer) => {
             assert!(rt; size > 0);
             assert!(rt; fits(block, offset, size));
@@ -347,39 +325,14 @@ fn call_block(
     }
 }
 
-/// Reads bytes of a block, and compares them.
+/// Reads so many bytes of a block. What is answered, and what the buffer holds then.
 fn read(
     rt: &impl Abort,
     device: &mut Sim,
     block: &mut MemoryBlock<SimMemory>,
-    at: usize,
-    offset: u64,
-    bytes: &[u8],
-)
-    requires ready { BlockAgrees block.old device.old.properties (objects_of device.old) }
-    ensures agrees { BlockAgrees block.new device.new.properties (objects_of device.new) }
-    ensures keeps { KeepsAgreement block.old device.old.properties (objects_of device.old)
-        device.new.properties (objects_of device.new) }
-    ensures same { IsSameBlock block.old block.new }
-{
-    assert!(rt; bytes.len() <= MOST);
-    assert!(rt; fits(block, offset, bytes.len()));
-    let mut buffer = [UNREAD; MOST];
-    let given = block.read_bytes(device, offset, &mut buffer[..bytes.len()]);
-    assert_eq!(rt; given, Ok(()), "step {at}");
-    assert_eq!(rt; &buffer[..bytes.len()], bytes, "step {at}");
-}
-
-/// Is refused bytes of a block, and compares the cause. The buffer stays as it was.
-fn unread(
-    rt: &impl Abort,
-    device: &mut Sim,
-    block: &mut MemoryBlock<SimMemory>,
-    at: usize,
     offset: u64,
     len: usize,
-    error: MapError,
-)
+) -> (Result<(), MapError>, [u8; MOST])
     requires ready { BlockAgrees block.old device.old.properties (objects_of device.old) }
     ensures agrees { BlockAgrees block.new device.new.properties (objects_of device.new) }
     ensures keeps { KeepsAgreement block.old device.old.properties (objects_of device.old)
@@ -390,6 +343,30 @@ fn unread(
     assert!(rt; fits(block, offset, len));
     let mut buffer = [UNREAD; MOST];
     let given = block.read_bytes(device, offset, &mut buffer[..len]);
+    (given, buffer)
+}
+
+/// Compares what was read with these bytes.
+fn compare_read(
+    rt: &impl Abort,
+    at: usize,
+    read: (Result<(), MapError>, [u8; MOST]),
+    bytes: &[u8],
+) {
+    let (given, buffer) = read;
+    assert_eq!(rt; given, Ok(()), "step {at}");
+    assert!(rt; bytes.len() <= MOST);
+    assert_eq!(rt; &buffer[..bytes.len()], bytes, "step {at}");
+}
+
+/// Compares the cause of what was not read. The buffer is as it was.
+fn compare_unread(
+    rt: &impl Abort,
+    at: usize,
+    read: (Result<(), MapError>, [u8; MOST]),
+    error: MapError,
+) {
+    let (given, buffer) = read;
     assert_eq!(rt; given, Err(error), "step {at}");
     assert!(rt; buffer.iter().all(|byte| *byte == UNREAD), "step {at}");
 }

@@ -1,162 +1,20 @@
 //! The free ranges of a memory type, as an allocator over the simulated device tells them.
 
-ghost use Rattle.std.specs.Prelude.{◌≡◌, length};
-ghost use Rattle.gpu_alloc_types.specs.Properties.{properties_of};
-
-use super::offers::again;
+use super::bench::Bench;
 use super::plugs::plug;
-use gpu_alloc::laws::agrees_at_first;
 use gpu_alloc::{
-    AllocationError, Config, Dedicated, DeviceProperties, FreeRange, GpuAllocator, MemoryBlock,
-    MemoryHeap, MemoryPropertyFlags, MemoryType, Request, UsageFlags,
+    AllocationError, Dedicated, FreeRange, MemoryPropertyFlags, MemoryType, Request, UsageFlags,
 };
-use gpu_sim::{Sim, SimMemory};
 use linked_list_allocator::LocalHeap;
-use std::alloc::{AllocError, Allocator, Global};
-use std::marker::Model;
+use std::alloc::{Allocator, Global};
 use std::process::Abort;
 use std::test::Fail;
 
-const HEAPS: [MemoryHeap; 1] = [MemoryHeap { size: 1 << 20 }];
-
-/// Two types, both near to the device. Requests are for the first one.
-const TYPES: [MemoryType; 2] = [
-    MemoryType {
-        heap: 0,
-        props: MemoryPropertyFlags::DEVICE_LOCAL,
-    },
-    MemoryType {
-        heap: 0,
-        props: MemoryPropertyFlags::DEVICE_LOCAL,
-    },
-];
-
-/// What a device offers that has these types.
-fn offered() -> DeviceProperties<'static>
-    ensures { length (properties_of result).memory_types ≡ 2 }
-{
-    DeviceProperties {
-        memory_types: &TYPES,
-        memory_heaps: &HEAPS,
-        max_memory_allocation_count: 4096,
-        max_memory_allocation_size: 1 << 30,
-        non_coherent_atom_size: 1,
-        buffer_device_address: false,
-    }
-}
-
-/// An allocator over a simulated device, with the blocks that it gave out. Contracts see nothing of it.
-struct Bench<A: Allocator + Copy = Global> {
-    allocator: GpuAllocator<SimMemory<A>, A>,
-    device: Sim<A>,
-    blocks: Vec<MemoryBlock<SimMemory<A>>, A>,
-}
-
-impl<A: Allocator + Copy> Model for Bench<A> {
-    ghost use Rattle.std.specs.Prelude.{◌≡◌, ℕ, length};
-    ghost use Rattle.gpu_alloc.specs.Agreement.{Agrees};
-    ghost use Rattle.gpu_sim.specs.Sim.{objects_of};
-
-    ghost Value = { ℕ };
-
-    ghost view = { λ _. 0 };
-
-    ghost invariant = { λ b. Agrees b.allocator (b.device).properties (objects_of b.device) ×
-        (length ((b.allocator).properties).memory_types ≡ 2) };
-}
-
-impl<A: Allocator + Copy> Bench<A> {
-    /// One that gave out nothing, by the potato's sizes.
-    fn new(rt: &impl Abort, alloc: A) -> Result<Self, AllocError> {
-        let props = offered();
-        assert!(rt; props.is_usable());
-        let blocks = Vec::with_capacity(alloc, 4)?;
-        match GpuAllocator::new(alloc, Config::i_am_potato(), again(&props)) {
-            Ok(allocator) => match Sim::new(alloc, props) {
-                Ok(device) => {
-                    agrees_at_first(&allocator, &device);
-                    Ok(Bench {
-                        allocator,
-                        device,
-                        blocks,
-                    })
-                }
-                Err(refusal) => {
-                    blocks.destroy_empty();
-                    allocator.close();
-                    Err(refusal)
-                }
-            },
-            Err(_) => {
-                blocks.destroy_empty();
-                Err(AllocError)
-            }
-        }
-    }
-
-    /// Takes a block, and keeps it. For that no memory is taken.
-    fn take(
-        &mut self,
-        rt: &impl Abort,
-        request: Request,
-        hint: Option<Dedicated>,
-    ) -> Result<(), AllocationError> {
-        assert!(rt; request.is_askable(false));
-        assert!(rt; self.blocks.len() < self.blocks.capacity());
-        let block = match hint {
-            None => self.allocator.alloc(&mut self.device, request)?,
-            Some(hint) => self
-                .allocator
-                .alloc_with_dedicated(&mut self.device, request, hint)?,
-        };
-        self.blocks.push_reserved(block);
-        Ok(())
-    }
-
-    /// Gives back the block at this place of those that are kept. The latest takes its place.
-    fn give_back(&mut self, rt: &impl Abort, at: usize) {
-        assert!(rt; at < self.blocks.len());
-        let block = self.blocks.swap_remove(at);
-        assert!(rt; self.allocator.owns(&block));
-        self.allocator.dealloc(&mut self.device, block);
-    }
-
-    /// The free ranges of a memory type.
-    fn free_ranges(
-        &self,
-        rt: &impl Abort,
-        memory_type: u32,
-    ) -> Result<Vec<FreeRange, A>, AllocationError> {
-        assert!(rt; memory_type < 2);
-        self.allocator.free_ranges(memory_type)
-    }
-
-    /// How many objects are held, and how many more may be.
-    fn counts(&self) -> (u32, u32) {
-        (
-            self.allocator.held_objects(),
-            self.allocator.remaining_allocations(),
-        )
-    }
-
-    /// Gives all back, and ends the allocator.
-    fn end(mut self, rt: &impl Abort) {
-        for _ in 0..self.blocks.len() {
-            self.give_back(rt, 0);
-        }
-        self.allocator.cleanup(&mut self.device);
-        let Bench {
-            allocator,
-            device,
-            blocks,
-        } = self;
-        drop(device);
-        assert!(rt; allocator.held_objects() == 0);
-        assert!(rt; blocks.is_empty());
-        blocks.destroy_empty();
-        allocator.close();
-    }
-}
+/// A type near to the device.
+const LOCAL: MemoryType = MemoryType {
+    heap: 0,
+    props: MemoryPropertyFlags::DEVICE_LOCAL,
+};
 
 /// What is done with an allocator, and what has to come of it.
 #[derive(Clone, Copy)]
@@ -200,7 +58,7 @@ fn own(size: u64) -> Step {
 }
 
 /// Compares free ranges with those of a row. The number tells which step it is.
-fn compare_ranges<A: Allocator>(
+pub(super) fn compare_ranges<A: Allocator>(
     rt: &impl Abort,
     at: usize,
     found: &Vec<FreeRange, A>,
@@ -222,7 +80,7 @@ fn take_step<A: Allocator + Copy>(rt: &impl Abort, bench: &mut Bench<A>, at: usi
         Step::Take(request, hint) => {
             assert_eq!(rt; bench.take(rt, request, hint), Ok(()), "step {at}");
         }
-        Step::Return(place) => bench.give_back(rt, place),
+        Step::Return(place) => bench.give_back_at(rt, place),
         Step::Free(memory_type, wanted) => match bench.free_ranges(rt, memory_type) {
             Ok(found) => compare_ranges(rt, at, &found, wanted),
             Err(error) => panic!(rt; "{error} at step {at}"),
@@ -232,11 +90,12 @@ fn take_step<A: Allocator + Copy>(rt: &impl Abort, bench: &mut Bench<A>, at: usi
 
 /// Takes all steps with a fresh allocator.
 fn take_steps(rt: &impl Abort, alloc: Global, steps: &[Step]) -> Result<(), Fail> {
-    let mut bench = Bench::new(rt, alloc)?;
+    let mut bench = Bench::new(rt, alloc, LOCAL, 1)?;
     for (at, step) in steps.iter().enumerate() {
         take_step(rt, &mut bench, at, *step);
     }
-    bench.end(rt);
+    bench.give_all_back(rt);
+    bench.end(rt, 4096);
     Ok(())
 }
 
@@ -381,11 +240,11 @@ fn look_in_hole<'a>(
     bench: &Bench<&'a LocalHeap>,
     wanted: &[(u64, u64, u64)],
 ) -> Result<bool, Fail> {
-    let before = bench.counts();
+    let before = bench.held();
     let plugs = plug(alloc, heap, hole)?;
     let answer = bench.free_ranges(rt, 0);
     drop(plugs);
-    assert_eq!(rt; bench.counts(), before);
+    assert_eq!(rt; bench.held(), before);
     match answer {
         Ok(found) => {
             compare_ranges(rt, hole, &found, wanted);
@@ -411,12 +270,13 @@ fn is_served_in(
     wanted: &[(u64, u64, u64)],
 ) -> Result<bool, Fail> {
     let heap = LocalHeap::new(alloc, 1 << 16)?;
-    let mut bench = Bench::new(rt, &heap)?;
+    let mut bench = Bench::new(rt, &heap, LOCAL, 1)?;
     for request in requests {
         assert_eq!(rt; bench.take(rt, *request, None), Ok(()));
     }
     let served = look_in_hole(rt, alloc, &heap, hole, &bench, wanted);
-    bench.end(rt);
+    bench.give_all_back(rt);
+    bench.end(rt, 4096);
     served
 }
 

@@ -1,6 +1,6 @@
 //! Rankings worked out by hand.
 
-ghost use Rattle.std.specs.Prelude.{◌≡◌, length};
+ghost use Rattle.std.specs.Prelude.{◌≡◌, ◌≤◌, length};
 
 use gpu_alloc::{MemoryForUsage, MemoryPropertyFlags, MemoryType, UsageFlags};
 use std::process::Abort;
@@ -140,11 +140,21 @@ fn is_ranked(rt: &impl Abort, table: &MemoryForUsage, usage: u8, digits: &[u8]) 
     }
 }
 
+/// Compares how types are ranked for some usages with the types and the mask of each row.
+fn compare_rows(rt: &impl Abort, types: &[MemoryType], rows: &[(u8, &[u32], u32)])
+    requires { length types.now ≤ 32 }
+{
+    let table = MemoryForUsage::new(types);
+    for (bits, want, mask) in rows {
+        let usage = UsageFlags::from_bits_retain(*bits);
+        assert_eq!(rt; table.types(usage), *want, "usage {bits}");
+        assert_eq!(rt; table.mask(usage), *mask, "mask of usage {bits}");
+    }
+}
+
 #[test]
 fn a_usage_ranks_the_types_that_it_wants_first(rt: HostRuntime) {
-    let types = three_types();
-    let table = MemoryForUsage::new(&types);
-    let cases: [(u8, &[u32], u32); 12] = [
+    let rows: [(u8, &[u32], u32); 12] = [
         (0x00, &[0, 1, 2], 7),
         (0x40, &[0, 1, 2], 7),
         (0xc0, &[0, 1, 2], 7),
@@ -158,11 +168,7 @@ fn a_usage_ranks_the_types_that_it_wants_first(rt: HostRuntime) {
         (0x06, &[2, 1], 6),
         (0xd0, &[1, 2, 0], 7),
     ];
-    for (bits, want, mask) in cases {
-        let usage = UsageFlags::from_bits_retain(bits);
-        assert_eq!(rt; table.types(usage), want, "usage {bits}");
-        assert_eq!(rt; table.mask(usage), mask, "mask of usage {bits}");
-    }
+    compare_rows(&rt, &three_types(), &rows);
 }
 
 #[test]
@@ -173,19 +179,16 @@ fn lazily_allocated_and_protected_types_are_never_ranked(rt: HostRuntime) {
         memory_type(17),
         memory_type(33),
     ];
-    let table = MemoryForUsage::new(&types);
-    let usage = UsageFlags::FAST_DEVICE_ACCESS;
-    assert_eq!(rt; table.types(usage), [0, 1].as_slice());
-    assert_eq!(rt; table.mask(usage), 3);
+    compare_rows(&rt, &types, &[(0x01, &[0, 1], 3)]);
 }
 
 #[test]
 fn from_none_to_32_types_are_ranked(rt: HostRuntime) {
-    let none = MemoryForUsage::new(&[]);
-    assert_eq!(rt; none.types(UsageFlags::FAST_DEVICE_ACCESS), [].as_slice());
-    assert_eq!(rt; none.mask(UsageFlags::FAST_DEVICE_ACCESS), 0);
-    let types = [memory_type(1); 32];
-    let table = MemoryForUsage::new(&types);
-    assert_eq!(rt; table.mask(UsageFlags::HOST_ACCESS), 0);
-    assert_eq!(rt; table.mask(UsageFlags::TRANSIENT), u32::MAX);
+    compare_rows(&rt, &[], &[(0x01, &[], 0)]);
+    let all = [
+        0, 1, 2, 3, 4, 5, 6, 7, 8, 9, 10, 11, 12, 13, 14, 15, 16, 17, 18, 19, 20, 21, 22, 23, 24,
+        25, 26, 27, 28, 29, 30, 31,
+    ];
+    let rows: [(u8, &[u32], u32); 2] = [(0x02, &[], 0), (0x10, &all, u32::MAX)];
+    compare_rows(&rt, &[memory_type(1); 32], &rows);
 }

@@ -1,6 +1,6 @@
 use Rattle.std.proofs.Common.{[], ◌∷◌}
-use Rattle.gpu_sim.proofs.Ready.{after_invalidate}
-use Rattle.gpu_sim.proofs.sim.tests.Mapped.invalidate.Goals as goal
+use Rattle.gpu_alloc_tests.proofs.Ready.{after_invalidate}
+use Rattle.gpu_alloc_tests.proofs.tests.sim_bytes.Mapped.invalidate.Goals as goal
 
 pub invariant_of-self : goal.invariant_of-self
 invariant_of-self g c =

@@ -1,7 +1,7 @@
 use Rattle.std.proofs.Common.{List, [], ◌∷◌}
 use Rattle.gpu_alloc_types.specs.Device.{Range}
-use Rattle.gpu_sim.proofs.Ready.{after_flush}
-use Rattle.gpu_sim.proofs.sim.tests.Mapped.flush_two_and_none.Goals as goal
+use Rattle.gpu_alloc_tests.proofs.Ready.{after_flush}
+use Rattle.gpu_alloc_tests.proofs.tests.sim_bytes.Mapped.flush_two.Goals as goal
 
 pub invariant_of-self : goal.invariant_of-self
 invariant_of-self c =

@@ -1,7 +1,7 @@
-use Rattle.std.proofs.Common.{◌≡◌, ℕ, true, false, subst}
+use Rattle.std.proofs.Common.{◌≡◌, true, subst}
 use Rattle.gpu_sim.specs.Sim.{CommandWrites}
-use Rattle.gpu_sim.proofs.Ready.{after_write}
-use Rattle.gpu_sim.proofs.sim.tests.Mapped.write.Goals as goal
+use Rattle.gpu_alloc_tests.proofs.Ready.{after_write}
+use Rattle.gpu_alloc_tests.proofs.tests.sim_bytes.Mapped.write.Goals as goal
 
 pub invariant_of-self : goal.invariant_of-self
 invariant_of-self c =

@@ -1,5 +1,5 @@
-use Rattle.gpu_sim.proofs.Ready.{after_put}
-use Rattle.gpu_sim.proofs.sim.tests.Mapped.put.Goals as goal
+use Rattle.gpu_alloc_tests.proofs.Ready.{after_put}
+use Rattle.gpu_alloc_tests.proofs.tests.sim_bytes.Mapped.put.Goals as goal
 
 pub invariant_of-self : goal.invariant_of-self
 invariant_of-self g c =

@@ -1,8 +1,8 @@
 use Rattle.std.proofs.Common.{subst}
 use Rattle.gpu_alloc_types.specs.Device.Event.{Mapped}
 use Rattle.gpu_sim.specs.Sim.{SimStep}
-use Rattle.gpu_sim.proofs.Ready.{after_unmap, after_map, mappable}
-use Rattle.gpu_sim.proofs.sim.tests.Mapped.unmap_and_map.Goals as goal
+use Rattle.gpu_alloc_tests.proofs.Ready.{after_unmap, after_map, mappable}
+use Rattle.gpu_alloc_tests.proofs.tests.sim_bytes.Mapped.unmap_and_map.Goals as goal
 
 pub map_memory-requires : goal.map_memory-requires
 map_memory-requires g c =

@@ -3,8 +3,8 @@ use Rattle.std.specs.Result.{result_map_both}
 use Rattle.gpu_alloc_types.specs.Device.Event.{Allocated, Mapped}
 use Rattle.gpu_alloc_types.specs.declared.types.OutOfMemory.{OutOfMemory}
 use Rattle.gpu_sim.specs.Sim.{SimStep}
-use Rattle.gpu_sim.proofs.Ready.{after_allocate, after_map, mappable}
-use Rattle.gpu_sim.proofs.sim.tests.Mapped.new.Goals as goal
+use Rattle.gpu_alloc_tests.proofs.Ready.{after_allocate, after_map, mappable}
+use Rattle.gpu_alloc_tests.proofs.tests.sim_bytes.Mapped.new.Goals as goal
 
 pub map_memory-requires : goal.map_memory-requires
 map_memory-requires g c =

@@ -7,7 +7,7 @@ use Rattle.gpu_alloc_types.specs.Properties.{Properties, is_host_visible}
 use Rattle.gpu_alloc_types.specs.declared.types.DeviceMapError.{DeviceMapError}
 use Rattle.gpu_sim.specs.Sim.{SimState, SimStep, objects_of}
 use Rattle.gpu_sim.specs.SimLaws.{step_is_row, step_keeps_properties}
-use Rattle.gpu_sim.proofs.sim.tests.OneType.map_new.Goals as goal
+use Rattle.gpu_alloc_tests.proofs.tests.sim.Device.map_new.Goals as goal
 
 -- the whole of that object may be mapped
 abbrev IsMappableWhole : SimState → ℕ → ℕ → Type 0

@@ -4,7 +4,7 @@ use Rattle.gpu_alloc_types.specs.Device.Event.{Allocated}
 use Rattle.gpu_alloc_types.specs.Objects.{put-same}
 use Rattle.gpu_sim.specs.Sim.{SimState, SimStep, objects_of}
 use Rattle.gpu_sim.specs.SimLaws.{step_is_row}
-use Rattle.gpu_sim.proofs.sim.tests.OneType.ask_and_return.Goals as goal
+use Rattle.gpu_alloc_tests.proofs.tests.sim.Device.ask_and_return.Goals as goal
 
 -- what was granted is held
 held_once_granted : (old new : SimState) (size t flags name : ℕ) → SimStep old (Allocated size t flags (Ok name)) new → IsHeld (objects_of new) name

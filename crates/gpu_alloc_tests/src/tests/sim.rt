@@ -1,0 +1,342 @@
+//! The simulated device by itself: what it answers in turn, and what it counts and tells.
+
+ghost use Rattle.std.specs.Prelude.{◌≡◌, ◌<◌, length, IsTrue};
+ghost use Rattle.gpu_alloc_types.specs.Flags.{has_bit, host_visible, property_bits};
+
+use super::offers::HEAPS;
+use super::pair::plan;
+use Cause::{Failed, Host};
+use gpu_alloc_types::{
+    AllocationFlags, DeviceMapError, DeviceProperties, MemoryDevice, MemoryObject,
+    MemoryPropertyFlags, MemoryType, OutOfMemory,
+};
+use gpu_sim::{Cause, Question, Sim, SimMemory};
+use linked_list_allocator::LocalHeap;
+use std::alloc::{AllocError, Allocator, Global};
+use std::marker::Model;
+use std::process::Abort;
+use std::test::Fail;
+
+/// Which question of a kind is refused, and why.
+pub(super) type Plan = (Question, u64, Cause);
+
+/// A plan for no question that is asked here.
+pub(super) const NONE: Plan = (Question::Map, 0, Host);
+
+/// A device with one memory type, which the host sees, and an atom of 1 byte. Contracts see nothing else of it.
+#[derive(Drop)]
+pub(super) struct Device {
+    pub(super) sim: Sim,
+}
+
+impl Model for Device {
+    ghost use Rattle.std.specs.Prelude.{◌≡◌, ℕ, IsTrue, length};
+    ghost use Rattle.gpu_alloc_types.specs.Properties.{is_host_visible};
+
+    ghost Value = { ℕ };
+
+    ghost view = { λ _. 0 };
+
+    ghost invariant = { λ d. (length (d.sim).properties.memory_types ≡ 1)
+        × IsTrue (is_host_visible (d.sim).properties 0)
+        × ((d.sim).properties.non_coherent_atom_size ≡ 1) };
+}
+
+impl Device {
+    /// One that refuses that question. Its memory is coherent or not.
+    pub(super) fn new(
+        rt: &impl Abort,
+        alloc: Global,
+        coherent: bool,
+        refused: Plan,
+    ) -> Result<Device, AllocError> {
+        let seen = MemoryPropertyFlags::from_bits_retain(2);
+        let both = MemoryPropertyFlags::from_bits_retain(6);
+        let mut device = if coherent {
+            Device::of_type(alloc, both)?
+        } else {
+            Device::of_type(alloc, seen)?
+        };
+        device.refuse(rt, refused);
+        Ok(device)
+    }
+
+    /// One whose memory type has these properties.
+    fn of_type(alloc: Global, props: MemoryPropertyFlags) -> Result<Device, AllocError>
+        requires { IsTrue (has_bit (property_bits props) host_visible) }
+    {
+        let props = DeviceProperties {
+            memory_types: &[MemoryType { heap: 0, props }],
+            memory_heaps: &HEAPS,
+            max_memory_allocation_count: 1,
+            max_memory_allocation_size: 1,
+            non_coherent_atom_size: 1,
+            buffer_device_address: false,
+        };
+        Ok(Device {
+            sim: Sim::new(alloc, props)?,
+        })
+    }
+
+    /// Has it refuse a question.
+    fn refuse(&mut self, rt: &impl Abort, refused: Plan) {
+        let (kind, nth, cause) = refused;
+        let planned = plan(rt, &mut self.sim, kind, nth, cause);
+        assert_eq!(rt; planned, Ok(()));
+    }
+
+    /// Takes one step, and compares what comes of it. The number tells which one it is.
+    fn take_step(&mut self, rt: &impl Abort, at: usize, step: Step) {
+        match step {
+            Step::Keep(size, answer, objects) => {
+                assert!(rt; size > 0);
+                assert_eq!(rt; ask(&mut self.sim, size), answer, "step {at}");
+                assert_eq!(rt; self.sim.objects(), objects, "step {at}");
+            }
+            Step::Return(size, answer, objects) => {
+                assert_eq!(rt; self.ask_and_return(rt, size), answer, "step {at}");
+                assert_eq!(rt; self.sim.objects(), objects, "step {at}");
+            }
+            Step::Duplicate(size, answer) => {
+                assert_eq!(rt; self.ask_and_duplicate(rt, size), Some(answer), "step {at}");
+            }
+            Step::Map(size, answer) => {
+                assert_eq!(rt; self.map_new(rt, size), Ok(answer), "step {at}");
+            }
+            Step::Asked(allocations, maps) => {
+                assert_eq!(rt; self.asked(), (allocations, maps), "step {at}");
+            }
+            Step::Latest(latest) => {
+                assert_eq!(rt; self.sim.last_allocation(), latest, "step {at}");
+            }
+        }
+    }
+
+    /// The name of an object that is given back.
+    fn ask_and_return(&mut self, rt: &impl Abort, size: u64) -> Result<u64, OutOfMemory> {
+        assert!(rt; size > 0);
+        let flags = AllocationFlags::from_bits_retain(0);
+        let memory = self.sim.allocate_memory(size, 0, flags)?;
+        self.sim.deallocate_memory(&memory);
+        Ok(memory.object())
+    }
+
+    /// The name of an object that is kept, by another handle once the first is gone.
+    fn ask_and_duplicate(&mut self, rt: &impl Abort, size: u64) -> Option<u64> {
+        assert!(rt; size > 0);
+        let flags = AllocationFlags::from_bits_retain(0);
+        let memory = self.sim.allocate_memory(size, 0, flags).ok()?;
+        let other = memory.duplicate().ok()?;
+        drop(memory);
+        Some(other.object())
+    }
+
+    /// The answer to a map of a whole new object. Where it is a refusal, the object is mapped by a second question.
+    fn map_new(
+        &mut self,
+        rt: &impl Abort,
+        size: u64,
+    ) -> Result<Result<(), DeviceMapError>, OutOfMemory> {
+        assert!(rt; size > 0);
+        let flags = AllocationFlags::from_bits_retain(0);
+        let memory = self.sim.allocate_memory(size, 0, flags)?;
+        let answer = self.sim.map_memory(&memory, 0, size);
+        if answer.is_err() {
+            let again = self.sim.map_memory(&memory, 0, size);
+            assert_eq!(rt; again, Ok(()));
+        }
+        Ok(answer)
+    }
+
+    /// How often it was asked to allocate and to map.
+    fn asked(&self) -> (u64, u64) {
+        (
+            self.sim.asked(Question::Allocate),
+            self.sim.asked(Question::Map),
+        )
+    }
+}
+
+/// The name of an object that is kept.
+fn ask<A: Allocator + Copy>(sim: &mut Sim<A>, size: u64) -> Result<u64, OutOfMemory>
+    requires nonempty { 0 < size }
+    requires known { 0 < length sim.old.properties.memory_types }
+    ensures { sim.new.properties ≡ sim.old.properties }
+{
+    match sim.allocate_memory(size, 0, AllocationFlags::from_bits_retain(0)) {
+        Ok(memory) => Ok(memory.object()),
+        Err(refusal) => Err(refusal),
+    }
+}
+
+/// What a device is asked, and what it answers or tells.
+#[derive(Clone, Copy)]
+enum Step {
+    /// It is asked for an object of so many bytes, which is kept, and answers its name. It holds so many objects then.
+    Keep(u64, Result<u64, OutOfMemory>, usize),
+
+    /// The same of an object that is given back at once.
+    Return(u64, Result<u64, OutOfMemory>, usize),
+
+    /// Another handle of a new object has this name, once the first handle is gone.
+    Duplicate(u64, u64),
+
+    /// It is asked to map the whole of a new object. Where it refuses, it grants a second question.
+    Map(u64, Result<(), DeviceMapError>),
+
+    /// It was asked so often to allocate and to map.
+    Asked(u64, u64),
+
+    /// That was the latest question to allocate.
+    Latest(Option<(u64, u32, AllocationFlags)>),
+}
+
+/// Takes the steps in their order with a fresh device, which refuses a question.
+fn play(rt: &impl Abort, alloc: Global, refused: Plan, steps: &[Step]) -> Result<(), Fail> {
+    let mut device = Device::new(rt, alloc, false, refused)?;
+    for (at, step) in steps.iter().enumerate() {
+        device.take_step(rt, at, *step);
+    }
+    drop(device);
+    Ok(())
+}
+
+#[test]
+fn a_refused_question_uses_no_name(rt: HostRuntime) -> Result<(), Fail> {
+    let refused = (Question::Allocate, 1, Cause::Device);
+    let steps = [
+        Step::Keep(8, Err(OutOfMemory::OutOfDeviceMemory), 0),
+        Step::Keep(8, Ok(1), 1),
+        Step::Keep(9, Ok(2), 2),
+    ];
+    play(&rt, rt.alloc(), refused, &steps)
+}
+
+#[test]
+fn a_name_is_given_once(rt: HostRuntime) -> Result<(), Fail> {
+    let steps = [Step::Return(8, Ok(1), 0), Step::Keep(8, Ok(2), 1)];
+    play(&rt, rt.alloc(), NONE, &steps)
+}
+
+#[test]
+fn a_question_is_counted_and_told(rt: HostRuntime) -> Result<(), Fail> {
+    let flags = AllocationFlags::from_bits_retain(0);
+    let steps = [
+        Step::Asked(0, 0),
+        Step::Latest(None),
+        Step::Keep(8, Ok(1), 1),
+        Step::Keep(16, Err(OutOfMemory::OutOfHostMemory), 1),
+        Step::Asked(2, 0),
+        Step::Latest(Some((16, 0, flags))),
+    ];
+    play(&rt, rt.alloc(), (Question::Allocate, 2, Host), &steps)
+}
+
+#[test]
+fn a_plan_for_a_map_refuses_no_allocation(rt: HostRuntime) -> Result<(), Fail> {
+    let steps = [Step::Keep(8, Ok(1), 1)];
+    play(&rt, rt.alloc(), (Question::Map, 1, Failed), &steps)
+}
+
+#[test]
+fn a_map_is_counted_and_where_it_is_refused_maps_nothing(rt: HostRuntime) -> Result<(), Fail> {
+    for (nth, cause, answer, maps) in [
+        (1, Cause::Device, Err(DeviceMapError::OutOfDeviceMemory), 2),
+        (1, Host, Err(DeviceMapError::OutOfHostMemory), 2),
+        (1, Failed, Err(DeviceMapError::MapFailed), 2),
+        (2, Failed, Ok(()), 1),
+    ] {
+        let steps = [Step::Map(8, answer), Step::Asked(1, maps)];
+        play(&rt, rt.alloc(), (Question::Map, nth, cause), &steps)?;
+    }
+    Ok(())
+}
+
+#[test]
+fn a_duplicate_is_of_the_same_object(rt: HostRuntime) -> Result<(), Fail> {
+    let steps = [Step::Keep(8, Ok(1), 1), Step::Duplicate(8, 2)];
+    play(&rt, rt.alloc(), NONE, &steps)
+}
+
+/// What a device offers that has one memory type, with these property bits.
+macro_rules! one_type {
+    ($bits:expr) => {
+        DeviceProperties {
+            memory_types: &[MemoryType {
+                heap: 0,
+                props: MemoryPropertyFlags::from_bits_retain($bits),
+            }],
+            memory_heaps: &HEAPS,
+            max_memory_allocation_count: 1,
+            max_memory_allocation_size: 1,
+            non_coherent_atom_size: 64,
+            buffer_device_address: false,
+        }
+    };
+}
+
+/// A handle of the second object of a device, which is gone.
+fn handle_of_second<A: Allocator + Copy>(heap: A) -> Result<Option<SimMemory<A>>, AllocError> {
+    let mut sim: Sim<A> = Sim::new(heap, one_type!(1))?;
+    let _ = ask(&mut sim, 1);
+    let answer = sim.allocate_memory(1, 0, AllocationFlags::from_bits_retain(0));
+    drop(sim);
+    Ok(answer.ok())
+}
+
+/// Duplicates a handle until its heap is full. How many there are then.
+fn count_duplicates(
+    alloc: Global,
+    memory: &SimMemory<&LocalHeap>,
+) -> Result<Option<usize>, AllocError> {
+    let mut others = Vec::new(alloc);
+    for _ in 0..1024 {
+        match memory.duplicate() {
+            Ok(other) => others.push(other)?,
+            Err(_) => return Ok(Some(others.len())),
+        }
+    }
+    Ok(None)
+}
+
+#[test]
+fn a_duplicate_is_refused_with_its_memory(rt: HostRuntime) -> Result<(), Fail> {
+    let heap = LocalHeap::new(rt.alloc(), 1 << 12)?;
+    let Some(memory) = handle_of_second(&heap)? else {
+        panic!(rt; "no object");
+    };
+    let fit = count_duplicates(rt.alloc(), &memory)?;
+    assert!(rt; fit > Some(0));
+    assert_eq!(rt; count_duplicates(rt.alloc(), &memory)?, fit);
+    assert_eq!(rt; memory.object(), 2);
+    Ok(())
+}
+
+#[test]
+fn a_device_local_object_may_be_of_2_to_the_63_bytes(rt: HostRuntime) -> Result<(), Fail> {
+    for bits in [1, 5] {
+        let mut sim: Sim = Sim::new(rt.alloc(), one_type!(bits))?;
+        let answer = ask(&mut sim, 1 << 63);
+        let written = (sim.gpu_write(1, 0, &[1]), sim.gpu_write(2, 0, &[]));
+        let objects = sim.objects();
+        drop(sim);
+        assert_eq!(rt; (answer, written, objects), (Ok(1), (false, false), 1));
+    }
+    Ok(())
+}
+
+#[test]
+fn an_object_is_refused_with_its_bytes(rt: HostRuntime) -> Result<(), Fail> {
+    let heap = LocalHeap::new(rt.alloc(), 1 << 12)?;
+    let mut sim: Sim<&LocalHeap> = Sim::new(&heap, one_type!(2))?;
+    let refused = Err(OutOfMemory::OutOfHostMemory);
+    // Of 3,000 bytes there is room for the host's list alone.
+    for (size, answer, objects) in [(3000, refused, 0), (1 << 63, refused, 0), (1000, Ok(1), 1)] {
+        assert!(rt; size > 0);
+        assert_eq!(rt; ask(&mut sim, size), answer);
+        assert_eq!(rt; sim.objects(), objects);
+    }
+    assert_eq!(rt; sim.asked(Question::Allocate), 3);
+    drop(sim);
+    Ok(())
+}

@@ -1,0 +1,307 @@
+//! The bytes of an object of the simulated device: what the host sees once it and the device have written, and which
+//! part of a range is copied.
+
+use super::sim::{Device, NONE, Plan};
+use Act::{Flush, FlushTwo, Invalidate, Put, Remap, See, Told, Write};
+use Cause::Host;
+use gpu_alloc_types::{
+    AllocationFlags, MappedMemoryRange, MemoryDevice, MemoryObject, OutOfMemory,
+};
+use gpu_sim::{Cause, Question, Sim, SimMemory};
+use std::alloc::Global;
+use std::marker::Model;
+use std::process::Abort;
+use std::test::Fail;
+
+const SIZE: u64 = 8;
+
+/// A device of one memory type with an object of 8 bytes, all of which are mapped. Contracts see the object's name.
+#[derive(Drop)]
+struct Mapped {
+    sim: Sim,
+    memory: SimMemory,
+}
+
+impl Model for Mapped {
+    ghost use Rattle.std.specs.Prelude.{◌≡◌, ℕ, IsTrue, Some};
+    ghost use Rattle.gpu_alloc_types.specs.Device.{HeldWith};
+    ghost use Rattle.gpu_alloc_types.specs.Properties.{is_host_visible};
+    ghost use Rattle.gpu_sim.specs.Sim.{objects_of};
+
+    ghost Value = { ℕ };
+
+    ghost view = { λ d. d.memory };
+
+    ghost invariant = { λ d. HeldWith (objects_of d.sim) d.memory (λ o. (o.mapped ≡ Some (0, 8)) × (o.size ≡ 8)
+        × IsTrue (is_host_visible (d.sim).properties o.memory_type))
+        × ((d.sim).properties.non_coherent_atom_size ≡ 1) };
+}
+
+impl Mapped {
+    /// An object of that device. Its questions are granted.
+    fn new(rt: &impl Abort, device: Device) -> Result<Mapped, Fail> {
+        let Device { mut sim } = device;
+        let flags = AllocationFlags::from_bits_retain(0);
+        let memory = sim.allocate_memory(SIZE, 0, flags).expect(rt, "an object");
+        sim.map_memory(&memory, 0, SIZE).expect(rt, "a map");
+        Ok(Mapped { sim, memory })
+    }
+
+    fn act(&mut self, rt: &impl Abort, at: usize, act: Act) {
+        match act {
+            Put(offset, bytes) => self.put(rt, offset, &bytes),
+            Write(offset, bytes, answer) => {
+                assert_eq!(rt; self.write(offset, &bytes), answer, "act {at}");
+            }
+            Flush(offset, size, answer) => {
+                assert_eq!(rt; self.flush(rt, offset, size), answer, "act {at}");
+            }
+            FlushTwo => self.flush_two_and_none(rt),
+            Invalidate(offset, size, answer) => {
+                assert_eq!(rt; self.invalidate(rt, offset, size), answer, "act {at}");
+            }
+            Remap => self.unmap_and_map(rt),
+            See(bytes) => assert_eq!(rt; self.read(), bytes, "act {at}"),
+            Told(flushes, invalidates, range) => {
+                assert_eq!(rt;
+                    self.told(),
+                    (flushes, invalidates, Some(range)),
+                    "act {at}"
+                );
+            }
+        }
+    }
+
+    fn put(&mut self, rt: &impl Abort, offset: u64, bytes: &[u8]) {
+        assert!(rt; bytes.len() > 0);
+        assert!(rt; offset <= SIZE);
+        assert!(rt; bytes.len() as u64 <= SIZE - offset);
+        self.sim.put_bytes(&self.memory, offset, bytes);
+    }
+
+    fn write(&mut self, offset: u64, bytes: &[u8]) -> bool {
+        let name = self.memory.object();
+        self.sim.gpu_write(name, offset, bytes)
+    }
+
+    fn flush(&mut self, rt: &impl Abort, offset: u64, size: u64) -> Result<(), OutOfMemory> {
+        assert!(rt; size > 0);
+        assert!(rt; offset <= SIZE);
+        assert!(rt; size <= SIZE - offset);
+        let memory = &self.memory;
+        self.sim.flush_memory_ranges(&[MappedMemoryRange {
+            memory,
+            offset,
+            size,
+        }])
+    }
+
+    fn invalidate(&mut self, rt: &impl Abort, offset: u64, size: u64) -> Result<(), OutOfMemory> {
+        assert!(rt; size > 0);
+        assert!(rt; offset <= SIZE);
+        assert!(rt; size <= SIZE - offset);
+        let memory = &self.memory;
+        self.sim.invalidate_memory_ranges(&[MappedMemoryRange {
+            memory,
+            offset,
+            size,
+        }])
+    }
+
+    /// Flushes two bytes of it in one question, and then none. The latter leaves the latest range as it was.
+    fn flush_two_and_none(&mut self, rt: &impl Abort) {
+        let told = self.flush_two();
+        assert_eq!(rt; told, [Some((1, 2, 1)); 2]);
+    }
+
+    // What was the latest range after each.
+    fn flush_two(&mut self) -> [Option<(u64, u64, u64)>; 2] {
+        let memory = &self.memory;
+        let _ = self.sim.flush_memory_ranges(&[
+            MappedMemoryRange {
+                memory,
+                offset: 5,
+                size: 1,
+            },
+            MappedMemoryRange {
+                memory,
+                offset: 2,
+                size: 1,
+            },
+        ]);
+        let told = self.sim.last_range();
+        let _ = self.sim.flush_memory_ranges(&[]);
+        [told, self.sim.last_range()]
+    }
+
+    fn unmap_and_map(&mut self, rt: &impl Abort) {
+        self.sim.unmap_memory(&self.memory);
+        self.sim
+            .map_memory(&self.memory, 0, SIZE)
+            .expect(rt, "a map");
+    }
+
+    /// What the host sees of it.
+    fn read(&mut self) -> [u8; 8] {
+        let mut bytes = [0; 8];
+        self.sim.get_bytes(&self.memory, 0, &mut bytes);
+        bytes
+    }
+
+    /// How often it was asked to flush and to invalidate, and the latest range.
+    fn told(&self) -> (u64, u64, Option<(u64, u64, u64)>) {
+        let flushes = self.sim.asked(Question::Flush);
+        let invalidates = self.sim.asked(Question::Invalidate);
+        (flushes, invalidates, self.sim.last_range())
+    }
+}
+
+/// What is done to an object, and what is found.
+#[derive(Clone, Copy)]
+enum Act {
+    /// The host writes bytes there.
+    Put(u64, [u8; 2]),
+
+    /// A command of the device writes bytes there, where that is answered by `true`.
+    Write(u64, [u8; 2], bool),
+
+    /// So many bytes are flushed there.
+    Flush(u64, u64, Result<(), OutOfMemory>),
+
+    /// A byte at 5 and one at 2 are flushed by one question, of which the latter is told, and then none.
+    FlushTwo,
+
+    /// So many bytes are invalidated there.
+    Invalidate(u64, u64, Result<(), OutOfMemory>),
+
+    /// The mapping is ended, and begun anew.
+    Remap,
+
+    /// The host sees these bytes.
+    See([u8; 8]),
+
+    /// It was asked so often to flush and to invalidate, and that was the latest range.
+    Told(u64, u64, (u64, u64, u64)),
+}
+
+const REFUSED: Result<(), OutOfMemory> = Err(OutOfMemory::OutOfHostMemory);
+
+/// All that the device has comes to the host.
+const ALL: Act = Invalidate(0, 8, Ok(()));
+
+/// Does all that in turn with a fresh object, coherent or not, of a device that refuses a question.
+fn act_in_turn(
+    rt: &impl Abort,
+    alloc: Global,
+    coherent: bool,
+    refused: Plan,
+    acts: &[Act],
+) -> Result<(), Fail> {
+    let mut device = Mapped::new(rt, Device::new(rt, alloc, coherent, refused)?)?;
+    for (at, act) in acts.iter().enumerate() {
+        device.act(rt, at, *act);
+    }
+    drop(device);
+    Ok(())
+}
+
+#[test]
+fn new_bytes_show_a_missing_invalidate(rt: HostRuntime) -> Result<(), Fail> {
+    let to_the_end = Invalidate(3, 5, Ok(()));
+    let cut = See([238, 238, 238, 0, 0, 0, 0, 0]);
+    for (coherent, acts) in [
+        (true, [See([0; 8]), to_the_end, See([0; 8])]),
+        (false, [See([238; 8]), to_the_end, cut]),
+    ] {
+        act_in_turn(&rt, rt.alloc(), coherent, NONE, &acts)?;
+    }
+    Ok(())
+}
+
+#[test]
+fn the_device_sees_a_put_at_once_where_it_is_coherent(rt: HostRuntime) -> Result<(), Fail> {
+    for (coherent, found) in [(true, [0, 0, 3, 4, 0, 0, 0, 0]), (false, [0; 8])] {
+        let acts = [Put(2, [3, 4]), ALL, See(found)];
+        act_in_turn(&rt, rt.alloc(), coherent, NONE, &acts)?;
+    }
+    Ok(())
+}
+
+#[test]
+fn a_flush_copies_its_range(rt: HostRuntime) -> Result<(), Fail> {
+    let acts = [
+        Put(2, [3, 4]),
+        Put(4, [5, 6]),
+        Flush(3, 2, Ok(())),
+        ALL,
+        See([0, 0, 0, 4, 5, 0, 0, 0]),
+    ];
+    act_in_turn(&rt, rt.alloc(), false, NONE, &acts)
+}
+
+#[test]
+fn a_refused_flush_copies_the_first_half(rt: HostRuntime) -> Result<(), Fail> {
+    let acts = [
+        Put(1, [2, 3]),
+        Put(3, [4, 5]),
+        Flush(1, 7, REFUSED),
+        ALL,
+        See([0, 2, 3, 4, 0, 0, 0, 0]),
+    ];
+    act_in_turn(&rt, rt.alloc(), false, (Question::Flush, 1, Host), &acts)
+}
+
+#[test]
+fn a_refused_invalidate_copies_the_first_half(rt: HostRuntime) -> Result<(), Fail> {
+    let acts = [
+        Invalidate(7, 1, Ok(())),
+        Invalidate(0, 7, REFUSED),
+        See([0, 0, 0, 238, 238, 238, 238, 0]),
+    ];
+    act_in_turn(
+        &rt,
+        rt.alloc(),
+        false,
+        (Question::Invalidate, 2, Host),
+        &acts,
+    )
+}
+
+#[test]
+fn an_unmap_keeps_the_bytes(rt: HostRuntime) -> Result<(), Fail> {
+    let kept = See([238, 238, 1, 2, 238, 238, 238, 238]);
+    act_in_turn(&rt, rt.alloc(), false, NONE, &[Put(2, [1, 2]), Remap, kept])
+}
+
+#[test]
+fn a_command_writes_inside_an_object(rt: HostRuntime) -> Result<(), Fail> {
+    for (coherent, first) in [(true, [0, 0, 0, 0, 0, 0, 9, 9]), (false, [238; 8])] {
+        let acts = [
+            Write(7, [1, 1], false),
+            Write(u64::MAX, [1, 1], false),
+            Write(6, [9, 9], true),
+            See(first),
+            ALL,
+            See([0, 0, 0, 0, 0, 0, 9, 9]),
+        ];
+        act_in_turn(&rt, rt.alloc(), coherent, NONE, &acts)?;
+    }
+    Ok(())
+}
+
+#[test]
+fn the_latest_range_is_told(rt: HostRuntime) -> Result<(), Fail> {
+    let acts = [
+        Told(0, 0, (1, 0, 8)),
+        FlushTwo,
+        Invalidate(3, 4, REFUSED),
+        Told(2, 1, (1, 3, 4)),
+    ];
+    act_in_turn(
+        &rt,
+        rt.alloc(),
+        false,
+        (Question::Invalidate, 1, Host),
+        &acts,
+    )
+}
