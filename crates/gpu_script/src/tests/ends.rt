@@ -2,14 +2,18 @@
 
 use super::same::{same, same_at};
 use crate::run_script;
+use linked_list_allocator::LocalHeap;
+use std::alloc::{Allocator, Global};
 use std::io;
 use std::io::{Error, ErrorKind, Read, Write};
+use std::process::Abort;
+use std::test::Fail;
 
 /// A reader that gives two bytes a read, and fails once it has given so many reads.
 #[derive(Drop)]
 struct BrokenReader<'a> {
     left: &'a [u8],
-    good: u64,
+    good: usize,
 }
 
 impl Read for BrokenReader<'_> {
@@ -47,7 +51,8 @@ impl Read for InterruptedReader<'_> {
     }
 }
 
-/// A writer that takes so many bytes, and fails after them.
+/// A writer that takes so many bytes, and fails where it has no room left: at a write or, once all is written, at the
+/// flush.
 #[derive(Drop)]
 struct BrokenWriter {
     taken: Vec<u8>,
@@ -66,6 +71,9 @@ impl Write for BrokenWriter {
     }
 
     fn flush(&mut self) -> io::Result<()> {
+        if self.room == 0 {
+            return Err(Error::from(ErrorKind::BrokenPipe));
+        }
         Ok(())
     }
 }
@@ -74,25 +82,44 @@ const SCRIPT: &str = "heap 64\ntype 0 1\ncounts";
 
 const ANSWER: &str = "counts remaining 4096 held 0 used 0\nend objects 0 allocations 0\n";
 
-#[test]
-fn a_failed_read_prints_nothing(rt: HostRuntime) {
-    for good in 0..13 {
+/// A script that runs, one with a bad line, and one with bad properties: what they print, and the status.
+const ENDS: [(&str, &str, u8); 3] = [
+    (SCRIPT, ANSWER, 0),
+    ("frob 1\ncounts", "line 1: unknown word\n", 2),
+    ("atom 3", "line 2: bad properties\n", 2),
+];
+
+/// Compares the end of a script whose reader fails at each of its reads in turn, the one that finds its end among them.
+/// Nothing is printed then, not even of a line that is bad and was read.
+fn compare_reads(rt: &impl Abort, alloc: Global, script: &str, printed: &str, status: u8) {
+    let reads = script.len().div_ceil(2).saturating_add(1);
+    for good in 0..=reads {
         let mut input = BrokenReader {
-            left: SCRIPT.as_bytes(),
+            left: script.as_bytes(),
             good,
         };
-        let mut output = Vec::new(rt.alloc());
-        let ended = (
-            run_script(rt.alloc(), &mut input, &mut output),
-            output.len(),
-        );
+        let mut output = Vec::new(alloc);
+        let ended = run_script(alloc, &mut input, &mut output);
+        let came = (ended, output.as_slice());
+        let wanted = if good < reads {
+            (1, "".as_bytes())
+        } else {
+            (status, printed.as_bytes())
+        };
         same_at(
-            &rt,
-            "status and bytes printed after reads:",
+            rt,
+            "status and what is printed after reads:",
             &good,
-            &ended,
-            &(1, 0),
+            &came,
+            &wanted,
         );
+    }
+}
+
+#[test]
+fn a_failed_read_prints_nothing(rt: HostRuntime) {
+    for (script, printed, status) in ENDS {
+        compare_reads(&rt, rt.alloc(), script, printed, status);
     }
 }
 
@@ -113,23 +140,45 @@ fn an_interrupted_read_is_tried_again(rt: HostRuntime) {
     );
 }
 
-#[test]
-fn a_failed_write_has_written_a_part(rt: HostRuntime) {
-    for room in 0..ANSWER.len() {
-        let mut input = SCRIPT.as_bytes();
+/// Compares the end of a script whose writer fails after each number of bytes in turn, and at the flush. The program
+/// takes its memory from the allocator given second.
+fn compare_writes<A: Allocator + Copy>(
+    rt: &impl Abort,
+    alloc: Global,
+    programs: A,
+    script: &str,
+    printed: &str,
+    status: u8,
+) {
+    for room in 0..=printed.len().saturating_add(1) {
+        let mut input = script.as_bytes();
         let mut output = BrokenWriter {
-            taken: Vec::new(rt.alloc()),
+            taken: Vec::new(alloc),
             room,
         };
-        let ended = run_script(rt.alloc(), &mut input, &mut output);
+        let ended = run_script(programs, &mut input, &mut output);
         let came = (ended, output.taken.as_slice());
-        let wanted = (1, &ANSWER.as_bytes()[..room]);
+        let wanted = if room > printed.len() {
+            (status, printed.as_bytes())
+        } else {
+            (1, &printed.as_bytes()[..room])
+        };
         same_at(
-            &rt,
+            rt,
             "status and what is printed with room for",
             &room,
             &came,
             &wanted,
         );
     }
+}
+
+#[test]
+fn a_failed_write_has_written_a_part(rt: HostRuntime) -> Result<(), Fail> {
+    for (script, printed, status) in ENDS {
+        compare_writes(&rt, rt.alloc(), rt.alloc(), script, printed, status);
+    }
+    let nothing = LocalHeap::new(rt.alloc(), 0)?;
+    compare_writes(&rt, rt.alloc(), &nothing, SCRIPT, "out of memory\n", 3);
+    Ok(())
 }

@@ -8,7 +8,7 @@ use super::same::{same, same_at};
 use super::scripts;
 use crate::sim::{Question, Sim};
 use gpu_alloc::{Dedicated, MapError, Request, UsageFlags};
-use gpu_script_language::{Script, SimSession, open, parse};
+use gpu_script_language::{SimSession, open};
 use gpu_session::{Bytes, Command, Fault, Reply, values_of};
 use printed::printed;
 use std::alloc::{AllocError, Global};
@@ -545,10 +545,7 @@ pub(super) fn session_of(
     alloc: Global,
     script: &str,
 ) -> Result<SimSession<Global>, Fail> {
-    let script: Script<Global> = match parse(alloc, script.as_bytes()) {
-        Ok(script) => script,
-        Err(_) => return Err(Fail::from("a bad script")),
-    };
+    let script = scripts::good_script(alloc, script)?;
     assert!(rt; script.setup.properties().is_usable());
     Ok(open(alloc, &script.setup)?)
 }

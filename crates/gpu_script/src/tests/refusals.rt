@@ -2,15 +2,13 @@
 
 use super::bench::{
     Bench, Counts, DEVICE_LOCAL, HEAPS, Place, Step, TYPES, asked_for, bytes, offering, one_type,
-    place_in, play_on, play_refused,
+    place_in, play_on,
 };
 use super::memory::plug;
 use super::same::{same, same_at};
 use super::transient::transient;
-use crate::sim::{Cause, Question};
 use gpu_alloc::{
-    AllocationError, AllocationFlags, Dedicated, DeviceProperties, MemoryHeap, MemoryPropertyFlags,
-    MemoryType, Request, UsageFlags,
+    AllocationError, AllocationFlags, Dedicated, DeviceProperties, MemoryHeap, MemoryType, Request,
 };
 use linked_list_allocator::LocalHeap;
 use std::alloc::{AllocError, Global};
@@ -140,46 +138,6 @@ fn a_lack_of_objects_is_not_passed(rt: HostRuntime) -> Result<(), Fail> {
             Step::Refuse(either, None, AllocationError::TooManyObjects, 0),
         ],
     )
-}
-
-/// Compares the refusal of a first chunk whose mapping the device refuses. The chunk goes back.
-fn compare_unmapped(
-    rt: &impl Abort,
-    alloc: Global,
-    cause: Cause,
-    error: AllocationError,
-) -> Result<(), Fail> {
-    let types = [MemoryType {
-        heap: 0,
-        props: MemoryPropertyFlags::HOST_VISIBLE | MemoryPropertyFlags::HOST_COHERENT,
-    }];
-    let request = Request {
-        usage: UsageFlags::HOST_ACCESS,
-        ..bytes(100)
-    };
-    play_refused(
-        rt,
-        alloc,
-        offering(&types, &HEAPS),
-        Question::Map,
-        cause,
-        &[
-            Step::Refuse(request, None, error, 1),
-            Step::Held(0, 4096, 0),
-        ],
-    )
-}
-
-#[test]
-fn a_chunk_that_cannot_be_mapped_goes_back(rt: HostRuntime) -> Result<(), Fail> {
-    for (cause, error) in [
-        (Cause::Failed, AllocationError::OutOfHostMemory),
-        (Cause::Host, AllocationError::OutOfHostMemory),
-        (Cause::Device, AllocationError::OutOfDeviceMemory),
-    ] {
-        compare_unmapped(&rt, rt.alloc(), cause, error)?;
-    }
-    Ok(())
 }
 
 /// How far a request came with one hole of memory left.

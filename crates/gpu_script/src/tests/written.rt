@@ -2,8 +2,8 @@
 
 use super::lists::session_of;
 use super::same::{same, same_at};
+use super::scripts::good_script;
 use super::whole::BYTES;
-use gpu_script_language::{Script, parse};
 use gpu_session::{Command, Reply, values_of};
 use std::alloc::{AllocError, Global};
 use std::process::Abort;
@@ -71,10 +71,7 @@ fn compare_told(
 
 /// Compares what is told after the commands of a script, run as one list and as two.
 fn compare(rt: &impl Abort, alloc: Global, text: &str, rows: &[Told]) -> Result<(), Fail> {
-    let script: Script<Global> = match parse(alloc, text.as_bytes()) {
-        Ok(script) => script,
-        Err(_) => return Err(Fail::from("a bad script")),
-    };
+    let script = good_script(alloc, text)?;
     let commands = script.commands.as_slice();
     for place in [0, commands.len() / 2] {
         let replies = answered(rt, alloc, text, commands, place)?;

@@ -1,0 +1,213 @@
+//! Each question to the device refused, for each cause that it can have, with one command a list: what is refused
+//! changes nothing, and at the end nothing is held.
+
+use super::lists::session_of;
+use super::same::{same, same_at};
+use super::scripts::{compare, good_script};
+use super::whole::BYTES;
+use crate::sim::Question;
+use gpu_script_language::{SimSession, print_reply};
+use gpu_session::{Command, Reply};
+use std::alloc::{AllocError, Global};
+use std::process::Abort;
+use std::test::Fail;
+
+/// What is answered for want of device memory.
+const DEVICE: &str = "refused: Device memory exhausted";
+
+/// What is answered for want of host memory.
+const HOST: &str = "refused: Host memory exhausted";
+
+/// The script has blocks of each kind in two equal types, each in a heap of its own. It asks the device for four
+/// allocations, two mappings, two flushes and two invalidates: each of them with the causes for which it is refused,
+/// the place of the command that asks it and what that is answered, and how many allocations are asked for in all. A
+/// type that is passed leaves the request to the other one.
+const REFUSED: [(&str, usize, &str, u64); 22] = [
+    (
+        "allocate 1 device",
+        0,
+        "block type 1 object 1 offset 0 size 128",
+        5,
+    ),
+    ("allocate 1 host", 0, HOST, 4),
+    (
+        "allocate 2 device",
+        1,
+        "block type 1 object 2 offset 8064 size 128",
+        5,
+    ),
+    ("allocate 2 host", 1, HOST, 4),
+    ("allocate 3 device", 2, DEVICE, 4),
+    ("allocate 3 host", 2, HOST, 4),
+    ("allocate 4 device", 8, DEVICE, 4),
+    ("allocate 4 host", 8, HOST, 4),
+    (
+        "map 1 device",
+        0,
+        "block type 1 object 2 offset 0 size 128",
+        5,
+    ),
+    ("map 1 host", 0, HOST, 4),
+    ("map 1 failed", 0, HOST, 4),
+    (
+        "map 2 device",
+        1,
+        "block type 1 object 3 offset 8064 size 128",
+        5,
+    ),
+    ("map 2 host", 1, HOST, 4),
+    ("map 2 failed", 1, HOST, 4),
+    ("flush 1 device", 3, DEVICE, 4),
+    ("flush 1 host", 3, HOST, 4),
+    ("flush 2 device", 4, DEVICE, 4),
+    ("flush 2 host", 4, HOST, 4),
+    ("invalidate 1 device", 5, DEVICE, 4),
+    ("invalidate 1 host", 5, HOST, 4),
+    ("invalidate 2 device", 6, DEVICE, 4),
+    ("invalidate 2 host", 6, HOST, 4),
+];
+
+/// What is told of what is held: the counts, and the free ranges of both types.
+fn told(alloc: Global, session: &mut SimSession<Global>) -> Result<Vec<String>, AllocError> {
+    let replies = session.run(&[
+        Command::Counts,
+        Command::FreeRanges { memory_type: 0 },
+        Command::FreeRanges { memory_type: 1 },
+    ])?;
+    let mut told = Vec::new(alloc);
+    for reply in &replies {
+        let mut line = String::new(alloc);
+        print_reply(&mut line, reply)?;
+        told.push(line)?;
+    }
+    Ok(told)
+}
+
+/// The ledger of a type's heap and its free ranges, by what is told.
+fn of_type(told: &[String], memory_type: usize) -> Option<(&str, &str)> {
+    let [counts, ranges @ ..] = told else {
+        return None;
+    };
+    let ledger = counts.as_str().split(' ').skip(6).nth(memory_type)?;
+    Some((ledger, ranges.get(memory_type)?.as_str()))
+}
+
+/// Compares what is told before and after a command that is answered so: a grant changes no type but its own, and what
+/// is neither granted nor done changes nothing.
+fn compare_told(rt: &impl Abort, reply: &Reply, before: &[String], after: &[String]) {
+    match reply {
+        Reply::Granted { memory_type, .. } => {
+            for other in 0..2 {
+                if other != *memory_type {
+                    let other = other as usize;
+                    let held = of_type(before, other);
+                    same_at(rt, "a type is told of:", &other, &held.is_some(), &true);
+                    same_at(
+                        rt,
+                        "what is held of type",
+                        &other,
+                        &of_type(after, other),
+                        &held,
+                    );
+                }
+            }
+        }
+        Reply::Done => (),
+        _ => same(
+            rt,
+            "what is held after what is refused or only told",
+            &after,
+            &before,
+        ),
+    }
+}
+
+/// Runs each command as a list of its own, and adds what it is answered. What it may not change is compared.
+fn run_apart(
+    rt: &impl Abort,
+    alloc: Global,
+    session: &mut SimSession<Global>,
+    commands: &[Command],
+    printed: &mut String,
+) -> Result<(), AllocError> {
+    let mut before = told(alloc, session)?;
+    for command in commands.chunks(1) {
+        let replies = session.run(command)?;
+        let after = told(alloc, session)?;
+        for reply in &replies {
+            compare_told(rt, reply, before.as_slice(), after.as_slice());
+            print_reply(printed, reply)?;
+            printed.push('\n')?;
+        }
+        before = after;
+    }
+    Ok(())
+}
+
+/// What a script prints whose commands are run so.
+fn printed_apart(rt: &impl Abort, alloc: Global, text: &str) -> Result<String, Fail> {
+    let script = good_script(alloc, text)?;
+    let mut session = session_of(rt, alloc, text)?;
+    let mut printed = String::new(alloc);
+    let commands = script.commands.as_slice();
+    let ran = run_apart(rt, alloc, &mut session, commands, &mut printed);
+    let device = session.finish();
+    let counts = (device.objects(), device.asked(Question::Allocate));
+    drop(device);
+    ran?;
+    writeln!(printed, "end objects {} allocations {}", counts.0, counts.1)?;
+    Ok(printed)
+}
+
+/// Compares what the script prints with a refused question, by one list a command and by the program, with what the
+/// command is answered that asks it and with how it ends.
+fn compare_refused(
+    rt: &impl Abort,
+    alloc: Global,
+    script: &str,
+    question: &str,
+    place: usize,
+    answer: &str,
+    allocations: u64,
+) -> Result<(), Fail> {
+    let text = format!(in alloc; "refuse {question}\n{script}")?;
+    let printed = printed_apart(rt, alloc, text.as_str())?;
+    let answered = printed.as_str().lines().nth(place);
+    same_at(
+        rt,
+        "the answer at the refused",
+        &question,
+        &answered,
+        &Some(answer),
+    );
+    let end = format!(in alloc;
+        "counts remaining 4096 held 0 used 0 0\nend objects 0 allocations {allocations}\n"
+    )?;
+    let ends = printed.as_str().ends_with(end.as_str());
+    same_at(
+        rt,
+        "it ends as wanted with a refused",
+        &question,
+        &ends,
+        &true,
+    );
+    compare(rt, alloc, &[(text.as_str(), printed.as_str(), 0)]);
+    Ok(())
+}
+
+#[test]
+fn a_refused_question_changes_nothing(rt: HostRuntime) -> Result<(), Fail> {
+    for (question, place, answer, allocations) in REFUSED {
+        let script = BYTES[3].0;
+        compare_refused(
+            &rt,
+            rt.alloc(),
+            script,
+            question,
+            place,
+            answer,
+            allocations,
+        )?;
+    }
+    Ok(())
+}
