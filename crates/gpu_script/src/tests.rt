@@ -8,6 +8,7 @@ mod blocks;
 mod candidates;
 mod commands;
 mod ends;
+mod extremes;
 mod grants;
 mod lines;
 mod lists;
