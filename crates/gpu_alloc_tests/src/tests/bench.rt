@@ -1,6 +1,6 @@
 //! An allocator over the simulated device, with the blocks that it gave out, and objects that the device made for it.
 
-ghost use Rattle.std.specs.Prelude.{◌≡◌, ◌+◌, ◌<◌, ◌^◌, length, vec_len, IfSome, IfOk, IfErr, OnErr, None, IsTrue};
+ghost use Rattle.std.specs.Prelude.{◌≡◌, ◌+◌, ◌≤◌, ◌<◌, ◌^◌, length, vec_len, IfSome, IfOk, IfErr, OnErr, None, IsTrue};
 ghost use Rattle.std.specs.FinMap as map;
 ghost use Rattle.gpu_alloc_types.specs.Flags.{property_bits};
 ghost use Rattle.gpu_alloc_types.specs.Properties.{IsUsable, properties_of, props_at};
@@ -10,7 +10,6 @@ ghost use Rattle.gpu_alloc.specs.Owned.{Leaves};
 ghost use Rattle.gpu_alloc.specs.State.{IsOwned};
 
 use super::offers::{again, offer};
-use super::plugs::plug;
 use gpu_alloc::laws::{
     agrees_at_first, imports_agree, made_objects_may_be_imported, which_objects_may_be_imported,
 };
@@ -19,8 +18,7 @@ use gpu_alloc::{
     MemoryBlock, MemoryPropertyFlags, MemoryType, Request,
 };
 use gpu_alloc_types::{MemoryDevice, MemoryObject};
-use gpu_sim::{Sim, SimMemory};
-use linked_list_allocator::LocalHeap;
+use gpu_sim::{ScarceMemory, Sim, SimMemory};
 use std::alloc::{Allocator, Global};
 use std::marker::Model;
 use std::process::Abort;
@@ -171,32 +169,90 @@ impl<A: Allocator + Copy> Bench<A> {
         self.allocator.set_remaining_allocations(remaining);
     }
 
-    /// Imports an object of 64 bytes with one hole of memory left, and with all of it where that was refused. It tells
-    /// whether the hole was enough.
-    pub(super) fn import_in_hole(
-        &mut self,
-        rt: &impl Abort,
-        alloc: Global,
-        heap: &LocalHeap,
-        hole: usize,
-    ) -> bool {
+    /// Has the device make an object of 64 bytes, and imports it. Where either is refused memory, what is held is as
+    /// before, and it is served with ample memory.
+    pub(super) fn import_or_again(&mut self, rt: &impl Abort, memory: &ScarceMemory) -> Imported {
         assert!(rt; self.allocator.remaining_allocations() > 0);
         assert!(rt; self.blocks.len() < self.blocks.capacity());
-        let Some(memory) = make(&self.allocator, &mut self.device, whole(64)) else {
+        let before = self.held();
+        if let Some(object) = make(&self.allocator, &mut self.device, whole(64)) {
+            let device = &self.device;
+            let allocator = &mut self.allocator;
+            let (served, block) = import_or_again(
+                rt, memory, allocator, device, object, self.props,
+            );
+            self.blocks.push_reserved(block);
+            return if served {
+                Imported::AtOnce
+            } else {
+                Imported::InTheEnd
+            };
+        }
+        assert_eq!(rt; self.held(), before);
+        memory.lift();
+        self.import(rt, whole(64));
+        Imported::OnceMade
+    }
+
+    /// An object of the device's own, of which this part may be imported.
+    pub(super) fn import(&mut self, rt: &impl Abort, part: Part) {
+        assert!(rt; is_end(part));
+        assert!(rt; self.allocator.remaining_allocations() > 0);
+        assert!(rt; self.blocks.len() < self.blocks.capacity());
+        let Some(memory) = make(&self.allocator, &mut self.device, part) else {
             panic!(rt; "no object");
         };
-        let (served, block) = import_in_hole(
-            rt,
-            alloc,
-            heap,
-            hole,
+        match import(&mut self.allocator, &self.device, memory, self.props, part) {
+            Ok(block) => self.blocks.push_reserved(block),
+            Err(_) => panic!(rt; "no import"),
+        }
+    }
+
+    /// Takes a block, and calls it where no memory is left.
+    pub(super) fn take_and_call(
+        &mut self,
+        rt: &impl Abort,
+        memory: &ScarceMemory,
+        request: Request,
+        hint: Dedicated,
+    ) {
+        assert!(rt; request.is_askable(false) && request.size >= 4);
+        assert!(rt; self.blocks.len() < self.blocks.capacity());
+        let answer = self
+            .allocator
+            .alloc_with_dedicated(&mut self.device, request, hint);
+        let Ok(mut block) = answer else {
+            panic!(rt; "refused with ample memory");
+        };
+        leave_nothing(rt, memory);
+        map_and_unmap(rt, &self.allocator, &mut self.device, &mut block);
+        write_and_read(rt, &self.allocator, &mut self.device, &mut block);
+        memory.lift();
+        self.blocks.push_reserved(block);
+    }
+
+    /// Imports an object of 64 bytes, and calls its block where no memory is left.
+    pub(super) fn import_and_call(&mut self, rt: &impl Abort, memory: &ScarceMemory) {
+        assert!(rt; self.allocator.remaining_allocations() > 0);
+        assert!(rt; self.blocks.len() < self.blocks.capacity());
+        let Some(object) = make(&self.allocator, &mut self.device, whole(64)) else {
+            panic!(rt; "no object");
+        };
+        let answer = import(
             &mut self.allocator,
             &self.device,
-            memory,
+            object,
             self.props,
+            whole(64),
         );
+        let Ok(mut block) = answer else {
+            panic!(rt; "no import");
+        };
+        leave_nothing(rt, memory);
+        map_and_unmap(rt, &self.allocator, &mut self.device, &mut block);
+        write_and_read(rt, &self.allocator, &mut self.device, &mut block);
+        memory.lift();
         self.blocks.push_reserved(block);
-        served
     }
 
     /// The free ranges of a memory type.
@@ -261,20 +317,6 @@ impl<A: Allocator + Copy> Bench<A> {
 }
 
 impl Bench {
-    /// An object of the device's own, of which this part may be imported.
-    pub(super) fn import(&mut self, rt: &impl Abort, part: Part) {
-        assert!(rt; is_end(part));
-        assert!(rt; self.allocator.remaining_allocations() > 0);
-        assert!(rt; self.blocks.len() < self.blocks.capacity());
-        let Some(memory) = make(&self.allocator, &mut self.device, part) else {
-            panic!(rt; "no object");
-        };
-        match import(&mut self.allocator, &self.device, memory, self.props, part) {
-            Ok(block) => self.blocks.push_reserved(block),
-            Err(_) => panic!(rt; "no import"),
-        }
-    }
-
     /// Imports a part of an object and writes to its first bytes.
     pub(super) fn import_and_write(&mut self, rt: &impl Abort, part: Part, data: &[u8]) {
         assert!(rt; is_end(part));
@@ -295,39 +337,96 @@ impl Bench {
     }
 }
 
-/// Imports an object with one hole of memory left, and once more with all of it where that was refused: then the object
-/// came back, and all is as before. It tells whether the hole was enough.
-fn import_in_hole<M: MemoryObject, D: MemoryDevice<M>, A: Allocator>(
+/// How an import of a new object was served in the end.
+#[derive(Clone, Copy, Debug, PartialEq, Eq)]
+pub(super) enum Imported {
+    /// Without a refusal.
+    AtOnce,
+
+    /// Once the device had the memory for the object.
+    OnceMade,
+
+    /// Once the allocator had the memory for the import.
+    InTheEnd,
+}
+
+/// From now on no memory is left.
+pub(super) fn leave_nothing(rt: &impl Abort, memory: &ScarceMemory) {
+    let left = memory.leave(0).is_ok();
+    assert!(rt; left);
+}
+
+/// Maps the first bytes of a block, and unmaps it.
+fn map_and_unmap<M: MemoryObject, D: MemoryDevice<M>, A: Allocator>(
     rt: &impl Abort,
-    alloc: Global,
-    heap: &LocalHeap,
-    hole: usize,
+    allocator: &GpuAllocator<M, A>,
+    device: &mut D,
+    block: &mut MemoryBlock<M>,
+)
+    requires agrees { Agrees allocator.now (D.properties device.old) (D.objects device.old) }
+    requires owned { IsOwned allocator.now block.old }
+    requires ready { BlockAgrees block.old (D.properties device.old) (D.objects device.old) }
+    requires fit { 4 ≤ block.old.size }
+    ensures agrees { Agrees allocator.now (D.properties device.new) (D.objects device.new) }
+    ensures owned { IsOwned allocator.now block.new }
+    ensures ready { BlockAgrees block.new (D.properties device.new) (D.objects device.new) }
+    ensures size { block.new.size ≡ block.old.size }
+{
+    let _ = allocator;
+    let mapped = block.map(device, 0, 4).is_ok();
+    let unmapped = block.unmap(device);
+    assert_eq!(rt; (mapped, unmapped), (true, true));
+}
+
+/// Writes the first bytes of a block, and reads them.
+fn write_and_read<M: MemoryObject, D: MemoryDevice<M>, A: Allocator>(
+    rt: &impl Abort,
+    allocator: &GpuAllocator<M, A>,
+    device: &mut D,
+    block: &mut MemoryBlock<M>,
+)
+    requires agrees { Agrees allocator.now (D.properties device.old) (D.objects device.old) }
+    requires owned { IsOwned allocator.now block.old }
+    requires ready { BlockAgrees block.old (D.properties device.old) (D.objects device.old) }
+    requires fit { 4 ≤ block.old.size }
+    ensures agrees { Agrees allocator.now (D.properties device.new) (D.objects device.new) }
+{
+    let _ = allocator;
+    let mut bytes = [0; 4];
+    let written = block.write_bytes(device, 0, &[1, 2, 3, 4]).is_ok();
+    let read = block.read_bytes(device, 0, &mut bytes).is_ok();
+    assert_eq!(rt; (written, read), (true, true));
+    assert_eq!(rt; bytes, [1, 2, 3, 4]);
+}
+
+/// Imports an object, and once more with ample memory where that was refused: then the object came back, and what is
+/// held is as before. It tells whether it was served at once.
+fn import_or_again<M: MemoryObject, D: MemoryDevice<M>, A: Allocator>(
+    rt: &impl Abort,
+    memory: &ScarceMemory,
     allocator: &mut GpuAllocator<M, A>,
     device: &D,
-    memory: M,
+    object: M,
     props: MemoryPropertyFlags,
 ) -> (bool, MemoryBlock<M>)
     requires heaps { 0 < length (allocator.old.properties).memory_heaps }
     requires known { 0 < length (allocator.old.properties).memory_types }
     requires props { property_bits props ≡ props_at allocator.old.properties 0 }
     requires remains { 0 < allocator.old.remaining }
-    requires unheld { map.get allocator.old.held (M.object memory) ≡ None }
+    requires unheld { map.get allocator.old.held (M.object object) ≡ None }
     requires agrees { Agrees allocator.old (D.properties device.now) (D.objects device.now) }
-    requires may { MayBeImported (D.properties device.now) (D.objects device.now) (M.object memory) 0 0 64 }
+    requires may { MayBeImported (D.properties device.now) (D.objects device.now) (M.object object) 0 0 64 }
     ensures agrees { Agrees allocator.new (D.properties device.now) (D.objects device.now) }
     ensures properties { allocator.new.properties ≡ allocator.old.properties }
 {
-    let name = memory.object();
-    let Ok(plugs) = plug(alloc, heap, hole) else {
-        panic!(rt; "no memory for plugs");
-    };
-    let answer = import(allocator, device, memory, props, whole(64));
-    drop(plugs);
-    match answer {
+    let name = object.object();
+    let before = counts(allocator);
+    match import(allocator, device, object, props, whole(64)) {
         Ok(block) => (true, block),
         Err(handed) => {
-            assert_eq!(rt; handed.object(), name);
-            compare_nothing(rt, allocator, name);
+            assert_eq!(rt; (handed.object(), allocator.holds(name)), (name, false));
+            assert_eq!(rt; counts(allocator), before);
+            memory.lift();
             match import(allocator, device, handed, props, whole(64)) {
                 Ok(block) => (false, block),
                 Err(_) => panic!(rt; "refused with ample memory"),
@@ -417,18 +516,13 @@ fn import<M: MemoryObject, D: MemoryDevice<M>, A: Allocator>(
     Ok(block)
 }
 
-/// Compares that nothing is held.
-fn compare_nothing<M: MemoryObject, A: Allocator>(
-    rt: &impl Abort,
-    allocator: &GpuAllocator<M, A>,
-    name: u64,
-)
+/// How many objects are held and how many more may be, and how many bytes are held of the first heap.
+fn counts<M: MemoryObject, A: Allocator>(allocator: &GpuAllocator<M, A>) -> (u32, u32, u128)
     requires { 0 < length (allocator.now.properties).memory_heaps }
 {
-    assert!(rt; !allocator.holds(name));
-    assert_eq!(rt;
-        (allocator.held_objects(), allocator.remaining_allocations()),
-        (0, 4096)
-    );
-    assert_eq!(rt; allocator.heap_used(0), 0);
+    (
+        allocator.held_objects(),
+        allocator.remaining_allocations(),
+        allocator.heap_used(0),
+    )
 }

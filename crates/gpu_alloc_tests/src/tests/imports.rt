@@ -1,8 +1,8 @@
 //! Imports: what is flushed, held and counted, beside blocks of each kind, and without memory.
 
-use super::bench::{Bench, Held, Part, whole};
+use super::bench::{Bench, Held, Imported, Part, whole};
 use gpu_alloc::{Dedicated, MemoryPropertyFlags, MemoryType, Request, UsageFlags};
-use linked_list_allocator::LocalHeap;
+use gpu_sim::ScarceMemory;
 use std::alloc::Global;
 use std::process::Abort;
 use std::test::Fail;
@@ -216,26 +216,35 @@ fn imports_stand_beside_blocks_of_each_kind(rt: HostRuntime) -> Result<(), Fail>
     Ok(())
 }
 
-/// Whether an import is served with one hole of memory left. What was imported is given back.
-fn is_served_in(rt: &impl Abort, alloc: Global, hole: usize) -> Result<bool, Fail> {
-    let heap = LocalHeap::new(alloc, 1 << 16)?;
-    let mut bench = Bench::new(rt, &heap, LOCAL, 1)?;
-    let served = bench.import_in_hole(rt, alloc, &heap, hole);
-    bench.give_back(rt, 1);
+/// How an import of a new object is served where so many bytes are left. What was imported is given back.
+fn imported_in(rt: &impl Abort, alloc: Global, room: usize) -> Result<Imported, Fail> {
+    let memory = ScarceMemory::new(alloc)?;
+    let mut bench = Bench::new(rt, memory.host(), LOCAL, 1)?;
+    let left = memory.leave(room).is_ok();
+    assert!(rt; left);
+    let imported = bench.import_or_again(rt, &memory);
+    bench.give_all_back(rt);
     bench.end(rt, 4096);
-    Ok(served)
+    Ok(imported)
 }
 
-/// Each request of an import for memory is refused in turn, and then served.
+/// Each request of an import for memory is refused in turn, those of the device that makes the object first.
 #[test]
 fn an_import_without_room_comes_back(rt: HostRuntime) -> Result<(), Fail> {
-    let mut refused = 0u32;
-    for hole in 0..4096 {
-        if is_served_in(&rt, rt.alloc(), hole << 4)? {
-            assert!(&rt; refused > 0, "none was refused");
-            return Ok(());
+    let mut made = 0u32;
+    let mut imported = 0u32;
+    for room in 0..4096 {
+        match imported_in(&rt, rt.alloc(), room << 3)? {
+            Imported::OnceMade => made = made.saturating_add(1),
+            Imported::InTheEnd => imported = imported.saturating_add(1),
+            Imported::AtOnce => {
+                assert!(&rt;
+                    made > 0 && imported > 0,
+                    "refused {made} and {imported} times"
+                );
+                return Ok(());
+            }
         }
-        refused = refused.saturating_add(1);
     }
     Err(Fail::from("never served"))
 }

@@ -1,11 +1,10 @@
 //! The free ranges of a memory type, as an allocator over the simulated device tells them.
 
 use super::bench::Bench;
-use super::plugs::plug;
 use gpu_alloc::{
     AllocationError, Dedicated, FreeRange, MemoryPropertyFlags, MemoryType, Request, UsageFlags,
 };
-use linked_list_allocator::LocalHeap;
+use gpu_sim::{HostMemory, ScarceMemory};
 use std::alloc::{Allocator, Global};
 use std::process::Abort;
 use std::test::Fail;
@@ -230,30 +229,29 @@ fn other_memory_has_no_free_ranges(rt: HostRuntime) -> Result<(), Fail> {
     )
 }
 
-/// Looks at the free ranges with one hole of memory left, and once more with all of it where that was refused. They have
-/// to be these, and nothing else changes. It tells whether the hole was enough.
-fn look_in_hole<'a>(
+/// Looks at the free ranges where so many bytes are left, and once more with ample memory where that was refused. They
+/// have to be these, and nothing else changes. It tells whether those bytes were enough.
+fn look_in(
     rt: &impl Abort,
-    alloc: Global,
-    heap: &'a LocalHeap,
-    hole: usize,
-    bench: &Bench<&'a LocalHeap>,
+    memory: &ScarceMemory,
+    room: usize,
+    bench: &Bench<HostMemory<'_>>,
     wanted: &[(u64, u64, u64)],
 ) -> Result<bool, Fail> {
     let before = bench.held();
-    let plugs = plug(alloc, heap, hole)?;
+    memory.leave(room)?;
     let answer = bench.free_ranges(rt, 0);
-    drop(plugs);
+    memory.lift();
     assert_eq!(rt; bench.held(), before);
     match answer {
         Ok(found) => {
-            compare_ranges(rt, hole, &found, wanted);
+            compare_ranges(rt, room, &found, wanted);
             Ok(true)
         }
         Err(error) => {
             assert_eq!(rt; error, AllocationError::OutOfHostMemory);
             match bench.free_ranges(rt, 0) {
-                Ok(found) => compare_ranges(rt, hole, &found, wanted),
+                Ok(found) => compare_ranges(rt, room, &found, wanted),
                 Err(_) => panic!(rt; "refused with ample memory"),
             }
             Ok(false)
@@ -261,20 +259,20 @@ fn look_in_hole<'a>(
     }
 }
 
-/// Takes a block for each request, and looks at the free ranges with one hole of memory left.
+/// Takes a block for each request, and looks at the free ranges where so many bytes are left.
 fn is_served_in(
     rt: &impl Abort,
     alloc: Global,
-    hole: usize,
+    room: usize,
     requests: &[Request],
     wanted: &[(u64, u64, u64)],
 ) -> Result<bool, Fail> {
-    let heap = LocalHeap::new(alloc, 1 << 16)?;
-    let mut bench = Bench::new(rt, &heap, LOCAL, 1)?;
+    let memory = ScarceMemory::new(alloc)?;
+    let mut bench = Bench::new(rt, memory.host(), LOCAL, 1)?;
     for request in requests {
         assert_eq!(rt; bench.take(rt, *request, None), Ok(()));
     }
-    let served = look_in_hole(rt, alloc, &heap, hole, &bench, wanted);
+    let served = look_in(rt, &memory, room, &bench, wanted);
     bench.give_all_back(rt);
     bench.end(rt, 4096);
     served
@@ -288,8 +286,8 @@ fn compare_refusals(
     wanted: &[(u64, u64, u64)],
 ) -> Result<(), Fail> {
     let mut refused = 0u32;
-    for hole in 0..4096 {
-        if is_served_in(rt, alloc, hole << 4, requests, wanted)? {
+    for room in 0..4096 {
+        if is_served_in(rt, alloc, room << 3, requests, wanted)? {
             assert!(rt; refused > 0, "none was refused");
             return Ok(());
         }

@@ -10,8 +10,7 @@ use gpu_alloc_types::{
     AllocationFlags, DeviceMapError, DeviceProperties, MemoryDevice, MemoryObject,
     MemoryPropertyFlags, MemoryType, OutOfMemory,
 };
-use gpu_sim::{Cause, Question, Sim, SimMemory};
-use linked_list_allocator::LocalHeap;
+use gpu_sim::{Cause, HostMemory, Question, ScarceMemory, Sim, SimMemory};
 use std::alloc::{AllocError, Allocator, Global};
 use std::marker::Model;
 use std::process::Abort;
@@ -284,10 +283,10 @@ fn handle_of_second<A: Allocator + Copy>(heap: A) -> Result<Option<SimMemory<A>>
     Ok(answer.ok())
 }
 
-/// Duplicates a handle until its heap is full. How many there are then.
+/// Duplicates a handle until its memory is spent. How many there are then.
 fn count_duplicates(
     alloc: Global,
-    memory: &SimMemory<&LocalHeap>,
+    memory: &SimMemory<HostMemory<'_>>,
 ) -> Result<Option<usize>, AllocError> {
     let mut others = Vec::new(alloc);
     for _ in 0..1024 {
@@ -299,15 +298,20 @@ fn count_duplicates(
     Ok(None)
 }
 
+/// Each duplicate takes 8 bytes, which are refused where they are not left.
 #[test]
 fn a_duplicate_is_refused_with_its_memory(rt: HostRuntime) -> Result<(), Fail> {
-    let heap = LocalHeap::new(rt.alloc(), 1 << 12)?;
-    let Some(memory) = handle_of_second(&heap)? else {
+    let scarce = ScarceMemory::new(rt.alloc())?;
+    let Some(memory) = handle_of_second(scarce.host())? else {
         panic!(rt; "no object");
     };
-    let fit = count_duplicates(rt.alloc(), &memory)?;
-    assert!(rt; fit > Some(0));
-    assert_eq!(rt; count_duplicates(rt.alloc(), &memory)?, fit);
+    for (room, count) in [(0, 0), (7, 0), (8, 1), (80, 10), (4096, 512), (8, 1)] {
+        scarce.leave(room)?;
+        let fit = count_duplicates(rt.alloc(), &memory)?;
+        assert_eq!(rt; fit, Some(count), "duplicates in {room} bytes");
+    }
+    scarce.lift();
+    assert_eq!(rt; count_duplicates(rt.alloc(), &memory)?, None);
     assert_eq!(rt; memory.object(), 2);
     Ok(())
 }
@@ -327,12 +331,12 @@ fn a_device_local_object_may_be_of_2_to_the_63_bytes(rt: HostRuntime) -> Result<
 
 #[test]
 fn an_object_is_refused_with_its_bytes(rt: HostRuntime) -> Result<(), Fail> {
-    let heap = LocalHeap::new(rt.alloc(), 1 << 12)?;
-    let mut sim: Sim<&LocalHeap> = Sim::new(&heap, one_type!(2))?;
+    let memory = ScarceMemory::new(rt.alloc())?;
+    let mut sim: Sim<HostMemory<'_>> = Sim::new(memory.host(), one_type!(2))?;
     let refused = Err(OutOfMemory::OutOfHostMemory);
     // Of 3,000 bytes there is room for the host's list alone.
     for (size, answer, objects) in [(3000, refused, 0), (1 << 63, refused, 0), (1000, Ok(1), 1)] {
-        assert!(rt; size > 0);
+        assert!(rt; size > 0 && memory.leave(4096).is_ok());
         assert_eq!(rt; ask(&mut sim, size), answer);
         assert_eq!(rt; sim.objects(), objects);
     }

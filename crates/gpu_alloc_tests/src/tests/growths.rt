@@ -1,0 +1,191 @@
+//! Each request for host memory of a whole run refused in turn, by calls of the allocator alone: what is held is as
+//! before then. The calls of blocks, the returns, the cleanup and the end take no memory.
+
+use super::bench::{Bench, Imported, leave_nothing};
+use super::offers::offer;
+use gpu_alloc::{
+    AllocationError, Config, Dedicated, GpuAllocator, MemoryPropertyFlags, MemoryType, Request,
+    UsageFlags,
+};
+use gpu_sim::{HostMemory, ScarceMemory, SimMemory};
+use std::alloc::Global;
+use std::process::Abort;
+use std::test::Fail;
+
+/// A memory type that the host sees and has to flush.
+const NON_COHERENT: MemoryType = MemoryType {
+    heap: 0,
+    props: MemoryPropertyFlags::HOST_VISIBLE,
+};
+
+/// An allocator over memory that runs out.
+type ScarceAllocator<'a> = GpuAllocator<SimMemory<HostMemory<'a>>, HostMemory<'a>>;
+
+/// What was refused memory first.
+#[derive(Clone, Copy, Debug, PartialEq, Eq)]
+enum Refused {
+    /// The device, for an object that is imported.
+    Object,
+
+    /// An import.
+    Import,
+
+    /// A block with an object of its own, one of a buddy chunk, one of a free list's chunk.
+    Block(usize),
+}
+
+/// A request for 100 bytes of the first type.
+fn request(usage: UsageFlags) -> Request {
+    Request {
+        size: 100,
+        align_mask: 0,
+        usage,
+        memory_types: 1,
+    }
+}
+
+/// A block with an object of its own, one of a buddy chunk, one of a free list's chunk.
+fn kinds() -> [(Request, Dedicated); 3] {
+    [
+        (request(UsageFlags::HOST_ACCESS), Dedicated::Required),
+        (request(UsageFlags::HOST_ACCESS), Dedicated::Preferred),
+        (request(UsageFlags::TRANSIENT), Dedicated::Preferred),
+    ]
+}
+
+/// Takes a block, and once more with ample memory where that was refused: then what is held is as before. It tells
+/// whether it was served at once.
+fn take_or_again(
+    rt: &impl Abort,
+    memory: &ScarceMemory,
+    bench: &mut Bench<HostMemory<'_>>,
+    request: Request,
+    hint: Dedicated,
+) -> bool {
+    let before = bench.held();
+    match bench.take(rt, request, Some(hint)) {
+        Ok(()) => true,
+        Err(error) => {
+            assert_eq!(rt; error, AllocationError::OutOfHostMemory);
+            assert_eq!(rt; bench.held(), before);
+            memory.lift();
+            assert_eq!(rt; bench.take(rt, request, Some(hint)), Ok(()));
+            false
+        }
+    }
+}
+
+/// Takes a block of each kind, an import first. What was refused memory first, and is served with ample memory then.
+fn take_each(
+    rt: &impl Abort,
+    memory: &ScarceMemory,
+    bench: &mut Bench<HostMemory<'_>>,
+) -> Option<Refused> {
+    let mut refused = match bench.import_or_again(rt, memory) {
+        Imported::AtOnce => None,
+        Imported::OnceMade => Some(Refused::Object),
+        Imported::InTheEnd => Some(Refused::Import),
+    };
+    for (at, (request, hint)) in kinds().into_iter().enumerate() {
+        if !take_or_again(rt, memory, bench, request, hint) {
+            assert_eq!(rt; refused, None);
+            refused = Some(Refused::Block(at));
+        }
+    }
+    refused
+}
+
+/// Takes a further block of each kind beside those, and calls it where no memory is left.
+fn call_each(rt: &impl Abort, memory: &ScarceMemory, bench: &mut Bench<HostMemory<'_>>) {
+    for (request, hint) in kinds() {
+        bench.take_and_call(rt, memory, request, hint);
+    }
+    bench.import_and_call(rt, memory);
+}
+
+/// Takes blocks where so many bytes are left, calls them, gives all back and ends the allocator where none is left. What
+/// was refused first, and how many may be left next.
+fn run_in(
+    rt: &impl Abort,
+    alloc: Global,
+    room: usize,
+) -> Result<(Option<Refused>, Option<usize>), Fail> {
+    let memory = ScarceMemory::new(alloc)?;
+    let mut bench = Bench::new(rt, memory.host(), NON_COHERENT, 64)?;
+    let left = memory.leave(room).is_ok();
+    assert!(rt; left);
+    let refused = take_each(rt, &memory, &mut bench);
+    memory.lift();
+    let less = memory.less_room(room);
+    call_each(rt, &memory, &mut bench);
+    leave_nothing(rt, &memory);
+    bench.give_all_back(rt);
+    bench.end(rt, 4096);
+    Ok((refused, less))
+}
+
+/// None is refused at first, and then each request for memory, the last one first: each kind of block is refused for
+/// want of it.
+#[test]
+fn each_growth_of_an_allocator_is_refused_in_turn(rt: HostRuntime) -> Result<(), Fail> {
+    let mut met = Vec::new(rt.alloc());
+    let mut room = 1 << 17;
+    for _ in 0..4096 {
+        let (refused, less) = run_in(&rt, rt.alloc(), room)?;
+        if met.last() != Some(&refused) {
+            met.push(refused)?;
+        }
+        match less {
+            Some(less) => room = less,
+            None => break,
+        }
+    }
+    let wanted = [
+        None,
+        Some(Refused::Block(2)),
+        Some(Refused::Block(1)),
+        Some(Refused::Block(0)),
+        Some(Refused::Import),
+        Some(Refused::Object),
+    ];
+    assert_eq!(rt; met.as_slice(), wanted.as_slice());
+    Ok(())
+}
+
+/// Whether an allocator is opened where so many bytes are left. It is ended then.
+fn is_opened_in(rt: &impl Abort, alloc: Global, room: usize) -> Result<bool, Fail> {
+    let memory = ScarceMemory::new(alloc)?;
+    memory.leave(room)?;
+    let types = [NON_COHERENT];
+    let offered = offer(&types, 64);
+    assert!(rt; offered.is_usable());
+    let opened: Result<ScarceAllocator<'_>, AllocationError> = GpuAllocator::new(
+        memory.host(),
+        Config::i_am_potato(),
+        offered,
+    );
+    match opened {
+        Ok(allocator) => {
+            assert!(rt; allocator.held_objects() == 0);
+            allocator.close();
+            Ok(true)
+        }
+        Err(error) => {
+            assert_eq!(rt; error, AllocationError::OutOfHostMemory);
+            Ok(false)
+        }
+    }
+}
+
+#[test]
+fn each_growth_of_an_opening_is_refused_in_turn(rt: HostRuntime) -> Result<(), Fail> {
+    let mut refused = 0u32;
+    for room in 0..4096 {
+        if is_opened_in(&rt, rt.alloc(), room << 3)? {
+            assert!(rt; refused > 0, "none was refused");
+            return Ok(());
+        }
+        refused = refused.saturating_add(1);
+    }
+    Err(Fail::from("never opened"))
+}
