@@ -59,11 +59,11 @@ impl ScarceMemory {
         self.arena.set_allocation_limit(None);
     }
 
-    /// After a run in `room` bytes, which ended with [`lift`](ScarceMemory::lift) where a request was refused or none
-    /// was: fewer bytes, which it may still take for the same run to be refused the request before. There are none
-    /// below 0.
+    /// The room for the next run of a series, after one in `room` bytes in which [`lift`](ScarceMemory::lift) was called
+    /// at the first refusal, or at the end. It is `room` without the bytes that were not used by then, or without 8
+    /// where fewer were left. There is none below 0.
     ///
-    /// It is `room` without what was not used, or without 8 bytes where all was.
+    /// A series that begins with more bytes than the run takes comes to each of its requests, the last one first.
     pub fn less_room(&self, room: usize) -> Option<usize> {
         if room == 0 {
             return None;

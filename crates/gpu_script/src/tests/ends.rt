@@ -2,7 +2,7 @@
 
 use super::same::{same, same_at};
 use crate::run_script;
-use linked_list_allocator::LocalHeap;
+use gpu_sim::ScarceMemory;
 use std::alloc::{Allocator, Global};
 use std::io;
 use std::io::{Error, ErrorKind, Read, Write};
@@ -178,7 +178,9 @@ fn a_failed_write_has_written_a_part(rt: HostRuntime) -> Result<(), Fail> {
     for (script, printed, status) in ENDS {
         compare_writes(&rt, rt.alloc(), rt.alloc(), script, printed, status);
     }
-    let nothing = LocalHeap::new(rt.alloc(), 0)?;
-    compare_writes(&rt, rt.alloc(), &nothing, SCRIPT, "out of memory\n", 3);
+    let memory = ScarceMemory::new(rt.alloc())?;
+    memory.leave(0)?;
+    let nothing = memory.host();
+    compare_writes(&rt, rt.alloc(), nothing, SCRIPT, "out of memory\n", 3);
     Ok(())
 }

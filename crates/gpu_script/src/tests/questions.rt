@@ -8,7 +8,7 @@ use super::whole::BYTES;
 use crate::sim::Question;
 use gpu_script_language::{SimSession, print_reply};
 use gpu_session::{Command, Reply};
-use std::alloc::{AllocError, Global};
+use std::alloc::{AllocError, Allocator, Global};
 use std::process::Abort;
 use std::test::Fail;
 
@@ -67,18 +67,23 @@ const REFUSED: [(&str, usize, &str, u64); 22] = [
     ("invalidate 2 host", 6, HOST, 4),
 ];
 
-/// What is told of what is held: the counts, and the free ranges of both types.
-fn told(alloc: Global, session: &mut SimSession<Global>) -> Result<Vec<String>, AllocError> {
-    let replies = session.run(&[
-        Command::Counts,
-        Command::FreeRanges { memory_type: 0 },
-        Command::FreeRanges { memory_type: 1 },
-    ])?;
+/// What is told of what is held: the counts, and the free ranges of the first two types. It is asked and printed with the
+/// session's own memory.
+pub(super) fn told<A: Allocator + Copy>(
+    alloc: Global,
+    host: A,
+    session: &mut SimSession<A>,
+) -> Result<Vec<String>, AllocError> {
+    let mut commands = Vec::new(host);
+    commands.push(Command::Counts)?;
+    commands.push(Command::FreeRanges { memory_type: 0 })?;
+    commands.push(Command::FreeRanges { memory_type: 1 })?;
+    let replies = session.run(commands.as_slice())?;
     let mut told = Vec::new(alloc);
     for reply in &replies {
-        let mut line = String::new(alloc);
+        let mut line = String::new(host);
         print_reply(&mut line, reply)?;
-        told.push(line)?;
+        told.push(String::from_str(alloc, line.as_str())?)?;
     }
     Ok(told)
 }
@@ -130,10 +135,10 @@ fn run_apart(
     commands: &[Command],
     printed: &mut String,
 ) -> Result<(), AllocError> {
-    let mut before = told(alloc, session)?;
+    let mut before = told(alloc, alloc, session)?;
     for command in commands.chunks(1) {
         let replies = session.run(command)?;
-        let after = told(alloc, session)?;
+        let after = told(alloc, alloc, session)?;
         for reply in &replies {
             compare_told(rt, reply, before.as_slice(), after.as_slice());
             print_reply(printed, reply)?;

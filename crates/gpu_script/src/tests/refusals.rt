@@ -4,14 +4,13 @@ use super::bench::{
     Bench, Counts, DEVICE_LOCAL, HEAPS, Place, Step, TYPES, asked_for, bytes, offering, one_type,
     place_in, play_on,
 };
-use super::memory::plug;
 use super::same::{same, same_at};
 use super::transient::transient;
 use gpu_alloc::{
     AllocationError, AllocationFlags, Dedicated, DeviceProperties, MemoryHeap, MemoryType, Request,
 };
-use linked_list_allocator::LocalHeap;
-use std::alloc::{AllocError, Global};
+use gpu_sim::{HostMemory, ScarceMemory};
+use std::alloc::Global;
 use std::process::Abort;
 use std::test::Fail;
 
@@ -140,7 +139,7 @@ fn a_lack_of_objects_is_not_passed(rt: HostRuntime) -> Result<(), Fail> {
     )
 }
 
-/// How far a request came with one hole of memory left.
+/// How far a request came where few bytes were left.
 #[derive(Clone, Copy, Debug, PartialEq, Eq)]
 enum Reached {
     /// The device was not asked.
@@ -156,21 +155,6 @@ enum Reached {
     Block,
 }
 
-/// Asks with one hole of memory left.
-fn ask_in_hole<'a>(
-    rt: &impl Abort,
-    alloc: Global,
-    heap: &'a LocalHeap,
-    bench: &mut Bench<&'a LocalHeap>,
-    request: Request,
-    hole: usize,
-) -> Result<Result<Place, AllocationError>, AllocError> {
-    let plugs = plug(alloc, heap, hole)?;
-    let answer = bench.ask(rt, request, None);
-    drop(plugs);
-    Ok(answer)
-}
-
 /// A request that takes a new chunk of so many bytes, and those that are granted before it.
 #[derive(Clone, Copy)]
 struct Growth<'a> {
@@ -183,33 +167,27 @@ struct Growth<'a> {
 /// ample memory: its object's name tells whether there was one in between.
 fn how_far(
     rt: &impl Abort,
-    bench: &mut Bench<&LocalHeap>,
+    bench: &mut Bench<HostMemory<'_>>,
     growth: Growth<'_>,
     before: Counts,
-    hole: usize,
+    room: usize,
 ) -> Reached {
     let counts = bench.counts();
     let held = Counts {
         asked: before.asked,
         ..counts
     };
-    same_at(rt, "what is held with a hole of", &hole, &held, &before);
+    same_at(rt, "what is held in", &room, &held, &before);
     let later = bench.ask(rt, growth.request, None);
     let chunk = Some((growth.chunk, 0, AllocationFlags::empty()));
     same_at(
         rt,
-        "the chunk after a hole of",
-        &hole,
+        "the chunk after",
+        &room,
         &bench.last_allocation(),
         &chunk,
     );
-    same_at(
-        rt,
-        "the refusal after a hole of",
-        &hole,
-        &later.err(),
-        &None,
-    );
+    same_at(rt, "the refusal after", &room, &later.err(), &None);
     match later {
         Ok(place) if place.object > before.asked.saturating_add(1) => Reached::Object,
         _ if counts.asked > before.asked => Reached::Question,
@@ -217,50 +195,48 @@ fn how_far(
     }
 }
 
-/// How far a request comes with one hole of memory left.
-fn reached_in_hole(
+/// How far a request comes where so many bytes are left.
+fn reached_in(
     rt: &impl Abort,
     alloc: Global,
     growth: Growth<'_>,
-    hole: usize,
+    room: usize,
 ) -> Result<Reached, Fail> {
-    let heap = LocalHeap::new(alloc, 1 << 16)?;
-    let mut bench = Bench::new(rt, &heap, one_type())?;
+    let memory = ScarceMemory::new(alloc)?;
+    let mut bench = Bench::new(rt, memory.host(), one_type())?;
     for request in growth.before {
         let answer = bench.ask(rt, *request, None);
-        same(rt, "a refusal before the hole", &answer.err(), &None);
+        same(rt, "a refusal before", &answer.err(), &None);
     }
     let before = bench.counts();
-    let asked = ask_in_hole(rt, alloc, &heap, &mut bench, growth.request, hole);
-    let answer = match asked {
-        Ok(Ok(_)) => Ok(Reached::Block),
-        Ok(Err(error)) => {
+    same_at(rt, "left are", &room, &memory.leave(room).is_ok(), &true);
+    let answer = bench.ask(rt, growth.request, None);
+    memory.lift();
+    let reached = match answer {
+        Ok(_) => Reached::Block,
+        Err(error) => {
             let wanted = AllocationError::OutOfHostMemory;
-            same_at(rt, "the refusal with a hole of", &hole, &error, &wanted);
-            Ok(how_far(rt, &mut bench, growth, before, hole))
+            same_at(rt, "the refusal in", &room, &error, &wanted);
+            how_far(rt, &mut bench, growth, before, room)
         }
-        Err(_) => Err(Fail::from("no memory for the plugs")),
     };
     bench.end(rt);
-    answer
+    Ok(reached)
 }
 
-/// Each request for host memory is refused in turn, as the hole grows by 8 bytes until the block is granted. Once there
-/// is an object only its second handle is wanted, so two sizes of the hole at most come that far: all room was made
-/// before the question. With a first chunk some do; where a list grows that is not empty, what it leaves behind is hole
-/// enough for the rest.
+/// Each request for host memory is refused in turn, as 8 bytes more are left until the block is granted. Once there is an
+/// object only its second handle is wanted, so one room at most comes that far: all else was made before the question.
 fn compare_wants(rt: &impl Abort, alloc: Global, growth: Growth<'_>) -> Result<(), Fail> {
-    let later = !growth.before.is_empty();
     let mut nothing = 0u32;
     let mut question = 0u32;
     let mut object = 0u32;
-    for hole in 0..4096 {
-        match reached_in_hole(rt, alloc, growth, hole << 3)? {
+    for room in 0..4096 {
+        match reached_in(rt, alloc, growth, room << 3)? {
             Reached::Nothing => nothing = nothing.saturating_add(1),
             Reached::Question => question = question.saturating_add(1),
             Reached::Object => object = object.saturating_add(1),
             Reached::Block => {
-                let fits = nothing > 0 && object <= 2 && (later || question > 0 && object > 0);
+                let fits = nothing > 0 && question > 0 && object == 1;
                 let counts = (nothing, question, object);
                 same_at(
                     rt,

@@ -3,7 +3,7 @@
 use super::scripts::compare;
 
 /// Blocks come and go: objects of their own, buddies, tails of free lists.
-const OBJECTS: [(&str, &str, u8); 4] = [
+pub(super) const OBJECTS: [(&str, &str, u8); 4] = [
     (
         "\
 heap 1048576

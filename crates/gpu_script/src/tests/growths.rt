@@ -1,0 +1,183 @@
+//! Each request for host memory of a whole script refused in turn, the growths and the duplicates of handles among them,
+//! with one command a list: what the command is answered that makes it, and that nothing is changed.
+
+use super::same::same_at;
+use super::scarce::{Outcome, Refusals, ScarceSession};
+use super::scripts::good_script;
+use super::whole::{BYTES, OBJECTS};
+use gpu_session::Command;
+use gpu_sim::{HostMemory, ScarceMemory};
+use std::alloc::{AllocError, Global};
+use std::process::Abort;
+use std::test::Fail;
+
+/// What is told of what is held before each command of a list, where they are run one by one with ample memory.
+fn told_before<'a>(
+    alloc: Global,
+    session: &mut ScarceSession<'a>,
+    commands: &[Command<HostMemory<'a>>],
+) -> Result<Vec<Vec<String>>, AllocError> {
+    let mut rows = Vec::new(alloc);
+    for command in commands.chunks(1) {
+        rows.push(session.told(alloc)?)?;
+        session.run(command)?;
+    }
+    Ok(rows)
+}
+
+/// The same of the commands of a script.
+fn told_of_script(rt: &impl Abort, alloc: Global, text: &str) -> Result<Vec<Vec<String>>, Fail> {
+    let memory = ScarceMemory::new(alloc)?;
+    let script = good_script(memory.host(), text)?;
+    let mut session = ScarceSession::new(rt, &memory, &script)?;
+    let rows = told_before(alloc, &mut session, script.commands.as_slice());
+    session.end(rt);
+    Ok(rows?)
+}
+
+/// A command that was refused memory: its place, and what it came to.
+type Refusal = Option<(usize, Outcome)>;
+
+/// Runs commands one by one, and tells which one was refused memory, if any was: what is held after it is what was told
+/// before it. Those after it have memory. Before each so many bytes are lost.
+fn run<'a>(
+    rt: &impl Abort,
+    alloc: Global,
+    session: &mut ScarceSession<'a>,
+    commands: &[Command<HostMemory<'a>>],
+    rows: &[Vec<String>],
+    lost: usize,
+) -> Result<Refusal, AllocError> {
+    let mut refusal = None;
+    for (at, (command, row)) in commands.chunks(1).zip(rows).enumerate() {
+        session.lose(lost);
+        let outcome = Outcome::of(&session.run(command));
+        if outcome != Outcome::Served {
+            same_at(rt, "a second refusal at", &at, &refusal, &None);
+            let told = session.told(alloc)?;
+            same_at(rt, "held after", &at, &told.as_slice(), &row.as_slice());
+            refusal = Some((at, outcome));
+        }
+    }
+    Ok(refusal)
+}
+
+/// Runs a script where so many bytes are left for its commands, and tells which one was refused memory, and how many may
+/// be left next. At the end the device holds nothing.
+fn run_in(
+    rt: &impl Abort,
+    alloc: Global,
+    text: &str,
+    rows: &[Vec<String>],
+    room: usize,
+    lost: usize,
+) -> Result<(Refusal, Option<usize>), Fail> {
+    let memory = ScarceMemory::new(alloc)?;
+    let script = good_script(memory.host(), text)?;
+    let mut session = ScarceSession::new(rt, &memory, &script)?;
+    session.leave(rt, room);
+    let commands = script.commands.as_slice();
+    let refusal = run(rt, alloc, &mut session, commands, rows, lost);
+    memory.lift();
+    session.end(rt);
+    Ok((refusal?, memory.less_room(room)))
+}
+
+/// Marks which refusals each command of a script comes to: none at first, where more bytes are left than a script takes,
+/// and then each request for memory is refused, the last one first.
+fn mark_refusals(
+    rt: &impl Abort,
+    alloc: Global,
+    text: &str,
+    rows: &[Vec<String>],
+    lost: usize,
+    met: &mut [Refusals],
+) -> Result<(), Fail> {
+    let mut room = 1 << 17;
+    for _ in 0..4096 {
+        let (refusal, less) = run_in(rt, alloc, text, rows, room, lost)?;
+        if let Some((at, outcome)) = refusal {
+            if let Some(met) = met.get_mut(at) {
+                outcome.mark(met);
+            }
+        }
+        match less {
+            Some(less) => room = less,
+            None => return Ok(()),
+        }
+    }
+    Err(Fail::from("requests without end"))
+}
+
+/// Compares which refusals each command of a script comes to. It is run with 0 and with 8 bytes lost before each
+/// command, since a list of ledgers starts at a multiple of 16 and leaves 8 bytes or none behind.
+fn compare_refusals(
+    rt: &impl Abort,
+    alloc: Global,
+    text: &str,
+    wanted: &[Refusals],
+) -> Result<(), Fail> {
+    let rows = told_of_script(rt, alloc, text)?;
+    let mut met = vec![in alloc; [false; 3]; rows.len()]?;
+    for lost in [0, 8] {
+        let rows = rows.as_slice();
+        mark_refusals(rt, alloc, text, rows, lost, met.as_mut_slice())?;
+    }
+    same_at(rt, "refused in", &text, &met.as_slice(), &wanted);
+    Ok(())
+}
+
+/// No place for the reply, and nothing else: the command itself takes no memory.
+const PLACE: Refusals = [true, false, false];
+
+/// Beside that the session's own memory.
+const OWN: Refusals = [true, true, false];
+
+/// Beside that the allocator's or the device's memory, a handle's duplicate among it.
+const ASKED: Refusals = [true, false, true];
+
+/// All three.
+const ALL: Refusals = [true, true, true];
+
+#[test]
+fn each_growth_of_a_script_is_refused_in_turn(rt: HostRuntime) -> Result<(), Fail> {
+    let pieces = [ALL, ASKED, ASKED, OWN, PLACE, PLACE, OWN, PLACE, OWN];
+    compare_refusals(&rt, rt.alloc(), OBJECTS[2].0, &pieces)?;
+    let runs = [
+        ALL, ASKED, OWN, PLACE, PLACE, OWN, ASKED, OWN, PLACE, OWN, PLACE, OWN,
+    ];
+    compare_refusals(&rt, rt.alloc(), OBJECTS[3].0, &runs)?;
+    // The import finds the room that the block before it left, with the session and with the allocator.
+    let both = [
+        ALL, ASKED, ASKED, PLACE, PLACE, OWN, OWN, PLACE, ASKED, PLACE, PLACE, PLACE, PLACE, OWN,
+    ];
+    compare_refusals(&rt, rt.alloc(), BYTES[3].0, &both)
+}
+
+/// How often a session over a script's device was refused its memory, as more bytes are left until it was not. Then the
+/// device comes back, which serves with ample memory. At the end it holds nothing.
+fn refused_openings(rt: &impl Abort, alloc: Global, text: &str) -> Result<u32, Fail> {
+    let mut refused = 0u32;
+    for room in 0..4096 {
+        let memory = ScarceMemory::new(alloc)?;
+        let script = good_script(memory.host(), text)?;
+        let (mut session, enough) = ScarceSession::in_room(rt, &memory, &script, room << 3)?;
+        let ran = session.run(script.commands.as_slice()).is_ok();
+        session.end(rt);
+        same_at(rt, "the commands run after", &room, &ran, &true);
+        if enough {
+            return Ok(refused);
+        }
+        refused = refused.saturating_add(1);
+    }
+    Err(Fail::from("never opened"))
+}
+
+#[test]
+fn a_refused_opening_gives_the_device_back(rt: HostRuntime) -> Result<(), Fail> {
+    for text in [OBJECTS[2].0, OBJECTS[3].0, BYTES[3].0] {
+        let refused = refused_openings(&rt, rt.alloc(), text)?;
+        same_at(&rt, "refused openings", &refused, &(refused > 0), &true);
+    }
+    Ok(())
+}
