@@ -1,0 +1,5 @@
+pub mod Entry
+pub mod Halves
+pub mod Length
+pub mod Space
+pub mod Tree

@@ -1,0 +1,72 @@
+//! A pair of halves, as it is stored.
+
+/// A half of a pair.
+#[derive(Clone, Copy)]
+pub enum Side {
+    Left,
+    Right,
+}
+
+/// What a half is used for. Of the two halves of a pair one at most is free.
+#[derive(Clone, Copy)]
+pub enum Use {
+    /// Nothing.
+    Free,
+
+    /// It is a live block.
+    Taken,
+
+    /// A pair one length down has it as its parent.
+    Divided,
+}
+
+/// The half, one length up, that a pair divides.
+#[derive(Clone, Copy)]
+pub struct Parent {
+    /// The key of its pair.
+    pub key: usize,
+
+    /// Which half of that pair it is.
+    pub side: Side,
+}
+
+/// Whether a half of a pair is free, and then the pair's place in the ring of the ready pairs of its length.
+#[derive(Clone, Copy)]
+pub enum State {
+    /// No half is free.
+    Exhausted,
+
+    /// One half is free.
+    Ready {
+        /// The free half.
+        side: Side,
+
+        /// The key of the next ready pair.
+        next: usize,
+
+        /// The key of the one before.
+        prev: usize,
+    },
+}
+
+/// Two halves of a range of a chunk.
+#[derive(Clone, Copy)]
+pub struct Pair {
+    /// The key of the chunk.
+    pub chunk: usize,
+
+    /// Where the left half starts in the chunk, in bytes.
+    pub offset: u64,
+
+    /// The half that the pair divides, or none where the pair is its whole chunk.
+    pub parent: Option<Parent>,
+
+    /// Whether a pair divides the left half. It says nothing while that half is free.
+    pub left_divided: bool,
+
+    /// The same of the right half.
+    pub right_divided: bool,
+
+    /// Which half is free, if one is.
+    pub state: State,
+}
