@@ -174,7 +174,7 @@ module _ (P Q : Pairs) (order key : ℕ) (side : Side) (e : Entry) (now : Use) (
   -- Free halves, as one comes or goes.
 
   -- a half is this one, or another
-  this_or_other : (p : Piece) (k : ℕ) (a : Side) → ((p.order ≡ order) × ((k ≡ key) × (a ≡ side))) ⊎ (p.order ≡ order → k ≡ key → a ≡ side → ⊥)
+  pub this_or_other : (p : Piece) (k : ℕ) (a : Side) → ((p.order ≡ order) × ((k ≡ key) × (a ≡ side))) ⊎ (p.order ≡ order → k ≡ key → a ≡ side → ⊥)
   this_or_other p k a = elim (here_or_not order key p.order k) [
     | inl here ↦ elim (cases_side a side) [ inl same ↦ inl (here.0, (here.1, same)) | inr other ↦ inr (λ _ _ same. other same) ]
     | inr other ↦ inr (λ x y _. other x y)
