@@ -203,7 +203,7 @@ same_then_more P Q R z key side a b = record {
 divided_not_taken : Divided ≡ Taken → ⊥
 divided_not_taken e = cc
 
-free_not_taken : Free ≡ Taken → ⊥
+pub free_not_taken : Free ≡ Taken → ⊥
 free_not_taken e = cc
 
 -- a free half is taken, to be divided or as a block
