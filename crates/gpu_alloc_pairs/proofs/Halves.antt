@@ -1,20 +1,25 @@
 -- The halves that are listed are those that there are, and what that says of free pieces and of live blocks.
-use Rattle.std.proofs.Common.{◌≡◌, ◌≢◌, ◌⊎◌, ◌↔◌, inl, inr, ℕ, zero, suc, ◌+◌, ◌^◌, Bool, true, false, cond, List, [], ◌∷◌, ◌++◌, map, get_or, Some, None, IsTrue, refl, sym, ◌∙◌, ap, subst, arith}
-use Rattle.std.specs.List.{Contains, flat_map}
+use Rattle.std.proofs.Common.{◌≡◌, ◌≢◌, ◌⊎◌, ◌↔◌, inl, inr, ℕ, zero, suc, ◌+◌, ◌^◌, true, false, cond, List, [], ◌∷◌, ◌++◌, map, get_or, ◌≤◌, ◌==◌, ◌&&◌, Option, Some, None, IsTrue, refl, sym, ◌∙◌, ap, subst, arith}
+use Rattle.std.specs.List.{Contains, IsDistinct, flat_map}
 use Rattle.std.specs.FinSet as set
-use Rattle.std.proofs.lemmas.List.Elements.{Contains-append_cases, Contains-append_left, Contains-append_right}
-use Rattle.std.proofs.lemmas.Bool.Decides.{same_from_decides}
-use Rattle.slab.specs.Slab.{Slab, get, entries}
+use Rattle.std.proofs.lemmas.List.Elements.{Contains-append_cases, Contains-append_left, Contains-append_right, Contains-get_or, recursion_from_All}
+use Rattle.std.proofs.lemmas.Map.Keys.{IsDistinct-cons}
+use Rattle.std.proofs.lemmas.Nat.{pow_pos}
+use Rattle.std.proofs.lemmas.Bool.Decides.{Decides-eqb, same_from_decides}
+use mathlib.Core.Bool.{true≢false}
+use Rattle.slab.specs.Slab.{Slab, get, entries, entries_from}
 use Rattle.slab.proofs.SlabLemmas.{Contains-entries}
 use Rattle.gpu_alloc_base.specs.Accounts.{HeldChunks}
 use Rattle.gpu_alloc_base.specs.Leaves.{leaf_cmp}
+use Rattle.gpu_alloc_base.specs.Pieces.{InPiece, IsCanonical, same_place}
 use Rattle.gpu_alloc_base.specs.declared.buddy_block.Leaf.{Leaf}
 use Rattle.gpu_alloc_base.specs.declared.piece.Piece.{Piece}
 use Rattle.gpu_alloc_base.proofs.Leaves.{leaf_total, leaf_exact, in_leaves, leaf_inserted, leaf_removed}
+use Rattle.gpu_alloc_base.proofs.ListViews.{AreNamedApart}
 use Rattle.gpu_alloc_base.proofs.Lists.{contains_head, contains_later, contains_cases, contains_none}
 use Rattle.gpu_alloc_pairs.specs.Entry.{Entry, use_of, half_start}
 use Rattle.gpu_alloc_pairs.specs.Halves.{HalfAt, same_use, half_at, half_used, halves_of_pair, halves_of_length, halves_from, free_pieces, leaf_of, live_leaves}
-use Rattle.gpu_alloc_pairs.specs.Tree.{no_pairs, pair_at, IsHalf, IsReady}
+use Rattle.gpu_alloc_pairs.specs.Tree.{Pairs, no_pairs, pair_at, IsHalf, IsReady}
 use Rattle.gpu_alloc_pairs.specs.declared.pair.Side.{Side}
 use Rattle.gpu_alloc_pairs.specs.declared.pair.Side.TheVariants.{Left, Right}
 use Rattle.gpu_alloc_pairs.specs.declared.pair.Use.{Use}
@@ -204,3 +209,119 @@ pub live_less : (old new : set.FinSet leaf_cmp) (leaf : Leaf)
 live_less old new leaf are = same_live new (set.remove old leaf)
     (λ q t. (leaf_removed old leaf q).1 ((are q).0 t))
     (λ q t. (are q).1 ((leaf_removed old leaf q).0 t))
+
+-- No free piece is listed twice.
+
+module _ {Y K : Type 0} (name : Y → K) where
+  apart_append : (xs ys : List Y) → AreNamedApart name xs → AreNamedApart name ys → ((a b : Y) → Contains xs a → Contains ys b → name b ≢ name a) → AreNamedApart name (xs ++ ys)
+  apart_append [] ys of_xs of_ys others = of_ys
+  apart_append (x ∷ xs) ys of_xs of_ys others = (
+    λ a has. elim (Contains-append_cases xs ys a has) [
+      | inl before ↦ of_xs.0 a before
+      | inr after ↦ others x a (contains_head x xs) after
+    ],
+    apart_append xs ys of_xs.1 of_ys (λ a b has_a has_b. others a b (contains_later x a xs has_a) has_b),
+  )
+
+  apart_flat_map : {X L : Type 0} (g : X → L) (f : X → List Y) (xs : List X) → AreNamedApart g xs → ((x : X) → AreNamedApart name (f x))
+      → ((x z : X) (a b : Y) → Contains (f x) a → Contains (f z) b → name b ≡ name a → g z ≡ g x) → AreNamedApart name (flat_map f xs)
+  apart_flat_map g f [] apart each same = tt
+  apart_flat_map g f (x ∷ xs) apart each same =
+      apart_append (f x) (flat_map f xs) (each x) (apart_flat_map g f xs apart.1 each same)
+      (λ a b has_a has_b is. let found = in_flat_map f xs b has_b in apart.0 found.0 found.1 (same x found.0 a b has_a found.2 is))
+
+module _ {T : Type 0} where
+  -- later entries have greater keys
+  keys_past : (first : ℕ) (slots : List (Option T)) (e : ℕ × T) → Contains (entries_from first slots) e → first ≤ e.0
+  keys_past first [] e has = absurd (contains_none e has)
+  keys_past first (None ∷ rest) e has = let later = keys_past (first + 1) rest e has in omega arith
+  keys_past first (Some row ∷ rest) e has = elim (contains_cases (first, row) e (entries_from (first + 1) rest) has) [
+    | inl is ↦ let here : e.0 ≡ first = ap (λ (x : ℕ × T). x.0) is in omega arith
+    | inr h ↦ let later = keys_past (first + 1) rest e h in omega arith
+  ]
+
+  -- each entry has a key of its own
+  keys_apart : (first : ℕ) (slots : List (Option T)) → AreNamedApart (λ (e : ℕ × T). e.0) (entries_from first slots)
+  keys_apart first [] = tt
+  keys_apart first (None ∷ rest) = keys_apart (first + 1) rest
+  keys_apart first (Some row ∷ rest) = (
+    λ a has same. let later = keys_past (first + 1) rest a has in omega (arith, same),
+    keys_apart (first + 1) rest,
+  )
+
+apart_half : (now : Use) (n k : ℕ) (e : Entry) (side : Side) → AreNamedApart (λ (h : HalfAt). h) (half_used now n k e side)
+apart_half now n k e side = elim (same_use (use_of e side) now) as (λ b. AreNamedApart (λ (h : HalfAt). h) (cond b (half_at n k e side ∷ []) [])) [
+  | true ↦ (λ a has. absurd (contains_none a has), tt)
+  | false ↦ tt
+]
+
+apart_pair : (now : Use) (n : ℕ) (pair : ℕ × Entry) → AreNamedApart (λ (h : HalfAt). h) (halves_of_pair now n pair)
+apart_pair now n (k, e) = apart_append (λ h. h) (half_used now n k e Left) (half_used now n k e Right) (apart_half now n k e Left) (apart_half now n k e Right)
+    (λ a b has_a has_b same.
+        let left : a.side ≡ Left = ap (λ (h : HalfAt). h.side) (in_half now n k e Left a has_a).0 in
+        let right : b.side ≡ Right = ap (λ (h : HalfAt). h.side) (in_half now n k e Right b has_b).0 in
+        let both : b.side ≡ a.side = ap (λ (h : HalfAt). h.side) same in
+        absurd (cc))
+
+apart_length : (now : Use) (n : ℕ) (pairs : Slab Entry) → AreNamedApart (λ (h : HalfAt). h) (halves_of_length now n pairs)
+unfolding halves_of_length
+apart_length now n pairs = apart_flat_map (λ h. h) (λ (e : ℕ × Entry). e.0) (halves_of_pair now n) (entries pairs) (keys_apart 0 pairs.slots) (apart_pair now n)
+    (λ x z a b has_a has_b same.
+        let of_a : a.key ≡ x.0 = ap (λ (h : HalfAt). h.key) (in_pair now n x.0 x.1 a has_a).1 in
+        let of_b : b.key ≡ z.0 = ap (λ (h : HalfAt). h.key) (in_pair now n z.0 z.1 b has_b).1 in
+        sym of_b ∙ ap (λ (h : HalfAt). h.key) same ∙ of_a)
+
+-- no half is listed twice
+pub halves_apart : (now : Use) (n : ℕ) (lengths : List (Slab Entry)) → AreNamedApart (λ (h : HalfAt). h) (halves_from now n lengths)
+unfolding halves_from
+halves_apart now n [] = tt
+halves_apart now n (pairs ∷ rest) = apart_append (λ h. h) (halves_of_length now n pairs) (halves_from now (n + 1) rest) (apart_length now n pairs) (halves_apart now (n + 1) rest)
+    (λ a b has_a has_b same.
+        let of_a = (in_length now n pairs a has_a).0 in
+        let of_b = in_lengths now (n + 1) rest b has_b in
+        let orders : b.piece.order ≡ a.piece.order = ap (λ (h : HalfAt). h.piece.order) same in
+        omega (arith, of_a, of_b.1))
+
+-- two pieces that start at one byte
+same_place-true : (p q : Piece) → same_place p q ≡ true → (p.chunk ≡ q.chunk) × (p.start ≡ q.start)
+same_place-true p q t =
+    elim (p.chunk == q.chunk) as (λ b. (p.chunk == q.chunk) ≡ b → (b && (p.start == q.start)) ≡ true → (p.chunk ≡ q.chunk) × (p.start ≡ q.start)) [
+      | true ↦ λ e t. ((Decides-eqb p.chunk q.chunk).0 e, (Decides-eqb p.start q.start).0 t)
+      | false ↦ λ _ t. absurd (true≢false (sym t))
+    ] refl t
+
+same_place-false : (p q : Piece) → (same_place p q ≡ true → ⊥) → same_place p q ≡ false
+same_place-false p q h = elim (same_place p q) as (λ b. same_place p q ≡ b → b ≡ false) [ true ↦ λ e. absurd (h e) | false ↦ λ _. refl ] refl
+
+module _ (P : Pairs) (F : ℕ → ℕ → Type 0) (canonical : IsCanonical (IsReady P) F)
+    (one_half : (p : Piece) (k l : ℕ) (a b : Side) → IsHalf P p k a Free → IsHalf P p l b Free → (k ≡ l) × (a ≡ b)) where
+  -- two free halves that start at one byte are one
+  one_place : (g h : HalfAt) → IsHalf P g.piece g.key g.side Free → IsHalf P h.piece h.key h.side Free → same_place g.piece h.piece ≡ true → g ≡ h
+  one_place g h of_g of_h is =
+      let place = same_place-true g.piece h.piece is in
+      let in_g : InPiece g.piece g.piece.start = record { from = omega arith; to = omega (arith, pow_pos g.piece.order) } in
+      let in_h : InPiece h.piece g.piece.start = record { from = omega (arith, place.1); to = omega (arith, place.1, pow_pos h.piece.order) } in
+      let pieces : g.piece ≡ h.piece = canonical.apart g.piece h.piece (record { key = g.key; side = g.side; half = of_g }) (record { key = h.key; side = h.side; half = of_h }) place.0 g.piece.start in_g in_h in
+      let names = one_half h.piece g.key h.key g.side h.side (subst (λ p. IsHalf P p g.key g.side Free) pieces of_g) of_h in
+      λ i. record { piece = pieces i; key = names.0 i; side = names.1 i }
+
+  distinct_pieces : (hs : List HalfAt) → ((h : HalfAt) → Contains hs h → IsHalf P h.piece h.key h.side Free) → AreNamedApart (λ (h : HalfAt). h) hs
+      → IsDistinct same_place (map (λ h. h.piece) hs)
+  unfolding IsDistinct
+  distinct_pieces [] are apart = tt
+  distinct_pieces (h ∷ hs) are apart =
+      let pieces : List Piece = map (λ x. x.piece) hs in
+      let others : (y : Piece) → Contains pieces y → same_place h.piece y ≡ false = λ y has.
+          let found = in_map (λ (x : HalfAt). x.piece) hs y has in
+          same_place-false h.piece y (λ is. apart.0 found.0 found.1
+          (sym (one_place h found.0 (are h (contains_head h hs)) (are found.0 (contains_later h found.0 hs found.1)) (ap (same_place h.piece) found.2 ∙ is)))) in
+      IsDistinct-cons same_place h.piece pieces
+      (recursion_from_All (λ y. same_place h.piece y ≡ false) pieces (λ k d lt. others (get_or pieces k d) (Contains-get_or pieces k d lt)))
+      (distinct_pieces hs (λ x has. are x (contains_later h x hs has)) apart.1)
+
+-- no two free pieces that are listed start at one byte
+pub free_pieces_once : (F : ℕ → ℕ → Type 0) (lengths : List (Slab Entry)) → IsCanonical (IsReady (pair_at lengths)) F
+    → ((p : Piece) (k l : ℕ) (a b : Side) → IsHalf (pair_at lengths) p k a Free → IsHalf (pair_at lengths) p l b Free → (k ≡ l) × (a ≡ b))
+    → IsDistinct same_place (free_pieces lengths)
+free_pieces_once F lengths canonical one_half =
+    distinct_pieces (pair_at lengths) F canonical one_half (halves_from Free 0 lengths) (λ h has. (halves_are lengths Free h).0 has) (halves_apart Free 0 lengths)
