@@ -127,7 +127,7 @@ unfolding halves_of_length
 to_length now pairs h at =
     let there = to_pair now h.piece.order h.key at.entry h.side at.used in
     let same : half_at h.piece.order h.key at.entry h.side ≡ h =
-        λ i. record { piece = record { chunk = sym at.chunk i; start = sym at.start i; order = h.piece.order }; key = h.key; side = h.side } in
+    λ i. record { piece = record { chunk = sym at.chunk i; start = sym at.start i; order = h.piece.order }; key = h.key; side = h.side } in
     to_flat_map (halves_of_pair now h.piece.order) (entries pairs) (h.key, at.entry) h ((Contains-entries pairs h.key at.entry).1 at.pair)
     (subst (Contains (halves_of_pair now h.piece.order (h.key, at.entry))) same there)
 
@@ -258,18 +258,18 @@ apart_half now n k e side = elim (same_use (use_of e side) now) as (λ b. AreNam
 apart_pair : (now : Use) (n : ℕ) (pair : ℕ × Entry) → AreNamedApart (λ (h : HalfAt). h) (halves_of_pair now n pair)
 apart_pair now n (k, e) = apart_append (λ h. h) (half_used now n k e Left) (half_used now n k e Right) (apart_half now n k e Left) (apart_half now n k e Right)
     (λ a b has_a has_b same.
-        let left : a.side ≡ Left = ap (λ (h : HalfAt). h.side) (in_half now n k e Left a has_a).0 in
-        let right : b.side ≡ Right = ap (λ (h : HalfAt). h.side) (in_half now n k e Right b has_b).0 in
-        let both : b.side ≡ a.side = ap (λ (h : HalfAt). h.side) same in
-        absurd (cc))
+    let left : a.side ≡ Left = ap (λ (h : HalfAt). h.side) (in_half now n k e Left a has_a).0 in
+    let right : b.side ≡ Right = ap (λ (h : HalfAt). h.side) (in_half now n k e Right b has_b).0 in
+    let both : b.side ≡ a.side = ap (λ (h : HalfAt). h.side) same in
+    absurd (cc))
 
 apart_length : (now : Use) (n : ℕ) (pairs : Slab Entry) → AreNamedApart (λ (h : HalfAt). h) (halves_of_length now n pairs)
 unfolding halves_of_length
 apart_length now n pairs = apart_flat_map (λ h. h) (λ (e : ℕ × Entry). e.0) (halves_of_pair now n) (entries pairs) (keys_apart 0 pairs.slots) (apart_pair now n)
     (λ x z a b has_a has_b same.
-        let of_a : a.key ≡ x.0 = ap (λ (h : HalfAt). h.key) (in_pair now n x.0 x.1 a has_a).1 in
-        let of_b : b.key ≡ z.0 = ap (λ (h : HalfAt). h.key) (in_pair now n z.0 z.1 b has_b).1 in
-        sym of_b ∙ ap (λ (h : HalfAt). h.key) same ∙ of_a)
+    let of_a : a.key ≡ x.0 = ap (λ (h : HalfAt). h.key) (in_pair now n x.0 x.1 a has_a).1 in
+    let of_b : b.key ≡ z.0 = ap (λ (h : HalfAt). h.key) (in_pair now n z.0 z.1 b has_b).1 in
+    sym of_b ∙ ap (λ (h : HalfAt). h.key) same ∙ of_a)
 
 -- no half is listed twice
 pub halves_apart : (now : Use) (n : ℕ) (lengths : List (Slab Entry)) → AreNamedApart (λ (h : HalfAt). h) (halves_from now n lengths)
@@ -277,10 +277,10 @@ unfolding halves_from
 halves_apart now n [] = tt
 halves_apart now n (pairs ∷ rest) = apart_append (λ h. h) (halves_of_length now n pairs) (halves_from now (n + 1) rest) (apart_length now n pairs) (halves_apart now (n + 1) rest)
     (λ a b has_a has_b same.
-        let of_a = (in_length now n pairs a has_a).0 in
-        let of_b = in_lengths now (n + 1) rest b has_b in
-        let orders : b.piece.order ≡ a.piece.order = ap (λ (h : HalfAt). h.piece.order) same in
-        omega (arith, of_a, of_b.1))
+    let of_a = (in_length now n pairs a has_a).0 in
+    let of_b = in_lengths now (n + 1) rest b has_b in
+    let orders : b.piece.order ≡ a.piece.order = ap (λ (h : HalfAt). h.piece.order) same in
+    omega (arith, of_a, of_b.1))
 
 -- two pieces that start at one byte
 same_place-true : (p q : Piece) → same_place p q ≡ true → (p.chunk ≡ q.chunk) × (p.start ≡ q.start)
@@ -312,9 +312,9 @@ module _ (P : Pairs) (F : ℕ → ℕ → Type 0) (canonical : IsCanonical (IsRe
   distinct_pieces (h ∷ hs) are apart =
       let pieces : List Piece = map (λ x. x.piece) hs in
       let others : (y : Piece) → Contains pieces y → same_place h.piece y ≡ false = λ y has.
-          let found = in_map (λ (x : HalfAt). x.piece) hs y has in
-          same_place-false h.piece y (λ is. apart.0 found.0 found.1
-          (sym (one_place h found.0 (are h (contains_head h hs)) (are found.0 (contains_later h found.0 hs found.1)) (ap (same_place h.piece) found.2 ∙ is)))) in
+      let found = in_map (λ (x : HalfAt). x.piece) hs y has in
+      same_place-false h.piece y (λ is. apart.0 found.0 found.1
+      (sym (one_place h found.0 (are h (contains_head h hs)) (are found.0 (contains_later h found.0 hs found.1)) (ap (same_place h.piece) found.2 ∙ is)))) in
       IsDistinct-cons same_place h.piece pieces
       (recursion_from_All (λ y. same_place h.piece y ≡ false) pieces (λ k d lt. others (get_or pieces k d) (Contains-get_or pieces k d lt)))
       (distinct_pieces hs (λ x has. are x (contains_later h x hs has)) apart.1)
