@@ -1,5 +1,9 @@
+pub mod Codes
 pub mod Entry
 pub mod Halves
 pub mod Length
+pub mod Links
+pub mod Ring
+pub mod Seen
 pub mod Space
 pub mod Tree

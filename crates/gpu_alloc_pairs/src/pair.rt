@@ -1,5 +1,9 @@
 //! A pair of halves, as it is stored.
 
+ghost use Rattle.std.specs.Prelude.{◌≡◌, Some};
+ghost use Rattle.gpu_alloc_pairs.specs.Entry.{entry_of, taken_as, with_use};
+ghost use Rattle.gpu_alloc_pairs.specs.Links.{free_side};
+
 /// A half of a pair.
 #[derive(Clone, Copy)]
 pub enum Side {
@@ -69,4 +73,20 @@ pub struct Pair {
 
     /// Which half is free, if one is.
     pub state: State,
+}
+
+impl Pair {
+    /// Takes the free half. No half is then free.
+    #[inline(always)]
+    pub fn exhaust(&mut self, side: Side, divided: bool)
+        requires free { free_side (self.old).state ≡ Some side }
+        ensures exhausted { (self.new).state ≡ State.Exhausted }
+        ensures entry { entry_of self.new ≡ with_use (entry_of self.old) side (taken_as divided) }
+    {
+        self.state = State::Exhausted;
+        match side {
+            Side::Left => self.left_divided = divided,
+            Side::Right => self.right_divided = divided,
+        }
+    }
 }
