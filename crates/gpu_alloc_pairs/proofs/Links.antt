@@ -153,3 +153,10 @@ still_linked s s' first same l =
       first_none = none_to first ((k : ℕ) → IsOn s k → ⊥) ((k : ℕ) → IsOn s' k → ⊥) (λ none k h. none k (from k h))
       l.first_none;
     }
+
+-- the pair that the ring was opened for comes in
+pub linked_at : (s s' : Slab Pair) (key i : ℕ) (p : Pair) (state : State) (first : Option ℕ)
+    → IsLinkedWith s key (IsOfState state) first → i ≡ key → Updates s s' i (Some p) → p.state ≡ state
+    → IsLinked s' first
+linked_at s s' key i p state first h is u fits =
+    h s' (Some p) (subst (λ k. Updates s s' k (Some p)) is u) fits
