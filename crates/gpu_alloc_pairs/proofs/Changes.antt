@@ -6,14 +6,12 @@ use Rattle.gpu_alloc_pairs.specs.Length.{Frees, IsInUse, IsReadyHalf, IsUsedAs, 
 use Rattle.gpu_alloc_pairs.specs.Links.{IsLinked, IsOn, KeepsPairs, SetsPair, free_of, free_side}
 use Rattle.gpu_alloc_pairs.specs.Seen.{seen}
 use Rattle.gpu_alloc_pairs.specs.declared.length.Half.{Half}
-use Rattle.gpu_alloc_pairs.specs.declared.length.Whole.{Whole}
 use Rattle.gpu_alloc_pairs.specs.declared.pair.Pair.{Pair}
 use Rattle.gpu_alloc_pairs.specs.declared.pair.Side.{Side}
 use Rattle.gpu_alloc_pairs.specs.declared.pair.State.{State}
 use Rattle.gpu_alloc_pairs.specs.declared.pair.State.TheVariants.{Exhausted, Ready}
-use Rattle.gpu_alloc_pairs.specs.declared.pair.Use.{Use}
 use Rattle.gpu_alloc_pairs.specs.declared.pair.Use.TheVariants.{Free}
-use Rattle.gpu_alloc_pairs.proofs.Seen.{entry_at, get_view, seen_updates}
+use Rattle.gpu_alloc_pairs.proofs.Seen.{get_view, seen_updates}
 use Rattle.gpu_alloc_pairs.proofs.Uses.{freed_entry, none_is_free, other_is_free, side_of_free, use_of_side}
 
 -- the pair that is seen
@@ -50,7 +48,7 @@ kept_pair : (s s1 : Slab Pair) (key : ℕ) (p q : Pair) → KeepsPairs s s1 → 
     → entry_of q ≡ entry_of p
 kept_pair s s1 key p q k at is =
     let e : Some (entry_of q) ≡ Some (entry_of p) =
-        sym (ap (option_map entry_of) is) ∙ k.entries key ∙ ap (option_map entry_of) at in
+    sym (ap (option_map entry_of) is) ∙ k.entries key ∙ ap (option_map entry_of) at in
     cc
 
 kept_free : (s s1 : Slab Pair) (key : ℕ) (p q : Pair) → KeepsPairs s s1 → get s key ≡ Some p → get s1 key ≡ Some q
@@ -76,7 +74,7 @@ half_is_taken s s1 s2 v key side divided p e at k w = record {
   entry = entry_of p;
   at = get_view s v key e ∙ ap (option_map entry_of) at;
   updates = pair_is_added s s1 s2 v key w.after (with_use (entry_of p) side (taken_as divided)) e k w.updates
-  (w.suits.1 ∙ ap (λ (x : Entry). with_use x side (taken_as divided)) (kept_pair s s1 key p w.before k at w.was));
+      (w.suits.1 ∙ ap (λ (x : Entry). with_use x side (taken_as divided)) (kept_pair s s1 key p w.before k at w.was));
 }
 
 pub half_is_freed : (s s1 s2 : Slab Pair) (v : Slab Entry) (key : ℕ) (side : Side) (p : Pair) (state : State) → seen s ≡ v
@@ -87,8 +85,8 @@ half_is_freed s s1 s2 v key side p state e at x k free w = record {
   at = get_view s v key e ∙ ap (option_map entry_of) at;
   other = none_is_free p _ x;
   updates = pair_is_added s s1 s2 v key w.after (with_use (entry_of p) side Free) e k w.updates
-  (ap entry_of w.suits ∙ freed_entry w.before state side (kept_free s s1 key p w.before k at w.was ∙ x) free
-  ∙ ap (λ (y : Entry). with_use y side Free) (kept_pair s s1 key p w.before k at w.was));
+      (ap entry_of w.suits ∙ freed_entry w.before state side (kept_free s s1 key p w.before k at w.was ∙ x) free
+      ∙ ap (λ (y : Entry). with_use y side Free) (kept_pair s s1 key p w.before k at w.was));
 }
 
 pub pair_is_merged : (s s1 s2 : Slab Pair) (v : Slab Entry) (key : ℕ) (side : Side) (p q : Pair) (free : Side)

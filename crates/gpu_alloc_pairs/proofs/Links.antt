@@ -8,7 +8,7 @@ use Rattle.gpu_alloc_pairs.specs.Links.{free_of, free_side, next_in, next_of, pr
 use Rattle.gpu_alloc_pairs.specs.declared.pair.Pair.{Pair}
 use Rattle.gpu_alloc_pairs.specs.declared.pair.Side.{Side}
 use Rattle.gpu_alloc_pairs.specs.declared.pair.State.{State}
-use Rattle.gpu_alloc_pairs.specs.declared.pair.State.TheVariants.{Exhausted, Ready}
+use Rattle.gpu_alloc_pairs.specs.declared.pair.State.TheVariants.{Ready}
 use Rattle.gpu_alloc_pairs.proofs.Rings.{Joins, Leaves, alone, joined, left, nothing, only_one, same_ring}
 
 -- no half of it is free
@@ -58,7 +58,7 @@ module _ (s s' : Slab Pair) (key : ℕ) (slot : Option Pair) (u : Updates s s' k
       ] in
       record {
         ring = alone (IsOn s') (next_in s') (prev_in s') key on only (ap next_of u.changed ∙ st.next)
-        (ap prev_of u.changed ∙ st.prev);
+            (ap prev_of u.changed ∙ st.prev);
         first_on = on;
         first_none = tt;
       }
@@ -70,7 +70,7 @@ module _ (s s' : Slab Pair) (key : ℕ) (slot : Option Pair) (u : Updates s s' k
       let none : (k : ℕ) → IsOn s' k → ⊥ = λ k h. elim (cases_eq k key) [
         | inl e ↦ none_is_not None refl (subst IsSome (ap (λ i. free_of (get s' i)) e ∙ ap free_of u.changed ∙ off) h)
         | inr ne ↦ ne (only_one (IsOn s) (IsOn s') (next_in s) (prev_in s) (next_in s') (prev_in s') ring key on own k
-          (on_before k ne h))
+            (on_before k ne h))
       ] in
       record { ring = nothing (IsOn s') (next_in s') (prev_in s') none; first_on = tt; first_none = none }
 
@@ -148,10 +148,10 @@ still_linked s s' first same l =
     let from : (k : ℕ) → IsOn s' k → IsOn s k = λ k h. subst IsSome (ap free_of (same k)) h in
     record {
       ring = same_ring (IsOn s) (IsOn s') (next_in s) (prev_in s) (next_in s') (prev_in s') to from
-      (λ k h. ap next_of (same k)) (λ k h. ap prev_of (same k)) l.ring;
+          (λ k h. ap next_of (same k)) (λ k h. ap prev_of (same k)) l.ring;
       first_on = some_to first (IsOn s) (IsOn s') to l.first_on;
       first_none = none_to first ((k : ℕ) → IsOn s k → ⊥) ((k : ℕ) → IsOn s' k → ⊥) (λ none k h. none k (from k h))
-      l.first_none;
+          l.first_none;
     }
 
 -- the pair that the ring was opened for comes in

@@ -1,6 +1,6 @@
 -- What the halves of a stored pair are used for, by its state.
-use Rattle.std.proofs.Common.{◌≡◌, ◌≢◌, ℕ, Bool, true, false, Option, Some, None, refl, sym, ◌∙◌, ap}
-use Rattle.gpu_alloc_pairs.specs.Entry.{Entry, entry_of, other_side, taken_as, use_in, use_of, with_use}
+use Rattle.std.proofs.Common.{◌≡◌, ◌≢◌, ℕ, Bool, true, false, Option, Some, None, refl}
+use Rattle.gpu_alloc_pairs.specs.Entry.{entry_of, other_side, taken_as, use_in, use_of, with_use}
 use Rattle.gpu_alloc_pairs.specs.Links.{free_side}
 use Rattle.gpu_alloc_pairs.specs.declared.pair.Pair.{Pair}
 use Rattle.gpu_alloc_pairs.specs.declared.pair.Parent.{Parent}
@@ -8,8 +8,7 @@ use Rattle.gpu_alloc_pairs.specs.declared.pair.Side.{Side}
 use Rattle.gpu_alloc_pairs.specs.declared.pair.Side.TheVariants.{Left, Right}
 use Rattle.gpu_alloc_pairs.specs.declared.pair.State.{State}
 use Rattle.gpu_alloc_pairs.specs.declared.pair.State.TheVariants.{Exhausted, Ready}
-use Rattle.gpu_alloc_pairs.specs.declared.pair.Use.{Use}
-use Rattle.gpu_alloc_pairs.specs.declared.pair.Use.TheVariants.{Free, Taken, Divided}
+use Rattle.gpu_alloc_pairs.specs.declared.pair.Use.TheVariants.{Free}
 
 free_at : (state : State) (side : Side) (divided : Bool) → use_in state side divided ≡ Free → free_side state ≡ Some side
 free_at Exhausted side true e = cc

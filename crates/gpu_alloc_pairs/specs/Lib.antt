@@ -3,6 +3,7 @@ pub mod Entry
 pub mod Halves
 pub mod Length
 pub mod Links
+pub mod Pieces
 pub mod Ring
 pub mod Seen
 pub mod Space

@@ -1,15 +1,17 @@
 //! The pairs of one length, of which those with a free half form a ring.
 
-ghost use Rattle.std.specs.Prelude.{◌≡◌, ◌≤◌, ◌<◌, ◌+◌, ◌^◌, [], ℕ, OnOk, Some, None, IfSome, IfNone, IsTrue, ◌↔◌};
+ghost use Rattle.std.specs.Prelude.{◌≡◌, ◌≤◌, ◌<◌, ◌+◌, ◌^◌, ◌++◌, [], map, ℕ, OnOk, Some, None, IfSome, IfNone, IsTrue, ◌↔◌};
 ghost use Rattle.slab.specs.Slab.{ContainsKey, HasRoomFor, Updates, get, slab_len};
 ghost use Rattle.gpu_alloc_pairs.specs.Entry.{entry_of, taken_as, with_use};
-ghost use Rattle.gpu_alloc_pairs.specs.Length.{IsInUse, IsReadyHalf, IsUsedAs, SetsUse, Frees, Merges};
+ghost use Rattle.gpu_alloc_pairs.specs.Halves.{halves_of_length};
+ghost use Rattle.gpu_alloc_pairs.specs.Length.{AreBounded, IsInUse, IsReadyHalf, IsUsedAs, SetsUse, Frees, Merges};
 ghost use Rattle.gpu_alloc_pairs.specs.Links.{SetsPair, free_of};
 ghost use Rattle.gpu_alloc_pairs.specs.declared.pair.Side.{Side as SideOf};
 ghost use Rattle.gpu_alloc_pairs.specs.declared.pair.Use.{Use as UseOf};
 
 use crate::pair::{Pair, Parent, Side, State};
 use crate::ring::{link, unlink};
+use gpu_alloc_base::Piece;
 use slab::Slab;
 use std::alloc::{AllocError, Allocator, Global};
 use std::marker::Model;
@@ -124,17 +126,16 @@ impl<A: Allocator> Length<A> {
 
     /// Adds a pair whose right half is free, where `reserve` made room, and answers its key. The left half is one that
     /// a pair divides or a live block. `offset` is where it starts in the chunk, in bytes.
-    pub fn add(
-        &mut self,
-        chunk: usize,
-        offset: u64,
-        parent: Option<Parent>,
-        divided: bool,
-    ) -> usize
+    pub fn add(&mut self, chunk: usize, offset: u64, parent: Option<Parent>, divided: bool) -> usize
         requires room { HasRoomFor self.old 1 }
         ensures vacant { get self.old result ≡ None }
-        ensures updates { Updates self.old self.new result (Some (record { chunk = chunk; offset = offset;
-            parent = parent; left = taken_as divided; right = UseOf.Free })) }
+        ensures updates { Updates self.old self.new result (Some (record {
+          chunk = chunk;
+          offset = offset;
+          parent = parent;
+          left = taken_as divided;
+          right = UseOf.Free;
+        })) }
         ensures capacity { (self.new).capacity ≡ (self.old).capacity }
         ensures len { slab_len self.new ≡ slab_len self.old + 1 }
     {
@@ -172,6 +173,26 @@ impl<A: Allocator> Length<A> {
             offset: pair.offset,
             parent: pair.parent,
         })
+    }
+
+    /// Pushes each free half as a piece of 2^order bytes, by the keys of their pairs. Each right half starts below
+    /// 2^64. The only refusal is want of memory: some of the pieces are then pushed.
+    pub fn list_free<B: Allocator>(
+        &self,
+        order: u32,
+        pieces: &mut Vec<Piece, B>,
+    ) -> Result<(), AllocError>
+        requires short { order ≤ 62 }
+        requires bounded { AreBounded order self.now }
+        ensures listed { OnOk result (pieces.new.items ≡ pieces.old.items
+            ++ map (λ h. h.piece) (halves_of_length UseOf.Free order self.now)) }
+    {
+        for (_, pair) in self.pairs.iter() {
+            if let Some(piece) = pair.free_piece(order) {
+                pieces.push(piece)?;
+            }
+        }
+        Ok(())
     }
 }
 
