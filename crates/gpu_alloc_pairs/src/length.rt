@@ -1,10 +1,10 @@
 //! The pairs of one length, of which those with a free half form a ring.
 
-ghost use Rattle.std.specs.Prelude.{◌≡◌, ◌≤◌, ◌<◌, ◌+◌, ◌^◌, ◌++◌, [], map, ℕ, OnOk, Some, None, IfSome, IfNone, IsTrue, ◌↔◌};
+ghost use Rattle.std.specs.Prelude.{◌≡◌, ◌≤◌, ◌+◌, ◌++◌, [], map, ℕ, OnOk, Some, None, IfSome, IfNone, MatchOption};
 ghost use Rattle.slab.specs.Slab.{ContainsKey, HasRoomFor, Updates, get, slab_len};
 ghost use Rattle.gpu_alloc_pairs.specs.Entry.{entry_of, taken_as, with_use};
 ghost use Rattle.gpu_alloc_pairs.specs.Halves.{halves_of_length};
-ghost use Rattle.gpu_alloc_pairs.specs.Length.{AreBounded, IsInUse, IsReadyHalf, IsUsedAs, SetsUse, Frees, Merges};
+ghost use Rattle.gpu_alloc_pairs.specs.Length.{AreBounded, Frees, IsInUse, IsReadyHalf, IsUsedAs, Merges, SetsUse};
 ghost use Rattle.gpu_alloc_pairs.specs.Links.{SetsPair, free_of};
 ghost use Rattle.gpu_alloc_pairs.specs.declared.pair.Side.{Side as SideOf};
 ghost use Rattle.gpu_alloc_pairs.specs.declared.pair.Use.{Use as UseOf};
@@ -159,20 +159,26 @@ impl<A: Allocator> Length<A> {
         ensures freed { IfNone result (Frees self.old self.new key side) }
         ensures merged { IfSome result (λ w. Merges self.old self.new key side w) }
         ensures capacity { (self.new).capacity ≡ (self.old).capacity }
+        ensures len { MatchOption result (slab_len self.new ≡ slab_len self.old)
+            (λ _. slab_len self.new + 1 ≡ slab_len self.old) }
     {
-        let State::Ready { next, prev, .. } = self.pairs[key].state else {
-            let state = link(&mut self.pairs, self.first, key, side);
-            self.first = Some(key);
-            set_state(&mut self.pairs, key, state);
-            return None;
-        };
-        self.first = unlink(&mut self.pairs, key, next, prev);
-        let pair = self.pairs.remove(key);
-        Some(Whole {
-            chunk: pair.chunk,
-            offset: pair.offset,
-            parent: pair.parent,
-        })
+        match self.pairs[key].state {
+            State::Exhausted => {
+                let state = link(&mut self.pairs, self.first, key, side);
+                self.first = Some(key);
+                set_state(&mut self.pairs, key, state);
+                None
+            }
+            State::Ready { next, prev, .. } => {
+                self.first = unlink(&mut self.pairs, key, next, prev);
+                let pair = self.pairs.remove(key);
+                Some(Whole {
+                    chunk: pair.chunk,
+                    offset: pair.offset,
+                    parent: pair.parent,
+                })
+            }
+        }
     }
 
     /// Pushes each free half as a piece of 2^order bytes, by the keys of their pairs. Each right half starts below

@@ -1,6 +1,6 @@
 //! The ring of the ready pairs of a slab. A pair joins it and leaves it in few steps, whatever its length.
 
-ghost use Rattle.std.specs.Prelude.{◌≡◌, ℕ, Option, Some, None};
+ghost use Rattle.std.specs.Prelude.{◌≡◌, Some};
 ghost use Rattle.slab.specs.Slab.{get};
 ghost use Rattle.gpu_alloc_pairs.specs.Links.{IsLinked, IsLinkedWith, IsOff, IsOfState, IsOn, KeepsPairs};
 ghost use Rattle.gpu_alloc_pairs.specs.Links.{SetsNext, SetsPrev, next_in, prev_in, free_side};
