@@ -44,7 +44,8 @@ use_code = code_by (Bool × Bool) (coded× coded_bool coded_bool) use_bits (λ b
 
 abbrev pub parent_code : Coded Parent
 parent_code =
-    code_by (ℕ × Side) (coded× coded_ℕ side_code) (λ p. (p.key, p.side)) (λ p. record { key = p.0; side = p.1 }) (λ _. refl)
+    code_by (ℕ × Side) (coded× coded_ℕ side_code) (λ p. (p.key, p.side)) (λ p. record { key = p.0; side = p.1 })
+    (λ _. refl)
 
 abbrev pub entry_code : Coded Entry
 entry_code =

@@ -79,7 +79,7 @@ pub struct Pair {
 }
 
 impl Pair {
-    /// Takes the free half. No half is then free.
+    /// Takes the free half, as one that a pair divides or as a live block. No half is then free.
     #[inline(always)]
     pub fn exhaust(&mut self, side: Side, divided: bool)
         requires free { free_side (self.old).state ≡ Some side }
@@ -92,6 +92,7 @@ impl Pair {
             Side::Right => self.right_divided = divided,
         }
     }
+
     /// The free half, if there is one, as a piece of 2^order bytes.
     #[inline(always)]
     pub fn free_piece(&self, order: u32) -> Option<Piece>
