@@ -1,5 +1,5 @@
 -- The halves that are used so, in a list: by length, then by key, and the left one first.
-use Rattle.std.specs.Prelude.{◌≡◌, ℕ, ◌+◌, ◌^◌, Bool, true, false, List, [], ◌∷◌, ◌++◌, map, cond}
+use Rattle.std.specs.Prelude.{ℕ, ◌+◌, ◌^◌, Bool, true, false, List, [], ◌∷◌, ◌++◌, map, cond}
 use Rattle.std.specs.List.{flat_map}
 use Rattle.std.specs.FinMap as finite
 use Rattle.std.specs.FinSet as set

@@ -1,5 +1,5 @@
 -- What the calls of one length do to its pairs.
-use Rattle.std.specs.Prelude.{◌≡◌, ◌≢◌, ℕ, Option, Some, None}
+use Rattle.std.specs.Prelude.{◌≡◌, ◌≢◌, ◌+◌, ◌<◌, ◌^◌, ℕ, Some, None}
 use Rattle.slab.specs.Slab.{Slab, get, Updates}
 use Rattle.gpu_alloc_pairs.specs.Entry.{Entry, use_of, with_use, other_side}
 use Rattle.gpu_alloc_pairs.specs.declared.length.Half.{Half}
@@ -50,3 +50,7 @@ pub record Merges (old new : Slab Entry) (key : ℕ) (side : Side) (w : Whole) :
   pub offset : w.offset ≡ entry.offset
   pub parent : w.parent ≡ entry.parent
   pub updates : Updates old new key None
+
+-- where halves have 2 ^ order bytes, each right half starts below 2 ^ 64
+abbrev pub AreBounded : ℕ → Slab Entry → Type 0
+AreBounded order pairs = (key : ℕ) (e : Entry) → get pairs key ≡ Some e → e.offset + 2 ^ order < 2 ^ 64

@@ -1,5 +1,10 @@
+pub mod Codes
 pub mod Entry
 pub mod Halves
 pub mod Length
+pub mod Links
+pub mod Pieces
+pub mod Ring
+pub mod Seen
 pub mod Space
 pub mod Tree

@@ -10,7 +10,7 @@ use Rattle.gpu_alloc_pairs.specs.Entry.{Entry, use_of, half_start}
 use Rattle.gpu_alloc_pairs.specs.declared.pair.Parent.{Parent}
 use Rattle.gpu_alloc_pairs.specs.declared.pair.Side.{Side}
 use Rattle.gpu_alloc_pairs.specs.declared.pair.Use.{Use}
-use Rattle.gpu_alloc_pairs.specs.declared.pair.Use.TheVariants.{Free, Taken, Divided}
+use Rattle.gpu_alloc_pairs.specs.declared.pair.Use.TheVariants.{Free, Divided}
 
 -- the pair of halves of 2 ^ order bytes under a key
 abbrev pub Pairs : Type 0

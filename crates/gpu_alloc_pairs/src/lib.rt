@@ -3,3 +3,4 @@
 
 mod length;
 mod pair;
+mod ring;

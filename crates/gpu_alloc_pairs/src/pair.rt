@@ -1,5 +1,12 @@
 //! A pair of halves, as it is stored.
 
+ghost use Rattle.std.specs.Prelude.{◌≡◌, ◌≤◌, ◌<◌, ◌+◌, ◌^◌, ℕ, Some};
+ghost use Rattle.gpu_alloc_pairs.specs.Entry.{entry_of, taken_as, with_use};
+ghost use Rattle.gpu_alloc_pairs.specs.Links.{free_side};
+ghost use Rattle.gpu_alloc_pairs.specs.Pieces.{IsFreePieceOf};
+
+use gpu_alloc_base::Piece;
+
 /// A half of a pair.
 #[derive(Clone, Copy)]
 pub enum Side {
@@ -69,4 +76,41 @@ pub struct Pair {
 
     /// Which half is free, if one is.
     pub state: State,
+}
+
+impl Pair {
+    /// Takes the free half, as one that a pair divides or as a live block. No half is then free.
+    #[inline(always)]
+    pub fn exhaust(&mut self, side: Side, divided: bool)
+        requires free { free_side (self.old).state ≡ Some side }
+        ensures exhausted { (self.new).state ≡ State.Exhausted }
+        ensures entry { entry_of self.new ≡ with_use (entry_of self.old) side (taken_as divided) }
+    {
+        self.state = State::Exhausted;
+        match side {
+            Side::Left => self.left_divided = divided,
+            Side::Right => self.right_divided = divided,
+        }
+    }
+
+    /// The free half, if there is one, as a piece of 2^order bytes.
+    #[inline(always)]
+    pub fn free_piece(&self, order: u32) -> Option<Piece>
+        requires short { order ≤ 62 }
+        requires bounded { (self.now).offset + 2 ^ order < 2 ^ 64 }
+        ensures { IsFreePieceOf order (entry_of self.now) result }
+    {
+        let State::Ready { side, .. } = self.state else {
+            return None;
+        };
+        let start = match side {
+            Side::Left => self.offset,
+            Side::Right => self.offset + (1 << order),
+        };
+        Some(Piece {
+            chunk: self.chunk,
+            start,
+            order,
+        })
+    }
 }
