@@ -12,6 +12,7 @@ use Rattle.gpu_alloc_base.proofs.AlignedPowers.{doubled, order-le}
 use Rattle.gpu_alloc_base.proofs.ExactPieces.{same_piece}
 use Rattle.gpu_alloc_base.proofs.Maps.{one_value}
 use Rattle.gpu_alloc_pairs.specs.Entry.{Entry, use_of, with_use, other_side, half_start}
+use Rattle.gpu_alloc_pairs.specs.InHand.{SetsHalf, AddsPair, IsReturning}
 use Rattle.gpu_alloc_pairs.specs.Space.{Space, IsFreeAt}
 use Rattle.gpu_alloc_pairs.specs.Tree.{Pairs, IsHalf, IsReady, IsRoot, Divides, IsPlaced, IsUndivided, LiesIn, IsTree}
 use Rattle.gpu_alloc_pairs.specs.declared.pair.Parent.{Parent}
@@ -23,16 +24,7 @@ use Rattle.gpu_alloc_pairs.proofs.PieceHalves.{halves_of, aligned_joined, join_l
 use Rattle.gpu_alloc_pairs.proofs.PieceSteps.{put}
 use Rattle.gpu_alloc_pairs.proofs.Splits.{free_not_taken}
 use Rattle.gpu_alloc_pairs.proofs.Trees.{piece_at, piece_is, pair_halves, one_entry, one_half, one_use, one_piece, undivided, no_entry, no_left_half, no_right_half, side_or_other, other_is_other}
-use Rattle.gpu_alloc_pairs.proofs.TreeSteps.{SetsHalf, half_set, half_kept, half_back, half_less, piece_set, this_or_other, ready_more, tree_after_set, AddsPair, half_cases, half_stays, half_added, pair_kept, pair_cases, ready_with, not_ready_before, tree_without}
-
--- the half is in hand: it is not free, and no pair divides it
-pub record IsReturning (P : Pairs) (s : Space) (z : Piece) (key : ℕ) (side : Side) : Type 0 where
-  pub tree : IsTree P s.chunks
-  pub now : Use
-  pub half : IsHalf P z key side now
-  pub used : now ≡ Free → ⊥
-  pub whole : IsUndivided P z.order key side
-  pub beside : IsBeside (IsReady P) (IsFreeAt s) z
+use Rattle.gpu_alloc_pairs.proofs.TreeSteps.{half_set, half_kept, half_back, half_less, piece_set, this_or_other, ready_more, tree_after_set, half_cases, half_stays, half_added, pair_kept, pair_cases, ready_with, not_ready_before, tree_without}
 
 module _ (P : Pairs) (s : Space) (z : Piece) (key : ℕ) (side : Side) (r : IsReturning P s z key side) (e : Entry) (at : P z.order key ≡ Some e) where
   same_entry : r.half.entry ≡ e
@@ -156,22 +148,27 @@ module _ (P : Pairs) (s : Space) (z : Piece) (key : ℕ) (side : Side) (r : IsRe
         }
 
     -- It divided a half, which is in hand now.
-    pub returns_next : (p : Parent) → e.parent ≡ Some p → IsReturning Q s whole p.key p.side
-    returns_next p parent =
+    pub next_divided : (p : Parent) → e.parent ≡ Some p → IsHalf Q whole p.key p.side Divided
+    next_divided p parent =
         let d = subst (IsPlaced P s.chunks z.order e) parent (r.tree.placed z.order key e at) in
-        let half : IsHalf P whole p.key p.side Divided = record { entry = d.above; pair = d.pair; chunk = d.chunk; start = d.offset; used = d.divided } in
         record {
-          tree = merged_tree;
-          now = Divided;
-          half = record { entry = d.above; pair = goes_other p.key d.above d.pair; chunk = d.chunk; start = d.offset; used = d.divided };
-          used = λ x. cc;
-          whole = λ below child f step there also. only below child f step there also;
-          beside = merged_beside;
+          entry = d.above;
+          pair = elim (pair_cases Q P z.order key e goes (z.order + 1) p.key d.above d.pair) [ inl here ↦ absurd (omega (arith, here.0)) | inr was ↦ was ];
+          chunk = d.chunk;
+          start = d.offset;
+          used = d.divided;
         }
-      where
-        goes_other : (k : ℕ) (f : Entry) → P (z.order + 1) k ≡ Some f → Q (z.order + 1) k ≡ Some f
-        goes_other k f there = elim (pair_cases Q P z.order key e goes (z.order + 1) k f there) [ inl here ↦ absurd (omega (arith, here.0)) | inr was ↦ was ]
 
+    pub returns_next : (p : Parent) → e.parent ≡ Some p → IsReturning Q s whole p.key p.side
+    returns_next p parent = record {
+      tree = merged_tree;
+      now = Divided;
+      half = next_divided p parent;
+      used = λ x. cc;
+      whole = λ below child f step there also. only below child f step there also;
+      beside = merged_beside;
+    }
+      where
         -- the pair that went was the only one that divided it
         only : (below child : ℕ) (f : Entry) → below + 1 ≡ z.order + 1 → Q below child ≡ Some f → f.parent ≡ Some (record { key = p.key; side = p.side }) → ⊥
         only below child f step there also =

@@ -12,6 +12,8 @@ use Rattle.gpu_alloc_base.proofs.AlignedPowers.{doubled, left-aligned}
 use Rattle.gpu_alloc_base.proofs.ExactPieces.{same_piece}
 use Rattle.gpu_alloc_base.proofs.Maps.{one_value}
 use Rattle.gpu_alloc_pairs.specs.Entry.{Entry, use_of, with_use, other_side, taken_as, half_start}
+use Rattle.gpu_alloc_pairs.specs.InHand.{SetsHalf, AddsPair, IsWholeChunk, IsToDivide, IsHandAt, IsSplitting, IsTakenOut, IsTakenSame, IsTakenMore}
+use Rattle.gpu_alloc_pairs.specs.Lengths.{dividing}
 use Rattle.gpu_alloc_pairs.specs.Space.{Space, IsFreeAt}
 use Rattle.gpu_alloc_pairs.specs.Tree.{Pairs, IsHalf, IsReady, IsRoot, Divides, IsPlaced, IsUndivided, LiesIn, IsTree}
 use Rattle.gpu_alloc_pairs.specs.declared.pair.Parent.{Parent}
@@ -23,31 +25,9 @@ use Rattle.gpu_alloc_pairs.proofs.PieceHalves.{split}
 use Rattle.gpu_alloc_pairs.proofs.PieceSteps.{take}
 use Rattle.gpu_alloc_pairs.proofs.Space.{free_lies}
 use Rattle.gpu_alloc_pairs.proofs.Trees.{piece_at, pair_halves, one_entry, one_half, undivided, no_entry}
-use Rattle.gpu_alloc_pairs.proofs.TreeSteps.{at_place, SetsHalf, half_set, piece_set, this_or_other, half_kept, half_back, half_less, half_gone, ready_less, tree_after_set, AddsPair, half_cases, half_stays, half_added, pair_kept, ready_with, tree_with}
+use Rattle.gpu_alloc_pairs.proofs.TreeSteps.{at_place, half_set, piece_set, this_or_other, half_kept, half_back, half_less, half_gone, ready_less, tree_after_set, half_cases, half_stays, half_added, pair_kept, ready_with, tree_with}
 
 -- What is in hand.
-
--- a chunk that no pair divides yet
-pub record IsWholeChunk (P : Pairs) (chunks : HeldChunks) (z : Piece) : Type 0 where
-  pub chunk : Chunk
-  pub held : finite.get chunks z.chunk ≡ Some chunk
-  pub size : chunk.size ≡ 2 ^ z.order
-  pub start : z.start ≡ 0
-  pub alone : (n k : ℕ) (f : Entry) → P n k ≡ Some f → f.chunk ≡ z.chunk → ⊥
-
--- a half that is to be divided
-pub record IsToDivide (P : Pairs) (z : Piece) (p : Parent) : Type 0 where
-  pub half : IsHalf P z p.key p.side Divided
-  pub whole : IsUndivided P z.order p.key p.side
-
-abbrev pub IsHandAt : Pairs → HeldChunks → Piece → Option Parent → Type 0
-IsHandAt P chunks z None = IsWholeChunk P chunks z
-IsHandAt P chunks z (Some p) = IsToDivide P z p
-
-pub record IsSplitting (P : Pairs) (s : Space) (z : Piece) (o : Option Parent) : Type 0 where
-  pub tree : IsTree P s.chunks
-  pub hand : IsHandAt P s.chunks z o
-  pub beside : IsBeside (IsReady P) (IsFreeAt s) z
 
 -- what is not free is not free as what it is taken as
 pub not_free : (d : Bool) → taken_as d ≡ Free → ⊥
@@ -58,13 +38,6 @@ pub divided_or_whole : (P : Pairs) (order key : ℕ) (side : Side) (d : Bool) �
 divided_or_whole P order key side d whole = inr whole
 
 -- A free half is taken.
-
--- the half is in hand, and not free any more
-pub record IsTakenOut (Q : Pairs) (s : Space) (z : Piece) (key : ℕ) (side : Side) (d : Bool) : Type 0 where
-  pub tree : IsTree Q s.chunks
-  pub half : IsHalf Q z key side (taken_as d)
-  pub whole : IsUndivided Q z.order key side
-  pub beside : IsBeside (IsReady Q) (IsFreeAt s) z
 
 free_not_divided : (u : Use) → u ≡ Free → u ≡ Divided → ⊥
 free_not_divided u a b = cc
@@ -91,10 +64,6 @@ module _ (P Q : Pairs) (s : Space) (order key : ℕ) (side : Side) (e : Entry) (
           w below child f step (sym (sets.others below child (λ a _. omega (arith, a, step))) ∙ at) parent
 
 -- Another pair divides what is in hand.
-
--- the pair that does so
-abbrev pub dividing : Piece → Option Parent → Bool → Entry
-dividing z o d = record { chunk = z.chunk; offset = z.start; parent = o; left = taken_as d; right = Free }
 
 abbrev pub left_half : Piece → ℕ → Piece
 left_half z order = record { chunk = z.chunk; start = z.start; order = order }
@@ -178,17 +147,6 @@ pub splits_next : (Q : Pairs) (s : Space) (z : Piece) (key : ℕ) (side : Side) 
 splits_next Q s z key side out = record { tree = out.tree; hand = record { half = out.half; whole = out.whole }; beside = out.beside }
 
 -- Which halves are live blocks.
-
--- the same as before
-pub record IsTakenSame (P Q : Pairs) : Type 0 where
-  pub to : (p : Piece) (k : ℕ) (a : Side) → IsHalf P p k a Taken → IsHalf Q p k a Taken
-  pub from : (p : Piece) (k : ℕ) (a : Side) → IsHalf Q p k a Taken → IsHalf P p k a Taken
-
--- and one more
-pub record IsTakenMore (P Q : Pairs) (z : Piece) (key : ℕ) (side : Side) : Type 0 where
-  pub kept : (p : Piece) (k : ℕ) (a : Side) → IsHalf P p k a Taken → IsHalf Q p k a Taken
-  pub added : IsHalf Q z key side Taken
-  pub cases : (p : Piece) (k : ℕ) (a : Side) → IsHalf Q p k a Taken → ((p ≡ z) × ((k ≡ key) × (a ≡ side))) ⊎ IsHalf P p k a Taken
 
 pub same_then_same : (P Q R : Pairs) → IsTakenSame P Q → IsTakenSame Q R → IsTakenSame P R
 same_then_same P Q R a b = record { to = λ p k x h. b.to p k x (a.to p k x h); from = λ p k x h. a.from p k x (b.from p k x h) }

@@ -7,6 +7,7 @@ use Rattle.gpu_alloc_base.specs.FreeSpace.{IsMultipleOf}
 use Rattle.gpu_alloc_base.specs.Pieces.{IsWith}
 use Rattle.gpu_alloc_base.specs.declared.piece.Piece.{Piece}
 use Rattle.gpu_alloc_pairs.specs.Entry.{Entry, use_of, with_use, other_side, half_start}
+use Rattle.gpu_alloc_pairs.specs.InHand.{SetsHalf, AddsPair}
 use Rattle.gpu_alloc_pairs.specs.Tree.{Pairs, IsHalf, IsReady, IsRoot, Divides, IsPlaced, IsUndivided, LiesIn, IsTree}
 use Rattle.gpu_alloc_pairs.specs.declared.pair.Parent.{Parent}
 use Rattle.gpu_alloc_pairs.specs.declared.pair.Side.{Side}
@@ -31,11 +32,6 @@ pub above_is_other : (order n : ℕ) → n ≡ order → n + 1 ≡ order → ⊥
 above_is_other order n a b = omega (arith, a, b)
 
 -- A half is used otherwise.
-
-pub record SetsHalf (P Q : Pairs) (order key : ℕ) (side : Side) (e : Entry) (now : Use) : Type 0 where
-  pub was : P order key ≡ Some e
-  pub there : Q order key ≡ Some (with_use e side now)
-  pub others : (n k : ℕ) → (n ≡ order → k ≡ key → ⊥) → Q n k ≡ P n k
 
 module _ (P Q : Pairs) (order key : ℕ) (side : Side) (e : Entry) (now : Use) (s : SetsHalf P Q order key side e now) where
   abbrev now_e : Entry
@@ -223,11 +219,6 @@ module _ (P Q : Pairs) (order key : ℕ) (side : Side) (e : Entry) (now : Use) (
   }
 
 -- A pair comes, or goes.
-
-pub record AddsPair (P Q : Pairs) (order key : ℕ) (e : Entry) : Type 0 where
-  pub vacant : P order key ≡ None
-  pub there : Q order key ≡ Some e
-  pub others : (n k : ℕ) → (n ≡ order → k ≡ key → ⊥) → Q n k ≡ P n k
 
 module _ (P Q : Pairs) (order key : ℕ) (e : Entry) (s : AddsPair P Q order key e) where
   -- what was there is elsewhere

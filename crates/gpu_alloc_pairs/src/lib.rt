@@ -2,5 +2,9 @@
 #![tactic(auto)]
 
 mod length;
+mod lengths;
 mod pair;
+mod pairs;
 mod ring;
+
+pub use pairs::Pairs;
