@@ -8,15 +8,16 @@ use Rattle.slab.specs.Slab.{Slab, slab_len}
 use Rattle.gpu_alloc_types.specs.declared.types.FreeRange.{FreeRange}
 use Rattle.gpu_alloc_base.specs.Accounts.{HeldChunks}
 use Rattle.gpu_alloc_base.specs.Chunks.{Chunk, object_in}
-use Rattle.gpu_alloc_base.specs.FreeSpace.{IsFreePiece}
+use Rattle.gpu_alloc_base.specs.FreeSpace.{IsFreePiece, IsMultipleOf}
 use Rattle.gpu_alloc_base.specs.Pieces.{IsCanonical, same_place}
 use Rattle.gpu_alloc_base.specs.declared.buddy_block.Leaf.{Leaf}
 use Rattle.gpu_alloc_base.specs.declared.piece.Piece.{Piece}
-use Rattle.gpu_alloc_pairs.specs.Entry.{Entry}
+use Rattle.gpu_alloc_pairs.specs.Entry.{Entry, half_start}
 use Rattle.gpu_alloc_pairs.specs.Halves.{free_pieces, live_leaves}
 use Rattle.gpu_alloc_pairs.specs.Space.{Space, IsFreeAt, HasPlace, IsFront, IsSoundSpace, IsUnusedChunk, with_leaf}
 use Rattle.gpu_alloc_pairs.specs.Space.{without_leaf, without_chunk}
-use Rattle.gpu_alloc_pairs.specs.Tree.{IsReady, IsTree, pair_at, no_pairs}
+use Rattle.gpu_alloc_pairs.specs.Tree.{IsReady, IsTree, pair_at}
+use Rattle.gpu_alloc_pairs.specs.declared.pair.Side.{Side}
 
 -- The held chunks and the live blocks; the free halves of all pairs, as pieces; and how many more pairs of each length,
 -- and how many more chunks, there is room for.
@@ -74,7 +75,30 @@ TakesPlace s size (Ok None) new = (HasPlace s size → ⊥) × (new ≡ s)
 TakesPlace s size (Ok (Some leaf)) new = IsFront s size leaf × (new ≡ with_leaf s leaf)
 TakesPlace s size (Err e) new = HasPlace s size × (new ≡ s)
 
--- A piece of 2^k times the block's size was looked for in k + 1 lengths, and split k times.
-pub record CountsTaking (s : Space) (leaf : Leaf) (looks splits : ℕ) : Type 0 where
-  pub piece : IsFreePiece (IsFreeAt s) leaf.chunk leaf.offset (leaf.size * 2 ^ splits)
-  pub looked : looks ≡ splits + 1
+-- at least none, and at most 63 lengths are looked at
+abbrev pub CountsLooks : ℕ → ℕ → Type 0
+CountsLooks old new = (old ≤ new) × (new ≤ old + 63)
+
+-- a block is the front of a free piece of 2^k times its size: that took k + 1 looks and k splits
+pub record CountsFront (s : Space) (leaf : Leaf) (looks now splits after : ℕ) : Type 0 where
+  pub doublings : ℕ
+  pub few : doublings ≤ 62
+  pub piece : IsFreePiece (IsFreeAt s) leaf.chunk leaf.offset (leaf.size * 2 ^ doublings)
+  pub looked : now ≡ looks + doublings + 1
+  pub split : after ≡ splits + doublings
+
+abbrev pub CountsTaking : {E : Type 0} → Space → Result (Option Leaf) E → ℕ → ℕ → ℕ → ℕ → Type 0
+CountsTaking s (Ok (Some leaf)) looks now splits after = CountsFront s leaf looks now splits after
+CountsTaking s (Ok None) looks now splits after = CountsLooks looks now × (after ≡ splits)
+CountsTaking s (Err e) looks now splits after = CountsLooks looks now × (after ≡ splits)
+
+-- no held chunk is of this object
+abbrev pub IsUnheld : Space → ℕ → Type 0
+IsUnheld s object = (key : ℕ) (chunk : Chunk) → finite.get s.chunks key ≡ Some chunk → chunk.object ≡ object → ⊥
+
+-- which half of an aligned range of twice its length starts there
+abbrev pub HasSide : ℕ → ℕ → Side → Type 0
+HasSide offset order side = (m : ℕ) × (offset ≡ half_start (2 ^ order) (m * 2 ^ (order + 1)) side)
+
+abbrev pub StartsHalf : ℕ → ℕ → Type 0
+StartsHalf offset order = IsMultipleOf (2 ^ order) offset

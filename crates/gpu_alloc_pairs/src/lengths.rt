@@ -1,9 +1,11 @@
 //! The pairs of all lengths: a free half is looked for, taken and split, and comes back.
 
-ghost use Rattle.std.specs.Prelude.{◌≡◌, ◌≤◌, ◌<◌, ◌+◌, ◌^◌, OnOk, Some, None, IfSome, IfNone, length, slice_index_or, false};
+ghost use Rattle.std.specs.Prelude.{◌≡◌, ◌≤◌, ◌<◌, ◌+◌, ◌^◌, ℕ, OnOk, IfOk, Some, None, IfSome, IfNone, length, slice_index_or, false};
 ghost use Rattle.slab.specs.Slab.{HasRoomFor};
 ghost use Rattle.gpu_alloc_pairs.specs.Entry.{half_start};
 ghost use Rattle.gpu_alloc_base.specs.Pieces.{IsCanonical};
+ghost use Rattle.gpu_alloc_pairs.specs.Halves.{free_pieces};
+ghost use Rattle.gpu_alloc_pairs.specs.Length.{AreBounded};
 ghost use Rattle.gpu_alloc_pairs.specs.InHand.{AddsPair, IsSplitting, IsTakenMore, IsTakenOut};
 ghost use Rattle.gpu_alloc_pairs.specs.Lengths.{ComesBack, FewReleases, FindsNone, FindsNoneUpTo, GoesWhole, HasPair};
 ghost use Rattle.gpu_alloc_pairs.specs.Lengths.{HasRoomsFor, HasSameSlots, IsFound, IsFreeHalf, IsFrontTaken, KeepsShorter};
@@ -15,6 +17,7 @@ ghost use Rattle.gpu_alloc_pairs.specs.declared.pair.Side.{Side as SideOf};
 
 use crate::length::{Half, Length, Whole};
 use crate::pair::{Parent, Side};
+use gpu_alloc_base::Piece;
 use gpu_alloc_base::steps::Steps;
 use std::alloc::{AllocError, Allocator};
 use std::sync::ledger::Ledger;
@@ -341,4 +344,17 @@ pub fn put_back<A: Allocator, K: Ledger>(
         half = parent.side;
     }
     None
+}
+
+/// The free halves of all lengths, as pieces.
+pub fn free_pieces<A: Allocator + Copy>(lengths: &Lengths<A>) -> Result<Vec<Piece, A>, AllocError>
+    requires all { length lengths.now.items ≡ 63 }
+    requires bounded { (n : ℕ) → AreBounded n (slice_index_or lengths.now.items n no_pairs) }
+    ensures { IfOk result (λ pieces. pieces.items ≡ free_pieces lengths.now.items) }
+{
+    let mut pieces = Vec::new(*lengths.allocator());
+    for n in 0..ORDERS {
+        lengths[n as usize].list_free(n, &mut pieces)?;
+    }
+    Ok(pieces)
 }
