@@ -45,7 +45,7 @@ module _ (chunks : HeldChunks) (old new : List (Slab Entry)) (same : HasSameSlot
   pub same_space : space_in chunks new ≡ space_in chunks old
   same_space = ap (λ hs. record { chunks = chunks; live = set.from_list (map (leaf_of chunks) hs) }) (same_halves old new Taken 0 same)
 
-  same_pairing : pair_at new ≡ pair_at old
+  pub same_pairing : pair_at new ≡ pair_at old
   same_pairing = λ i n k. same_pairs old new same n k i
 
   pub same_count : length new ≡ length old
