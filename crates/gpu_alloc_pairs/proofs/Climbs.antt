@@ -19,7 +19,7 @@ use Rattle.gpu_alloc_pairs.specs.declared.pair.Parent.{Parent}
 use Rattle.gpu_alloc_pairs.specs.declared.pair.Side.{Side}
 use Rattle.gpu_alloc_pairs.specs.declared.pair.Use.TheVariants.{Free, Taken, Divided}
 use Rattle.gpu_alloc_pairs.proofs.Returns.{freed_tree, freed_canonical, freed_kept, freed_back, merged_tree, merged_kept, merged_back, merged_beside, next_divided, returns_next, root, alone, in_hand_used}
-use Rattle.gpu_alloc_pairs.proofs.Trees.{one_use, no_entry}
+use Rattle.gpu_alloc_pairs.proofs.Trees.{one_entry, one_use, no_entry}
 
 -- A pair is of one of the lengths that there are.
 pub pair_in_range : (lengths : List (Slab Entry)) (n k : ℕ) (e : Entry) → pair_at lengths n k ≡ Some e → n < length lengths
@@ -69,6 +69,12 @@ module _ (P Q R : Pairs) (s : Space) (z : Piece) (order key : ℕ) (side : Side)
     abbrev e : Entry
     e = t.0
 
+    -- it lies in the chunk of what came back
+    same_chunk : e.chunk ≡ z.chunk
+    same_chunk =
+        let same : c.returning.half.entry ≡ e = one_entry (Q w.order key) c.returning.half.entry e c.returning.half.pair t.1.0 in
+        ap (λ (x : Entry). x.chunk) (sym same) ∙ sym c.returning.half.chunk ∙ c.chunk
+
     -- its pair divided a half, which comes back next
     pub climb_next : (p : Parent) → whole.parent ≡ Some p → IsClimbed P R s z (order + 1) p.key p.side
     climb_next p parent =
@@ -77,7 +83,7 @@ module _ (P Q R : Pairs) (s : Space) (z : Piece) (order key : ℕ) (side : Side)
         record {
           now = record { chunk = e.chunk; start = e.offset; order = w.order + 1 };
           of_order = ap (λ n. n + 1) c.of_order;
-          chunk = sym (in_chunk c.returning.half.entry c.returning.half.pair) ∙ sym c.returning.half.chunk ∙ c.chunk;
+          chunk = same_chunk;
           returning = returns_next Q s w key side c.returning e t.1.0 R t.1.1.0 t.1.1.1.0 p is;
           beside = record {
             to = λ p' k a h other.
@@ -87,12 +93,6 @@ module _ (P Q R : Pairs) (s : Space) (z : Piece) (order key : ℕ) (side : Side)
             from = λ p' k a h other. let b = merged_back Q s w key side c.returning e t.1.0 R t.1.1.0 t.1.1.1.0 p' k a h in c.beside.from p' k a b.0 b.1;
           };
         }
-      where
-        in_chunk : (f : Entry) → Q w.order key ≡ Some f → f.chunk ≡ e.chunk
-        in_chunk f there = let same : f ≡ e = one (Q w.order key) f there t.1.0 in ap (λ (x : Entry). x.chunk) same
-          where
-            one : (o : Option Entry) (f : Entry) → o ≡ Some f → o ≡ Some e → f ≡ e
-            one o f x y = cc
 
     -- its pair was its whole chunk
     pub climb_ends : whole.parent ≡ None → IsWholeAgain P R s z whole.chunk
@@ -103,6 +103,7 @@ module _ (P Q R : Pairs) (s : Space) (z : Piece) (order key : ℕ) (side : Side)
           tree = merged_tree Q s w key side c.returning e t.1.0 R t.1.1.0 t.1.1.1.0;
           whole = record { chunk = e.chunk; start = e.offset; order = w.order + 1 };
           named = sym t.1.1.1.1.0;
+          of_piece = same_chunk;
           alone = record { chunk = r.chunk; held = r.held; size = r.size; start = r.offset; alone = alone Q s w key side c.returning e t.1.0 R t.1.1.0 t.1.1.1.0 is };
           beside = merged_beside Q s w key side c.returning e t.1.0 R t.1.1.0 t.1.1.1.0;
           less = record {

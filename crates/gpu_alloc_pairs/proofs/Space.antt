@@ -12,6 +12,7 @@ use Rattle.gpu_alloc_base.specs.Pieces.{InPiece, IsCanonical, Without, IsBeside}
 use Rattle.gpu_alloc_base.specs.declared.buddy_block.Leaf.{Leaf}
 use Rattle.gpu_alloc_base.specs.declared.piece.Piece.{Piece}
 use Rattle.gpu_alloc_base.proofs.AlignedPowers.{order-le}
+use Rattle.gpu_alloc_base.proofs.ExactPieces.{whole_chunk}
 use Rattle.gpu_alloc_base.proofs.Maps.{one_value, gone, kept_other, own_inserted, other_inserted}
 use Rattle.gpu_alloc_base.proofs.Leaves.{leaf_inserted, leaf_removed, leaf_same_or_left}
 use Rattle.gpu_alloc_pairs.specs.Space.{Space, IsLiveLeaf, IsFreeAt}
@@ -202,3 +203,22 @@ module _ (Has : Piece → Type 0) (b b' : Space) (x : Piece) (chunk : Chunk) (le
 
       here : (key : ℕ) (held : Chunk) → key ≡ x.chunk → map.get b.chunks key ≡ Some held → chunk ≡ held
       here key held same at = one_value _ chunk held is (ap (λ n. map.get b.chunks n) (sym same) ∙ at)
+
+-- A chunk with a live block in it.
+
+-- a chunk that is wholly free has no live block in it
+pub whole_is_unused : (b : Space) (p : Piece) (held : Chunk) → map.get b.chunks p.chunk ≡ Some held → held.size ≡ 2 ^ p.order → ((at : ℕ) → InPiece p at → IsFreeAt b p.chunk at)
+    → (leaf : Leaf) → IsLiveLeaf b leaf → leaf.chunk ≡ p.chunk → 0 < leaf.size → leaf.offset + leaf.size ≤ held.size → ⊥
+whole_is_unused b p held is length_is free leaf t named some inside =
+    let starts = whole_starts b p held is length_is free in
+    (free leaf.offset (record { from = omega (arith, starts); to = omega (arith, starts, length_is, some, inside) })).unused leaf t named (record { from = omega arith; to = omega (arith, some) })
+
+-- one that has none is kept as one piece
+pub unused_is_kept : (Has : Piece → Type 0) (b : Space) (key order : ℕ) (held : Chunk) → IsCanonical Has (IsFreeAt b) → map.get b.chunks key ≡ Some held → held.size ≡ 2 ^ order
+    → ((leaf : Leaf) → IsLiveLeaf b leaf → leaf.chunk ≡ key → ⊥) → Has (record { chunk = key; start = 0; order = order })
+unused_is_kept Has b key order held k is length_is unused =
+    whole_chunk Has (IsFreeAt b) k key order
+    (λ at i. record { held = held; is = is; inside = omega (arith, i.to, length_is); unused = λ leaf t named j. unused leaf t named })
+    (λ at f. let same : f.held ≡ held = one_value _ f.held held f.is is in
+    let sizes : f.held.size ≡ held.size = ap (λ c. c.size) same in
+    omega (arith, f.inside, sizes, length_is))

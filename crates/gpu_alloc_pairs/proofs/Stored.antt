@@ -158,7 +158,7 @@ module _ (chunks : HeldChunks) (lengths : List (Slab Entry)) (i : IsStored chunk
 -- What is live.
 
 -- a block that is a taken half
-leaf_is : (chunks : HeldChunks) (z : Piece) (key : ℕ) (side : Side) (leaf : Leaf) → IsLeafOf leaf z → leaf.index ≡ key → leaf.object ≡ object_in (finite.get chunks z.chunk)
+pub leaf_is : (chunks : HeldChunks) (z : Piece) (key : ℕ) (side : Side) (leaf : Leaf) → IsLeafOf leaf z → leaf.index ≡ key → leaf.object ≡ object_in (finite.get chunks z.chunk)
     → leaf_of chunks (record { piece = z; key = key; side = side }) ≡ leaf
 leaf_is chunks z key side leaf of index object = λ i. record { object = sym object i; chunk = sym of.chunk i; offset = sym of.offset i; size = sym of.size i; index = sym index i }
 

@@ -128,6 +128,7 @@ pub record IsWholeAgain (P Q : Pairs) (s : Space) (z : Piece) (chunk : ℕ) : Ty
   pub tree : IsTree Q s.chunks
   pub whole : Piece
   pub named : whole.chunk ≡ chunk
+  pub of_piece : whole.chunk ≡ z.chunk
   pub alone : IsWholeChunk Q s.chunks whole
   pub beside : IsBeside (IsReady Q) (IsFreeAt s) whole
   pub less : IsTakenLess P Q z
