@@ -31,7 +31,7 @@ use Rattle.gpu_alloc_pairs.proofs.Begins.{live_chunks, tree_chunks}
 use Rattle.gpu_alloc_pairs.proofs.Halves.{live_leaves_are, live_less}
 use Rattle.gpu_alloc_pairs.proofs.Sound.{sound_left, sound_without, was_another}
 use Rattle.gpu_alloc_pairs.proofs.Space.{IsLeafOf, chunk_goes, returned, unused_is_kept, whole_is_unused}
-use Rattle.gpu_alloc_pairs.proofs.Trees.{one_entry, undivided}
+use Rattle.gpu_alloc_pairs.proofs.Trees.{one_half, undivided}
 
 -- Powers and sides, which tell a half by its bytes.
 
@@ -68,7 +68,7 @@ module _ (chunks : HeldChunks) (old : List (Slab Entry)) (i : IsStored chunks ol
   abbrev left : Space
   left = without_leaf s leaf
 
-  at_half : (h : HalfAt) × (IsHalf (pair_at old) h.piece h.key h.side Taken × (leaf_of chunks h ≡ leaf))
+  pub at_half : (h : HalfAt) × (IsHalf (pair_at old) h.piece h.key h.side Taken × (leaf_of chunks h ≡ leaf))
   at_half = (live_leaves_are chunks old leaf).0 live
 
   abbrev h : HalfAt
@@ -149,4 +149,73 @@ module _ (chunks : HeldChunks) (old : List (Slab Entry)) (i : IsStored chunks ol
               let order_is : (k.piece).order ≡ (h.piece).order = same_order (k.piece).order (h.piece).order (ap (λ (l : Leaf). l.size) same) in
               λ j. record { chunk = chunk j; start = start j; order = order_is j }
           told : (k : HalfAt) → IsHalf (pair_at old) k.piece k.key k.side Taken → k.piece ≡ h.piece → leaf_of chunks k ≡ leaf
-          told k half same = ?
+          told k half same =
+              let one = one_half (pair_at old) chunks i.tree h.piece k.key h.key k.side h.side Taken Taken (subst (λ p. IsHalf (pair_at old) p k.key k.side Taken) same half) at_half.1.0 in
+              ap (leaf_of chunks) (λ j. record { piece = same j; key = one.0 j; side = one.1 j }) ∙ at_half.1.1
+
+      -- Its half is free again.
+      module _ (again : IsFreeAgain (pair_at old) (pair_at new) left h.piece) where
+        pub left_space : space_in chunks new ≡ left
+        left_space = ap (λ l. record { chunks = chunks; live = l }) (live_left again.less)
+
+        -- another block of the chunk is live, since no free half is as long as the chunk
+        still_used : IsUsedChunk left leaf.chunk
+        still_used =
+            let leaves : List Leaf = map (leaf_of chunks) (halves_from Taken 0 new) in
+            let l = i.sound.inside leaf live in
+            let power = i.sound.powers leaf.chunk l.chunk l.held in
+            elim (seek (λ (q : Leaf). q.chunk == leaf.chunk) leaves) [
+              | inl found ↦ (found.0, (ap (λ (t : Space). set.contains t.live found.0) (sym left_space) ∙ (in_leaves leaves found.0).1 found.1, (Decides-eqb (found.0).chunk leaf.chunk).0 found.2))
+              | inr none ↦ absurd (
+                  let whole = unused_is_kept (IsReady (pair_at new)) left leaf.chunk power.0 l.chunk again.canonical l.held power.1.1
+                      (λ q q_live named. true≢false (sym ((Decides-eqb q.chunk leaf.chunk).1 named) ∙ none q ((in_leaves leaves q).0 (ap (λ (t : Space). set.contains t.live q) left_space ∙ q_live)))) in
+                  let half = whole.half in
+                  let inside = again.tree.inside power.0 whole.key half.entry half.pair in
+                  let same : inside.chunk ≡ l.chunk = one_value _ inside.chunk l.chunk (ap (finite.get chunks) half.chunk ∙ inside.held) l.held in
+                  omega (arith, inside.inside, ap (λ (x : Chunk). x.size) same, power.1.1, doubled power.0, pow_pos power.0))
+            ]
+
+        pub still_in_use : IsUnusedChunk left leaf.chunk → ⊥
+        still_in_use unused = unused still_used.0 still_used.1.0 still_used.1.1
+
+        pub stored_left : IsStored chunks new
+        stored_left = record {
+          count = count ∙ i.count;
+          tree = again.tree;
+          canonical = subst (λ (t : Space). IsCanonical (IsReady (pair_at new)) (IsFreeAt t)) (sym left_space) again.canonical;
+          sound = subst IsSoundSpace (sym left_space) (sound_left s leaf i.sound still_used);
+        }
+
+      -- Its chunk is free as a whole, and goes.
+      module _ (gone : ℕ) (whole : IsWholeAgain (pair_at old) (pair_at new) left h.piece gone) where
+        pub gone_is : gone ≡ leaf.chunk
+        gone_is = sym whole.named ∙ whole.of_piece ∙ sym leaf_piece.chunk
+
+        here : (whole.whole).chunk ≡ leaf.chunk
+        here = whole.of_piece ∙ sym leaf_piece.chunk
+
+        pub no_more_in_use : IsUnusedChunk left leaf.chunk
+        no_more_in_use q q_live named =
+            let was = was_another s leaf i.sound q q_live in
+            let l = i.sound.inside q was.1 in
+            let a = whole.alone in
+            let same : l.chunk ≡ a.chunk = one_value _ l.chunk a.chunk l.held (ap (finite.get chunks) (named ∙ sym here) ∙ a.held) in
+            whole_is_unused left whole.whole a.chunk a.held a.size (λ at j. whole.beside.inside at j) q q_live (named ∙ sym here) (omega (arith, l.power.1, pow_pos l.power.0)) (omega (arith, l.inside, ap (λ (x : Chunk). x.size) same))
+
+        abbrev fewer : HeldChunks
+        fewer = finite.remove chunks leaf.chunk
+
+        others_same : (n k : ℕ) (f : Entry) → pair_at new n k ≡ Some f → finite.get fewer f.chunk ≡ finite.get chunks f.chunk
+        others_same n k f at = kept_other chunks leaf.chunk f.chunk (λ same. whole.alone.alone n k f at (same ∙ sym here))
+
+        pub gone_space : space_in fewer new ≡ without_chunk s leaf
+        gone_space = ap (λ l. record { chunks = fewer; live = l }) (live_chunks chunks fewer new others_same ∙ live_left whole.less)
+
+        pub stored_gone : IsStored fewer new
+        stored_gone = record {
+          count = count ∙ i.count;
+          tree = tree_chunks (pair_at new) chunks fewer others_same whole.tree;
+          canonical = subst (λ (t : Space). IsCanonical (IsReady (pair_at new)) (IsFreeAt t)) (sym gone_space)
+              (chunk_goes (IsReady (pair_at new)) left (without_chunk s leaf) whole.whole whole.alone.chunk whole.alone.size refl whole.alone.held (ap (finite.remove chunks) (sym here)) whole.beside);
+          sound = subst IsSoundSpace (sym gone_space) (sound_without s leaf i.sound no_more_in_use);
+        }

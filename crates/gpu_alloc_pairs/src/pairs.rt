@@ -5,6 +5,7 @@ ghost use Rattle.std.specs.Prelude.{OnOk, Some, None, Contains, map as map_list}
 ghost use Rattle.std.specs.FinMap as map;
 ghost use Rattle.std.specs.FinSet as set;
 ghost use Rattle.gpu_alloc_base.specs.Chunks.{Chunk as HeldChunk};
+ghost use Rattle.gpu_alloc_base.specs.FreeSpace.{IsPowerOfTwo};
 ghost use Rattle.gpu_alloc_pairs.specs.Space.{HasPlace, IsLiveLeaf, IsSoundSpace, IsUnusedChunk, BeginsChunk};
 ghost use Rattle.gpu_alloc_pairs.specs.Space.{with_chunk, with_leaf, without_chunk, without_leaf};
 ghost use Rattle.gpu_alloc_pairs.specs.Store.{AreFew, CountsLooks, CountsTaking, HasRooms, IsExact, IsUnheld, KeepsStore};
@@ -178,11 +179,12 @@ impl<M: MemoryObject, A: Allocator> Pairs<M, A> {
         ensures few { (chunk : HeldChunk) → map.get ((self.old).space).chunks leaf.chunk ≡ Some chunk
             → leaf.size * 2 ^ (releases.new - releases.old) ≤ chunk.size }
     {
-        let order = leaf.size.trailing_zeros();
+        self.keeps_exact();
+        let order = order_of(leaf.size);
         let side = side_of(leaf.offset, order);
         let gone = lengths::put_back(&mut self.lengths, order, leaf.index, side, releases)?;
         let Chunk { memory, order } = self.chunks.remove(gone);
-        Some((memory, 1 << order))
+        Some((memory, bytes(order)))
     }
 
     /// The size of a held chunk, in bytes.
@@ -239,6 +241,23 @@ fn leaf_of(front: Front, order: u32, object: u64) -> Leaf
         size: 1 << order,
         index: front.key,
     }
+}
+
+/// How many bytes a range of this order has.
+fn bytes(order: u32) -> u64
+    requires { order < 64 }
+    ensures { result ≡ 2 ^ order }
+{
+    1 << order
+}
+
+/// The order of a block of this many bytes.
+fn order_of(size: u64) -> u32
+    requires { IsPowerOfTwo size }
+    ensures is { size ≡ 2 ^ result }
+    ensures short { result < 64 }
+{
+    size.trailing_zeros()
 }
 
 /// Which half of its pair a block of 2^order bytes is that starts there.
