@@ -192,7 +192,7 @@ impl<M: MemoryObject, A: Allocator> Pairs<M, A> {
         requires { IsSome (map.get ((self.now).space).chunks chunk) }
         ensures { IfSome (map.get ((self.now).space).chunks chunk) (λ c. c.size ≡ result) }
     {
-        1 << self.chunks[chunk].order
+        bytes(self.chunks[chunk].order)
     }
 
     /// Nothing is done: its contract tells what every store keeps.
@@ -213,7 +213,7 @@ impl<M: MemoryObject, A: Allocator> Pairs<M, A> {
         FreeRange {
             object: self.chunks[piece.chunk].memory.object(),
             start: piece.start,
-            end: piece.start + (1 << piece.order),
+            end: piece.start + bytes(piece.order),
         }
     }
 
@@ -266,7 +266,7 @@ fn side_of(offset: u64, order: u32) -> Side
     requires half { StartsHalf offset order }
     ensures { HasSide offset order result }
 {
-    if offset >> order & 1 == 0 {
+    if (offset >> order) % 2 == 0 {
         Side::Left
     } else {
         Side::Right
