@@ -17,7 +17,12 @@ odd offset p q some is other =
     let one : q ≡ 2 * (q / 2) + 1 = let rest : (q % 2 ≡ 0 → ⊥) = λ e. other (ap (λ n. n % 2) same ∙ e) in omega (arith, rest) in
     omega (arith, is, ap (λ n. n * p) one)
 
-pub returns-then-offset-order-2-eq0 : goal.returns-then-offset-order-2-eq0
-returns-then-offset-order-2-eq0 c =
+pub returns-then-offset-order-eq0 : goal.returns-then-offset-order-eq0
+returns-then-offset-order-eq0 c =
     let q : ℕ = c.requires.half.0 in
-    (q / 2, even c.args.offset (2 ^ c.args.order) q (pow_pos c.args.order) c.requires.half.1 c.if-offset-order-2-eq0.true ∙ ap (λ n. q / 2 * n) (sym (doubled c.args.order)))
+    (q / 2, even c.args.offset (2 ^ c.args.order) q (pow_pos c.args.order) c.requires.half.1 c.if-offset-order-eq0.true ∙ ap (λ n. q / 2 * n) (sym (doubled c.args.order)))
+
+pub returns-else-offset-order-eq0 : goal.returns-else-offset-order-eq0
+returns-else-offset-order-eq0 c =
+    let q : ℕ = c.requires.half.0 in
+    (q / 2, odd c.args.offset (2 ^ c.args.order) q (pow_pos c.args.order) c.requires.half.1 c.if-offset-order-eq0.false ∙ ap (λ n. q / 2 * n + 2 ^ c.args.order) (sym (doubled c.args.order)))

@@ -39,4 +39,4 @@ pub returns-clause-exact : goal.returns-clause-exact
 returns-clause-exact g c = subst IsExact c.self.view_is (exact_in _ _ c.self.inside.lengths.items c.self.invariant)
 
 pub returns-clause-few : goal.returns-clause-few
-returns-clause-few g c = subst AreFew c.self.view_is (few_in _ _ c.self.inside.lengths.items c.self.invariant)
+returns-clause-few g c = subst AreFew c.self.view_is (few_in _ 0 c.self.inside.lengths.items c.self.invariant)
