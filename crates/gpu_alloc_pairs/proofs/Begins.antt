@@ -1,13 +1,11 @@
 -- A chunk comes, and a block is made of its front.
-use Rattle.std.proofs.Common.{◌≡◌, ◌≢◌, ℕ, ◌+◌, ◌*◌, ◌^◌, ◌<◌, ◌≤◌, List, length, IsTrue, Option, Some, None, refl, sym, ◌∙◌, ap, subst, arith, false}
+use Rattle.std.proofs.Common.{◌≡◌, ◌≢◌, ℕ, ◌^◌, ◌<◌, ◌≤◌, List, length, Option, Some, None, refl, sym, ◌∙◌, ap, subst, arith, false}
 use Rattle.std.proofs.Math.Nat.{zero-mul}
 use Rattle.std.specs.FinMap as finite
 use Rattle.std.specs.FinSet as set
 use Rattle.slab.specs.Slab.{Slab}
 use Rattle.gpu_alloc_base.specs.Accounts.{HeldChunks}
 use Rattle.gpu_alloc_base.specs.Chunks.{Chunk, object_in}
-use Rattle.gpu_alloc_base.specs.FreeSpace.{IsIn}
-use Rattle.gpu_alloc_base.specs.Leaves.{leaf_cmp}
 use Rattle.gpu_alloc_base.specs.Pieces.{IsCanonical}
 use Rattle.gpu_alloc_base.specs.declared.buddy_block.Leaf.{Leaf}
 use Rattle.gpu_alloc_base.specs.declared.piece.Piece.{Piece}
@@ -18,11 +16,10 @@ use Rattle.gpu_alloc_pairs.specs.Entry.{Entry}
 use Rattle.gpu_alloc_pairs.specs.Halves.{HalfAt, leaf_of, live_leaves}
 use Rattle.gpu_alloc_pairs.specs.InHand.{IsSplitting, IsTakenMore, IsTakenOut}
 use Rattle.gpu_alloc_pairs.specs.Lengths.{whole_of}
-use Rattle.gpu_alloc_pairs.specs.Space.{Space, IsFreeAt, IsLiveLeaf, IsSoundSpace, BeginsChunk, chunks_with, with_chunk, with_leaf}
+use Rattle.gpu_alloc_pairs.specs.Space.{Space, IsFreeAt, IsSoundSpace, BeginsChunk, chunks_with, with_chunk, with_leaf}
 use Rattle.gpu_alloc_pairs.specs.Store.{IsStored, space_in}
 use Rattle.gpu_alloc_pairs.specs.Tree.{Pairs, IsHalf, IsReady, IsPlaced, IsTree, pair_at}
 use Rattle.gpu_alloc_pairs.specs.declared.pair.Parent.{Parent}
-use Rattle.gpu_alloc_pairs.specs.declared.pair.Side.{Side}
 use Rattle.gpu_alloc_pairs.specs.declared.pair.Side.TheVariants.{Left}
 use Rattle.gpu_alloc_pairs.specs.declared.pair.Use.TheVariants.{Taken}
 use Rattle.gpu_alloc_pairs.proofs.Halves.{live_leaves_are, same_live}

@@ -1,5 +1,5 @@
 -- A half that comes back is climbed from, pair by pair.
-use Rattle.std.proofs.Common.{◌≡◌, ◌≢◌, ℕ, ◌+◌, ◌-◌, ◌^◌, ◌<◌, ◌≤◌, List, length, get_or, Option, Some, None, refl, sym, ◌∙◌, ap, subst, arith}
+use Rattle.std.proofs.Common.{◌≡◌, ℕ, ◌+◌, ◌^◌, ◌<◌, ◌≤◌, List, length, Some, None, refl, sym, ◌∙◌, ap, subst, arith}
 use Rattle.std.proofs.lemmas.Bool.{cases_lt}
 use Rattle.std.proofs.lemmas.List.{get_or_past}
 use Rattle.std.proofs.Common.{inl, inr}
@@ -7,9 +7,8 @@ use Rattle.std.specs.FinMap as finite
 use Rattle.slab.specs.Slab.{Slab, get}
 use Rattle.gpu_alloc_base.specs.Chunks.{Chunk}
 use Rattle.gpu_alloc_base.specs.declared.piece.Piece.{Piece}
-use Rattle.gpu_alloc_base.proofs.AlignedPowers.{doubled}
 use Rattle.gpu_alloc_base.proofs.Maps.{one_value}
-use Rattle.gpu_alloc_pairs.specs.Entry.{Entry, use_of, other_side}
+use Rattle.gpu_alloc_pairs.specs.Entry.{Entry}
 use Rattle.gpu_alloc_pairs.specs.InHand.{IsReturning, IsTakenBeside}
 use Rattle.gpu_alloc_pairs.specs.Lengths.{ComesBack, HasPair, IsFreeAgain, IsWholeAgain, Releases}
 use Rattle.gpu_alloc_pairs.specs.Space.{Space}
@@ -17,8 +16,8 @@ use Rattle.gpu_alloc_pairs.specs.Tree.{Pairs, IsHalf, pair_at, no_pairs}
 use Rattle.gpu_alloc_pairs.specs.declared.length.Whole.{Whole}
 use Rattle.gpu_alloc_pairs.specs.declared.pair.Parent.{Parent}
 use Rattle.gpu_alloc_pairs.specs.declared.pair.Side.{Side}
-use Rattle.gpu_alloc_pairs.specs.declared.pair.Use.TheVariants.{Free, Taken, Divided}
-use Rattle.gpu_alloc_pairs.proofs.Returns.{freed_tree, freed_canonical, freed_kept, freed_back, merged_tree, merged_kept, merged_back, merged_beside, next_divided, returns_next, root, alone, in_hand_used}
+use Rattle.gpu_alloc_pairs.specs.declared.pair.Use.TheVariants.{Taken, Divided}
+use Rattle.gpu_alloc_pairs.proofs.Returns.{freed_tree, freed_canonical, freed_kept, freed_back, merged_tree, merged_kept, merged_back, merged_beside, next_divided, returns_next, root, alone}
 use Rattle.gpu_alloc_pairs.proofs.Trees.{one_entry, one_use, no_entry}
 
 -- A pair is of one of the lengths that there are.

@@ -1,22 +1,22 @@
 -- Lengths of no pair: nothing is held and nothing is live.
-use Rattle.std.proofs.Common.{◌≡◌, ℕ, zero, suc, ◌+◌, ◌^◌, List, [], ◌∷◌, ◌++◌, length, map, get_or, Option, Some, None, refl, sym, ◌∙◌, ap, subst, arith}
+use Rattle.std.proofs.Common.{◌≡◌, ℕ, zero, suc, ◌+◌, List, [], ◌∷◌, ◌++◌, length, map, get_or, Some, None, refl, sym, ◌∙◌, ap, subst}
 use Rattle.std.specs.FinMap as finite
 use Rattle.std.specs.FinSet as set
 use Rattle.std.specs.List.{AllByRecursion}
 use Rattle.std.proofs.Common.{nat_cmp}
-use Rattle.slab.specs.Slab.{Slab, get}
+use Rattle.slab.specs.Slab.{Slab}
 use Rattle.gpu_alloc_base.specs.Accounts.{HeldChunks}
 use Rattle.gpu_alloc_base.specs.Chunks.{Chunk}
 use Rattle.gpu_alloc_base.specs.declared.buddy_block.Leaf.{Leaf}
 use Rattle.gpu_alloc_base.proofs.Leaves.{in_leaves}
 use Rattle.gpu_alloc_base.proofs.Lists.{contains_none}
 use Rattle.gpu_alloc_pairs.specs.Entry.{Entry}
-use Rattle.gpu_alloc_pairs.specs.Halves.{HalfAt, halves_of_length, halves_from, leaf_of, live_leaves}
-use Rattle.gpu_alloc_pairs.specs.Space.{Space, IsFreeAt, IsLiveLeaf, IsSoundSpace}
+use Rattle.gpu_alloc_pairs.specs.Halves.{halves_of_length, halves_from, leaf_of}
+use Rattle.gpu_alloc_pairs.specs.Space.{Space, IsLiveLeaf, IsSoundSpace}
 use Rattle.gpu_alloc_pairs.specs.Store.{IsStored, space_in}
-use Rattle.gpu_alloc_pairs.specs.Tree.{Pairs, IsReady, IsTree, no_pairs, pair_at}
+use Rattle.gpu_alloc_pairs.specs.Tree.{IsReady, no_pairs, pair_at}
 use Rattle.gpu_alloc_pairs.specs.declared.pair.Use.{Use}
-use Rattle.gpu_alloc_pairs.specs.declared.pair.Use.TheVariants.{Free, Taken}
+use Rattle.gpu_alloc_pairs.specs.declared.pair.Use.TheVariants.{Taken}
 
 -- each of the lengths is empty
 abbrev pub AreEmpty : List (Slab Entry) → Type 0

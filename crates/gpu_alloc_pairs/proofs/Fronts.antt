@@ -1,15 +1,15 @@
 -- The front of a free half becomes a block.
-use Rattle.std.proofs.Common.{◌≡◌, ℕ, ◌^◌, Bool, true, false, Some, refl, sym, ◌∙◌, ap, subst}
+use Rattle.std.proofs.Common.{◌≡◌, ℕ, ◌^◌, Bool, true, false, refl, sym, ◌∙◌, ap, subst}
 use Rattle.gpu_alloc_base.specs.Pieces.{IsCanonical}
 use Rattle.gpu_alloc_base.specs.declared.piece.Piece.{Piece}
 use Rattle.gpu_alloc_base.proofs.ExactPieces.{same_piece}
-use Rattle.gpu_alloc_pairs.specs.Entry.{Entry, half_start}
-use Rattle.gpu_alloc_pairs.specs.InHand.{IsSplitting, IsTakenOut, IsTakenMore, IsTakenSame}
+use Rattle.gpu_alloc_pairs.specs.Entry.{half_start}
+use Rattle.gpu_alloc_pairs.specs.InHand.{IsTakenOut, IsTakenMore, IsTakenSame}
 use Rattle.gpu_alloc_pairs.specs.Lengths.{TakesHalf}
 use Rattle.gpu_alloc_pairs.specs.Space.{Space, IsFreeAt}
 use Rattle.gpu_alloc_pairs.specs.Tree.{Pairs, IsReady, IsTree}
 use Rattle.gpu_alloc_pairs.specs.declared.length.Half.{Half}
-use Rattle.gpu_alloc_pairs.proofs.Splits.{taken_out, taken_divided, taken_whole, splits_next}
+use Rattle.gpu_alloc_pairs.proofs.Splits.{taken_out, taken_divided, taken_whole}
 use Rattle.gpu_alloc_pairs.proofs.Trees.{piece_at}
 
 -- the piece that a half is

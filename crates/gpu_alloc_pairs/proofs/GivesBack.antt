@@ -1,5 +1,5 @@
 -- A live block comes back to the store, and its chunk may go.
-use Rattle.std.proofs.Common.{◌≡◌, ◌≢◌, ◌⊎◌, inl, inr, ℕ, ◌+◌, ◌-◌, ◌*◌, ◌^◌, ◌<◌, ◌≤◌, ◌==◌, true, false, List, length, map, IsTrue, Option, Some, None, refl, sym, ◌∙◌, ap, subst, arith}
+use Rattle.std.proofs.Common.{◌≡◌, inl, inr, ℕ, ◌+◌, ◌-◌, ◌*◌, ◌^◌, ◌<◌, ◌≤◌, ◌==◌, List, length, map, Some, refl, sym, ◌∙◌, ap, subst, arith}
 use Rattle.std.proofs.lemmas.Bool.Decides.{Decides-eqb}
 use Rattle.std.proofs.lemmas.Nat.{pow_pos, pow-add}
 use Rattle.std.proofs.Math.Nat.{lt_of_mul-lt-mul_right}
@@ -9,11 +9,10 @@ use Rattle.std.specs.FinSet as set
 use Rattle.slab.specs.Slab.{Slab}
 use Rattle.gpu_alloc_base.specs.Accounts.{HeldChunks}
 use Rattle.gpu_alloc_base.specs.Chunks.{Chunk}
-use Rattle.gpu_alloc_base.specs.FreeSpace.{IsIn, IsMultipleOf}
-use Rattle.gpu_alloc_base.specs.Pieces.{IsCanonical, IsBeside}
+use Rattle.gpu_alloc_base.specs.FreeSpace.{IsMultipleOf}
+use Rattle.gpu_alloc_base.specs.Pieces.{IsCanonical}
 use Rattle.gpu_alloc_base.specs.declared.buddy_block.Leaf.{Leaf}
-use Rattle.gpu_alloc_base.specs.declared.piece.Piece.{Piece}
-use Rattle.gpu_alloc_base.proofs.AlignedPowers.{doubled, order-le, pow-le}
+use Rattle.gpu_alloc_base.proofs.AlignedPowers.{doubled, order-le}
 use Rattle.gpu_alloc_base.proofs.Leaves.{in_leaves}
 use Rattle.gpu_alloc_base.proofs.Lists.{seek}
 use Rattle.gpu_alloc_base.proofs.Maps.{one_value, kept_other}
@@ -21,12 +20,12 @@ use Rattle.gpu_alloc_pairs.specs.Entry.{Entry, half_start}
 use Rattle.gpu_alloc_pairs.specs.Halves.{HalfAt, halves_from, leaf_of, live_leaves}
 use Rattle.gpu_alloc_pairs.specs.InHand.{IsReturning, IsTakenLess}
 use Rattle.gpu_alloc_pairs.specs.Lengths.{ComesBack, FewReleases, IsFreeAgain, IsWholeAgain}
-use Rattle.gpu_alloc_pairs.specs.Space.{Space, IsFreeAt, IsLiveLeaf, IsSoundSpace, IsUnusedChunk, IsUsedChunk, LiesInChunk, without_chunk, without_leaf}
+use Rattle.gpu_alloc_pairs.specs.Space.{Space, IsFreeAt, IsLiveLeaf, IsSoundSpace, IsUnusedChunk, IsUsedChunk, without_chunk, without_leaf}
 use Rattle.gpu_alloc_pairs.specs.Store.{HasSide, IsStored, space_in}
-use Rattle.gpu_alloc_pairs.specs.Tree.{Pairs, IsHalf, IsReady, IsTree, pair_at}
+use Rattle.gpu_alloc_pairs.specs.Tree.{IsHalf, IsReady, pair_at}
 use Rattle.gpu_alloc_pairs.specs.declared.pair.Side.{Side}
 use Rattle.gpu_alloc_pairs.specs.declared.pair.Side.TheVariants.{Left, Right}
-use Rattle.gpu_alloc_pairs.specs.declared.pair.Use.TheVariants.{Free, Taken, Divided}
+use Rattle.gpu_alloc_pairs.specs.declared.pair.Use.TheVariants.{Taken, Divided}
 use Rattle.gpu_alloc_pairs.proofs.Begins.{live_chunks, tree_chunks}
 use Rattle.gpu_alloc_pairs.proofs.Halves.{live_leaves_are, live_less}
 use Rattle.gpu_alloc_pairs.proofs.Sound.{sound_left, sound_without, was_another}
@@ -133,14 +132,14 @@ module _ (chunks : HeldChunks) (old : List (Slab Entry)) (i : IsStored chunks ol
       -- the other blocks are live still
       live_left : IsTakenLess (pair_at old) (pair_at new) h.piece → live_leaves chunks new ≡ set.remove (live_leaves chunks old) leaf
       live_left less = live_less (live_leaves chunks old) (live_leaves chunks new) leaf (λ q. (
-          (λ t.
+        (λ t.
             let w = (live_leaves_are chunks new q).0 t in
             let b = less.from (w.0).piece (w.0).key (w.0).side w.1.0 in
             ((λ same. b.1 (piece_same w.0 (w.1.1 ∙ same ∙ sym at_half.1.1))), (live_leaves_are chunks old q).1 (w.0, (b.0, w.1.1)))),
-          (λ t.
+        (λ t.
             let w = (live_leaves_are chunks old q).0 t.1 in
             (live_leaves_are chunks new q).1 (w.0, (less.to (w.0).piece (w.0).key (w.0).side w.1.0 (λ same. t.0 (sym w.1.1 ∙ told w.0 w.1.0 same)), w.1.1))),
-        ))
+      ))
         where
           piece_same : (k : HalfAt) → leaf_of chunks k ≡ leaf_of chunks h → k.piece ≡ h.piece
           piece_same k same =
@@ -148,6 +147,7 @@ module _ (chunks : HeldChunks) (old : List (Slab Entry)) (i : IsStored chunks ol
               let start : (k.piece).start ≡ (h.piece).start = ap (λ (l : Leaf). l.offset) same in
               let order_is : (k.piece).order ≡ (h.piece).order = same_order (k.piece).order (h.piece).order (ap (λ (l : Leaf). l.size) same) in
               λ j. record { chunk = chunk j; start = start j; order = order_is j }
+
           told : (k : HalfAt) → IsHalf (pair_at old) k.piece k.key k.side Taken → k.piece ≡ h.piece → leaf_of chunks k ≡ leaf
           told k half same =
               let one = one_half (pair_at old) chunks i.tree h.piece k.key h.key k.side h.side Taken Taken (subst (λ p. IsHalf (pair_at old) p k.key k.side Taken) same half) at_half.1.0 in
@@ -168,7 +168,7 @@ module _ (chunks : HeldChunks) (old : List (Slab Entry)) (i : IsStored chunks ol
               | inl found ↦ (found.0, (ap (λ (t : Space). set.contains t.live found.0) (sym left_space) ∙ (in_leaves leaves found.0).1 found.1, (Decides-eqb (found.0).chunk leaf.chunk).0 found.2))
               | inr none ↦ absurd (
                   let whole = unused_is_kept (IsReady (pair_at new)) left leaf.chunk power.0 l.chunk again.canonical l.held power.1.1
-                      (λ q q_live named. true≢false (sym ((Decides-eqb q.chunk leaf.chunk).1 named) ∙ none q ((in_leaves leaves q).0 (ap (λ (t : Space). set.contains t.live q) left_space ∙ q_live)))) in
+                  (λ q q_live named. true≢false (sym ((Decides-eqb q.chunk leaf.chunk).1 named) ∙ none q ((in_leaves leaves q).0 (ap (λ (t : Space). set.contains t.live q) left_space ∙ q_live)))) in
                   let half = whole.half in
                   let inside = again.tree.inside power.0 whole.key half.entry half.pair in
                   let same : inside.chunk ≡ l.chunk = one_value _ inside.chunk l.chunk (ap (finite.get chunks) half.chunk ∙ inside.held) l.held in

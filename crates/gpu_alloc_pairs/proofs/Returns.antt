@@ -1,30 +1,25 @@
 -- A half is in hand and comes back: it is free again, or its pair goes and what the pair divided is in hand.
-use Rattle.std.proofs.Common.{◌≡◌, ℕ, zero, suc, ◌+◌, ◌*◌, ◌-◌, ◌^◌, ◌<◌, ◌≤◌, ◌⊎◌, inl, inr, Option, Some, None, refl, sym, ◌∙◌, ap, subst, arith}
-use Rattle.std.proofs.lemmas.Bool.{cases_eq}
-use Rattle.std.proofs.lemmas.Nat.{pow_pos}
+use Rattle.std.proofs.Common.{◌≡◌, ℕ, zero, suc, ◌+◌, ◌-◌, ◌^◌, ◌<◌, ◌≤◌, inl, inr, Option, Some, None, refl, sym, ◌∙◌, ap, subst, arith}
 use Rattle.std.specs.FinMap as finite
-use Rattle.gpu_alloc_base.specs.Accounts.{HeldChunks}
 use Rattle.gpu_alloc_base.specs.Chunks.{Chunk}
-use Rattle.gpu_alloc_base.specs.FreeSpace.{IsIn, IsMultipleOf}
-use Rattle.gpu_alloc_base.specs.Pieces.{InPiece, IsCanonical, Without, IsBeside, IsWith, joined, AreHalves}
+use Rattle.gpu_alloc_base.specs.FreeSpace.{IsMultipleOf}
+use Rattle.gpu_alloc_base.specs.Pieces.{InPiece, IsCanonical, Without, IsBeside, IsWith, AreHalves}
 use Rattle.gpu_alloc_base.specs.declared.piece.Piece.{Piece}
-use Rattle.gpu_alloc_base.proofs.AlignedPowers.{doubled, order-le}
-use Rattle.gpu_alloc_base.proofs.ExactPieces.{same_piece}
+use Rattle.gpu_alloc_base.proofs.AlignedPowers.{order-le}
 use Rattle.gpu_alloc_base.proofs.Maps.{one_value}
-use Rattle.gpu_alloc_pairs.specs.Entry.{Entry, use_of, with_use, other_side, half_start}
+use Rattle.gpu_alloc_pairs.specs.Entry.{Entry, use_of, other_side, half_start}
 use Rattle.gpu_alloc_pairs.specs.InHand.{SetsHalf, AddsPair, IsReturning}
 use Rattle.gpu_alloc_pairs.specs.Space.{Space, IsFreeAt}
-use Rattle.gpu_alloc_pairs.specs.Tree.{Pairs, IsHalf, IsReady, IsRoot, Divides, IsPlaced, IsUndivided, LiesIn, IsTree}
+use Rattle.gpu_alloc_pairs.specs.Tree.{Pairs, IsHalf, IsReady, IsRoot, Divides, IsPlaced, IsUndivided, IsTree}
 use Rattle.gpu_alloc_pairs.specs.declared.pair.Parent.{Parent}
 use Rattle.gpu_alloc_pairs.specs.declared.pair.Side.{Side}
 use Rattle.gpu_alloc_pairs.specs.declared.pair.Side.TheVariants.{Left, Right}
-use Rattle.gpu_alloc_pairs.specs.declared.pair.Use.{Use}
 use Rattle.gpu_alloc_pairs.specs.declared.pair.Use.TheVariants.{Free, Taken, Divided}
-use Rattle.gpu_alloc_pairs.proofs.PieceHalves.{halves_of, aligned_joined, join_left, join_right, splits}
+use Rattle.gpu_alloc_pairs.proofs.PieceHalves.{halves_of, join_left, join_right, splits}
 use Rattle.gpu_alloc_pairs.proofs.PieceSteps.{put}
 use Rattle.gpu_alloc_pairs.proofs.Splits.{free_not_taken}
-use Rattle.gpu_alloc_pairs.proofs.Trees.{piece_at, piece_is, pair_halves, one_entry, one_half, one_use, one_piece, undivided, no_entry, no_left_half, no_right_half, side_or_other, other_is_other}
-use Rattle.gpu_alloc_pairs.proofs.TreeSteps.{half_set, half_kept, half_back, half_less, piece_set, this_or_other, ready_more, tree_after_set, half_cases, half_stays, half_added, pair_kept, pair_cases, ready_with, not_ready_before, tree_without}
+use Rattle.gpu_alloc_pairs.proofs.Trees.{piece_at, piece_is, pair_halves, one_entry, one_half, one_use, one_piece, undivided, no_entry, no_left_half, no_right_half, side_or_other}
+use Rattle.gpu_alloc_pairs.proofs.TreeSteps.{half_set, half_kept, half_less, ready_more, tree_after_set, half_cases, half_stays, pair_kept, pair_cases, ready_with, not_ready_before, tree_without}
 
 module _ (P : Pairs) (s : Space) (z : Piece) (key : ℕ) (side : Side) (r : IsReturning P s z key side) (e : Entry) (at : P z.order key ≡ Some e) where
   same_entry : r.half.entry ≡ e

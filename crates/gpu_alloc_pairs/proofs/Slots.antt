@@ -1,12 +1,12 @@
 -- Lengths of which only the room changes: their pairs are the same, and so are their halves.
-use Rattle.std.proofs.Common.{◌≡◌, ◌≢◌, inl, inr, ℕ, zero, suc, ◌+◌, ◌≤◌, ◌<◌, List, [], ◌∷◌, ◌++◌, length, map, get_or, slice_set, Option, Some, None, refl, sym, ◌∙◌, ap, subst, arith}
+use Rattle.std.proofs.Common.{◌≡◌, inl, inr, ℕ, ◌+◌, ◌<◌, List, [], ◌∷◌, ◌++◌, length, map, get_or, slice_set, Option, None, refl, sym, ◌∙◌, ap, subst, arith}
 use Rattle.std.proofs.Math.ListN.{get_or-map}
 use Rattle.std.proofs.Math.Seq.{map-set_same}
 use Rattle.std.proofs.lemmas.Bool.{cases_eq}
 use Rattle.std.proofs.lemmas.List.{get_or_default, get_or-set_same, get_or-set_other}
-use Rattle.slab.specs.Slab.{Slab, get, HasRoomFor}
+use Rattle.slab.specs.Slab.{Slab, HasRoomFor}
 use Rattle.gpu_alloc_pairs.specs.Entry.{Entry}
-use Rattle.gpu_alloc_pairs.specs.Halves.{HalfAt, halves_of_length, halves_from}
+use Rattle.gpu_alloc_pairs.specs.Halves.{halves_of_length, halves_from}
 use Rattle.gpu_alloc_pairs.specs.Lengths.{HasRoomsFor, HasSameSlots}
 use Rattle.gpu_alloc_pairs.specs.Tree.{pair_at, no_pairs}
 use Rattle.gpu_alloc_pairs.specs.declared.pair.Use.{Use}

@@ -1,14 +1,12 @@
 -- What is sound stays so, as a block is given out and comes back, and as a chunk comes and goes.
-use Rattle.std.proofs.Common.{◌≡◌, ◌≢◌, inl, inr, ◌⊎◌, ℕ, ◌+◌, ◌*◌, ◌-◌, ◌^◌, ◌<◌, ◌≤◌, IsTrue, Option, Some, None, refl, sym, ◌∙◌, ap, subst, arith}
+use Rattle.std.proofs.Common.{◌≡◌, ◌≢◌, inl, inr, ℕ, ◌+◌, ◌^◌, ◌≤◌, Some, None, refl, sym, ◌∙◌, ap, subst}
 use Rattle.std.proofs.lemmas.Bool.{cases_eq}
-use Rattle.std.proofs.lemmas.Nat.{pow_pos}
 use Rattle.std.specs.FinMap as map
-use Rattle.std.specs.FinSet as set
 use Rattle.gpu_alloc_base.specs.Chunks.{Chunk}
 use Rattle.gpu_alloc_base.specs.FreeSpace.{IsIn, IsMultipleOf, IsPowerUpTo}
 use Rattle.gpu_alloc_base.specs.declared.buddy_block.Leaf.{Leaf}
 use Rattle.gpu_alloc_base.proofs.Leaves.{leaf_removed, now_live, still_live, was_live}
-use Rattle.gpu_alloc_base.proofs.Maps.{one_value, inserted_cases, inserted_kept, own_inserted, kept_key, kept_other}
+use Rattle.gpu_alloc_base.proofs.Maps.{inserted_cases, inserted_kept, own_inserted, kept_key, kept_other}
 use Rattle.gpu_alloc_pairs.specs.Space.{Space, IsFreeAt, IsLiveLeaf, IsSoundSpace, IsUnusedChunk, IsUsedChunk, LiesInChunk, with_leaf, with_chunk, without_leaf, without_chunk}
 
 -- A block more.

@@ -1,21 +1,20 @@
 -- A range is in hand and is split: first a free half that is taken, or a new chunk, then the left half of each pair that
 -- divides what was in hand.
-use Rattle.std.proofs.Common.{◌≡◌, ℕ, suc, ◌+◌, ◌*◌, ◌^◌, ◌<◌, ◌≤◌, ◌⊎◌, inl, inr, Bool, true, false, Option, Some, None, refl, sym, ◌∙◌, ap, subst, arith}
+use Rattle.std.proofs.Common.{◌≡◌, ℕ, ◌+◌, ◌*◌, ◌^◌, ◌⊎◌, inl, inr, Bool, true, false, Option, Some, None, refl, sym, ◌∙◌, ap, subst, arith}
 use Rattle.std.proofs.lemmas.Nat.{pow_pos}
 use Rattle.std.specs.FinMap as finite
-use Rattle.gpu_alloc_base.specs.Accounts.{HeldChunks}
 use Rattle.gpu_alloc_base.specs.Chunks.{Chunk}
-use Rattle.gpu_alloc_base.specs.FreeSpace.{IsIn, IsMultipleOf}
-use Rattle.gpu_alloc_base.specs.Pieces.{InPiece, IsCanonical, Without, IsBeside, IsWith, joined, AreHalves}
+use Rattle.gpu_alloc_base.specs.FreeSpace.{IsMultipleOf}
+use Rattle.gpu_alloc_base.specs.Pieces.{InPiece, IsCanonical, Without, IsWith, joined}
 use Rattle.gpu_alloc_base.specs.declared.piece.Piece.{Piece}
 use Rattle.gpu_alloc_base.proofs.AlignedPowers.{doubled, left-aligned}
 use Rattle.gpu_alloc_base.proofs.ExactPieces.{same_piece}
 use Rattle.gpu_alloc_base.proofs.Maps.{one_value}
-use Rattle.gpu_alloc_pairs.specs.Entry.{Entry, use_of, with_use, other_side, taken_as, half_start}
-use Rattle.gpu_alloc_pairs.specs.InHand.{SetsHalf, AddsPair, IsWholeChunk, IsToDivide, IsHandAt, IsSplitting, IsTakenOut, IsTakenSame, IsTakenMore}
+use Rattle.gpu_alloc_pairs.specs.Entry.{Entry, use_of, taken_as, half_start}
+use Rattle.gpu_alloc_pairs.specs.InHand.{SetsHalf, AddsPair, IsHandAt, IsSplitting, IsTakenOut, IsTakenSame, IsTakenMore}
 use Rattle.gpu_alloc_pairs.specs.Lengths.{dividing}
 use Rattle.gpu_alloc_pairs.specs.Space.{Space, IsFreeAt}
-use Rattle.gpu_alloc_pairs.specs.Tree.{Pairs, IsHalf, IsReady, IsRoot, Divides, IsPlaced, IsUndivided, LiesIn, IsTree}
+use Rattle.gpu_alloc_pairs.specs.Tree.{Pairs, IsHalf, IsReady, IsPlaced, IsUndivided, LiesIn, IsTree}
 use Rattle.gpu_alloc_pairs.specs.declared.pair.Parent.{Parent}
 use Rattle.gpu_alloc_pairs.specs.declared.pair.Side.{Side}
 use Rattle.gpu_alloc_pairs.specs.declared.pair.Side.TheVariants.{Left, Right}
@@ -25,7 +24,7 @@ use Rattle.gpu_alloc_pairs.proofs.PieceHalves.{split}
 use Rattle.gpu_alloc_pairs.proofs.PieceSteps.{take}
 use Rattle.gpu_alloc_pairs.proofs.Space.{free_lies}
 use Rattle.gpu_alloc_pairs.proofs.Trees.{piece_at, pair_halves, one_entry, one_half, undivided, no_entry}
-use Rattle.gpu_alloc_pairs.proofs.TreeSteps.{at_place, half_set, piece_set, this_or_other, half_kept, half_back, half_less, half_gone, ready_less, tree_after_set, half_cases, half_stays, half_added, pair_kept, ready_with, tree_with}
+use Rattle.gpu_alloc_pairs.proofs.TreeSteps.{at_place, half_set, piece_set, this_or_other, half_kept, half_back, half_less, half_gone, ready_less, tree_after_set, half_cases, half_stays, half_added, ready_with, tree_with}
 
 -- What is in hand.
 

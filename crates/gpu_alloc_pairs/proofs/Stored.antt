@@ -1,34 +1,32 @@
 -- What the store keeps, as a block is taken: what is found, and what is live then.
-use Rattle.std.proofs.Common.{◌≡◌, ◌≢◌, ℕ, ◌+◌, ◌-◌, ◌*◌, ◌^◌, ◌<◌, ◌≤◌, ◌⊎◌, inl, inr, List, length, map, get_or, IsTrue, IsSome, Option, Some, None, true, false, refl, sym, ◌∙◌, ap, subst, arith}
+use Rattle.std.proofs.Common.{◌≡◌, ℕ, ◌+◌, ◌-◌, ◌*◌, ◌^◌, ◌<◌, ◌≤◌, ◌⊎◌, inl, inr, List, length, map, get_or, IsTrue, Some, refl, sym, ◌∙◌, ap, subst, arith}
 use Rattle.std.proofs.Math.ListN.{get_or-map}
 use Rattle.std.proofs.lemmas.List.{length-map}
 use Rattle.std.proofs.lemmas.Bool.{cases_lt}
-use Rattle.std.proofs.lemmas.Nat.{pow_pos}
 use Rattle.std.specs.FinMap as finite
 use Rattle.std.specs.FinSet as set
-use Rattle.slab.specs.Slab.{Slab, HasRoomFor, slab_len}
+use Rattle.slab.specs.Slab.{Slab, slab_len}
 use Rattle.gpu_alloc_base.specs.Accounts.{HeldChunks}
 use Rattle.gpu_alloc_base.specs.Chunks.{Chunk, object_in}
-use Rattle.gpu_alloc_base.specs.FreeSpace.{IsIn, IsMultipleOf, IsFreePiece}
-use Rattle.gpu_alloc_base.specs.Leaves.{leaf_cmp}
-use Rattle.gpu_alloc_base.specs.Pieces.{InPiece, IsCanonical, IsBeside}
+use Rattle.gpu_alloc_base.specs.FreeSpace.{IsIn, IsFreePiece}
+use Rattle.gpu_alloc_base.specs.Pieces.{IsCanonical}
 use Rattle.gpu_alloc_base.specs.declared.buddy_block.Leaf.{Leaf}
 use Rattle.gpu_alloc_base.specs.declared.piece.Piece.{Piece}
 use Rattle.gpu_alloc_base.proofs.AlignedPowers.{pow-from_shorter, pow-le, order-le}
 use Rattle.gpu_alloc_base.proofs.ExactPieces.{kept_is_free_piece, free_piece_is_kept, piece_for_place}
 use Rattle.gpu_alloc_base.proofs.ListedRanges.{told_object}
 use Rattle.gpu_alloc_base.proofs.Maps.{one_value}
-use Rattle.gpu_alloc_pairs.specs.Entry.{Entry, use_of, half_start}
-use Rattle.gpu_alloc_pairs.specs.Halves.{HalfAt, leaf_of, live_leaves, free_pieces, halves_from}
-use Rattle.gpu_alloc_pairs.specs.InHand.{IsTakenOut, IsTakenMore}
+use Rattle.gpu_alloc_pairs.specs.Entry.{Entry, half_start}
+use Rattle.gpu_alloc_pairs.specs.Halves.{HalfAt, leaf_of, live_leaves, free_pieces}
+use Rattle.gpu_alloc_pairs.specs.InHand.{IsTakenMore}
 use Rattle.gpu_alloc_pairs.specs.Lengths.{FindsNoneUpTo, HasRoomsFor, HasSameSlots, IsFound, IsFrontTaken, piece_of}
-use Rattle.gpu_alloc_pairs.specs.Space.{Space, IsFreeAt, IsLiveLeaf, IsSoundSpace, HasPlace, IsFront, LiesInChunk, with_leaf}
-use Rattle.gpu_alloc_pairs.specs.Store.{Store, HasRooms, IsStored, KeepsStore, rooms_in, space_in, store_in}
-use Rattle.gpu_alloc_pairs.specs.Tree.{Pairs, IsHalf, IsReady, IsTree, pair_at, no_pairs}
+use Rattle.gpu_alloc_pairs.specs.Space.{Space, IsFreeAt, IsSoundSpace, HasPlace, IsFront, LiesInChunk, with_leaf}
+use Rattle.gpu_alloc_pairs.specs.Store.{IsStored, KeepsStore, rooms_in, space_in, store_in}
+use Rattle.gpu_alloc_pairs.specs.Tree.{Pairs, IsReady, IsTree, pair_at, no_pairs}
 use Rattle.gpu_alloc_pairs.specs.declared.lengths.Found.{Found}
 use Rattle.gpu_alloc_pairs.specs.declared.lengths.Front.{Front}
 use Rattle.gpu_alloc_pairs.specs.declared.pair.Side.{Side}
-use Rattle.gpu_alloc_pairs.specs.declared.pair.Use.TheVariants.{Free, Taken, Divided}
+use Rattle.gpu_alloc_pairs.specs.declared.pair.Use.TheVariants.{Free, Taken}
 use Rattle.gpu_alloc_pairs.proofs.Climbs.{pair_in_range}
 use Rattle.gpu_alloc_pairs.proofs.Fronts.{half_piece}
 use Rattle.gpu_alloc_pairs.proofs.Halves.{live_leaves_are, live_more}
@@ -174,6 +172,7 @@ live_with chunks old new z key side leaf is more = live_more (live_leaves chunks
           | inl here ↦ inl (sym w.1.1 ∙ ap (leaf_of chunks) (λ i. record { piece = here.0 i; key = here.1.0 i; side = here.1.1 i }) ∙ is)
           | inr was ↦ inr ((live_leaves_are chunks old q).1 (w.0, (was, w.1.1)))
         ]
+
     from : (q : Leaf) → (q ≡ leaf) ⊎ IsTrue (set.contains (live_leaves chunks old) q) → IsTrue (set.contains (live_leaves chunks new) q)
     from q (inl same) = (live_leaves_are chunks new q).1 (record { piece = z; key = key; side = side }, (more.added, is ∙ sym same))
     from q (inr was) =

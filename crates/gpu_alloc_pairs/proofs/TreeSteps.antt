@@ -1,5 +1,5 @@
 -- One pair changes: a half of it is used otherwise, or it comes or goes. What stays a tree, and which halves there are.
-use Rattle.std.proofs.Common.{◌≡◌, ℕ, ◌+◌, ◌*◌, ◌^◌, ◌⊎◌, inl, inr, Option, Some, None, refl, sym, ◌∙◌, ap, subst, arith}
+use Rattle.std.proofs.Common.{◌≡◌, ℕ, ◌+◌, ◌^◌, ◌⊎◌, inl, inr, Option, Some, None, refl, sym, ◌∙◌, ap, subst, arith}
 use Rattle.std.proofs.lemmas.Bool.{cases_eq}
 use Rattle.std.specs.FinMap as finite
 use Rattle.gpu_alloc_base.specs.Accounts.{HeldChunks}
@@ -8,12 +8,12 @@ use Rattle.gpu_alloc_base.specs.Pieces.{IsWith}
 use Rattle.gpu_alloc_base.specs.declared.piece.Piece.{Piece}
 use Rattle.gpu_alloc_pairs.specs.Entry.{Entry, use_of, with_use, other_side, half_start}
 use Rattle.gpu_alloc_pairs.specs.InHand.{SetsHalf, AddsPair}
-use Rattle.gpu_alloc_pairs.specs.Tree.{Pairs, IsHalf, IsReady, IsRoot, Divides, IsPlaced, IsUndivided, LiesIn, IsTree}
+use Rattle.gpu_alloc_pairs.specs.Tree.{Pairs, IsHalf, IsReady, Divides, IsPlaced, IsUndivided, LiesIn, IsTree}
 use Rattle.gpu_alloc_pairs.specs.declared.pair.Parent.{Parent}
 use Rattle.gpu_alloc_pairs.specs.declared.pair.Side.{Side}
 use Rattle.gpu_alloc_pairs.specs.declared.pair.Side.TheVariants.{Left, Right}
 use Rattle.gpu_alloc_pairs.specs.declared.pair.Use.{Use}
-use Rattle.gpu_alloc_pairs.specs.declared.pair.Use.TheVariants.{Free, Taken, Divided}
+use Rattle.gpu_alloc_pairs.specs.declared.pair.Use.TheVariants.{Free, Divided}
 use Rattle.gpu_alloc_pairs.proofs.Trees.{cases_side, use_now, use_beside, same_chunk_with, same_offset_with, same_parent_with, piece_at, half_of, piece_is, one_entry, no_entry, one_half, one_use, side_or_other}
 
 -- either the pair at a place, or another
@@ -242,12 +242,12 @@ module _ (P Q : Pairs) (order key : ℕ) (e : Entry) (s : AddsPair P Q order key
   pub half_cases : (p : Piece) (k : ℕ) (a : Side) (u : Use) → IsHalf Q p k a u → ((k ≡ key) × ((p ≡ piece_at order e a) × (use_of e a ≡ u))) ⊎ IsHalf P p k a u
   half_cases p k a u h = elim (pair_cases p.order k h.entry h.pair) [
     | inl here ↦ inl (
-        here.1.0,
-        (
-          piece_is Q p k a u h ∙ ap (λ n. piece_at n h.entry a) here.0 ∙ ap (λ x. piece_at order x a) here.1.1,
-          ap (λ (x : Entry). use_of x a) (sym here.1.1) ∙ h.used,
-        ),
-      )
+      here.1.0,
+      (
+        piece_is Q p k a u h ∙ ap (λ n. piece_at n h.entry a) here.0 ∙ ap (λ x. piece_at order x a) here.1.1,
+        ap (λ (x : Entry). use_of x a) (sym here.1.1) ∙ h.used,
+      ),
+    )
     | inr was ↦ inr (record { entry = h.entry; pair = was; chunk = h.chunk; start = h.start; used = h.used })
   ]
 

@@ -3,7 +3,7 @@ use Rattle.std.proofs.Common.{◌≡◌, ℕ, ◌+◌, ◌*◌, ◌^◌, ◌⊎�
 use Rattle.std.proofs.lemmas.Nat.{pow_pos}
 use Rattle.gpu_alloc_base.specs.Accounts.{HeldChunks}
 use Rattle.gpu_alloc_base.specs.FreeSpace.{IsIn, IsMultipleOf}
-use Rattle.gpu_alloc_base.specs.Pieces.{InPiece, AreHalves}
+use Rattle.gpu_alloc_base.specs.Pieces.{AreHalves}
 use Rattle.gpu_alloc_base.specs.declared.piece.Piece.{Piece}
 use Rattle.gpu_alloc_base.proofs.AlignedPowers.{lies_in, doubled}
 use Rattle.gpu_alloc_base.proofs.ExactPieces.{same_piece}
@@ -12,7 +12,7 @@ use Rattle.gpu_alloc_pairs.specs.Tree.{Pairs, IsHalf, IsReady, IsPlaced, IsUndiv
 use Rattle.gpu_alloc_pairs.specs.declared.pair.Side.{Side}
 use Rattle.gpu_alloc_pairs.specs.declared.pair.Side.TheVariants.{Left, Right}
 use Rattle.gpu_alloc_pairs.specs.declared.pair.Use.{Use}
-use Rattle.gpu_alloc_pairs.specs.declared.pair.Use.TheVariants.{Free, Taken, Divided}
+use Rattle.gpu_alloc_pairs.specs.declared.pair.Use.TheVariants.{Free, Divided}
 use Rattle.gpu_alloc_pairs.proofs.OtherHalves.{no_left, no_right}
 
 -- Sides.

@@ -1,11 +1,11 @@
 -- Pairs as a half of one is used otherwise, or one comes or goes; and what is in hand meanwhile.
-use Rattle.std.specs.Prelude.{◌≡◌, ◌≢◌, ◌⊎◌, ℕ, ◌+◌, ◌^◌, Bool, Option, Some, None}
+use Rattle.std.specs.Prelude.{◌≡◌, ◌≢◌, ◌⊎◌, ℕ, ◌^◌, Bool, Option, Some, None}
 use Rattle.std.specs.FinMap as map
 use Rattle.gpu_alloc_base.specs.Accounts.{HeldChunks}
 use Rattle.gpu_alloc_base.specs.Chunks.{Chunk}
 use Rattle.gpu_alloc_base.specs.Pieces.{IsBeside}
 use Rattle.gpu_alloc_base.specs.declared.piece.Piece.{Piece}
-use Rattle.gpu_alloc_pairs.specs.Entry.{Entry, use_of, with_use, taken_as}
+use Rattle.gpu_alloc_pairs.specs.Entry.{Entry, with_use, taken_as}
 use Rattle.gpu_alloc_pairs.specs.Space.{Space, IsFreeAt}
 use Rattle.gpu_alloc_pairs.specs.Tree.{Pairs, IsHalf, IsReady, IsUndivided, IsTree}
 use Rattle.gpu_alloc_pairs.specs.declared.pair.Parent.{Parent}

@@ -5,7 +5,7 @@ use Rattle.slab.specs.Slab.{Slab, HasRoomFor}
 use Rattle.gpu_alloc_base.specs.Chunks.{Chunk}
 use Rattle.gpu_alloc_base.specs.Pieces.{IsBeside, IsCanonical}
 use Rattle.gpu_alloc_base.specs.declared.piece.Piece.{Piece}
-use Rattle.gpu_alloc_pairs.specs.Entry.{Entry, use_of, with_use, other_side, taken_as}
+use Rattle.gpu_alloc_pairs.specs.Entry.{Entry, use_of, other_side, taken_as}
 use Rattle.gpu_alloc_pairs.specs.InHand.{AddsPair, IsReturning, IsTakenLess, IsTakenMore, IsTakenOut, IsWholeChunk, SetsHalf}
 use Rattle.gpu_alloc_pairs.specs.Space.{IsFreeAt, Space}
 use Rattle.gpu_alloc_pairs.specs.Tree.{IsReady, IsTree, Pairs, no_pairs}

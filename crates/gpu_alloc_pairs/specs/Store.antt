@@ -1,5 +1,5 @@
 -- What is stored of chunks and pairs, as contracts see it.
-use Rattle.std.specs.Prelude.{◌≡◌, ◌⊎◌, ℕ, ◌+◌, ◌-◌, ◌*◌, ◌^◌, ◌<◌, ◌≤◌, Bool, ◌==◌, List, length, map, slice_index_or, count_by}
+use Rattle.std.specs.Prelude.{◌≡◌, ℕ, ◌+◌, ◌-◌, ◌*◌, ◌^◌, ◌<◌, ◌≤◌, ◌==◌, List, length, map, slice_index_or, count_by}
 use Rattle.std.specs.Prelude.{Option, Some, None, Result, Ok, Err, ◌↔◌}
 use Rattle.std.specs.FinMap as finite
 use Rattle.std.specs.FinSet as set
@@ -14,8 +14,7 @@ use Rattle.gpu_alloc_base.specs.declared.buddy_block.Leaf.{Leaf}
 use Rattle.gpu_alloc_base.specs.declared.piece.Piece.{Piece}
 use Rattle.gpu_alloc_pairs.specs.Entry.{Entry, half_start}
 use Rattle.gpu_alloc_pairs.specs.Halves.{free_pieces, live_leaves}
-use Rattle.gpu_alloc_pairs.specs.Space.{Space, IsFreeAt, HasPlace, IsFront, IsSoundSpace, IsUnusedChunk, with_leaf}
-use Rattle.gpu_alloc_pairs.specs.Space.{without_leaf, without_chunk}
+use Rattle.gpu_alloc_pairs.specs.Space.{Space, IsFreeAt, HasPlace, IsFront, IsSoundSpace, with_leaf}
 use Rattle.gpu_alloc_pairs.specs.Tree.{IsReady, IsTree, pair_at}
 use Rattle.gpu_alloc_pairs.specs.declared.pair.Side.{Side}
 

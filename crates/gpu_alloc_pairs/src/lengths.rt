@@ -299,12 +299,7 @@ pub fn begin<A: Allocator, K: Ledger>(
 }
 
 /// Divides a new chunk into two halves of this order, of which the right one is free: answers the key of that pair.
-fn halve<A: Allocator>(
-    lengths: &mut Lengths<A>,
-    chunk: usize,
-    order: u32,
-    divided: bool,
-) -> usize
+fn halve<A: Allocator>(lengths: &mut Lengths<A>, chunk: usize, order: u32, divided: bool) -> usize
     requires in_range { order < length lengths.old.items }
     requires room { HasRoomFor (slice_index_or lengths.old.items order no_pairs) 1 }
     ensures adds { AddsPair (pair_at lengths.old.items) (pair_at lengths.new.items) order result

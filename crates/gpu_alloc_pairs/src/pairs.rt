@@ -11,8 +11,8 @@ ghost use Rattle.gpu_alloc_pairs.specs.Space.{with_chunk, with_leaf, without_chu
 ghost use Rattle.gpu_alloc_pairs.specs.Store.{AreFew, CountsLooks, CountsTaking, HasRooms, IsExact, IsUnheld, KeepsStore};
 ghost use Rattle.gpu_alloc_pairs.specs.Store.{HasSide, StartsHalf, TakesPlace, range_of};
 
-use crate::lengths::{self, Found, Front, Lengths, ORDERS};
 use crate::length::Length;
+use crate::lengths::{self, Found, Front, Lengths, ORDERS};
 use crate::pair::Side;
 use gpu_alloc_base::buddy_block::Leaf;
 use gpu_alloc_base::steps::Steps;

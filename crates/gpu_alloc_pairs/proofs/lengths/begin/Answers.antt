@@ -1,10 +1,6 @@
-use Rattle.std.proofs.Common.{◌≡◌, ℕ, ◌+◌, ◌-◌, Some, None, true, false, refl, sym, ◌∙◌, ap, subst, arith}
-use Rattle.slab.specs.Slab.{Slab, HasRoomFor}
-use Rattle.gpu_alloc_base.specs.declared.piece.Piece.{Piece}
-use Rattle.gpu_alloc_pairs.specs.Entry.{Entry}
-use Rattle.gpu_alloc_pairs.specs.InHand.{AddsPair, IsSplitting, IsTakenMore, IsTakenOut}
+use Rattle.std.proofs.Common.{◌≡◌, ℕ, ◌+◌, ◌-◌, None, true, false, refl, subst, arith}
+use Rattle.gpu_alloc_pairs.specs.InHand.{IsTakenMore, IsTakenOut}
 use Rattle.gpu_alloc_pairs.specs.Lengths.{dividing, whole_of}
-use Rattle.gpu_alloc_pairs.specs.Space.{Space}
 use Rattle.gpu_alloc_pairs.specs.Tree.{Pairs, pair_at}
 use Rattle.gpu_alloc_pairs.specs.declared.pair.Side.TheVariants.{Left}
 use Rattle.gpu_alloc_pairs.proofs.Splits.{halved, splits_next, added_divided, added_whole, same_then_more}

@@ -1,4 +1,4 @@
-use Rattle.std.proofs.Common.{◌≡◌, ℕ, List, Option, Some, None, IfNone, IfSome, sym, ◌∙◌, ap, subst}
+use Rattle.std.proofs.Common.{Option, Some, None, IfNone, ◌∙◌, ap}
 use Rattle.std.proofs.lemmas.List.{get_or_default}
 use Rattle.slab.specs.Slab.{Slab, get}
 use Rattle.gpu_alloc_pairs.specs.Entry.{Entry}

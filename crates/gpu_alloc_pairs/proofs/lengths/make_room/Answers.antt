@@ -1,6 +1,5 @@
-use Rattle.std.proofs.Common.{◌≡◌, ℕ, ◌<◌, length, length-set, refl, sym, ◌∙◌, ap, arith}
+use Rattle.std.proofs.Common.{◌<◌, length, length-set, ◌∙◌, ap, arith}
 use Rattle.slab.specs.Slab.{Slab, HasRoomFor}
-use Rattle.gpu_alloc_base.proofs.Outcomes.{when_ok}
 use Rattle.gpu_alloc_pairs.specs.Entry.{Entry}
 use Rattle.gpu_alloc_pairs.proofs.Slots.{same_slots_set, one_more_room}
 use Rattle.gpu_alloc_pairs.proofs.lengths.make_room.Goals as goal

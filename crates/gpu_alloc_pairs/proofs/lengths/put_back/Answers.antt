@@ -1,4 +1,4 @@
-use Rattle.std.proofs.Common.{◌≡◌, ℕ, ◌+◌, ◌-◌, ◌^◌, ◌≤◌, ◌<◌, length, Some, None, refl, sym, ◌∙◌, ap, subst, arith}
+use Rattle.std.proofs.Common.{◌≡◌, ℕ, ◌+◌, ◌-◌, ◌^◌, ◌≤◌, sym, ◌∙◌, subst, arith}
 use Rattle.gpu_alloc_pairs.specs.Lengths.{Releases}
 use Rattle.gpu_alloc_pairs.specs.Tree.{Pairs, pair_at}
 use Rattle.gpu_alloc_pairs.proofs.Climbs.{climb_stays, climb_next, climb_ends, climb_inside, comes_next, has_pair, pair_in_range}

@@ -1,13 +1,12 @@
-use Rattle.std.proofs.Common.{◌≡◌, ℕ, ◌+◌, ◌-◌, ◌≤◌, ◌<◌, true, false, Some, refl, sym, ◌∙◌, ap, subst, arith}
+use Rattle.std.proofs.Common.{◌≡◌, ◌+◌, ◌-◌, false, Some, refl, sym, ◌∙◌, subst, arith}
 use Rattle.gpu_alloc_base.specs.declared.piece.Piece.{Piece}
 use Rattle.slab.specs.Slab.{Slab, HasRoomFor}
 use Rattle.gpu_alloc_pairs.specs.Entry.{Entry}
-use Rattle.gpu_alloc_pairs.specs.InHand.{IsSplitting, IsTakenOut}
-use Rattle.gpu_alloc_pairs.specs.Lengths.{hand_of, front_of}
-use Rattle.gpu_alloc_pairs.specs.Space.{Space}
+use Rattle.gpu_alloc_pairs.specs.InHand.{IsTakenOut}
+use Rattle.gpu_alloc_pairs.specs.Lengths.{hand_of}
 use Rattle.gpu_alloc_pairs.specs.Tree.{pair_at}
 use Rattle.gpu_alloc_pairs.specs.declared.pair.Side.TheVariants.{Left}
-use Rattle.gpu_alloc_pairs.proofs.Splits.{halved, splits_next, added_divided, added_whole, same_then_same, same_then_more}
+use Rattle.gpu_alloc_pairs.proofs.Splits.{halved, splits_next, added_divided, same_then_same}
 use Rattle.gpu_alloc_pairs.proofs.lengths.split_down.Goals as goal
 
 pub loop-hand-preserved : goal.loop-hand-preserved

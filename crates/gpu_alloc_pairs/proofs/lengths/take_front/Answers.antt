@@ -1,8 +1,6 @@
-use Rattle.std.proofs.Common.{◌≡◌, ℕ, ◌+◌, ◌^◌, Some, true, false, refl, sym, ◌∙◌, ap, subst, arith}
+use Rattle.std.proofs.Common.{◌≡◌, true, false, refl, sym}
 use Rattle.gpu_alloc_base.specs.declared.piece.Piece.{Piece}
 use Rattle.gpu_alloc_base.proofs.ExactPieces.{same_piece}
-use Rattle.gpu_alloc_pairs.specs.Lengths.{hand_of, piece_of}
-use Rattle.gpu_alloc_pairs.specs.Space.{Space}
 use Rattle.gpu_alloc_pairs.specs.Tree.{Pairs, pair_at}
 use Rattle.gpu_alloc_pairs.specs.declared.pair.Side.TheVariants.{Left}
 use Rattle.gpu_alloc_pairs.proofs.Fronts.{half_piece, half_out, half_more, half_same}

@@ -1,4 +1,4 @@
-use Rattle.std.proofs.Common.{◌≡◌, ℕ, ◌+◌, ◌^◌, Some, None, refl, sym, ◌∙◌, ap, subst, arith}
+use Rattle.std.proofs.Common.{◌≡◌, ◌^◌, None, refl, sym, ◌∙◌, ap, subst, arith}
 use Rattle.std.specs.Prelude.{option_map}
 use Rattle.std.specs.FinMap as finite
 use Rattle.gpu_alloc_base.specs.Accounts.{HeldChunks}
@@ -7,7 +7,7 @@ use Rattle.gpu_alloc_base.specs.SlabViews.{by_key}
 use Rattle.gpu_alloc_base.specs.declared.buddy_block.Leaf.{Leaf}
 use Rattle.gpu_alloc_base.proofs.SlabViews.{by_key_put, get_by_key}
 use Rattle.gpu_alloc_pairs.specs.Space.{Space, chunks_with, with_chunk, with_leaf}
-use Rattle.gpu_alloc_pairs.specs.Store.{HasRooms, IsStored, IsUnheld, Store, space_in}
+use Rattle.gpu_alloc_pairs.specs.Store.{IsStored, IsUnheld, Store, space_in}
 use Rattle.gpu_alloc_pairs.specs.declared.pairs.Chunk.{Chunk as StoredChunk}
 use Rattle.gpu_alloc_pairs.proofs.Begins.{begins, begun_space, stored_begun}
 use Rattle.gpu_alloc_pairs.proofs.Stored.{rooms_from}

@@ -1,19 +1,17 @@
-use Rattle.std.proofs.Common.{◌≡◌, ℕ, ◌+◌, ◌-◌, ◌*◌, ◌^◌, ◌<◌, ◌≤◌, Option, Some, None, IfNone, IsSome, refl, sym, ◌∙◌, ap, subst, arith}
+use Rattle.std.proofs.Common.{◌≡◌, ◌*◌, ◌^◌, Option, Some, None, IfNone, refl, sym, ◌∙◌, ap, subst, arith}
 use Rattle.std.specs.Prelude.{option_map}
 use Rattle.std.specs.FinMap as finite
-use Rattle.slab.specs.Slab.{Slab, get}
 use Rattle.gpu_alloc_base.specs.Accounts.{HeldChunks}
 use Rattle.gpu_alloc_base.specs.Chunks.{Chunk}
 use Rattle.gpu_alloc_base.specs.SlabViews.{by_key}
-use Rattle.gpu_alloc_base.specs.declared.buddy_block.Leaf.{Leaf}
 use Rattle.gpu_alloc_base.proofs.AlignedPowers.{order-le}
 use Rattle.gpu_alloc_base.proofs.SlabViews.{by_key_removed, found_by_key, get_by_key}
 use Rattle.gpu_alloc_pairs.specs.Lengths.{IsFreeAgain, IsWholeAgain}
-use Rattle.gpu_alloc_pairs.specs.Space.{Space, IsLiveLeaf, IsSoundSpace, IsUnusedChunk, without_chunk, without_leaf}
-use Rattle.gpu_alloc_pairs.specs.Store.{IsStored, Store, space_in}
+use Rattle.gpu_alloc_pairs.specs.Space.{IsLiveLeaf, IsUnusedChunk, without_leaf}
+use Rattle.gpu_alloc_pairs.specs.Store.{IsStored, space_in}
 use Rattle.gpu_alloc_pairs.specs.Tree.{pair_at}
 use Rattle.gpu_alloc_pairs.specs.declared.pairs.Chunk.{Chunk as StoredChunk}
-use Rattle.gpu_alloc_pairs.proofs.GivesBack.{at_half, comes_back, few_releases, gone_is, gone_space, leaf_order, left_space, no_more_in_use, returning, starts_half, still_in_use, stored_gone, stored_left}
+use Rattle.gpu_alloc_pairs.proofs.GivesBack.{at_half, comes_back, few_releases, gone_is, gone_space, leaf_order, left_space, no_more_in_use, returning, still_in_use, stored_gone, stored_left}
 use Rattle.gpu_alloc_pairs.proofs.pairs.Pairs.give_back.Given.{Over}
 use Rattle.gpu_alloc_pairs.proofs.pairs.Pairs.give_back.Goals.{In_ok-gone}
 use Rattle.gpu_alloc_pairs.proofs.pairs.Pairs.give_back.Goals as goal
@@ -61,9 +59,10 @@ when_none (Some x) h = tt
 pub returns-in_err-gone-clause-stays : goal.returns-in_err-gone-clause-stays
 returns-in_err-gone-clause-stays g c =
     let told : (IsUnusedChunk (without_leaf (space_in (by_key (seen g) c.self.inside.chunks) c.self.inside.lengths.items) c.args.leaf) c.args.leaf.chunk → ⊥)
-        × (space_in (by_key (seen g) c.self.inside.chunks) c.put_back.new.lengths.items ≡ without_leaf (space_in (by_key (seen g) c.self.inside.chunks) c.self.inside.lengths.items) c.args.leaf) =
-    (still_in_use (by_key (seen g) c.self.inside.chunks) c.self.inside.lengths.items c.self.invariant c.args.leaf (again g c) c.order_of-order.result c.side_of-side.result c.order_of-order.ensures.is c.side_of-side.ensures c.put_back.new.lengths.items c.put_back.ensures.count (stays g c),
-    left_space (by_key (seen g) c.self.inside.chunks) c.self.inside.lengths.items c.self.invariant c.args.leaf (again g c) c.order_of-order.result c.side_of-side.result c.order_of-order.ensures.is c.side_of-side.ensures c.put_back.new.lengths.items c.put_back.ensures.count (stays g c)) in
+    × (space_in (by_key (seen g) c.self.inside.chunks) c.put_back.new.lengths.items ≡ without_leaf (space_in (by_key (seen g) c.self.inside.chunks) c.self.inside.lengths.items) c.args.leaf) = (
+      still_in_use (by_key (seen g) c.self.inside.chunks) c.self.inside.lengths.items c.self.invariant c.args.leaf (again g c) c.order_of-order.result c.side_of-side.result c.order_of-order.ensures.is c.side_of-side.ensures c.put_back.new.lengths.items c.put_back.ensures.count (stays g c),
+      left_space (by_key (seen g) c.self.inside.chunks) c.self.inside.lengths.items c.self.invariant c.args.leaf (again g c) c.order_of-order.result c.side_of-side.result c.order_of-order.ensures.is c.side_of-side.ensures c.put_back.new.lengths.items c.put_back.ensures.count (stays g c),
+    ) in
     rw (← c.self.view_is) (when_none c.from_residual.result told)
 
 pub returns-in_err-gone-clause-few : goal.returns-in_err-gone-clause-few

@@ -1,4 +1,4 @@
-use Rattle.std.proofs.Common.{◌≡◌, ℕ, ◌^◌, List, Option, Some, None, IfSome, IfNone, IsTrue, refl, sym, ◌∙◌, ap, subst}
+use Rattle.std.proofs.Common.{ℕ, ◌^◌, List, Option, Some, None, IfSome, IfNone, IsTrue, refl}
 use Rattle.std.specs.Prelude.{is_some, ◌↔◌}
 use Rattle.slab.specs.Slab.{Slab}
 use Rattle.gpu_alloc_base.specs.Accounts.{HeldChunks}

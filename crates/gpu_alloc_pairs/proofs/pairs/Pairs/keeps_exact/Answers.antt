@@ -1,15 +1,13 @@
-use Rattle.std.proofs.Common.{◌≡◌, ℕ, ◌^◌, ◌≤◌, ◌==◌, List, length, count_by, refl, sym, ◌∙◌, ap, subst, arith}
+use Rattle.std.proofs.Common.{ℕ, ◌==◌, List, subst, arith}
 use Rattle.std.proofs.lemmas.Bool.Decides.{Decides-eqb}
-use Rattle.std.specs.FinSet as set
 use Rattle.slab.specs.Slab.{Slab}
 use Rattle.gpu_alloc_base.specs.Accounts.{HeldChunks}
-use Rattle.gpu_alloc_base.specs.FreeSpace.{IsFreePiece}
 use Rattle.gpu_alloc_base.specs.declared.piece.Piece.{Piece}
 use Rattle.gpu_alloc_base.proofs.ExactPieces.{kept_is_free_piece, free_piece_is_kept}
 use Rattle.gpu_alloc_pairs.specs.Entry.{Entry}
 use Rattle.gpu_alloc_pairs.specs.Halves.{free_pieces}
 use Rattle.gpu_alloc_pairs.specs.Space.{IsFreeAt}
-use Rattle.gpu_alloc_pairs.specs.Store.{AreFew, IsExact, IsStored, Store, space_in, store_in}
+use Rattle.gpu_alloc_pairs.specs.Store.{AreFew, IsExact, IsStored, space_in, store_in}
 use Rattle.gpu_alloc_pairs.specs.Tree.{IsReady, pair_at}
 use Rattle.gpu_alloc_pairs.specs.declared.pair.Use.TheVariants.{Free}
 use Rattle.gpu_alloc_pairs.proofs.Counts.{few_pieces}

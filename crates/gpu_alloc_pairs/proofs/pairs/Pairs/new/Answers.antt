@@ -1,4 +1,4 @@
-use Rattle.std.proofs.Common.{◌≡◌, ◌≤◌, length, refl, sym, ◌∙◌, ap, subst, arith}
+use Rattle.std.proofs.Common.{length, sym, ap, subst, arith}
 use Rattle.gpu_alloc_pairs.proofs.Empties.{AreEmpty, empty_space, one_more_empty, stored_empty}
 use Rattle.gpu_alloc_pairs.proofs.pairs.Pairs.new.Goals as goal
 

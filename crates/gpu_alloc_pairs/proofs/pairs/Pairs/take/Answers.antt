@@ -1,16 +1,13 @@
-use Rattle.std.proofs.Common.{◌≡◌, ℕ, ◌+◌, ◌^◌, ◌<◌, Result, Ok, Err, Option, Some, None, IsSome, refl, sym, ◌∙◌, ap, subst, arith}
+use Rattle.std.proofs.Common.{◌≡◌, ℕ, ◌^◌, Result, Ok, Err, Option, Some, refl, sym, ◌∙◌, ap}
 use Rattle.std.specs.Prelude.{option_map, IsErr}
 use Rattle.std.specs.FinMap as finite
-use Rattle.slab.specs.Slab.{Slab}
-use Rattle.gpu_alloc_base.specs.Accounts.{HeldChunks}
 use Rattle.gpu_alloc_base.specs.Chunks.{Chunk}
 use Rattle.gpu_alloc_base.specs.SlabViews.{by_key}
 use Rattle.gpu_alloc_base.specs.declared.buddy_block.Leaf.{Leaf}
-use Rattle.gpu_alloc_base.proofs.Outcomes.{when_ok}
 use Rattle.gpu_alloc_base.proofs.SlabViews.{found_by_key, get_by_key}
 use Rattle.gpu_alloc_pairs.specs.Lengths.{IsFound}
 use Rattle.gpu_alloc_pairs.specs.Space.{Space, HasPlace}
-use Rattle.gpu_alloc_pairs.specs.Store.{TakesPlace, space_in}
+use Rattle.gpu_alloc_pairs.specs.Store.{TakesPlace}
 use Rattle.gpu_alloc_pairs.specs.Tree.{pair_at}
 use Rattle.gpu_alloc_pairs.specs.declared.pairs.Chunk.{Chunk as StoredChunk}
 use Rattle.gpu_alloc_pairs.proofs.Stored.{no_place, same_space, stored_same}
