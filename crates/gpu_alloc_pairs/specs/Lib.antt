@@ -1,0 +1,13 @@
+pub mod Codes
+pub mod Entry
+pub mod Halves
+pub mod InHand
+pub mod Length
+pub mod Lengths
+pub mod Links
+pub mod Pieces
+pub mod Ring
+pub mod Seen
+pub mod Space
+pub mod Store
+pub mod Tree

@@ -1,0 +1,103 @@
+-- What is stored of chunks and pairs, as contracts see it.
+use Rattle.std.specs.Prelude.{◌≡◌, ℕ, ◌+◌, ◌-◌, ◌*◌, ◌^◌, ◌<◌, ◌≤◌, ◌==◌, List, length, map, slice_index_or, count_by}
+use Rattle.std.specs.Prelude.{Option, Some, None, Result, Ok, Err, ◌↔◌}
+use Rattle.std.specs.FinMap as finite
+use Rattle.std.specs.FinSet as set
+use Rattle.std.specs.List.{Contains, IsDistinct}
+use Rattle.slab.specs.Slab.{Slab, slab_len}
+use Rattle.gpu_alloc_types.specs.declared.types.FreeRange.{FreeRange}
+use Rattle.gpu_alloc_base.specs.Accounts.{HeldChunks}
+use Rattle.gpu_alloc_base.specs.Chunks.{Chunk, object_in}
+use Rattle.gpu_alloc_base.specs.FreeSpace.{IsFreePiece, IsMultipleOf}
+use Rattle.gpu_alloc_base.specs.Pieces.{IsCanonical, same_place}
+use Rattle.gpu_alloc_base.specs.declared.buddy_block.Leaf.{Leaf}
+use Rattle.gpu_alloc_base.specs.declared.piece.Piece.{Piece}
+use Rattle.gpu_alloc_pairs.specs.Entry.{Entry, half_start}
+use Rattle.gpu_alloc_pairs.specs.Halves.{free_pieces, live_leaves}
+use Rattle.gpu_alloc_pairs.specs.Space.{Space, IsFreeAt, HasPlace, IsFront, IsSoundSpace, with_leaf}
+use Rattle.gpu_alloc_pairs.specs.Tree.{IsReady, IsTree, pair_at}
+use Rattle.gpu_alloc_pairs.specs.declared.pair.Side.{Side}
+
+-- The held chunks and the live blocks; the free halves of all pairs, as pieces; and how many more pairs of each length,
+-- and how many more chunks, there is room for.
+pub record Store : Type 0 where
+  pub space : Space
+  pub free : List Piece
+  pub rooms : List ℕ
+  pub chunk_room : ℕ
+
+-- the held chunks, with the blocks that pairs have as taken halves
+abbrev pub space_in : HeldChunks → List (Slab Entry) → Space
+space_in chunks lengths = record { chunks = chunks; live = live_leaves chunks lengths }
+
+abbrev pub rooms_in : List (Slab Entry) → List ℕ
+rooms_in lengths = map (λ s. s.capacity - slab_len s) lengths
+
+abbrev pub store_in : HeldChunks → ℕ → List (Slab Entry) → Store
+store_in chunks chunk_room lengths =
+    record { space = space_in chunks lengths; free = free_pieces lengths; rooms = rooms_in lengths; chunk_room = chunk_room }
+
+-- there are pairs of 63 lengths, which form a tree, and their free halves are the free pieces
+pub record IsStored (chunks : HeldChunks) (lengths : List (Slab Entry)) : Type 0 where
+  pub count : length lengths ≡ 63
+  pub tree : IsTree (pair_at lengths) chunks
+  pub canonical : IsCanonical (IsReady (pair_at lengths)) (IsFreeAt (space_in chunks lengths))
+  pub sound : IsSoundSpace (space_in chunks lengths)
+
+-- only the room changes
+pub record KeepsStore (old new : Store) : Type 0 where
+  pub space : new.space ≡ old.space
+  pub free : new.free ≡ old.free
+
+-- there is room for one pair more of each order from the first up to the second, and for a chunk
+pub record HasRooms (s : Store) (low high : ℕ) : Type 0 where
+  pub chunk : 0 < s.chunk_room
+  pub pairs : (n : ℕ) → low ≤ n → n < high → 0 < slice_index_or s.rooms n 0
+
+-- what is free is stored exactly: the free halves are the free pieces, each once
+pub record IsExact (s : Store) : Type 0 where
+  pub pieces : (p : Piece) → Contains s.free p ↔ IsFreePiece (IsFreeAt s.space) p.chunk p.start (2 ^ p.order)
+  pub once : IsDistinct same_place s.free
+
+-- of each length there are no more free pieces than live blocks
+abbrev pub AreFew : Store → Type 0
+AreFew s = (order : ℕ) → count_by (λ p. p.order == order) s.free ≤ set.len (s.space).live
+
+-- a piece as a range of its chunk's object
+abbrev pub range_of : Space → Piece → FreeRange
+range_of s p =
+    record { object = object_in (finite.get s.chunks p.chunk); start = p.start; end = p.start + 2 ^ p.order }
+
+-- a place is looked for: a block in one, or none there, or no host memory for a block in one
+abbrev pub TakesPlace : {E : Type 0} → Space → ℕ → Result (Option Leaf) E → Space → Type 0
+TakesPlace s size (Ok None) new = (HasPlace s size → ⊥) × (new ≡ s)
+TakesPlace s size (Ok (Some leaf)) new = IsFront s size leaf × (new ≡ with_leaf s leaf)
+TakesPlace s size (Err e) new = HasPlace s size × (new ≡ s)
+
+-- at least none, and at most 63 lengths are looked at
+abbrev pub CountsLooks : ℕ → ℕ → Type 0
+CountsLooks old new = (old ≤ new) × (new ≤ old + 63)
+
+-- a block is the front of a free piece of 2^k times its size: that took k + 1 looks and k splits
+pub record CountsFront (s : Space) (leaf : Leaf) (looks now splits after : ℕ) : Type 0 where
+  pub doublings : ℕ
+  pub few : doublings ≤ 62
+  pub piece : IsFreePiece (IsFreeAt s) leaf.chunk leaf.offset (leaf.size * 2 ^ doublings)
+  pub looked : now ≡ looks + doublings + 1
+  pub split : after ≡ splits + doublings
+
+abbrev pub CountsTaking : {E : Type 0} → Space → Result (Option Leaf) E → ℕ → ℕ → ℕ → ℕ → Type 0
+CountsTaking s (Ok (Some leaf)) looks now splits after = CountsFront s leaf looks now splits after
+CountsTaking s (Ok None) looks now splits after = CountsLooks looks now × (after ≡ splits)
+CountsTaking s (Err e) looks now splits after = CountsLooks looks now × (after ≡ splits)
+
+-- no held chunk is of this object
+abbrev pub IsUnheld : Space → ℕ → Type 0
+IsUnheld s object = (key : ℕ) (chunk : Chunk) → finite.get s.chunks key ≡ Some chunk → chunk.object ≡ object → ⊥
+
+-- which half of an aligned range of twice its length starts there
+abbrev pub HasSide : ℕ → ℕ → Side → Type 0
+HasSide offset order side = (m : ℕ) × (offset ≡ half_start (2 ^ order) (m * 2 ^ (order + 1)) side)
+
+abbrev pub StartsHalf : ℕ → ℕ → Type 0
+StartsHalf offset order = IsMultipleOf (2 ^ order) offset

@@ -1,0 +1,116 @@
+//! A pair of halves, as it is stored.
+
+ghost use Rattle.std.specs.Prelude.{◌≡◌, ◌≤◌, ◌<◌, ◌+◌, ◌^◌, ℕ, Some};
+ghost use Rattle.gpu_alloc_pairs.specs.Entry.{entry_of, taken_as, with_use};
+ghost use Rattle.gpu_alloc_pairs.specs.Links.{free_side};
+ghost use Rattle.gpu_alloc_pairs.specs.Pieces.{IsFreePieceOf};
+
+use gpu_alloc_base::Piece;
+
+/// A half of a pair.
+#[derive(Clone, Copy)]
+pub enum Side {
+    Left,
+    Right,
+}
+
+/// What a half is used for. Of the two halves of a pair one at most is free.
+#[derive(Clone, Copy)]
+pub enum Use {
+    /// Nothing.
+    Free,
+
+    /// It is a live block.
+    Taken,
+
+    /// A pair one length down has it as its parent.
+    Divided,
+}
+
+/// The half, one length up, that a pair divides.
+#[derive(Clone, Copy)]
+pub struct Parent {
+    /// The key of its pair.
+    pub key: usize,
+
+    /// Which half of that pair it is.
+    pub side: Side,
+}
+
+/// Whether a half of a pair is free, and then the pair's place in the ring of the ready pairs of its length.
+#[derive(Clone, Copy)]
+pub enum State {
+    /// No half is free.
+    Exhausted,
+
+    /// One half is free.
+    Ready {
+        /// The free half.
+        side: Side,
+
+        /// The key of the next ready pair.
+        next: usize,
+
+        /// The key of the one before.
+        prev: usize,
+    },
+}
+
+/// Two halves of a range of a chunk.
+#[derive(Clone, Copy)]
+pub struct Pair {
+    /// The key of the chunk.
+    pub chunk: usize,
+
+    /// Where the left half starts in the chunk, in bytes.
+    pub offset: u64,
+
+    /// The half that the pair divides, or none where the pair is its whole chunk.
+    pub parent: Option<Parent>,
+
+    /// Whether a pair divides the left half. It says nothing while that half is free.
+    pub left_divided: bool,
+
+    /// The same of the right half.
+    pub right_divided: bool,
+
+    /// Which half is free, if one is.
+    pub state: State,
+}
+
+impl Pair {
+    /// Takes the free half, as one that a pair divides or as a live block. No half is then free.
+    #[inline(always)]
+    pub fn exhaust(&mut self, side: Side, divided: bool)
+        requires free { free_side (self.old).state ≡ Some side }
+        ensures exhausted { (self.new).state ≡ State.Exhausted }
+        ensures entry { entry_of self.new ≡ with_use (entry_of self.old) side (taken_as divided) }
+    {
+        self.state = State::Exhausted;
+        match side {
+            Side::Left => self.left_divided = divided,
+            Side::Right => self.right_divided = divided,
+        }
+    }
+
+    /// The free half, if there is one, as a piece of 2^order bytes.
+    #[inline(always)]
+    pub fn free_piece(&self, order: u32) -> Option<Piece>
+        requires short { order ≤ 62 }
+        requires bounded { (self.now).offset + 2 ^ order < 2 ^ 64 }
+        ensures { IsFreePieceOf order (entry_of self.now) result }
+    {
+        let State::Ready { side, .. } = self.state else {
+            return None;
+        };
+        let start = match side {
+            Side::Left => self.offset,
+            Side::Right => self.offset + (1 << order),
+        };
+        Some(Piece {
+            chunk: self.chunk,
+            start,
+            order,
+        })
+    }
+}
