@@ -23,7 +23,7 @@ use Rattle.gpu_alloc_base.specs.AlignMasks.{IsAlignMask}
 use Rattle.gpu_alloc_base.proofs.AlignedPowers.{doubled, pow-le, power_up_to}
 use Rattle.gpu_alloc_base.proofs.PowersOfTwo.{is_next_power_of_two, power_of_bit, greater_power}
 use Rattle.gpu_alloc_base.proofs.Maps.{one_value}
-use Rattle.gpu_alloc_buddy.proofs.BuddyGrants.{other_objects, sound_with_leaf, sound_with_chunk}
+use Rattle.gpu_alloc_buddy.proofs.BuddyGrants.{other_objects}
 use Rattle.gpu_alloc_base.proofs.Leaves.{now_live}
 use Rattle.gpu_alloc_base.proofs.Multiples.{multiple_of_lower, mod_from_multiple}
 
@@ -43,9 +43,8 @@ module _ (a : Account Buddy) (size flags : ℕ) where
   c = buddy_case a size flags
 
   -- there was a place, and no host memory for a block in it
-  pub place_refused : (e : AllocationError) (b : Buddy) → Fits size → HasPlace a.allocator size → e ≡ OutOfHostMemory → b ≡ a.allocator → Answers c [] (Err e) (account b a.heap a.remaining)
-  place_refused e b fits place is same =
-      subst (λ x. Answers c [] (Err x) (account b a.heap a.remaining)) (sym is) (ap (λ x. account x a.heap a.remaining) same, inl (refl, record { fits = fits; ways = inl place }))
+  pub place_refused : (b : Buddy) → Fits size → HasPlace a.allocator size → b ≡ a.allocator → Answers c [] (Err OutOfHostMemory) (account b a.heap a.remaining)
+  place_refused b fits place same = (ap (λ x. account x a.heap a.remaining) same, inl (refl, record { fits = fits; ways = inl place }))
 
   -- what is asked for is a chunk's new object
   pub keeps_books : KeepsBooks (λ b. b.chunks) (λ leaf. leaf.chunk) c
@@ -70,56 +69,13 @@ answers_agree a new size flags es answer p now f g agrees same answers objects =
     let kept = kept_type a new size flags es answer answers in
     rw (kept.0, kept.1) (chunks_agree (keeps_books a size flags) a.allocator.memory_type a.allocator.props p now f g agrees same es answer new answers objects)
 
--- What is sound stays so.
-
 -- a multiple of a power of two leaves no rest by a lower one
 lower_multiple : (x n m : ℕ) → IsPowerOfTwo n → IsPowerOfTwo m → n ≤ m → IsMultipleOf m x → x % n ≡ 0
 lower_multiple x n m of_n of_m le multiple = mod_from_multiple n x (multiple_of_lower n m x of_n of_m le multiple)
 
--- the front of a free piece lies in its chunk
-front_lies : (b : Buddy) (size : ℕ) (leaf : Leaf) → IsPowerOfTwo size → IsFront b size leaf → LiesInChunk b leaf
-front_lies b size leaf power at =
-    let place = at.piece.place in
-    let size_is = at.of_size in
-    let some = pow_pos power.0 in
-    let last = place.free (leaf.offset + size - 1) (record { from = omega (arith, some, power.1); to = omega (arith, some, power.1, at.enough) }) in
-    let same = one_value _ last.held at.chunk last.is at.held in
-    record {
-      chunk = at.chunk;
-      held = at.held;
-      object = at.object;
-      power = (power.0, size_is ∙ power.1);
-      aligned = multiple_of_lower leaf.size at.length leaf.offset (power.0, size_is ∙ power.1) place.power (omega (arith, size_is, at.enough)) place.aligned;
-      inside = omega (arith, size_is, some, power.1, last.inside, ap (λ (c : Chunk). c.size) same);
-    }
-
--- a chunk is a power of two
-chunk_power : (b : Buddy) (size : ℕ) → IsSound b → IsPowerOfTwo size → Fits size → IsPowerUpTo 63 (chunk_size b size)
-chunk_power b size s power fits =
-    let twice = doubled power.0 in
-    let both = greater_power b.next_chunk (2 * size) (s.next_chunk.0, s.next_chunk.1.1) (power.0 + 1, omega (arith, power.1, twice)) in
-    let least = pow-le s.next_chunk.0 63 s.next_chunk.1.0 in
-    power_up_to 63 (chunk_size b size) both (omega (arith, fits, least, s.next_chunk.1.1))
-
 -- the object of a block that begins a chunk
 made_in : (b after : Buddy) (leaf : Leaf) (f g : ℕ → Option Object) → ObjectsAfter b (Ok leaf) after f g → map.get b.chunks leaf.chunk ≡ None → HasOneMore (IsNew b.memory_type (sees_chunks b)) (map.get after.chunks leaf.chunk) leaf.object f g
 made_in b after leaf f g objects none = made_new (λ (l : Leaf). l.chunk) (λ (l : Leaf). l.object) b.memory_type b.props b.chunks after.chunks leaf f g objects none
-
--- after every answer
-pub answers_sound : (a new : Account Buddy) (size flags : ℕ) (es : List Event) (answer : Result Leaf AllocationError) (p : Properties) (f g : ℕ → Option Object) → IsSound a.allocator → Agrees a.allocator p f
-    → IsPowerOfTwo size → Answers (buddy_case a size flags) es answer new → ObjectsAfter a.allocator answer new.allocator f g → IsSound new.allocator
-answers_sound a new size flags es (Ok leaf) p f g s agrees power (inl gives) objects =
-    let at = gives.place in
-    let size_is = at.of_size in
-    rw (gives.state) (sound_with_leaf a.allocator leaf s (front_lies a.allocator size leaf power at) (λ i in_leaf. at.piece.place.free i (record { from = in_leaf.from; to = omega (arith, in_leaf.to, size_is, at.enough) })))
-answers_sound a new size flags es (Ok leaf) p f g s agrees power (inr gives) objects =
-    let at = gives.place in
-    let size_is = at.of_size in
-    let more = made_in a.allocator new.allocator leaf f g objects at.free_key in
-    rw (gives.state) (sound_with_chunk a.allocator leaf (chunk_size a.allocator size) s (chunk_power a.allocator size s power gives.asks.fits) at.free_key
-    (λ k c held same. other_objects a.allocator p f leaf.object agrees more.was_free k c held same)
-    (power.0, size_is ∙ power.1) (0, at.start ∙ sym (zero-mul leaf.size)) (omega (arith, at.start, size_is)))
-answers_sound a new size flags es (Err e) p f g s agrees power refused objects = rw (refused_keeps (buddy_case a size flags) es e new refused) s
 
 -- What is known of the block.
 
@@ -134,15 +90,15 @@ pub record IsRoundedTo (b : Buddy) (w : Wanted) (size : ℕ) : Type 0 where
 
 -- a live block lies in its chunk, once the state is sound
 lies_now : (b : Buddy) (new : Account Buddy) (leaf : Leaf) → new.allocator ≡ b → IsSound new.allocator → IsLiveLeaf b leaf → LiesInChunk b leaf
-lies_now b new leaf is sound live = (subst IsSound is sound).inside leaf live
+lies_now b new leaf is sound live = (subst IsSound is sound).space.inside leaf live
 
-pub answers_granted : (a new : Account Buddy) (w : Wanted) (size flags : ℕ) (es : List Event) (leaf : Leaf) (p : Properties) (f g : ℕ → Option Object) → IsSound a.allocator → Agrees a.allocator p f → IsRoundedTo a.allocator w size
+pub answers_granted : (a new : Account Buddy) (w : Wanted) (size flags : ℕ) (es : List Event) (leaf : Leaf) (p : Properties) (f g : ℕ → Option Object) → IsSound a.allocator → IsSound new.allocator → Agrees a.allocator p f → IsRoundedTo a.allocator w size
     → Answers (buddy_case a size flags) es (Ok leaf) new → ObjectsAfter a.allocator (Ok leaf) new.allocator f g → IsGranted a.allocator w new.allocator leaf
-answers_granted a new w size flags es leaf p f g s agrees r (inl gives) objects =
+answers_granted a new w size flags es leaf p f g s now agrees r (inl gives) objects =
     let at = gives.place in
     let place = at.piece.place in
     let size_is = at.of_size in
-    let there = lies_now (with_leaf a.allocator leaf) new leaf (ap (λ (x : Account Buddy). x.allocator) gives.state) (answers_sound a new size flags es (Ok leaf) p f g s agrees r.power (inl gives) objects) (now_live a.allocator.live leaf) in
+    let there = lies_now (with_leaf a.allocator leaf) new leaf (ap (λ (x : Account Buddy). x.allocator) gives.state) now (now_live a.allocator.live leaf) in
     rw (gives.state) (record {
       enough = omega (arith, size_is, r.enough);
       aligned = lower_multiple leaf.offset (w.align_mask + 1) at.length r.alignment place.power (omega (arith, r.aligned, at.enough)) place.aligned;
@@ -155,16 +111,16 @@ answers_granted a new w size flags es leaf p f g s agrees r (inl gives) objects 
       inside = (there.chunk, there.held, (there.object, there.inside));
       live = now_live a.allocator.live leaf;
       was_free = λ other live same b in_other in_leaf.
-          let there = s.inside other live in
-          let chunk = s.one_object other.chunk leaf.chunk there.chunk at.chunk there.held at.held (sym there.object ∙ same ∙ at.object) in
+          let there = s.space.inside other live in
+          let chunk = s.space.one_object other.chunk leaf.chunk there.chunk at.chunk there.held at.held (sym there.object ∙ same ∙ at.object) in
           (place.free b (record { from = in_leaf.from; to = omega (arith, in_leaf.to, size_is, at.enough) })).unused other live chunk in_other;
     })
-answers_granted a new w size flags es leaf p f g s agrees r (inr gives) objects =
+answers_granted a new w size flags es leaf p f g s now agrees r (inr gives) objects =
     let at = gives.place in
     let more = made_in a.allocator new.allocator leaf f g objects at.free_key in
     let size_is = at.of_size in
     let chunk = with_chunk a.allocator leaf (chunk_size a.allocator size) in
-    let there = lies_now (with_leaf chunk leaf) new leaf (ap (λ (x : Account Buddy). x.allocator) gives.state) (answers_sound a new size flags es (Ok leaf) p f g s agrees r.power (inr gives) objects) (now_live chunk.live leaf) in
+    let there = lies_now (with_leaf chunk leaf) new leaf (ap (λ (x : Account Buddy). x.allocator) gives.state) now (now_live chunk.live leaf) in
     rw (gives.state) (record {
       enough = omega (arith, size_is, r.enough);
       aligned = lower_multiple leaf.offset (w.align_mask + 1) (w.align_mask + 1) r.alignment r.alignment (omega arith) (0, at.start ∙ sym (zero-mul (w.align_mask + 1)));
@@ -177,7 +133,7 @@ answers_granted a new w size flags es leaf p f g s agrees r (inr gives) objects 
       inside = (there.chunk, there.held, (there.object, there.inside));
       live = now_live chunk.live leaf;
       was_free = λ other live same b in_other in_leaf.
-          let there = s.inside other live in
+          let there = s.space.inside other live in
           absurd (other_objects a.allocator p f leaf.object agrees more.was_free other.chunk there.chunk there.held (sym there.object ∙ same));
     })
 
@@ -194,10 +150,10 @@ rounds b w s small mask =
       whole_atoms = omega (arith, n.enough);
     }
 
-pub answers_all_granted : (a new : Account Buddy) (w : Wanted) (size flags : ℕ) (es : List Event) (answer : Result Leaf AllocationError) (p : Properties) (f g : ℕ → Option Object) → IsSound a.allocator → Agrees a.allocator p f
+pub answers_all_granted : (a new : Account Buddy) (w : Wanted) (size flags : ℕ) (es : List Event) (answer : Result Leaf AllocationError) (p : Properties) (f g : ℕ → Option Object) → IsSound a.allocator → IsSound new.allocator → Agrees a.allocator p f
     → IsRoundedTo a.allocator w size → Answers (buddy_case a size flags) es answer new → ObjectsAfter a.allocator answer new.allocator f g → IfOk answer (IsGranted a.allocator w new.allocator)
-answers_all_granted a new w size flags es (Ok leaf) p f g s agrees r answers objects = answers_granted a new w size flags es leaf p f g s agrees r answers objects
-answers_all_granted a new w size flags es (Err e) p f g s agrees r answers objects = tt
+answers_all_granted a new w size flags es (Ok leaf) p f g s now agrees r answers objects = answers_granted a new w size flags es leaf p f g s now agrees r answers objects
+answers_all_granted a new w size flags es (Err e) p f g s now agrees r answers objects = tt
 
 -- Refusals before anything is done.
 

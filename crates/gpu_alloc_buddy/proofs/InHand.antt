@@ -55,7 +55,7 @@ frees_remove a leaf es new live frees = return_removes leaf_total leaf_exact byt
 
 -- a chunk is held only for a live block
 pub leaves_no_rest : (b : Buddy) → IsSound b → LeavesNoRest b
-leaves_no_rest b sound = record { held = λ none. no_chunks b.chunks (λ key chunk is. let used = sound.used key chunk is in none_in b.live none used.0 used.1.0) }
+leaves_no_rest b sound = record { held = λ none. no_chunks b.chunks (λ key chunk is. let used = sound.space.used key chunk is in none_in b.live none used.0 used.1.0) }
 
 -- the ledger does not grow with a return
 pub frees_used : (a : Account Buddy) (leaf : Leaf) (es : List Event) (new : Account Buddy) → Frees a leaf es new → new.heap.used ≤ a.heap.used

@@ -1,11 +1,6 @@
 pub mod BuddyAnswers
-pub mod BuddyCalls
 pub mod BuddyGrants
 pub mod BuddyRanges
 pub mod BuddyReturns
+pub mod BuddySteps
 pub mod InHand
-pub mod KeptPieces
-pub mod OtherHalves
-pub mod PieceHalves
-pub mod PieceReturns
-pub mod PieceSteps

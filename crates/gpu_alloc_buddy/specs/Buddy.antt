@@ -10,18 +10,19 @@ use Rattle.gpu_alloc_types.specs.declared.allocation_flags.AllocationFlags.{Allo
 use Rattle.gpu_alloc_types.specs.Device.Event.{Deallocated}
 use Rattle.gpu_alloc_types.specs.declared.types.FreeRange.{FreeRange}
 use Rattle.gpu_alloc_base.specs.Accounts as accounts
-use Rattle.gpu_alloc_base.specs.Accounts.{Account, account, HeldChunks}
+use Rattle.gpu_alloc_base.specs.Accounts.{Account, account}
 use Rattle.gpu_alloc_base.specs.Case.{Case, Answers}
-use Rattle.gpu_alloc_base.specs.FreeSpace.{IsIn, IsMultipleOf, IsPowerOfTwo, IsPlace, IsFreePiece}
+use Rattle.gpu_alloc_base.specs.FreeSpace.{IsIn, IsMultipleOf, IsPowerOfTwo, IsFreePiece}
 use Rattle.gpu_alloc_base.specs.InHand as in_hand
 use Rattle.gpu_alloc_base.specs.InHand.{Bytes}
 use Rattle.gpu_alloc_base.specs.NewChunk.{ChunkQuestion}
 use Rattle.gpu_alloc_base.specs.Sizes.{next_power_of_two}
-use Rattle.gpu_alloc_buddy.specs.BuddyState.{Buddy, IsLiveLeaf, IsFreeAt}
+use Rattle.gpu_alloc_buddy.specs.BuddyState.{Buddy, IsLiveLeaf, IsFreeAt, space_of}
+use Rattle.gpu_alloc_pairs.specs.Space as spaces
+use Rattle.gpu_alloc_pairs.specs.Space.{chunks_with}
 use Rattle.gpu_alloc_base.specs.Chunks.{Chunk}
 use Rattle.gpu_alloc_base.specs.declared.buddy_block.Leaf.{Leaf}
 use Rattle.gpu_alloc_base.specs.declared.error.AllocationError.{AllocationError}
-use Rattle.gpu_alloc_base.specs.declared.error.AllocationError.TheVariants.{OutOfHostMemory}
 use Rattle.gpu_alloc_base.specs.declared.heap.Heap.{Heap}
 use Rattle.gpu_alloc_base.specs.Wanted.{Wanted}
 
@@ -48,34 +49,21 @@ question b size flags =
 
 -- somewhere in a held chunk there is room for a block of this size
 abbrev pub HasPlace : Buddy → ℕ → Type 0
-HasPlace b size = (chunk start : ℕ) × IsPlace (IsFreeAt b) chunk start size
+HasPlace b = spaces.HasPlace (space_of b)
 
 -- the block is the front of a shortest free piece that is long enough
-pub record IsFront (b : Buddy) (size : ℕ) (leaf : Leaf) : Type 0 where
-  pub of_size : leaf.size ≡ size
-  pub chunk : Chunk
-  pub held : map.get b.chunks leaf.chunk ≡ Some chunk
-  pub object : leaf.object ≡ chunk.object
-  pub length : ℕ
-  pub piece : IsFreePiece (IsFreeAt b) leaf.chunk leaf.offset length
-  pub enough : size ≤ length
-  pub shortest : (chunk start other : ℕ) → IsFreePiece (IsFreeAt b) chunk start other → size ≤ other → length ≤ other
+abbrev pub IsFront : Buddy → ℕ → Leaf → Type 0
+IsFront b = spaces.IsFront (space_of b)
 
 -- the block begins a chunk that was not held
-pub record BeginsChunk (b : Buddy) (size : ℕ) (leaf : Leaf) : Type 0 where
-  pub of_size : leaf.size ≡ size
-  pub start : leaf.offset ≡ 0
-  pub free_key : map.get b.chunks leaf.chunk ≡ None
+abbrev pub BeginsChunk : Buddy → ℕ → Leaf → Type 0
+BeginsChunk b = spaces.BeginsChunk (space_of b)
 
 -- one more block is live
 abbrev pub with_leaf : Buddy → Leaf → Buddy
 with_leaf b leaf = record b { live = set.insert b.live leaf }
 
--- one more chunk is held, of the block's object
-abbrev pub chunks_with : HeldChunks → Leaf → ℕ → HeldChunks
-chunks_with chunks leaf size = map.insert chunks leaf.chunk (record { object = leaf.object; size = size })
-
--- and the next one will be as large at least
+-- one more chunk is held, of the block's object, and the next one will be as large at least
 abbrev pub with_chunk : Buddy → Leaf → ℕ → Buddy
 with_chunk b leaf size = record b { chunks = chunks_with b.chunks leaf size; next_chunk = size }
 
@@ -124,14 +112,14 @@ CallAnswers b heap remaining size flags answer new new_heap new_remaining es =
     (account new new_heap new_remaining)
 
 -- a place is looked for: a block in one, or none there, or no host memory for a block in one
-abbrev pub TakesPlace : Buddy → ℕ → Result (Option Leaf) AllocationError → Buddy → Type 0
+abbrev pub TakesPlace : {E : Type 0} → Buddy → ℕ → Result (Option Leaf) E → Buddy → Type 0
 TakesPlace b size (Ok None) new = (HasPlace b size → ⊥) × (new ≡ b)
 TakesPlace b size (Ok (Some leaf)) new = IsFront b size leaf × (new ≡ with_leaf b leaf)
-TakesPlace b size (Err e) new = HasPlace b size × ((e ≡ OutOfHostMemory) × (new ≡ b))
+TakesPlace b size (Err e) new = HasPlace b size × (new ≡ b)
 
 -- no block of the chunk is live
 abbrev pub IsUnusedChunk : Buddy → ℕ → Type 0
-IsUnusedChunk b chunk = (leaf : Leaf) → IsLiveLeaf b leaf → (leaf.chunk ≡ chunk → ⊥)
+IsUnusedChunk b = spaces.IsUnusedChunk (space_of b)
 
 -- one block less
 abbrev pub without_leaf : Buddy → Leaf → Buddy

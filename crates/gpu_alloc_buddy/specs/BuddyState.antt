@@ -1,12 +1,13 @@
 -- What a buddy allocator holds and has given out, all of it of one memory type.
-use Rattle.std.specs.Prelude.{◌≡◌, ℕ, ◌<◌, Some, IsTrue}
+use Rattle.std.specs.Prelude.{ℕ}
 use Rattle.std.specs.FinMap as map
 use Rattle.std.specs.FinSet as set
 use Rattle.std.specs.Ordering.{nat_cmp}
-use Rattle.gpu_alloc_base.specs.FreeSpace.{IsIn}
 use Rattle.gpu_alloc_base.specs.declared.buddy_block.Leaf.{Leaf}
 use Rattle.gpu_alloc_base.specs.Chunks.{Chunk}
 use Rattle.gpu_alloc_base.specs.Leaves.{leaf_cmp}
+use Rattle.gpu_alloc_pairs.specs.Space as space
+use Rattle.gpu_alloc_pairs.specs.Space.{Space}
 
 -- The held chunks by key, the live blocks, the next chunk's least size, the least block, the memory type with its
 -- property bits, and the atom, of which block sizes are multiples.
@@ -19,12 +20,13 @@ pub record Buddy : Type 0 where
   pub props : ℕ
   pub atom : ℕ
 
+-- the chunks and the blocks alone
+abbrev pub space_of : Buddy → Space
+space_of b = record { chunks = b.chunks; live = b.live }
+
 abbrev pub IsLiveLeaf : Buddy → Leaf → Type 0
-IsLiveLeaf b leaf = IsTrue (set.contains b.live leaf)
+IsLiveLeaf b = space.IsLiveLeaf (space_of b)
 
 -- the byte lies in a held chunk, and in no live block
-pub record IsFreeAt (b : Buddy) (chunk at : ℕ) : Type 0 where
-  pub held : Chunk
-  pub is : map.get b.chunks chunk ≡ Some held
-  pub inside : at < held.size
-  pub unused : (leaf : Leaf) → IsLiveLeaf b leaf → leaf.chunk ≡ chunk → IsIn leaf.offset leaf.size at → ⊥
+abbrev pub IsFreeAt : Buddy → ℕ → ℕ → Type 0
+IsFreeAt b = space.IsFreeAt (space_of b)

@@ -266,7 +266,7 @@ module _ (s : Space) (sound : IsSoundSpace s) (chunk k a : ℕ) (piece : IsFreeP
             (found.0, (found.1.0, record { chunk = found.1.1.0; top = top; aligned = half.aligned; beside = inr (e, found.1.1.1) }))
       ]
 
-same_place-from_eq : (p q : Piece) → p.chunk ≡ q.chunk → p.start ≡ q.start → same_place p q ≡ true
+pub same_place-from_eq : (p q : Piece) → p.chunk ≡ q.chunk → p.start ≡ q.start → same_place p q ≡ true
 same_place-from_eq p q a b = ap (λ t. t && (p.start == q.start)) ((Decides-eqb p.chunk q.chunk).1 a) ∙ (Decides-eqb p.start q.start).1 b
 
 -- there are no more free pieces of one length than live blocks

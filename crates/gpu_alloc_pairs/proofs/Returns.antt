@@ -15,8 +15,8 @@ use Rattle.gpu_alloc_pairs.specs.declared.pair.Parent.{Parent}
 use Rattle.gpu_alloc_pairs.specs.declared.pair.Side.{Side}
 use Rattle.gpu_alloc_pairs.specs.declared.pair.Side.TheVariants.{Left, Right}
 use Rattle.gpu_alloc_pairs.specs.declared.pair.Use.TheVariants.{Free, Taken, Divided}
-use Rattle.gpu_alloc_buddy.proofs.PieceHalves.{halves_of, join_left, join_right, splits}
-use Rattle.gpu_alloc_buddy.proofs.PieceSteps.{put}
+use Rattle.gpu_alloc_pairs.proofs.PieceHalves.{halves_of, join_left, join_right, splits}
+use Rattle.gpu_alloc_pairs.proofs.PieceSteps.{put}
 use Rattle.gpu_alloc_pairs.proofs.Splits.{free_not_taken}
 use Rattle.gpu_alloc_pairs.proofs.Trees.{piece_at, piece_is, pair_halves, one_entry, one_half, one_use, one_piece, undivided, no_entry, no_left_half, no_right_half, side_or_other}
 use Rattle.gpu_alloc_pairs.proofs.TreeSteps.{half_set, half_kept, half_less, ready_more, tree_after_set, half_cases, half_stays, pair_kept, pair_cases, ready_with, not_ready_before, tree_without}

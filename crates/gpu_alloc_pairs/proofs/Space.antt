@@ -16,7 +16,7 @@ use Rattle.gpu_alloc_base.proofs.ExactPieces.{whole_chunk}
 use Rattle.gpu_alloc_base.proofs.Maps.{one_value, gone, kept_other, own_inserted, other_inserted}
 use Rattle.gpu_alloc_base.proofs.Leaves.{leaf_inserted, leaf_removed, leaf_same_or_left}
 use Rattle.gpu_alloc_pairs.specs.Space.{Space, IsLiveLeaf, IsFreeAt}
-use Rattle.gpu_alloc_buddy.proofs.PieceSteps.{same_bytes}
+use Rattle.gpu_alloc_pairs.proofs.PieceSteps.{same_bytes}
 
 -- A leaf and the piece that it is.
 

@@ -20,8 +20,8 @@ use Rattle.gpu_alloc_pairs.specs.declared.pair.Side.{Side}
 use Rattle.gpu_alloc_pairs.specs.declared.pair.Side.TheVariants.{Left, Right}
 use Rattle.gpu_alloc_pairs.specs.declared.pair.Use.{Use}
 use Rattle.gpu_alloc_pairs.specs.declared.pair.Use.TheVariants.{Free, Taken, Divided}
-use Rattle.gpu_alloc_buddy.proofs.PieceHalves.{split}
-use Rattle.gpu_alloc_buddy.proofs.PieceSteps.{take}
+use Rattle.gpu_alloc_pairs.proofs.PieceHalves.{split}
+use Rattle.gpu_alloc_pairs.proofs.PieceSteps.{take}
 use Rattle.gpu_alloc_pairs.proofs.Space.{free_lies}
 use Rattle.gpu_alloc_pairs.proofs.Trees.{piece_at, pair_halves, one_entry, one_half, undivided, no_entry}
 use Rattle.gpu_alloc_pairs.proofs.TreeSteps.{at_place, half_set, piece_set, this_or_other, half_kept, half_back, half_less, half_gone, ready_less, tree_after_set, half_cases, half_stays, half_added, ready_with, tree_with}

@@ -13,7 +13,7 @@ use Rattle.gpu_alloc_pairs.specs.declared.pair.Side.{Side}
 use Rattle.gpu_alloc_pairs.specs.declared.pair.Side.TheVariants.{Left, Right}
 use Rattle.gpu_alloc_pairs.specs.declared.pair.Use.{Use}
 use Rattle.gpu_alloc_pairs.specs.declared.pair.Use.TheVariants.{Free, Divided}
-use Rattle.gpu_alloc_buddy.proofs.OtherHalves.{no_left, no_right}
+use Rattle.gpu_alloc_pairs.proofs.OtherHalves.{no_left, no_right}
 
 -- Sides.
 

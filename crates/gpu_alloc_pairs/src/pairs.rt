@@ -243,8 +243,8 @@ fn leaf_of(front: Front, order: u32, object: u64) -> Leaf
     }
 }
 
-/// How many bytes a range of this order has.
-fn bytes(order: u32) -> u64
+/// How many bytes a range of this order has. It is public for `gpu_alloc_buddy`.
+pub fn bytes(order: u32) -> u64
     requires { order < 64 }
     ensures { result ≡ 2 ^ order }
 {

@@ -3,4 +3,4 @@ use Rattle.std.proofs.Common.{subst}
 use Rattle.gpu_alloc_buddy.proofs.buddy.BuddyAllocator.rounded_order.Goals as goal
 
 pub returns-clause-sound : goal.returns-clause-sound
-returns-clause-sound g c = subst IsSound c.self.view_is c.self.invariant.0
+returns-clause-sound g c = subst IsSound c.self.view_is c.self.invariant

@@ -7,7 +7,7 @@ use Rattle.gpu_alloc_base.specs.FreeSpace.{IsMultipleOf}
 use Rattle.gpu_alloc_base.specs.Pieces.{AreHalves}
 use Rattle.gpu_alloc_base.proofs.AlignedPowers.{ends_in}
 use Rattle.gpu_alloc_base.proofs.ExactPieces.{same_piece}
-use Rattle.gpu_alloc_buddy.proofs.PieceHalves.{not_left, aligned_joined}
+use Rattle.gpu_alloc_pairs.proofs.PieceHalves.{not_left, aligned_joined}
 
 pub even_start : (s n : ℕ) → 0 < n → s % n ≡ 0 → IsMultipleOf n s
 even_start s n pos e = (s / n, omega (arith, e))

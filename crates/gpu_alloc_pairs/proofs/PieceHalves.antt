@@ -7,7 +7,7 @@ use Rattle.gpu_alloc_base.specs.FreeSpace.{IsIn, IsMultipleOf}
 use Rattle.gpu_alloc_base.specs.declared.piece.Piece.{Piece}
 use Rattle.gpu_alloc_base.specs.Pieces.{InPiece, IsCanonical, AreHalves, joined, Without, IsWith}
 use Rattle.gpu_alloc_base.proofs.AlignedPowers.{doubled}
-use Rattle.gpu_alloc_buddy.proofs.PieceSteps.{same_bytes, take, put}
+use Rattle.gpu_alloc_pairs.proofs.PieceSteps.{same_bytes, take, put}
 
 -- whether a byte lies in a range
 pub cases_in : (s n at : ℕ) → IsIn s n at ⊎ (IsIn s n at → ⊥)

@@ -1,0 +1,82 @@
+-- How many steps a call takes, and how many pieces are free.
+use Rattle.std.proofs.Common.{◌≡◌, inl, inr, ℕ, ◌+◌, ◌*◌, ◌-◌, ◌^◌, ◌<◌, ◌≤◌, ◌==◌, Bool, true, false, cond, List, [], ◌∷◌, map, Some, None, refl, sym, ◌∙◌, ap, subst, arith, count_by}
+use Rattle.std.proofs.lemmas.Bool.{cases_lt}
+use Rattle.std.proofs.lemmas.Bool.Decides.{Decides-eqb, same_from_decides}
+use Rattle.std.proofs.lemmas.List.Sums.{sum_by-cons}
+use Rattle.std.proofs.lemmas.Nat.{pow-add}
+use Rattle.std.specs.Bool.{Decides}
+use Rattle.std.specs.FinMap as finite
+use Rattle.std.specs.FinSet as set
+use Rattle.gpu_alloc_base.specs.Chunks.{Chunk}
+use Rattle.gpu_alloc_base.specs.FreeSpace.{IsFreePiece, IsIn}
+use Rattle.gpu_alloc_base.specs.declared.buddy_block.Leaf.{Leaf}
+use Rattle.gpu_alloc_base.specs.declared.piece.Piece.{Piece}
+use Rattle.gpu_alloc_base.proofs.AlignedPowers.{order-le, pow-le}
+use Rattle.gpu_alloc_buddy.specs.BuddyState.{Buddy, IsFreeAt, IsLiveLeaf, space_of}
+use Rattle.gpu_alloc_buddy.specs.BuddySteps.{AreFewRanges, AreFewReleases, CountsSteps}
+use Rattle.gpu_alloc_pairs.specs.Space.{IsSoundSpace}
+use Rattle.gpu_alloc_pairs.specs.Store.{CountsFront, range_of}
+
+-- A grant.
+
+-- two free pieces that start at one byte are as long
+one_length : (F : ℕ → ℕ → Type 0) (chunk start a b : ℕ) → IsFreePiece F chunk start a → IsFreePiece F chunk start b → a ≡ b
+one_length F chunk start a b p q = elim (cases_lt a b) [
+  | inl lt ↦ let le = p.longest start b q.place (omega arith) (omega arith) in omega (arith, le, lt)
+  | inr ge ↦ let le = q.longest start a p.place (omega arith) (omega (arith, ge)) in omega (arith, le, ge)
+]
+
+-- the power is told by its size
+one_power : (order k l : ℕ) → 2 ^ order * 2 ^ k ≡ 2 ^ order * 2 ^ l → k ≡ l
+one_power order k l same =
+    let is : 2 ^ (order + k) ≡ 2 ^ (order + l) = pow-add 2 order k ∙ same ∙ sym (pow-add 2 order l) in
+    omega (arith, order-le (order + k) (order + l) (omega (arith, is)), order-le (order + l) (order + k) (omega (arith, is)))
+
+-- the block's piece is that of which the store has told
+pub front_counts : (b : Buddy) (order : ℕ) (leaf : Leaf) (looks now splits after : ℕ) → leaf.size ≡ 2 ^ order → CountsFront (space_of b) leaf looks now splits after → CountsSteps b looks now splits after leaf
+front_counts b order leaf looks now splits after size c k piece =
+    let lengths = one_length (IsFreeAt b) leaf.chunk leaf.offset (leaf.size * 2 ^ k) (leaf.size * 2 ^ c.doublings) piece c.piece in
+    let same = one_power order k c.doublings (subst (λ n. n * 2 ^ k ≡ n * 2 ^ c.doublings) size lengths) in
+    (omega (arith, c.looked, same), omega (arith, c.split, same))
+
+-- a block of a chunk that was not held is the front of no free piece
+pub new_counts : (b : Buddy) (order : ℕ) (leaf : Leaf) (looks now splits after : ℕ) → leaf.size ≡ 2 ^ order → finite.get b.chunks leaf.chunk ≡ None → CountsSteps b looks now splits after leaf
+new_counts b order leaf looks now splits after size none k piece =
+    let some : 2 ^ 0 ≤ 2 ^ (order + k) = pow-le 0 (order + k) (omega arith) in
+    let long : leaf.size * 2 ^ k ≡ 2 ^ (order + k) = ap (λ n. n * 2 ^ k) size ∙ sym (pow-add 2 order k) in
+    let first : IsIn leaf.offset (leaf.size * 2 ^ k) leaf.offset = record { from = omega arith; to = omega (arith, some, long) } in
+    let held = piece.place.free leaf.offset first in
+    let is = held.is in
+    absurd (cc)
+
+-- A return.
+
+pub few_at_most : (b : Buddy) (leaf : Leaf) (old new : ℕ) → IsSoundSpace (space_of b) → IsLiveLeaf b leaf → old < new → AreFewReleases b leaf old new → new ≤ old + 63
+few_at_most b leaf old new sound live some few =
+    let lies = sound.inside leaf live in
+    let power = sound.powers leaf.chunk lies.chunk lies.held in
+    let most = few lies.chunk lies.held in
+    let long : leaf.size * 2 ^ (new - old) ≡ 2 ^ (lies.power.0 + (new - old)) = ap (λ n. n * 2 ^ (new - old)) lies.power.1 ∙ sym (pow-add 2 lies.power.0 (new - old)) in
+    let le = order-le (lies.power.0 + (new - old)) power.0 (omega (arith, most, long, power.1.1)) in
+    omega (arith, le, power.1.0, some)
+
+-- Free pieces.
+
+count_ranges : {X Y : Type 0} (f : X → Y) (p : Y → Bool) (q : X → Bool) → ((x : X) → p (f x) ≡ q x) → (xs : List X) → count_by p (map f xs) ≡ count_by q xs
+count_ranges f p q same [] = refl
+count_ranges f p q same (x ∷ xs) =
+    sum_by-cons (λ y. cond (p y) 1 0) (f x) (map f xs)
+    ∙ ap (λ b. cond b 1 0 + count_by p (map f xs)) (same x) ∙ ap (λ n. cond (q x) 1 0 + n) (count_ranges f p q same xs)
+    ∙ sym (sum_by-cons (λ y. cond (q y) 1 0) x xs)
+
+-- a range tells its piece's order
+as_long : (start n order : ℕ) → (start + 2 ^ n == start + 2 ^ order) ≡ (n == order)
+as_long start n order = same_from_decides _ _ (Decides-eqb (start + 2 ^ n) (start + 2 ^ order)) (
+  (λ t. let is = (Decides-eqb n order).0 t in ap (λ k. start + 2 ^ k) is),
+  (λ e. (Decides-eqb n order).1 (omega (arith, order-le n order (omega (arith, e)), order-le order n (omega (arith, e))))),
+)
+
+pub few_ranges : (b : Buddy) (pieces : List Piece) → ((order : ℕ) → count_by (λ p. p.order == order) pieces ≤ set.len b.live) → AreFewRanges b (map (range_of (space_of b)) pieces)
+few_ranges b pieces few order =
+    let same = count_ranges (range_of (space_of b)) (λ r. r.end == r.start + 2 ^ order) (λ p. p.order == order) (λ p. as_long p.start p.order order) pieces in
+    omega (arith, few order, same)

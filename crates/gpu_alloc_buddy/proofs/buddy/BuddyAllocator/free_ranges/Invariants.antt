@@ -1,8 +1,0 @@
-use Rattle.std.proofs.Common.{◌≡◌, ◌≤◌, length, map, take, vec_len, vec_capacity}
-use Rattle.gpu_alloc_buddy.specs.BuddyInside.{range_of}
-use Rattle.gpu_alloc_buddy.proofs.buddy.BuddyAllocator.free_ranges.Given as goal
-
--- so many were listed, in room for all
-abbrev pub invariant-loop-piece : goal.invariant-loop-piece
-invariant-loop-piece g l =
-    (l.ranges.items ≡ map (range_of l.fn.self) (take l.piece-index l.piece-items)) × ((vec_len l.ranges ≡ l.piece-index) × (length l.piece-items ≤ vec_capacity l.ranges))
