@@ -1,19 +1,22 @@
 -- What the return of a block leaves of a buddy allocator.
-use Rattle.std.proofs.Common.{◌≡◌, ◌≢◌, ℕ, ◌+◌, ◌-◌, ◌^◌, ◌<◌, ◌≤◌, inl, inr, List, Option, Some, None, IfSome, refl, sym, ◌∙◌, ap, subst, arith}
+use Rattle.std.proofs.Common.{◌≡◌, ◌≢◌, ℕ, ◌+◌, ◌-◌, ◌^◌, ◌<◌, ◌≤◌, inl, inr, List, [], ◌∷◌, Option, Some, None, IfSome, refl, sym, ◌∙◌, ap, subst, arith}
 use Rattle.std.proofs.lemmas.Bool.{cases_eq}
 use Rattle.std.specs.FinMap as map
 use Rattle.gpu_alloc_types.specs.Device.{Object, Event, HeldWith, put}
+use Rattle.gpu_alloc_types.specs.Device.Event.{Deallocated}
 use Rattle.gpu_alloc_types.specs.Objects.{put-other}
 use Rattle.gpu_alloc_types.specs.Properties.{Properties}
-use Rattle.gpu_alloc_base.specs.Accounts.{Account, IsCounted, chunk_bytes, chunks_and_remaining}
+use Rattle.gpu_alloc_base.specs.Accounts.{Account, account, IsCounted, chunk_bytes, chunks_and_remaining}
 use Rattle.gpu_alloc_base.specs.Chunks.{IsThere, Chunk}
 use Rattle.gpu_alloc_base.specs.declared.buddy_block.Leaf.{Leaf}
 use Rattle.gpu_alloc_base.specs.declared.heap.Heap.{Heap}
 use Rattle.gpu_alloc_base.proofs.Maps.{gone, kept_other, one_value}
 use Rattle.gpu_alloc_base.proofs.Sums.{sum_by-remove, len_less}
 use Rattle.gpu_alloc_buddy.specs.Buddy.{Agrees, Frees, sees_chunks, without_leaf}
+use Rattle.gpu_alloc_buddy.specs.BuddyInside.{buddy_in}
 use Rattle.gpu_alloc_buddy.specs.BuddyState.{Buddy, IsLiveLeaf, space_of}
-use Rattle.gpu_alloc_pairs.specs.Space.{IsSoundSpace}
+use Rattle.gpu_alloc_pairs.specs.Space as spaces
+use Rattle.gpu_alloc_pairs.specs.Space.{IsSoundSpace, Space}
 
 -- the allocator without a block, and without its chunk
 abbrev pub without_chunk : Buddy → Leaf → Buddy
@@ -72,3 +75,19 @@ frees_total a new leaf es (inr goes) = rw (goes.1.2.1) (omega (arith, len_less a
 
 pub frees_counted : (a new : Account Buddy) (leaf : Leaf) (es : List Event) → IsCounted a.allocator.chunks a.heap a.remaining → Frees a leaf es new → IsCounted new.allocator.chunks new.heap new.remaining
 frees_counted a new leaf es counted frees = record { ledger = frees_bytes a new leaf es counted.ledger frees; objects = omega (arith, frees_total a new leaf es frees, counted.objects) }
+
+-- What the store tells of a return, as the allocator's contract has it.
+
+module _ (s now : Space) (n m t p a : ℕ) (leaf : Leaf) (heap : Heap) (remaining : ℕ) where
+  pub frees_stays : (spaces.IsUnusedChunk (spaces.without_leaf s leaf) leaf.chunk → ⊥) × (now ≡ spaces.without_leaf s leaf)
+      → Frees (account (buddy_in s n m t p a) heap remaining) leaf [] (account (buddy_in now n m t p a) heap remaining)
+  frees_stays stays = inl (stays.0, (refl, ap (λ x. account (buddy_in x n m t p a) heap remaining) stays.1))
+
+  -- the chunk goes
+  abbrev pub Goes : Chunk → Type 0
+  Goes held = spaces.IsUnusedChunk (spaces.without_leaf s leaf) leaf.chunk × ((map.get s.chunks leaf.chunk ≡ Some held) × (now ≡ spaces.without_chunk s leaf))
+
+  pub frees_goes : (held : Chunk) (less : Heap) → Goes held → less ≡ record heap { used = heap.used - held.size }
+      → Frees (account (buddy_in s n m t p a) heap remaining) leaf (Deallocated leaf.object ∷ []) (account (buddy_in now n m t p a) less (remaining + 1))
+  frees_goes held less goes is =
+      inr (goes.0, (held, goes.1.0, (refl, ap (λ x. account (buddy_in x n m t p a) less (remaining + 1)) goes.1.1 ∙ ap (λ h. account (buddy_in (spaces.without_chunk s leaf) n m t p a) h (remaining + 1)) is)))

@@ -1,5 +1,5 @@
 -- How many steps a call takes, and how many pieces are free.
-use Rattle.std.proofs.Common.{◌≡◌, inl, inr, ℕ, ◌+◌, ◌*◌, ◌-◌, ◌^◌, ◌<◌, ◌≤◌, ◌==◌, Bool, true, false, cond, List, [], ◌∷◌, map, Some, None, refl, sym, ◌∙◌, ap, subst, arith, count_by}
+use Rattle.std.proofs.Common.{◌≡◌, inl, inr, ℕ, ◌+◌, ◌*◌, ◌-◌, ◌^◌, ◌<◌, ◌≤◌, ◌==◌, Bool, true, false, cond, List, [], ◌∷◌, map, Some, None, Result, Ok, Err, IfOk, refl, sym, ◌∙◌, ap, subst, arith, count_by}
 use Rattle.std.proofs.lemmas.Bool.{cases_lt}
 use Rattle.std.proofs.lemmas.Bool.Decides.{Decides-eqb, same_from_decides}
 use Rattle.std.proofs.lemmas.List.Sums.{sum_by-cons}
@@ -12,6 +12,8 @@ use Rattle.gpu_alloc_base.specs.FreeSpace.{IsFreePiece, IsIn}
 use Rattle.gpu_alloc_base.specs.declared.buddy_block.Leaf.{Leaf}
 use Rattle.gpu_alloc_base.specs.declared.piece.Piece.{Piece}
 use Rattle.gpu_alloc_base.proofs.AlignedPowers.{order-le, pow-le}
+use Rattle.gpu_alloc_base.specs.declared.error.AllocationError.{AllocationError}
+use Rattle.gpu_alloc_buddy.specs.Buddy.{BeginsChunk}
 use Rattle.gpu_alloc_buddy.specs.BuddyState.{Buddy, IsFreeAt, IsLiveLeaf, space_of}
 use Rattle.gpu_alloc_buddy.specs.BuddySteps.{AreFewRanges, AreFewReleases, CountsSteps}
 use Rattle.gpu_alloc_pairs.specs.Space.{IsSoundSpace}
@@ -40,14 +42,19 @@ front_counts b order leaf looks now splits after size c k piece =
     (omega (arith, c.looked, same), omega (arith, c.split, same))
 
 -- a block of a chunk that was not held is the front of no free piece
-pub new_counts : (b : Buddy) (order : ℕ) (leaf : Leaf) (looks now splits after : ℕ) → leaf.size ≡ 2 ^ order → finite.get b.chunks leaf.chunk ≡ None → CountsSteps b looks now splits after leaf
-new_counts b order leaf looks now splits after size none k piece =
+new_counts : (b : Buddy) (order : ℕ) (leaf : Leaf) (looks now splits after : ℕ) → BeginsChunk b (2 ^ order) leaf → CountsSteps b looks now splits after leaf
+new_counts b order leaf looks now splits after begins k piece =
     let some : 2 ^ 0 ≤ 2 ^ (order + k) = pow-le 0 (order + k) (omega arith) in
-    let long : leaf.size * 2 ^ k ≡ 2 ^ (order + k) = ap (λ n. n * 2 ^ k) size ∙ sym (pow-add 2 order k) in
+    let long : leaf.size * 2 ^ k ≡ 2 ^ (order + k) = ap (λ n. n * 2 ^ k) begins.of_size ∙ sym (pow-add 2 order k) in
     let first : IsIn leaf.offset (leaf.size * 2 ^ k) leaf.offset = record { from = omega arith; to = omega (arith, some, long) } in
     let held = piece.place.free leaf.offset first in
     let is = held.is in
+    let none = begins.free_key in
     absurd (cc)
+
+pub granted_counts : (b : Buddy) (order : ℕ) (answer : Result Leaf AllocationError) (looks now splits after : ℕ) → IfOk answer (BeginsChunk b (2 ^ order)) → IfOk answer (CountsSteps b looks now splits after)
+granted_counts b order (Ok leaf) looks now splits after begins = new_counts b order leaf looks now splits after begins
+granted_counts b order (Err e) looks now splits after begins = tt
 
 -- A return.
 

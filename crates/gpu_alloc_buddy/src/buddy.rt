@@ -7,7 +7,7 @@ ghost use Rattle.gpu_alloc_types.specs.Flags.{allocation_bits, property_bits, ha
 ghost use Rattle.gpu_alloc_types.specs.Device.{Asked};
 ghost use Rattle.gpu_alloc_types.specs.declared.types.FreeRange.{FreeRange as Range};
 ghost use Rattle.std.specs.Int.{is_power_of_two};
-ghost use Rattle.gpu_alloc_buddy.specs.Buddy.{Agrees, buddy_case, CallAllocates, CallAnswers, case_of};
+ghost use Rattle.gpu_alloc_buddy.specs.Buddy.{Agrees, BeginsChunk, buddy_case, CallAllocates, CallAnswers, case_of};
 ghost use Rattle.gpu_alloc_buddy.specs.Buddy.{Frees, HasPlace, IsGranted, IsUnusedChunk, ObjectsAfter, ObjectsFreed};
 ghost use Rattle.gpu_alloc_buddy.specs.Buddy.{opened, rounded, TakesPlace, without_leaf};
 ghost use Rattle.gpu_alloc_buddy.specs.Buddy.{Adds, HoldsNothing, IsPieceOf, Leaves, LeavesNoRest, Removes};
@@ -98,6 +98,7 @@ impl<M: MemoryObject, A: Allocator + Copy> BuddyAllocator<M, A> {
         let Ok(pairs) = Pairs::new(alloc) else {
             return Err(AllocationError::OutOfHostMemory);
         };
+        pairs.keeps_exact();
         Ok(BuddyAllocator {
             pairs,
             next_order: next_order(initial_dedicated_size.max(minimal_size)),
@@ -450,7 +451,7 @@ impl<M: MemoryObject, A: Allocator> BuddyAllocator<M, A> {
         ensures objects { ObjectsAfter self.old result self.new (D.objects device.old) (D.objects device.new) }
         ensures properties { D.properties device.new ≡ D.properties device.old }
         ensures split { CountsSplits splits.old splits.new }
-        ensures key { IfOk result (λ leaf. map.get self.old.chunks leaf.chunk ≡ None) }
+        ensures begins { IfOk result (BeginsChunk self.old (2 ^ order)) }
     {
         let chunk_order = self.next_order.max(order + 1);
         if self.pairs.reserve(order, chunk_order).is_err() {
