@@ -201,8 +201,15 @@ impl<M: MemoryObject, A: Allocator> BuddyAllocator<M, A> {
         ensures steps { IfOk result (CountsSteps self.old looks.old looks.new splits.old splits.new) }
     {
         let order = self.rounded_order(size, align_mask);
-        let answer =
-            self.alloc_rounded(device, order, flags, heap, allocations_remains, looks, splits);
+        let answer = self.alloc_rounded(
+            device,
+            order,
+            flags,
+            heap,
+            allocations_remains,
+            looks,
+            splits,
+        );
         self.keeps_sound();
         answer
     }

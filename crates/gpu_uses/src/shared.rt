@@ -1,6 +1,6 @@
 //! The allocators of shared chunks by themselves, each for one memory type of a device.
 
-ghost use Rattle.std.specs.Prelude.{◌≡◌, ◌+◌, ◌≤◌, ◌<◌, ◌^◌, IsTrue};
+ghost use Rattle.std.specs.Prelude.{◌≡◌, ◌+◌, ◌*◌, ◌≤◌, ◌<◌, ◌^◌, IsTrue};
 ghost use Rattle.std.specs.FinMap as map;
 ghost use Rattle.std.specs.FinSet as set;
 ghost use Rattle.std.specs.Int.{is_power_of_two};
@@ -15,21 +15,28 @@ ghost use Rattle.gpu_alloc_freelist.specs.FreeListAllocator.{Agrees as ListAgree
 
 use gpu_alloc_base::AllocationError;
 use gpu_alloc_base::heap::Heap;
+use gpu_alloc_base::steps::Steps;
 use gpu_alloc_buddy::BuddyAllocator;
 use gpu_alloc_buddy::laws::agrees_at_first as buddy_agrees_at_first;
 use gpu_alloc_freelist::FreeListAllocator;
 use gpu_alloc_freelist::laws::agrees_at_first as list_agrees_at_first;
 use gpu_alloc_types::{AllocationFlags, MemoryDevice, MemoryObject, MemoryPropertyFlags};
 use std::alloc::Global;
+use std::marker::Brand;
+use std::sync::ledger::{Blank, Ledger};
 
-/// Takes two blocks of an empty buddy allocator, returns them in the order in which they came, and closes it.
-pub fn two_in_a_buddy_chunk<M: MemoryObject, D: MemoryDevice<M>>(
+/// Takes two blocks of an empty buddy allocator, returns them in the order in which they came, and closes it. No call
+/// takes more than 63 steps of a kind.
+pub fn two_in_a_buddy_chunk<M: MemoryObject, D: MemoryDevice<M>, L: Ledger, K: Ledger, R: Ledger>(
     allocator: BuddyAllocator<M>,
     device: &mut D,
     size: u64,
     align_mask: u64,
     heap: &mut Heap,
     allocations_remains: &mut u32,
+    looks: &mut Steps<L>,
+    splits: &mut Steps<K>,
+    releases: &mut Steps<R>,
 ) -> Result<(), AllocationError>
     requires nonempty { 0 < size }
     requires alignment { IsAlignMask align_mask }
@@ -38,21 +45,42 @@ pub fn two_in_a_buddy_chunk<M: MemoryObject, D: MemoryDevice<M>>(
     requires live { set.len allocator.live ≡ 0 }
     requires held { map.len allocator.chunks ≡ 0 }
     requires bound { heap.old.used ≤ 2 ^ 126 }
+    ensures looked { looks.new ≤ looks.old + 2 * 63 }
+    ensures split { splits.new ≤ splits.old + 2 * 62 }
+    ensures released { releases.new ≤ releases.old + 2 * 63 }
 {
     let mut allocator = allocator;
     let flags = AllocationFlags::empty();
-    let first = match allocator.alloc(device, size, align_mask, flags, heap, allocations_remains) {
+    let first = match allocator.alloc(
+        device,
+        size,
+        align_mask,
+        flags,
+        heap,
+        allocations_remains,
+        looks,
+        splits,
+    ) {
         Ok(block) => block,
         Err(refusal) => {
             allocator.close();
             return Err(refusal);
         }
     };
-    let second = allocator.alloc(device, size, align_mask, flags, heap, allocations_remains);
-    allocator.dealloc(device, first, heap, allocations_remains);
+    let second = allocator.alloc(
+        device,
+        size,
+        align_mask,
+        flags,
+        heap,
+        allocations_remains,
+        looks,
+        splits,
+    );
+    allocator.dealloc(device, first, heap, allocations_remains, releases);
     match second {
         Ok(block) => {
-            allocator.dealloc(device, block, heap, allocations_remains);
+            allocator.dealloc(device, block, heap, allocations_remains, releases);
             allocator.close();
             Ok(())
         }
@@ -61,6 +89,42 @@ pub fn two_in_a_buddy_chunk<M: MemoryObject, D: MemoryDevice<M>>(
             Err(refusal)
         }
     }
+}
+
+/// Takes and returns two blocks as [`two_in_a_buddy_chunk`] does, and counts nothing.
+fn two_uncounted<M: MemoryObject, D: MemoryDevice<M>, L: Ledger, K: Ledger, R: Ledger>(
+    allocator: BuddyAllocator<M>,
+    device: &mut D,
+    size: u64,
+    align_mask: u64,
+    heap: &mut Heap,
+    allocations_remains: &mut u32,
+    looks: Blank,
+    splits: Blank,
+    releases: Blank,
+) -> Result<(), AllocationError>
+    requires nonempty { 0 < size }
+    requires alignment { IsAlignMask align_mask }
+    requires agrees { Agrees allocator (D.properties device.old) (D.objects device.old) }
+    requires counted { IsCounted allocator.chunks heap.old allocations_remains.old }
+    requires live { set.len allocator.live ≡ 0 }
+    requires held { map.len allocator.chunks ≡ 0 }
+    requires bound { heap.old.used ≤ 2 ^ 126 }
+    requires looks { (looks.name ≡ L.name) × (looks.parts ≡ L.parts) × (0 < looks.parts) }
+    requires splits { (splits.name ≡ K.name) × (splits.parts ≡ K.parts) × (0 < splits.parts) }
+    requires releases { (releases.name ≡ R.name) × (releases.parts ≡ R.parts) × (0 < releases.parts) }
+{
+    two_in_a_buddy_chunk(
+        allocator,
+        device,
+        size,
+        align_mask,
+        heap,
+        allocations_remains,
+        &mut Steps::<L>::new(looks),
+        &mut Steps::<K>::new(splits),
+        &mut Steps::<R>::new(releases),
+    )
 }
 
 /// Takes two blocks of an empty free list's allocator, returns them in the order in which they came, cleans up and
@@ -157,13 +221,16 @@ pub fn open_a_buddy_allocator<M: MemoryObject, D: MemoryDevice<M>>(
         heap,
         *allocations_remains,
     );
-    two_in_a_buddy_chunk(
+    two_uncounted::<M, D, Brand, Brand, Brand>(
         allocator,
         device,
         size,
         align_mask,
         heap,
         allocations_remains,
+        Blank::new(1),
+        Blank::new(1),
+        Blank::new(1),
     )
 }
 
