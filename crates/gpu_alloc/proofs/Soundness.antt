@@ -70,8 +70,8 @@ module _ {c : Config} {p : Properties} {t : Table} {b : Buddy} {object : ℕ} {h
 
   of_chunk : (span : Span) (place : Place) → IsLiveLeaf b (leaf_at span place) → span.object ≡ object → (place.chunk ≡ by_key.0) × (span.offset + span.size ≤ h.counted) × (0 < span.size)
   of_chunk span place live named =
-      let lies = is.sound.inside (leaf_at span place) live in
-      let key = is.sound.one_object place.chunk by_key.0 lies.chunk (chunk_at object h) lies.held by_key.1 (sym lies.object ∙ named) in
+      let lies = is.sound.space.inside (leaf_at span place) live in
+      let key = is.sound.space.one_object place.chunk by_key.0 lies.chunk (chunk_at object h) lies.held by_key.1 (sym lies.object ∙ named) in
       let same : lies.chunk ≡ chunk_at object h = one_value _ lies.chunk (chunk_at object h) lies.held (ap (λ k. map.get b.chunks k) key ∙ by_key.1) in
       (key, omega (arith, lies.inside, ap (λ (x : Chunk). x.size) same), omega (arith, lies.power.1, pow_pos lies.power.0))
 
@@ -87,12 +87,12 @@ module _ {c : Config} {p : Properties} {t : Table} {b : Buddy} {object : ℕ} {h
       let of = of_chunk x leaf.0 leaf.1 named in
       let of' = of_chunk y leaf'.0 leaf'.1 same in
       ranges_apart x.offset x.size y.offset y.size of.2 of'.2
-      (λ at i j. other (ap span_of_leaf (is.sound.apart (leaf_at x leaf.0) (leaf_at y leaf'.0) leaf.1 leaf'.1 (of.0 ∙ sym of'.0) at i j)))
+      (λ at i j. other (ap span_of_leaf (is.sound.space.apart (leaf_at x leaf.0) (leaf_at y leaf'.0) leaf.1 leaf'.1 (of.0 ∙ sym of'.0) at i j)))
 
   chunk_used : HasSpan t object
   chunk_used =
-      let leaf = is.sound.used by_key.0 (chunk_at object h) by_key.1 in
-      let lies = is.sound.inside leaf.0 leaf.1.0 in
+      let leaf = is.sound.space.used by_key.0 (chunk_at object h) by_key.1 in
+      let lies = is.sound.space.inside leaf.0 leaf.1.0 in
       let same : lies.chunk ≡ chunk_at object h = one_value _ lies.chunk (chunk_at object h) lies.held (ap (λ k. map.get b.chunks k) leaf.1.1 ∙ by_key.1) in
       (span_of_leaf leaf.0, (is.linked.leaves leaf.0 leaf.1.0).0, lies.object ∙ ap (λ (x : Chunk). x.object) same)
 

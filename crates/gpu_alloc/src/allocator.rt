@@ -25,6 +25,7 @@ mod importing;
 mod ranges;
 mod returning;
 mod rows;
+mod uncounted;
 
 use crate::limits::Limits;
 use crate::request::is_required;
@@ -40,7 +41,8 @@ use gpu_alloc_types::{DeviceProperties, MemoryDevice, MemoryObject, OutOfMemory,
 use gpu_alloc_usage::meaning;
 use rows::{add_leaf, add_slot};
 use std::alloc::{AllocError, Allocator, Global};
-use std::marker::Model;
+use std::marker::{Brand, Model};
+use std::sync::ledger::Blank;
 
 /// Which way a memory type serves a request.
 #[derive(Clone, Copy)]
@@ -475,11 +477,13 @@ impl<M: MemoryObject, A: Allocator> GpuAllocator<M, A> {
     {
         let own = memory_type as usize;
         let heap = self.limits.heap_index(memory_type);
-        let first = self.buddies[own].refuses(
+        let first = uncounted::refuses::<M, A, Brand>(
+            &self.buddies[own],
             request.size,
             request.align_mask,
             &self.heaps[heap],
             self.allocations_remains,
+            Blank::new(1),
         );
         if let Some(refusal) = first {
             return passing(refusal);
@@ -488,13 +492,16 @@ impl<M: MemoryObject, A: Allocator> GpuAllocator<M, A> {
             return Err(AllocationError::OutOfHostMemory);
         }
         let flags = self.limits.flags();
-        let answer = self.buddies[own].alloc(
+        let answer = uncounted::alloc::<M, A, D, Brand, Brand>(
+            &mut self.buddies[own],
             device,
             request.size,
             request.align_mask,
             flags,
             &mut self.heaps[heap],
             &mut self.allocations_remains,
+            Blank::new(1),
+            Blank::new(1),
         );
         match answer {
             Ok(block) => {

@@ -122,7 +122,7 @@ module _ {A : Type 0} {l : Limits A} {heaps : List Heap} {buddies : List Buddy} 
         let row_is : chunk_row ≡ record { memory_type = index; counted = n; kind = BuddyChunk } = λ k. record chunk_row { counted = sym is_counted k } in
         let held_now = held ∙ ap (λ (o : Option HeldObject). cond (is_some o) t.held (finite.insert t.held leaf.object chunk_row)) free ∙ ap (finite.insert t.held leaf.object) row_is in
         let sound_now = subst IsSound after_buddy sound in
-        let power = sound.powers leaf.chunk chunk chunk_now in
+        let power = sound.space.powers leaf.chunk chunk chunk_now in
         let small : n < 2 ^ 64 = omega (arith, power.1.1, pow-le power.0 63 power.1.0) in
         let changed : Heap = record heap { used = heap.used + n } in
         let state = state_with_chunk l heaps buddies lists t remaining index b given.is given.known given.at i heap given.here given.at_heap leaf n now changed begins.free_key free some small sound_now held_now more refl in

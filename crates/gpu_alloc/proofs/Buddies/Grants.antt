@@ -38,7 +38,7 @@ use Rattle.gpu_alloc.proofs.Buddies.States.{next_at, types_set, types_kept, list
 
 -- a live block is not empty
 some_bytes : (b : Buddy) (leaf : Leaf) → IsSound b → IsLiveLeaf b leaf → 0 < leaf.size
-some_bytes b leaf sound live = let lies = sound.inside leaf live in omega (arith, lies.power.1, pow_pos lies.power.0)
+some_bytes b leaf sound live = let lies = sound.space.inside leaf live in omega (arith, lies.power.1, pow_pos lies.power.0)
 
 -- a list with its own element put in its place
 pub same_set : {X : Type 0} (xs : List X) (i : ℕ) (x old : X) → old ≡ get_or xs i old → x ≡ old → set xs i x ≡ xs

@@ -45,7 +45,7 @@ linked_beside old new b object beside sound before after linked = record {
     })
 
     leaf_differs : (leaf : Leaf) → IsLiveLeaf b leaf → leaf.object ≢ object
-    leaf_differs leaf live same = let l = sound.inside leaf live in chunk_differs leaf.chunk l.chunk l.held (sym l.object ∙ same)
+    leaf_differs leaf live same = let l = sound.space.inside leaf live in chunk_differs leaf.chunk l.chunk l.held (sym l.object ∙ same)
 
     name_differs : (name : ℕ) (h : HeldObject) → IsChunkOf new b.memory_type name h → name ≢ object
     name_differs name h of same = after h (subst (λ n. IsChunkOf new b.memory_type n h) same of)
@@ -200,7 +200,7 @@ module _ (old new : Table) (b : Buddy) (leaf : Leaf) (sound : IsSound b) (linked
     chunks = λ key c is.
         let other = (kept_key b.chunks leaf.chunk key c is).0 in
         let was = left_chunk key c is in
-        held_left c.object (λ same. other (sound.one_object key leaf.chunk c own.chunk was own.held (same ∙ own.object))) ∙ linked.chunks key c was;
+        held_left c.object (λ same. other (sound.space.one_object key leaf.chunk c own.chunk was own.held (same ∙ own.object))) ∙ linked.chunks key c was;
     objects = λ name h of.
         let o = linked.objects name h (was_chunk name h of) in
         (o.0, kept_other b.chunks leaf.chunk o.0 (λ same. name_left name h of (same_object name h o.0 o.1 same)) ∙ o.1);
@@ -209,7 +209,7 @@ module _ (old new : Table) (b : Buddy) (leaf : Leaf) (sound : IsSound b) (linked
   }
     where
       own : LiesInChunk b leaf
-      own = sound.inside leaf live
+      own = sound.space.inside leaf live
 
       held_left : (name : ℕ) → name ≢ leaf.object → map.get new.held name ≡ map.get old.held name
       held_left name other = ap (λ m. map.get m name) held ∙ kept_other old.held leaf.object name other

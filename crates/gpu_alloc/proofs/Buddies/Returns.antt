@@ -110,7 +110,7 @@ module _ {A : Type 0} {l : Limits A} {heaps : List Heap} {buddies : List Buddy} 
   own = buddy_of l heaps buddies lists t remaining index b given.is given.known given.at
 
   lies : LiesInChunk b leaf
-  lies = own.sound.inside leaf given.live
+  lies = own.sound.space.inside leaf given.live
 
   -- What the buddy allocator asks.
 

@@ -39,8 +39,8 @@ module _ (s : State) (places : map.FinMap span_cmp Place) (room index : ℕ) (b 
   span_is_leaf key c span is named live =
       let held = subst (λ o. IsChunkOf (table_of s places room) b.memory_type o (chunk_object b c)) (sym named) (chunk_held key c is) in
       let l = serves.of.linked.spans span (chunk_object b c) live held in
-      let lies = serves.of.sound.inside (leaf_at span l.0) l.1.1 in
-      (leaf_at span l.0, refl, l.1.1, serves.of.sound.one_object l.0.chunk key lies.chunk c lies.held is (sym lies.object ∙ named))
+      let lies = serves.of.sound.space.inside (leaf_at span l.0) l.1.1 in
+      (leaf_at span l.0, refl, l.1.1, serves.of.sound.space.one_object l.0.chunk key lies.chunk c lies.held is (sym lies.object ∙ named))
 
   -- live blocks of the same span are one
   one_place : (x y : Leaf) → IsLiveLeaf b x → IsLiveLeaf b y → span_of_leaf x ≡ span_of_leaf y → x ≡ y
@@ -55,7 +55,7 @@ module _ (s : State) (places : map.FinMap span_cmp Place) (room index : ℕ) (b 
   pub unused_is : (leaf : Leaf) (block : Block) → IsLiveLeaf b leaf → span_of block ≡ span_of_leaf leaf → IsUnusedChunk (without_leaf b leaf) leaf.chunk → IsUnused (without_span s block) leaf.object
   unused_is leaf block live is unused span still named =
       let was = live_other s.live (span_of block) span still in
-      let lies = serves.of.sound.inside leaf live in
+      let lies = serves.of.sound.space.inside leaf live in
       let of = span_is_leaf leaf.chunk lies.chunk span lies.held (named ∙ lies.object) was.1 in
       let other : of.0 ≡ leaf → ⊥ = λ same. was.0 (sym of.1 ∙ ap span_of_leaf same ∙ sym is) in
       unused of.0 ((leaf_removed b.live leaf of.0).1 (other, of.2)) of.3
@@ -64,8 +64,8 @@ module _ (s : State) (places : map.FinMap span_cmp Place) (room index : ℕ) (b 
   unused_was leaf block live is unused other still named =
       let was = (leaf_removed b.live leaf other).0 still in
       let of = serves.of.linked.leaves other was.1 in
-      let lies = serves.of.sound.inside other was.1 in
-      let own = serves.of.sound.inside leaf live in
+      let lies = serves.of.sound.space.inside other was.1 in
+      let own = serves.of.sound.space.inside leaf live in
       let chunk : lies.chunk ≡ own.chunk = one_value _ lies.chunk own.chunk lies.held (ap (λ k. map.get b.chunks k) named ∙ own.held) in
       unused (span_of_leaf other) (live_kept s.live (span_of block) (span_of_leaf other) (λ same. was.0 (one_place other leaf was.1 live (same ∙ is))) of.0)
       (lies.object ∙ ap (λ (c : Chunk). c.object) chunk ∙ sym own.object)
@@ -114,10 +114,10 @@ module _ (s : State) (places : map.FinMap span_cmp Place) (room index : ℕ) (b 
 
       bytes : chunk_bytes b.chunks ≤ sum_by (share s.properties i) (map.entries s.held)
       bytes = sum_by-within (λ (c : Chunk). c.object) (λ (e : ℕ × Chunk). e.1.size) (share s.properties i) b.chunks s.held
-          (λ k c is. (chunk_object b c, serves.of.linked.chunks k c is, share_is c)) serves.of.sound.one_object
+          (λ k c is. (chunk_object b c, serves.of.linked.chunks k c is, share_is c)) serves.of.sound.space.one_object
 
       count : map.len b.chunks ≤ map.len s.held
-      count = len-within (λ (c : Chunk). c.object) b.chunks s.held (λ k c is. (chunk_object b c, serves.of.linked.chunks k c is)) serves.of.sound.one_object
+      count = len-within (λ (c : Chunk). c.object) b.chunks s.held (λ k c is. (chunk_object b c, serves.of.linked.chunks k c is)) serves.of.sound.space.one_object
 
   pub ledger_bounded : (heaps : List Heap) (i : ℕ) (heap : Heap) → IsBooked s.properties heaps (table_of s places room) s.remaining → i < length heaps → heap ≡ get_or heaps i heap → heap.used ≤ 2 ^ 127
   ledger_bounded heaps i heap booked inside at =

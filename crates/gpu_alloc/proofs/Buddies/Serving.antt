@@ -72,8 +72,8 @@ module _ (s : State) (places : map.FinMap span_cmp Place) (room index : ℕ) (b 
         unused = λ span live of_it i.
             let there = linked.spans span h live (record { held = subst (λ n. map.get s.held n ≡ Some h) (sym of_it) held; of_kind = refl; of_type = refl }) in
             let leaf : Leaf = leaf_at span there.0 in
-            let lies = sound.inside leaf there.1.1 in
-            free.unused leaf there.1.1 (sound.one_object leaf.chunk key lies.chunk chunk lies.held is (sym lies.object ∙ of_it)) i;
+            let lies = sound.space.inside leaf there.1.1 in
+            free.unused leaf there.1.1 (sound.space.one_object leaf.chunk key lies.chunk chunk lies.held is (sym lies.object ∙ of_it)) i;
       }
 
   pub free_at : (key at : ℕ) (chunk : Chunk) → map.get b.chunks key ≡ Some chunk → IsFreeByte s index BuddyChunk chunk.object at → IsFreeAt b key at
@@ -86,7 +86,7 @@ module _ (s : State) (places : map.FinMap span_cmp Place) (room index : ℕ) (b 
         is = is;
         inside = omega (arith, free.inside, ap (λ (h : HeldObject). h.counted) same);
         unused = λ leaf live in_chunk i.
-            let lies = serves.of.sound.inside leaf live in
+            let lies = serves.of.sound.space.inside leaf live in
             let there : map.get b.chunks key ≡ Some lies.chunk = subst (λ k. map.get b.chunks k ≡ Some lies.chunk) in_chunk lies.held in
             let one : lies.chunk ≡ chunk = cc in
             free.unused (span_of_leaf leaf) (linked.leaves leaf live).0 (lies.object ∙ ap (λ (c : Chunk). c.object) one) i;

@@ -7,8 +7,8 @@ ghost use Rattle.gpu_alloc.specs.Release.{Frees, ObjectsFreed, GivesBack, withou
 ghost use Rattle.gpu_alloc.specs.Sound as Sound;
 ghost use Rattle.gpu_alloc_block.specs.State.{IsOwned, is_shared, total};
 
-use super::GpuAllocator;
 use super::rows::leaf_in;
+use super::{GpuAllocator, uncounted};
 use crate::MemoryBlock;
 use gpu_alloc_base::free_list_block::Slot;
 use gpu_alloc_base::{BuddyBlock, FreeListBlock};
@@ -16,6 +16,8 @@ use gpu_alloc_block::Kind;
 use gpu_alloc_block::block::into_memory;
 use gpu_alloc_types::{MemoryDevice, MemoryObject};
 use std::alloc::Allocator;
+use std::marker::Brand;
+use std::sync::ledger::Blank;
 
 impl<M: MemoryObject, A: Allocator> GpuAllocator<M, A> {
     /// Takes a block back, by what its object is held for.
@@ -71,11 +73,13 @@ impl<M: MemoryObject, A: Allocator> GpuAllocator<M, A> {
         let object = memory.object();
         let span = self.spans.find(key, object, offset, size).unwrap();
         let heap = self.limits.heap_index(memory_type);
-        let gone = self.buddies[memory_type as usize].give_back(
+        let gone = uncounted::give_back::<M, A, D, Brand>(
+            &mut self.buddies[memory_type as usize],
             device,
             BuddyBlock::new(memory, leaf_in(span)),
             &mut self.heaps[heap],
             &mut self.allocations_remains,
+            Blank::new(1),
         );
         self.spans.remove(key, object, offset, size, gone);
     }

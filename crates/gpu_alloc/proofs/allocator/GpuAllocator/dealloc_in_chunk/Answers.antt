@@ -12,12 +12,12 @@ use Rattle.gpu_alloc.proofs.allocator.GpuAllocator.dealloc_in_chunk.Goals as goa
 
 -- The block that comes back, before the buddy allocator is called.
 
-asked_span : (g : Over) (c : goal.After-give_back-arg-2-1 g) → ◌≡◌ {A = Span} (span_at c.object-object.result c.offset-offset.result c.size-size.result) (span_of c.args.block)
+asked_span : (g : Over) (c : goal.After-new-2 g) → ◌≡◌ {A = Span} (span_at c.object-object.result c.offset-offset.result c.size-size.result) (span_of c.args.block)
 asked_span g c =
     let name = c.object-object.ensures ∙ c.into_memory-memory.ensures in
     λ k. record { object = name k; offset = c.offset-offset.ensures k; size = c.size-size.ensures k }
 
-given : (g : Over) (c : goal.After-give_back-arg-2-1 g)
+given : (g : Over) (c : goal.After-new-2 g)
     → Given c.self.inside.limits c.self.inside.heaps.items c.self.inside.buddies.items c.self.inside.free_lists.items c.self.inside.spans c.self.inside.allocations_remains c.memory_type-memory_type.result c.heap_index-heap.result
     c.index_mut.result.now c.index_mut-2.result.now c.new.result c.args.block
 given g c =
@@ -53,9 +53,9 @@ given_after g c =
     given_back _ _ _ _ _ _ _ _ _ _ _ c.args.block c.unwrap-span.result c.self.invariant owned c.requires.shared c.memory_type-memory_type.ensures c.index_mut.ensures.value
     c.heap_index-heap.ensures c.index_mut-2.ensures.value (span ∙ removed_span g c) place (c.new.ensures ∙ c.leaf_in.ensures)
 
-returned_by : (g : Over) (c : goal.After-remove g) → IsReturned (given_after g c) (account c.give_back-gone.new.self c.give_back-gone.new.heap c.give_back-gone.new.allocations_remains) c.remove.new.self
+returned_by : (g : Over) (c : goal.After-remove g) → IsReturned (given_after g c) (account c.give_back-gone.new.buddy c.give_back-gone.new.heap c.give_back-gone.new.allocations_remains) c.remove.new.self
     (g.D.MemoryDevice.properties c.args.device.now) (g.D.MemoryDevice.properties c.give_back-gone.new.device) (g.D.MemoryDevice.objects c.args.device.now) (g.D.MemoryDevice.objects c.give_back-gone.new.device)
-    c.give_back-gone.ensures.frees.0 c.give_back-gone.result (account c.give_back-gone.new.self c.give_back-gone.new.heap c.give_back-gone.new.allocations_remains)
+    c.give_back-gone.ensures.frees.0 c.give_back-gone.result (account c.give_back-gone.new.buddy c.give_back-gone.new.heap c.give_back-gone.new.allocations_remains)
 returned_by g c =
     let name = c.object-object.ensures ∙ c.into_memory-memory.ensures in
     let agrees = rw (← c.self.view_is) at c.requires.agrees in

@@ -95,7 +95,7 @@ add_leaf-key-requires-clause-free g c =
     ∙ ap (λ leaf. set_of.contains c.self.inside.spans.live (span_of_leaf leaf)) c.into_parts-memory.ensures.leaf
     ∙ span_is_free given _ _ told.0 _ told.2 c.in-Ok.ensures.objects (some_power c.in-Ok.ensures.granted.power)
 
-given : (g : Over) (c : goal.After-new g)
+given : (g : Over) (c : goal.After-new-in-Ok g)
     → Given c.self.inside.limits c.self.inside.heaps.items c.self.inside.buddies.items c.self.inside.free_lists.items c.self.inside.spans c.self.inside.allocations_remains c.args.memory_type c.heap_index-heap.result
     c.self.inside.buddies.items c.index_mut.result.now c.index_mut-2.result.now (allocation_bits c.flags-flags.result) (g.D.MemoryDevice.properties c.args.device.now) (g.D.MemoryDevice.objects c.args.device.now)
 given g c =
@@ -105,54 +105,54 @@ given g c =
 
 -- The table with the block's span, as `served` asks for it.
 
-size_is : (g : Over) (c : goal.After-new g) → IfSome (finite.get c.alloc-answer.new.self.chunks c.in-Ok.block.chunk) (λ chunk. chunk.size ≡ c.chunk_size-chunk_size.result)
+size_is : (g : Over) (c : goal.After-new-in-Ok g) → IfSome (finite.get c.alloc-answer.new.buddy.chunks c.in-Ok.block.chunk) (λ chunk. chunk.size ≡ c.chunk_size-chunk_size.result)
 size_is g c =
     let known = rw (← c.self.view_is) at c.requires.known in
-    let own : c.index-in-Ok.result.now ≡ c.alloc-answer.new.self = c.index-in-Ok.ensures ∙ get_or-set_same c.self.inside.buddies.items c.args.memory_type c.alloc-answer.new.self c.index-in-Ok.result.now (below refl c.self.invariant.shared.count known) in
+    let own : c.index-in-Ok.result.now ≡ c.alloc-answer.new.buddy = c.index-in-Ok.ensures ∙ get_or-set_same c.self.inside.buddies.items c.args.memory_type c.alloc-answer.new.buddy c.index-in-Ok.result.now (below refl c.self.invariant.shared.count known) in
     subst (λ b. IfSome (finite.get b.chunks c.in-Ok.block.chunk) (λ chunk. chunk.size ≡ c.chunk_size-chunk_size.result)) own
     (subst (λ leaf. IfSome (finite.get c.index-in-Ok.result.now.chunks leaf.chunk) (λ chunk. chunk.size ≡ c.chunk_size-chunk_size.result)) c.into_parts-memory.ensures.leaf c.chunk_size-chunk_size.ensures)
 
-abbrev row : (g : Over) → goal.After-new g → HeldObject
+abbrev row : (g : Over) → goal.After-new-in-Ok g → HeldObject
 row g c = record { memory_type = c.args.memory_type; counted = c.chunk_size-chunk_size.result; kind = BuddyChunk }
 
-held_is : (g : Over) (c : goal.After-new g) → c.add_leaf-key.new.spans.held ≡ with_chunk_of c.self.inside.spans.held c.in-Ok.block (row g c)
+held_is : (g : Over) (c : goal.After-new-in-Ok g) → c.add_leaf-key.new.spans.held ≡ with_chunk_of c.self.inside.spans.held c.in-Ok.block (row g c)
 held_is g c =
     c.add_leaf-key.ensures.held ∙ ap (λ (t : Table). with_chunk_of t.held c.into_parts-memory.result.1 (row g c)) c.reserve.ensures.kept
     ∙ ap (λ leaf. with_chunk_of c.self.inside.spans.held leaf (row g c)) c.into_parts-memory.ensures.leaf
 
-live_is : (g : Over) (c : goal.After-new g) → c.add_leaf-key.new.spans.live ≡ set_of.insert c.self.inside.spans.live (span_of_leaf c.in-Ok.block)
+live_is : (g : Over) (c : goal.After-new-in-Ok g) → c.add_leaf-key.new.spans.live ≡ set_of.insert c.self.inside.spans.live (span_of_leaf c.in-Ok.block)
 live_is g c =
     c.add_leaf-key.ensures.live ∙ ap (λ (t : Table). set_of.insert t.live (span_of_leaf c.into_parts-memory.result.1)) c.reserve.ensures.kept
     ∙ ap (λ leaf. set_of.insert c.self.inside.spans.live (span_of_leaf leaf)) c.into_parts-memory.ensures.leaf
 
-places_are : (g : Over) (c : goal.After-new g) → c.add_leaf-key.new.spans.places ≡ finite.insert c.self.inside.spans.places (span_of_leaf c.in-Ok.block) (place_of_leaf c.in-Ok.block)
+places_are : (g : Over) (c : goal.After-new-in-Ok g) → c.add_leaf-key.new.spans.places ≡ finite.insert c.self.inside.spans.places (span_of_leaf c.in-Ok.block) (place_of_leaf c.in-Ok.block)
 places_are g c =
     c.add_leaf-key.ensures.places ∙ ap (λ (t : Table). finite.insert t.places (span_of_leaf c.into_parts-memory.result.1) (place_of_leaf c.into_parts-memory.result.1)) c.reserve.ensures.kept
     ∙ ap (λ leaf. finite.insert c.self.inside.spans.places (span_of_leaf leaf) (place_of_leaf leaf)) c.into_parts-memory.ensures.leaf
 
-abbrev before : (g : Over) → goal.After-new g → State
+abbrev before : (g : Over) → goal.After-new-in-Ok g → State
 before g c = state_in c.self.inside.limits c.self.inside.heaps.items c.self.inside.buddies.items c.self.inside.free_lists.items c.self.inside.spans c.self.inside.allocations_remains
 
-abbrev block : (g : Over) → goal.After-new g → Block
+abbrev block : (g : Over) → goal.After-new-in-Ok g → Block
 block g c = buddy_block (before g c) c.args.memory_type (span_of_leaf c.in-Ok.block)
 
-block_is : (g : Over) (c : goal.After-new g) → c.new.result ≡ block g c
+block_is : (g : Over) (c : goal.After-new-in-Ok g) → c.new-in-Ok.result ≡ block g c
 block_is g c =
     let leaf = c.into_parts-memory.ensures.leaf in
     let object = c.into_parts-memory.ensures.handle in
-    c.new.ensures ∙ (λ k. record (block g c) { object = object k; offset = (leaf k).offset; size = (leaf k).size; props = c.props-props.ensures k; atom = c.atom-atom.ensures k })
+    c.new-in-Ok.ensures ∙ (λ k. record (block g c) { object = object k; offset = (leaf k).offset; size = (leaf k).size; props = c.props-props.ensures k; atom = c.atom-atom.ensures k })
 
-serves_now : (g : Over) (c : goal.After-new g) → Serves (before g c) c.self.inside.spans.places c.self.inside.spans.room c.args.memory_type c.index_mut.result.now
+serves_now : (g : Over) (c : goal.After-new-in-Ok g) → Serves (before g c) c.self.inside.spans.places c.self.inside.spans.room c.args.memory_type c.index_mut.result.now
 serves_now g c = serves c.self.inside.limits _ _ _ _ _ c.args.memory_type c.index_mut.result.now c.self.invariant (given g c).known c.index_mut.ensures.value
 
-abbrev after : (g : Over) → goal.After-new g → State
+abbrev after : (g : Over) → goal.After-new-in-Ok g → State
 after g c =
-    state_in c.self.inside.limits (set c.self.inside.heaps.items c.heap_index-heap.result c.alloc-answer.new.heap) (set c.self.inside.buddies.items c.args.memory_type c.alloc-answer.new.self) c.self.inside.free_lists.items
+    state_in c.self.inside.limits (set c.self.inside.heaps.items c.heap_index-heap.result c.alloc-answer.new.heap) (set c.self.inside.buddies.items c.args.memory_type c.alloc-answer.new.buddy) c.self.inside.free_lists.items
     c.add_leaf-key.new.spans c.alloc-answer.new.allocations_remains
 
-is : (g : Over) (c : goal.After-new g)
+is : (g : Over) (c : goal.After-new-in-Ok g)
     → IsServed (given g c) _ _ c.in-Ok.ensures.allocates.0 _ c.in-Ok.ensures.allocates.2 c.in-Ok.ensures.objects (some_power c.in-Ok.ensures.granted.power) c.add_leaf-key.new.spans c.chunk_size-chunk_size.result c.in-Ok.ensures.sound (size_is g c) (held_is g c)
-    (live_is g c) (places_are g c) (account c.alloc-answer.new.self c.alloc-answer.new.heap c.alloc-answer.new.allocations_remains)
+    (live_is g c) (places_are g c) (account c.alloc-answer.new.buddy c.alloc-answer.new.heap c.alloc-answer.new.allocations_remains)
 is g c =
     served (given g c) _ _ c.in-Ok.ensures.allocates.0 _ c.in-Ok.ensures.allocates.2 c.in-Ok.ensures.objects (some_power c.in-Ok.ensures.granted.power) c.add_leaf-key.new.spans c.chunk_size-chunk_size.result c.in-Ok.ensures.sound (size_is g c) (held_is g c)
     (live_is g c) (places_are g c)
@@ -240,7 +240,7 @@ index-requires-in-Ok g c = below refl (c.self.inside.buddies.ok.0 ∙ c.self.inv
 pub chunk_size-chunk_size-requires : goal.chunk_size-chunk_size-requires
 chunk_size-chunk_size-requires g c =
     let known = rw (← c.self.view_is) at c.requires.known in
-    let own : c.index-in-Ok.result.now ≡ c.alloc-answer.new.self =
-    c.index-in-Ok.ensures ∙ get_or-set_same c.self.inside.buddies.items c.args.memory_type c.alloc-answer.new.self c.index-in-Ok.result.now (below refl c.self.invariant.shared.count known) in
+    let own : c.index-in-Ok.result.now ≡ c.alloc-answer.new.buddy =
+    c.index-in-Ok.ensures ∙ get_or-set_same c.self.inside.buddies.items c.args.memory_type c.alloc-answer.new.buddy c.index-in-Ok.result.now (below refl c.self.invariant.shared.count known) in
     subst (λ b. IsSome (finite.get b.chunks c.into_parts-memory.result.1.chunk)) (sym own)
-    (subst (λ leaf. IsSome (finite.get c.alloc-answer.new.self.chunks leaf.chunk)) (sym c.into_parts-memory.ensures.leaf) (ap is_some c.in-Ok.ensures.granted.inside.1))
+    (subst (λ leaf. IsSome (finite.get c.alloc-answer.new.buddy.chunks leaf.chunk)) (sym c.into_parts-memory.ensures.leaf) (ap is_some c.in-Ok.ensures.granted.inside.1))

@@ -1,0 +1,116 @@
+//! Calls of a buddy allocator that count nothing: each begins ledgers of counts that nobody reads.
+
+ghost use Rattle.std.specs.Prelude.{◌≡◌, ℕ, ◌≤◌, ◌<◌, ◌↔◌, ◌^◌, IfOk, OnErr, IsTrue};
+ghost use Rattle.gpu_alloc_types.specs.Flags.{allocation_bits, has_bit, with_device_address};
+ghost use Rattle.gpu_alloc_types.specs.Device.{Asked};
+ghost use Rattle.gpu_alloc_base.specs.Accounts.{account, IsCounted};
+ghost use Rattle.gpu_alloc_base.specs.AlignMasks.{IsAlignMask};
+ghost use Rattle.gpu_alloc_base.specs.Case.{RefusesFirst};
+ghost use Rattle.gpu_alloc_base.specs.Wanted.{requested, wanted};
+ghost use Rattle.gpu_alloc_buddy.specs.Buddy.{Agrees, CallAllocates, case_of, Frees, IsGranted, IsUnusedChunk};
+ghost use Rattle.gpu_alloc_buddy.specs.Buddy.{ObjectsAfter, ObjectsFreed, without_leaf};
+ghost use Rattle.gpu_alloc_buddy.specs.BuddySound.{IsSound};
+ghost use Rattle.gpu_alloc_buddy.specs.BuddyState.{IsLiveLeaf};
+
+use gpu_alloc_base::heap::Heap;
+use gpu_alloc_base::steps::Steps;
+use gpu_alloc_base::{AllocationError, BuddyBlock};
+use gpu_alloc_buddy::BuddyAllocator;
+use gpu_alloc_types::{AllocationFlags, MemoryDevice, MemoryObject};
+use std::alloc::Allocator;
+use std::sync::ledger::{Blank, Ledger};
+
+/// The refusal that `BuddyAllocator::alloc` gives a request first, as `BuddyAllocator::refuses` tells it.
+pub(super) fn refuses<M: MemoryObject, A: Allocator, L: Ledger>(
+    buddy: &BuddyAllocator<M, A>,
+    size: u64,
+    align_mask: u64,
+    heap: &Heap,
+    allocations_remains: u32,
+    blank: Blank,
+) -> Option<AllocationError>
+    requires name { blank.name ≡ L.name }
+    requires parts { blank.parts ≡ L.parts }
+    requires some { 0 < blank.parts }
+    requires nonempty { 0 < size }
+    requires alignment { IsAlignMask align_mask }
+    ensures { (flags : ℕ)
+        → RefusesFirst (case_of (account buddy.now heap.now allocations_remains) (wanted size align_mask flags))
+        result }
+{
+    let mut looks = Steps::<L>::new(blank);
+    buddy.refuses(size, align_mask, heap, allocations_remains, &mut looks)
+}
+
+/// Allocates a block, as `BuddyAllocator::alloc` does.
+pub(super) fn alloc<M: MemoryObject, A: Allocator, D: MemoryDevice<M>, L: Ledger, K: Ledger>(
+    buddy: &mut BuddyAllocator<M, A>,
+    device: &mut D,
+    size: u64,
+    align_mask: u64,
+    flags: AllocationFlags,
+    heap: &mut Heap,
+    allocations_remains: &mut u32,
+    looks: Blank,
+    splits: Blank,
+) -> Result<BuddyBlock<M>, AllocationError>
+    requires looks_name { looks.name ≡ L.name }
+    requires looks_parts { looks.parts ≡ L.parts }
+    requires looks_some { 0 < looks.parts }
+    requires splits_name { splits.name ≡ K.name }
+    requires splits_parts { splits.parts ≡ K.parts }
+    requires splits_some { 0 < splits.parts }
+    requires nonempty { 0 < size }
+    requires alignment { IsAlignMask align_mask }
+    requires address { IsTrue (has_bit (allocation_bits flags) with_device_address)
+        → IsTrue (D.properties device.old).buffer_device_address }
+    requires agrees { Agrees buddy.old (D.properties device.old) (D.objects device.old) }
+    requires counted { IsCounted (buddy.old).chunks heap.old allocations_remains.old }
+    requires bound { heap.old.used ≤ 2 ^ 127 }
+    ensures allocates { Asked D.step device.old device.new
+        (CallAllocates buddy.old heap.old allocations_remains.old (requested size align_mask flags) result
+        buddy.new heap.new allocations_remains.new) }
+    ensures objects { ObjectsAfter buddy.old result buddy.new (D.objects device.old) (D.objects device.new) }
+    ensures granted { IfOk result (IsGranted buddy.old (requested size align_mask flags) buddy.new) }
+    ensures refused { OnErr result
+        ((buddy.new ≡ buddy.old) × ((heap.new ≡ heap.old) × (allocations_remains.new ≡ allocations_remains.old))) }
+    ensures sound { IsSound buddy.new }
+{
+    buddy.alloc(
+        device,
+        size,
+        align_mask,
+        flags,
+        heap,
+        allocations_remains,
+        &mut Steps::<L>::new(looks),
+        &mut Steps::<K>::new(splits),
+    )
+}
+
+/// Takes a block back, as `BuddyAllocator::give_back` does, and tells whether its chunk went.
+pub(super) fn give_back<M: MemoryObject, A: Allocator, D: MemoryDevice<M>, L: Ledger>(
+    buddy: &mut BuddyAllocator<M, A>,
+    device: &mut D,
+    block: BuddyBlock<M>,
+    heap: &mut Heap,
+    allocations_remains: &mut u32,
+    blank: Blank,
+) -> bool
+    requires name { blank.name ≡ L.name }
+    requires parts { blank.parts ≡ L.parts }
+    requires some { 0 < blank.parts }
+    requires live { IsLiveLeaf buddy.old block }
+    requires agrees { Agrees buddy.old (D.properties device.old) (D.objects device.old) }
+    requires counted { IsCounted (buddy.old).chunks heap.old allocations_remains.old }
+    ensures frees { Asked D.step device.old device.new
+        (λ es. Frees (account buddy.old heap.old allocations_remains.old) block es
+        (account buddy.new heap.new allocations_remains.new)) }
+    ensures told { IsTrue result ↔ IsUnusedChunk (without_leaf buddy.old block) block.chunk }
+    ensures objects { ObjectsFreed buddy.old block (D.objects device.old) (D.objects device.new) }
+    ensures properties { D.properties device.new ≡ D.properties device.old }
+    ensures sound { IsSound buddy.new }
+{
+    let mut releases = Steps::<L>::new(blank);
+    buddy.give_back(device, block, heap, allocations_remains, &mut releases)
+}
