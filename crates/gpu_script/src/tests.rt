@@ -11,6 +11,7 @@ mod ends;
 mod extremes;
 mod grants;
 mod growths;
+mod halves;
 mod lines;
 mod lists;
 mod memory;
