@@ -1,6 +1,5 @@
 mod Commands
 mod EmptyMaps
-mod LiveLeaves
 mod LiveSlots
 mod OneChunk
 mod Ready

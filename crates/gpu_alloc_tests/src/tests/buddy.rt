@@ -1,23 +1,25 @@
 //! The buddy allocator by itself, over the simulated device.
 
-ghost use Rattle.std.specs.Prelude.{◌≤◌, ◌≢◌};
+ghost use Rattle.std.specs.Prelude.{◌≡◌, ◌<◌, IfOk};
+ghost use Rattle.gpu_alloc.specs.Buddy.{Adds, Leaves, Removes};
 ghost use Rattle.gpu_alloc.specs.BuddyState.{IsLiveLeaf};
 ghost use Rattle.gpu_alloc.specs.AlignMasks.{IsAlignMask};
-ghost use Rattle.gpu_alloc.specs.Types.Leaf.{Leaf};
 ghost use Rattle.gpu_sim.specs.Question.{CanRefuse};
 
 use super::offers::HEAPS;
 use super::ranges::compare_ranges;
 use gpu_alloc::buddy::{BuddyAllocator, BuddyBlock};
 use gpu_alloc::heap::Heap;
+use gpu_alloc::steps::Steps;
 use gpu_alloc::{
-    AllocationError, AllocationFlags, DeviceProperties, MemoryPropertyFlags, MemoryType,
+    AllocationError, AllocationFlags, DeviceProperties, FreeRange, MemoryPropertyFlags, MemoryType,
 };
 use gpu_alloc_types::MemoryObject;
 use gpu_sim::{Cause, Question, Sim, SimMemory};
 use std::alloc::{AllocError, Global};
-use std::marker::Model;
+use std::marker::{Brand, Model};
 use std::process::Abort;
+use std::sync::ledger::{Blank, Ledger};
 use std::test::Fail;
 
 /// A first request for one byte that is refused.
@@ -37,7 +39,7 @@ struct Refused {
 }
 
 /// A buddy allocator with its device, its ledger and its count of objects. Contracts see the allocator.
-struct Chunks {
+pub(super) struct Chunks {
     allocator: BuddyAllocator<SimMemory>,
     device: Sim,
     heap: Heap,
@@ -68,7 +70,11 @@ impl Model for Chunks {
 
 impl Chunks {
     /// One that holds nothing, and may hold so many objects, over one type with these properties.
-    fn new(alloc: Global, props: MemoryPropertyFlags, most: u32) -> Result<Chunks, Fail> {
+    pub(super) fn new(
+        alloc: Global,
+        props: MemoryPropertyFlags,
+        most: u32,
+    ) -> Result<Chunks, Fail> {
         let types = [MemoryType { heap: 0, props }];
         let offered = DeviceProperties {
             memory_types: &types,
@@ -105,50 +111,109 @@ impl Chunks {
     fn compare_refusal(&mut self, rt: &impl Abort, case: &Refused)
         requires { IsAlignMask case.now.align_mask }
     {
-        let told = self
-            .allocator
-            .refuses(1, case.align_mask, &self.heap, self.remaining);
+        let told = self.told::<Brand>(case.align_mask, Blank::new(1));
         assert_eq!(rt; told, case.told);
-        assert!(rt; self.heap.used() <= 1 << 127);
-        match self.allocator.alloc(
-            &mut self.device,
-            1,
-            case.align_mask,
-            AllocationFlags::empty(),
-            &mut self.heap,
-            &mut self.remaining,
-        ) {
+        match self.ask(rt, 1, case.align_mask) {
             Ok(block) => panic!(rt; "a block at {}", block.offset()),
             Err(error) => assert_eq!(rt; error, case.error),
         }
     }
 
-    /// A block of at least so many bytes.
-    fn take(&mut self, rt: &impl Abort, size: u64) -> BuddyBlock<SimMemory>
-        ensures live { IsLiveLeaf self.new result }
-        ensures new { IsLiveLeaf self.old result → ⊥ }
-        ensures others { (leaf : Leaf) → IsLiveLeaf self.old leaf → IsLiveLeaf self.new leaf }
+    /// What is told before a request for one byte. It counts nothing.
+    fn told<L: Ledger>(&self, align_mask: u64, blank: Blank) -> Option<AllocationError>
+        requires alignment { IsAlignMask align_mask }
+        requires name { blank.name ≡ L.name }
+        requires parts { blank.parts ≡ L.parts }
+        requires some { 0 < blank.parts }
     {
-        assert!(rt; size > 0);
+        let looks = &mut Steps::<L>::new(blank);
+        self.allocator
+            .refuses(1, align_mask, &self.heap, self.remaining, looks)
+    }
+
+    /// Asks for a block of at least so many bytes at a multiple of the mask and one, and counts nothing.
+    fn ask_uncounted<L: Ledger, K: Ledger>(
+        &mut self,
+        rt: &impl Abort,
+        size: u64,
+        align_mask: u64,
+        looks: Blank,
+        splits: Blank,
+    ) -> Result<BuddyBlock<SimMemory>, AllocationError>
+        requires nonempty { 0 < size }
+        requires alignment { IsAlignMask align_mask }
+        requires looks_name { looks.name ≡ L.name }
+        requires looks_parts { looks.parts ≡ L.parts }
+        requires looks_some { 0 < looks.parts }
+        requires splits_name { splits.name ≡ K.name }
+        requires splits_parts { splits.parts ≡ K.parts }
+        requires splits_some { 0 < splits.parts }
+        ensures added { IfOk result (Adds self.old self.new) }
+        ensures leaves { Leaves self.old self.new }
+    {
         assert!(rt; self.heap.used() <= 1 << 127);
-        match self.allocator.alloc(
+        self.allocator.alloc(
             &mut self.device,
             size,
-            0,
+            align_mask,
             AllocationFlags::empty(),
             &mut self.heap,
             &mut self.remaining,
-        ) {
+            &mut Steps::<L>::new(looks),
+            &mut Steps::<K>::new(splits),
+        )
+    }
+
+    /// Asks for a block of at least so many bytes at a multiple of the mask and one.
+    pub(super) fn ask(
+        &mut self,
+        rt: &impl Abort,
+        size: u64,
+        align_mask: u64,
+    ) -> Result<BuddyBlock<SimMemory>, AllocationError>
+        requires nonempty { 0 < size }
+        requires alignment { IsAlignMask align_mask }
+        ensures added { IfOk result (Adds self.old self.new) }
+        ensures leaves { Leaves self.old self.new }
+    {
+        self.ask_uncounted::<Brand, Brand>(rt, size, align_mask, Blank::new(1), Blank::new(1))
+    }
+
+    /// A block of at least so many bytes.
+    fn take(&mut self, rt: &impl Abort, size: u64) -> BuddyBlock<SimMemory>
+        ensures added { Adds self.old self.new result }
+        ensures leaves { Leaves self.old self.new }
+    {
+        assert!(rt; size > 0);
+        match self.ask(rt, size, 0) {
             Ok(block) => block,
             Err(error) => panic!(rt; "{error}"),
         }
     }
 
-    fn give_back(&mut self, block: BuddyBlock<SimMemory>)
+    /// Takes a block back, and counts nothing.
+    fn give_back_uncounted<L: Ledger>(&mut self, block: BuddyBlock<SimMemory>, blank: Blank)
         requires live { IsLiveLeaf self.old block }
-        ensures others { (leaf : Leaf) → IsLiveLeaf self.old leaf → leaf ≢ block → IsLiveLeaf self.new leaf }
+        requires name { blank.name ≡ L.name }
+        requires parts { blank.parts ≡ L.parts }
+        requires some { 0 < blank.parts }
+        ensures removed { Removes self.old block self.new }
     {
-        self.allocator.dealloc(&mut self.device, block, &mut self.heap, &mut self.remaining);
+        self.allocator.dealloc(
+            &mut self.device,
+            block,
+            &mut self.heap,
+            &mut self.remaining,
+            &mut Steps::<L>::new(blank),
+        );
+    }
+
+    /// Takes a block back.
+    pub(super) fn give_back(&mut self, block: BuddyBlock<SimMemory>)
+        requires live { IsLiveLeaf self.old block }
+        ensures removed { Removes self.old block self.new }
+    {
+        self.give_back_uncounted::<Brand>(block, Blank::new(1));
     }
 
     /// Compares how often the device was asked to allocate, how many objects it holds, and how much the ledger counts.
@@ -164,16 +229,36 @@ impl Chunks {
         assert_eq!(rt; self.heap.size(), 1 << 20);
     }
 
+    /// How many objects the device holds, how many bytes the ledger counts, and how many more objects may be held.
+    pub(super) fn held(&self) -> (usize, u128, u32) {
+        (self.device.objects(), self.heap.used(), self.remaining)
+    }
+
+    /// How often the device was asked to allocate, and for how many bytes the last time.
+    pub(super) fn asked(&self) -> (u64, Option<u64>) {
+        let size = match self.device.last_allocation() {
+            Some((size, _, _)) => Some(size),
+            None => None,
+        };
+        (self.device.asked(Question::Allocate), size)
+    }
+
+    /// The free ranges.
+    pub(super) fn free_ranges(&self, rt: &impl Abort) -> Vec<FreeRange> {
+        match self.allocator.free_ranges() {
+            Ok(ranges) => ranges,
+            Err(_) => panic!(rt; "no memory"),
+        }
+    }
+
     /// Compares the free ranges, each by its object, its start and its end.
     fn compare_ranges(&self, rt: &impl Abort, ranges: &[(u64, u64, u64)]) {
-        let Ok(found) = self.allocator.free_ranges() else {
-            panic!(rt; "no memory");
-        };
+        let found = self.free_ranges(rt);
         compare_ranges(rt, ranges.len(), &found, ranges);
     }
 
     /// Ends the allocator, which holds nothing.
-    fn end(self, rt: &impl Abort) {
+    pub(super) fn end(self, rt: &impl Abort) {
         let Chunks {
             allocator,
             device,
