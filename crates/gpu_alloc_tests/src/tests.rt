@@ -11,6 +11,7 @@ mod growths;
 mod imports;
 mod offers;
 mod pair;
+mod pieces;
 mod ranges;
 mod sim;
 mod sim_bytes;

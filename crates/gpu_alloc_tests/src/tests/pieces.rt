@@ -1,0 +1,529 @@
+//! Lists of calls of the buddy allocator, drawn from a fixed seed: where each block lies, what is held and what is free is
+//! compared with plain lists of free pieces and live blocks.
+
+ghost use Rattle.gpu_alloc.specs.AlignMasks.{IsAlignMask};
+ghost use Rattle.std.specs.Prelude.{◌<◌};
+
+use super::buddy::Chunks;
+use gpu_alloc::buddy::BuddyBlock;
+use gpu_alloc::laws::align_masks_of_powers;
+use gpu_alloc::{FreeRange, MemoryPropertyFlags};
+use gpu_alloc_types::MemoryObject;
+use gpu_sim::SimMemory;
+use std::alloc::{AllocError, Global};
+use std::marker::Model;
+use std::process::Abort;
+use std::test::Fail;
+
+/// How many lists are drawn.
+const LISTS: u64 = 48;
+
+/// How many calls a list has, before those that return what is left.
+const CALLS: u64 = 96;
+
+/// How many objects may be held in all.
+const MOST: u32 = 4096;
+
+/// The size of the first chunk, in bytes, where the first block is not too large for it.
+const FIRST: u64 = 8192;
+
+/// Numbers that look like chance, the same in each run.
+#[derive(Drop)]
+struct Chance {
+    state: u64,
+}
+
+impl Chance {
+    /// The next number, below 2^31.
+    fn next(&mut self) -> u64 {
+        self.state = self
+            .state
+            .wrapping_mul(6364136223846793005)
+            .wrapping_add(1442695040888963407);
+        self.state >> 33
+    }
+
+    /// A size of 1 to 8192 bytes, small ones as often as large ones.
+    fn size(&mut self) -> u64
+        ensures { 0 < result }
+    {
+        let below = self.next() % 14;
+        (self.next() >> (18 + below)).saturating_add(1)
+    }
+
+    /// The mask of an alignment of up to 4096 bytes, and often of 1.
+    fn align_mask(&mut self) -> u64
+        ensures { IsAlignMask result }
+    {
+        if self.next() % 4 == 0 {
+            mask_of((self.next() % 13) as u32)
+        } else {
+            mask_of(0)
+        }
+    }
+}
+
+/// The mask of an alignment of 2^order bytes.
+fn mask_of(order: u32) -> u64
+    requires { order < 63 }
+    ensures { IsAlignMask result }
+{
+    align_masks_of_powers();
+    (1 << order) - 1
+}
+
+/// A range of an object: a free piece, a live block or a chunk.
+#[derive(Clone, Copy, Debug, PartialEq, Eq)]
+struct Piece {
+    object: u64,
+    start: u64,
+    length: u64,
+}
+
+impl Piece {
+    /// The range with which this one is the two halves of an aligned range.
+    fn other_half(self) -> Piece {
+        Piece {
+            object: self.object,
+            start: self.start ^ self.length,
+            length: self.length,
+        }
+    }
+
+    /// The aligned range of which this is one half.
+    fn joined(self) -> Piece {
+        Piece {
+            object: self.object,
+            start: self.start & !self.length,
+            length: self.length << 1,
+        }
+    }
+
+    /// The same as a free range.
+    fn range(self) -> FreeRange {
+        FreeRange {
+            object: self.object,
+            start: self.start,
+            end: self.start.saturating_add(self.length),
+        }
+    }
+}
+
+/// Where a block lies.
+fn place_of(block: &BuddyBlock<SimMemory>) -> Piece {
+    Piece {
+        object: block.memory().object(),
+        start: block.offset(),
+        length: block.size(),
+    }
+}
+
+/// How often the drawn lists came to something.
+#[derive(Clone, Copy, Debug, Drop)]
+struct Tally {
+    /// A block was taken from a free piece.
+    pieces: u64,
+
+    /// There were others that were as short.
+    ties: u64,
+
+    /// A chunk was made.
+    chunks: u64,
+
+    /// It was larger than the one before.
+    grown: u64,
+
+    /// A chunk went back while others were held.
+    gone: u64,
+
+    /// Two halves were joined.
+    joined: u64,
+}
+
+impl Tally {
+    /// One that counted nothing.
+    fn new() -> Tally {
+        Tally {
+            pieces: 0,
+            ties: 0,
+            chunks: 0,
+            grown: 0,
+            gone: 0,
+            joined: 0,
+        }
+    }
+
+    /// The drawn lists came to all of it, more often than every second list would have it once.
+    fn has_all(&self, rt: &impl Abort) {
+        for count in [
+            self.pieces,
+            self.ties,
+            self.chunks,
+            self.grown,
+            self.gone,
+            self.joined,
+        ] {
+            assert!(rt; count > LISTS / 2, "too few of {self:?}");
+        }
+    }
+}
+
+/// One more.
+fn count(number: &mut u64) {
+    *number = number.saturating_add(1);
+}
+
+/// The size of a block for a request: the least power of two that is not below its size and its alignment.
+fn block_size(size: u64, align_mask: u64) -> u64 {
+    let mut length = 1;
+    for _ in 0..63 {
+        if length < size || length <= align_mask {
+            length <<= 1;
+        }
+    }
+    length
+}
+
+/// What is free, live and held by a plain list of each.
+#[derive(Drop)]
+struct Lists {
+    free: Vec<Piece>,
+    live: Vec<Piece>,
+    chunks: Vec<Piece>,
+
+    /// The size of the latest chunk that was made.
+    latest: u64,
+
+    /// What the lists came to.
+    tally: Tally,
+}
+
+impl Lists {
+    /// Nothing is held.
+    fn new(alloc: Global, tally: Tally) -> Lists {
+        Lists {
+            free: Vec::new(alloc),
+            live: Vec::new(alloc),
+            chunks: Vec::new(alloc),
+            latest: FIRST,
+            tally,
+        }
+    }
+
+    /// The length of the shortest free piece of at least so many bytes, if there is one.
+    fn shortest(&self, length: u64) -> Option<u64> {
+        let mut shortest = None;
+        for piece in &self.free {
+            match shortest {
+                Some(least) if least <= piece.length => {}
+                _ if piece.length < length => {}
+                _ => shortest = Some(piece.length),
+            }
+        }
+        shortest
+    }
+
+    /// Takes in a block that was granted for so many bytes: the front of a shortest free piece that is long enough, or,
+    /// where none is, of a new chunk. That is the size of the chunk for which the device was asked, if it was.
+    fn grant(
+        &mut self,
+        rt: &impl Abort,
+        length: u64,
+        block: Piece,
+        asked: Option<u64>,
+    ) -> Result<(), AllocError> {
+        assert_eq!(rt; block.length, length, "the size of {block:?}");
+        let piece = match self.shortest(length) {
+            Some(shortest) => {
+                assert_eq!(rt; asked, None, "a chunk though {shortest} bytes are free");
+                self.take(rt, block, shortest)
+            }
+            None => self.begin(rt, block, asked)?,
+        };
+        self.split(piece, length)?;
+        self.live.push(block)?;
+        Ok(())
+    }
+
+    /// Takes the free piece of which a block is the front, and which has to be of this length.
+    fn take(&mut self, rt: &impl Abort, block: Piece, length: u64) -> Piece {
+        let ties = self
+            .free
+            .iter()
+            .filter(|piece| piece.length == length)
+            .count();
+        let front = Piece {
+            object: block.object,
+            start: block.start,
+            length,
+        };
+        let Some(at) = self.free.iter().position(|piece| *piece == front) else {
+            panic!(rt; "{block:?} is no front of a shortest piece, which has {length} bytes");
+        };
+        count(&mut self.tally.pieces);
+        if ties > 1 {
+            count(&mut self.tally.ties);
+        }
+        self.free.swap_remove(at)
+    }
+
+    /// Begins the chunk of which a block is the front. It has twice the bytes of the block, or as many as the latest
+    /// chunk, if these are more.
+    fn begin(
+        &mut self,
+        rt: &impl Abort,
+        block: Piece,
+        asked: Option<u64>,
+    ) -> Result<Piece, AllocError> {
+        let length = self.latest.max(block.length << 1);
+        assert_eq!(rt; asked, Some(length), "the size of a chunk for {block:?}");
+        assert_eq!(rt; block.start, 0, "the start of {block:?} in a new chunk");
+        let known = self.chunks.iter().any(|chunk| chunk.object == block.object);
+        assert!(rt; !known, "{block:?} in a chunk that was held");
+        let chunk = Piece {
+            object: block.object,
+            start: 0,
+            length,
+        };
+        self.chunks.push(chunk)?;
+        count(&mut self.tally.chunks);
+        if length > self.latest {
+            count(&mut self.tally.grown);
+        }
+        self.latest = length;
+        Ok(chunk)
+    }
+
+    /// Splits a piece by halves down to this length. All but the front is free.
+    fn split(&mut self, piece: Piece, length: u64) -> Result<(), AllocError> {
+        let mut front = piece;
+        for _ in 0..63 {
+            if front.length > length {
+                front.length >>= 1;
+                self.free.push(front.other_half())?;
+            }
+        }
+        Ok(())
+    }
+
+    /// Takes back the block at this place. Its chunk goes where no other block of it is live.
+    fn take_back(&mut self, rt: &impl Abort, at: usize) -> Result<(), AllocError> {
+        assert!(rt; at < self.live.len());
+        let block = self.live.remove(at);
+        self.join(block)?;
+        let used = self.live.iter().any(|other| other.object == block.object);
+        if !used {
+            self.let_go(rt, block.object);
+        }
+        Ok(())
+    }
+
+    /// Joins a range with its other half while that is free, and has what comes of it free.
+    fn join(&mut self, block: Piece) -> Result<(), AllocError> {
+        let mut piece = block;
+        for _ in 0..63 {
+            let other = piece.other_half();
+            let Some(at) = self.free.iter().position(|free| *free == other) else {
+                break;
+            };
+            self.free.swap_remove(at);
+            count(&mut self.tally.joined);
+            piece = piece.joined();
+        }
+        self.free.push(piece)?;
+        Ok(())
+    }
+
+    /// Lets a chunk go in which no block is live: it is one free piece.
+    fn let_go(&mut self, rt: &impl Abort, object: u64) {
+        let Some(at) = self.chunks.iter().position(|chunk| chunk.object == object) else {
+            panic!(rt; "no chunk of the object {object}");
+        };
+        let whole = self.chunks.swap_remove(at);
+        let Some(at) = self.free.iter().position(|piece| *piece == whole) else {
+            panic!(rt; "{whole:?} is not free as a whole");
+        };
+        self.free.swap_remove(at);
+        if !self.chunks.is_empty() {
+            count(&mut self.tally.gone);
+        }
+    }
+
+    /// How many objects are held, of how many bytes, and how many more may be.
+    fn held(&self) -> (usize, u128, u32) {
+        let mut bytes = 0u128;
+        let mut remaining = MOST;
+        for chunk in &self.chunks {
+            bytes = bytes.saturating_add(u128::from(chunk.length));
+            remaining = remaining.saturating_sub(1);
+        }
+        (self.chunks.len(), bytes, remaining)
+    }
+
+    /// The free pieces as ranges, by the name of their object, then by start.
+    fn ranges(&self, alloc: Global) -> Result<Vec<FreeRange>, AllocError> {
+        let mut ranges = Vec::new(alloc);
+        for piece in &self.free {
+            ranges.push(piece.range())?;
+        }
+        ranges.sort_unstable_by_key(|range| (range.object, range.start));
+        Ok(ranges)
+    }
+}
+
+/// A buddy allocator with the blocks that it gave out. Contracts see nothing of it.
+struct Hand {
+    chunks: Chunks,
+    blocks: Vec<BuddyBlock<SimMemory>>,
+}
+
+impl Model for Hand {
+    ghost use Rattle.std.specs.Prelude.{ℕ};
+    ghost use Rattle.gpu_alloc.specs.Buddy.{bytes_of};
+    ghost use Rattle.gpu_alloc.specs.InHand.{AreInHand};
+
+    ghost Value = { ℕ };
+
+    ghost view = { λ _. 0 };
+
+    ghost invariant = { λ h. AreInHand bytes_of (h.chunks).live h.blocks.items };
+}
+
+impl Hand {
+    /// One that gave out nothing. It has room for as many blocks as a list has calls.
+    fn new(alloc: Global) -> Result<Hand, Fail> {
+        let blocks = Vec::with_capacity(alloc, CALLS as usize)?;
+        match Chunks::new(alloc, MemoryPropertyFlags::DEVICE_LOCAL, MOST) {
+            Ok(chunks) => Ok(Hand { chunks, blocks }),
+            Err(e) => {
+                blocks.destroy_empty();
+                Err(e)
+            }
+        }
+    }
+
+    /// Takes a block and keeps it, and tells where it lies.
+    fn take(&mut self, rt: &impl Abort, size: u64, align_mask: u64) -> Piece
+        requires nonempty { 0 < size }
+        requires alignment { IsAlignMask align_mask }
+    {
+        assert!(rt; self.blocks.len() < self.blocks.capacity());
+        match self.chunks.ask(rt, size, align_mask) {
+            Ok(block) => {
+                let place = place_of(&block);
+                self.blocks.push_reserved(block);
+                place
+            }
+            Err(error) => panic!(rt; "{error}"),
+        }
+    }
+
+    /// Gives back the block at this place of those that are kept.
+    fn give_back(&mut self, rt: &impl Abort, at: usize) {
+        assert!(rt; at < self.blocks.len());
+        let block = self.blocks.remove(at);
+        self.chunks.give_back(block);
+    }
+
+    /// Ends the allocator, which holds nothing.
+    fn end(self, rt: &impl Abort) {
+        let Hand { chunks, blocks } = self;
+        assert!(rt; blocks.is_empty());
+        blocks.destroy_empty();
+        chunks.end(rt);
+    }
+}
+
+/// Takes a block of drawn size and alignment, and finds where it may lie by the lists.
+fn take(
+    rt: &impl Abort,
+    hand: &mut Hand,
+    lists: &mut Lists,
+    chance: &mut Chance,
+) -> Result<(), AllocError> {
+    let size = chance.size();
+    let align_mask = chance.align_mask();
+    let (before, _) = hand.chunks.asked();
+    let block = hand.take(rt, size, align_mask);
+    let (after, latest) = hand.chunks.asked();
+    let asked = if after == before { None } else { latest };
+    lists.grant(rt, block_size(size, align_mask), block, asked)
+}
+
+/// Returns a drawn one of the blocks in hand, if there is one.
+fn give_back(
+    rt: &impl Abort,
+    hand: &mut Hand,
+    lists: &mut Lists,
+    chance: &mut Chance,
+) -> Result<(), AllocError> {
+    let len = hand.blocks.len();
+    if len == 0 {
+        return Ok(());
+    }
+    let at = chance.next() as usize % len;
+    hand.give_back(rt, at);
+    lists.take_back(rt, at)
+}
+
+/// Compares what is held and what is free.
+fn compare(rt: &impl Abort, alloc: Global, hand: &Hand, lists: &Lists) -> Result<(), AllocError> {
+    assert_eq!(rt; hand.chunks.held(), lists.held(), "what is held");
+    let found = hand.chunks.free_ranges(rt);
+    let wanted = lists.ranges(alloc)?;
+    assert_eq!(rt; found.as_slice(), wanted.as_slice(), "what is free");
+    Ok(())
+}
+
+/// Makes the calls of a list, more than half of which take a block, and then returns what is left.
+fn run(
+    rt: &impl Abort,
+    alloc: Global,
+    hand: &mut Hand,
+    lists: &mut Lists,
+    chance: &mut Chance,
+) -> Result<(), AllocError> {
+    for _ in 0..CALLS {
+        if chance.next() % 16 < 9 {
+            take(rt, hand, lists, chance)?;
+        } else {
+            give_back(rt, hand, lists, chance)?;
+        }
+        compare(rt, alloc, hand, lists)?;
+    }
+    for _ in 0..hand.blocks.len() {
+        give_back(rt, hand, lists, chance)?;
+        compare(rt, alloc, hand, lists)?;
+    }
+    Ok(())
+}
+
+/// Draws a list, makes its calls, and ends the allocator. It tells what the lists came to.
+fn try_list(
+    rt: &impl Abort,
+    alloc: Global,
+    chance: &mut Chance,
+    tally: Tally,
+) -> Result<Tally, Fail> {
+    let mut hand = Hand::new(alloc)?;
+    let mut lists = Lists::new(alloc, tally);
+    let ran = run(rt, alloc, &mut hand, &mut lists, chance);
+    assert_eq!(rt; ran, Ok(()));
+    assert_eq!(rt; lists.held(), (0, 0, MOST));
+    hand.end(rt);
+    Ok(lists.tally)
+}
+
+/// Whatever is taken and returned, each block is the front of a shortest free piece that is long enough, any of those
+/// that are as short, or of a new chunk where no piece is; halves are joined, and a chunk without a live block goes. If
+/// not, blocks would share bytes, or bytes would be lost.
+#[test]
+fn drawn_calls_leave_what_plain_lists_say(rt: HostRuntime) -> Result<(), Fail> {
+    let mut chance = Chance { state: 7 };
+    let mut tally = Tally::new();
+    for _ in 0..LISTS {
+        tally = try_list(&rt, rt.alloc(), &mut chance, tally)?;
+    }
+    tally.has_all(&rt);
+    Ok(())
+}
