@@ -101,7 +101,7 @@ impl<M: MemoryObject> BuddyBlock<M> {
         self.chunk
     }
 
-    /// Its place in its allocator's own store: 0, since that is a plain list.
+    /// Its place in its allocator's own store: the key of its pair of halves.
     #[inline(always)]
     pub fn index(&self) -> usize
         ensures { result ≡ self.now.index }

@@ -154,23 +154,28 @@ fn each_growth_of_a_script_is_refused_in_turn(rt: HostRuntime) -> Result<(), Fai
     compare_refusals(&rt, rt.alloc(), BYTES[3].0, &both)
 }
 
-/// How often a session over a script's device was refused its memory, as more bytes are left until it was not. Then the
-/// device comes back, which serves with ample memory. At the end it holds nothing.
+/// How often a session over a script's device was refused its memory: never at first, where more bytes are left than it
+/// takes, and then at each request, the last one first. Then the device comes back, which serves with ample memory. At
+/// the end it holds nothing.
 fn refused_openings(rt: &impl Abort, alloc: Global, text: &str) -> Result<u32, Fail> {
     let mut refused = 0u32;
-    for room in 0..4096 {
+    let mut room = 1 << 17;
+    for _ in 0..4096 {
         let memory = ScarceMemory::new(alloc)?;
         let script = good_script(memory.host(), text)?;
-        let (mut session, enough) = ScarceSession::in_room(rt, &memory, &script, room << 3)?;
+        let (mut session, enough) = ScarceSession::in_room(rt, &memory, &script, room)?;
         let ran = session.run(script.commands.as_slice()).is_ok();
         session.end(rt);
         same_at(rt, "the commands run after", &room, &ran, &true);
-        if enough {
-            return Ok(refused);
+        if !enough {
+            refused = refused.saturating_add(1);
         }
-        refused = refused.saturating_add(1);
+        match memory.less_room(room) {
+            Some(less) => room = less,
+            None => return Ok(refused),
+        }
     }
-    Err(Fail::from("never opened"))
+    Err(Fail::from("requests without end"))
 }
 
 #[test]
