@@ -1,5 +1,6 @@
 //! Programs that call the allocator, each over any device. They are checked with no proof of their own: what their
-//! calls need, the contracts of the calls before them give. A loop's invariant repeats clauses.
+//! calls need, the contracts of the calls before them give. A loop's invariant repeats clauses, and `two_buffers` names
+//! one to the search.
 #![tactic(auto)]
 
 pub mod buffers;
