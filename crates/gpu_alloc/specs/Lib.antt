@@ -35,6 +35,7 @@ pub use Rattle.gpu_alloc_base.specs.Pieces
 pub use Rattle.gpu_alloc_base.specs.RangeOrder
 pub use Rattle.gpu_alloc_base.specs.Sizes
 pub use Rattle.gpu_alloc_base.specs.Slots
+pub use Rattle.gpu_alloc_base.specs.Steps
 pub use Rattle.gpu_alloc_base.specs.Wanted
 pub use Rattle.gpu_alloc_block.specs.Agreement
 pub use Rattle.gpu_alloc_block.specs.ByteCalls
@@ -45,10 +46,13 @@ pub use Rattle.gpu_alloc_block.specs.State
 pub use Rattle.gpu_alloc_buddy.specs.Buddy
 pub use Rattle.gpu_alloc_buddy.specs.BuddySound
 pub use Rattle.gpu_alloc_buddy.specs.BuddyState
+pub use Rattle.gpu_alloc_buddy.specs.BuddySteps
 pub use Rattle.gpu_alloc_freelist.specs.FreeList
 pub use Rattle.gpu_alloc_freelist.specs.FreeListAllocator
 pub use Rattle.gpu_alloc_freelist.specs.FreeListSound
 pub use Rattle.gpu_alloc_freelist.specs.FreeListState
+pub use Rattle.gpu_alloc_pairs.specs.Space
+pub use Rattle.gpu_alloc_pairs.specs.Store
 pub use Rattle.gpu_alloc_usage.specs.KeyByKey
 pub use Rattle.gpu_alloc_usage.specs.Masks
 pub use Rattle.gpu_alloc_usage.specs.Ranked

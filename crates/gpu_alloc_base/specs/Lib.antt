@@ -17,4 +17,5 @@ pub mod RangeOrder
 pub mod Sizes
 pub mod SlabViews
 pub mod Slots
+pub mod Steps
 pub mod Wanted

@@ -1,6 +1,7 @@
 //! Counters of steps, which take no bytes and do nothing at run time.
 
-ghost use Rattle.std.specs.Prelude.{◌≡◌, ◌+◌, ◌<◌};
+ghost use Rattle.std.specs.Prelude.{◌≡◌, ◌+◌};
+ghost use Rattle.gpu_alloc_base.specs.Steps.{Begins};
 
 use std::marker::Model;
 use std::sync::ledger::{Blank, Book, Ledger, Share};
@@ -27,9 +28,7 @@ impl<L: Ledger> Steps<L> {
     /// A counter of no steps, in the ledger that the blank begins: its name and its parts, at least one, are the
     /// ledger's. Whoever counts nothing makes one of `Blank::new(1)`, and picks the ledger so.
     pub fn new(blank: Blank) -> Self
-        requires name { blank.name ≡ L.name }
-        requires parts { blank.parts ≡ L.parts }
-        requires some { 0 < blank.parts }
+        requires begins { Begins blank L.name L.parts }
         ensures { result ≡ 0 }
     {
         let (book, share) = blank.open::<L>();

@@ -24,6 +24,7 @@ ghost use Rattle.gpu_alloc_base.specs.FreeSpace.{IsMultipleOf};
 ghost use Rattle.gpu_alloc_base.specs.AlignMasks.{IsAlignMask};
 ghost use Rattle.gpu_alloc_base.specs.RangeOrder.{AreInOrder};
 ghost use Rattle.gpu_alloc_base.specs.Sizes.{up};
+ghost use Rattle.gpu_alloc_base.specs.Steps.{Begins};
 
 mod list;
 mod regions;
@@ -518,9 +519,7 @@ fn insert_uncounted<M: MemoryObject, A: Allocator, L: Ledger>(
     block: FreeListBlock<M>,
     blank: Blank,
 )
-    requires name { blank.name ≡ L.name }
-    requires parts { blank.parts ≡ L.parts }
-    requires some { 0 < blank.parts }
+    requires begins { Begins blank L.name L.parts }
     requires live { IsLiveSlot (freelist.old).space block }
     ensures back { freelist.new.space ≡ without_slot (freelist.old).space block }
     ensures sound { IsSoundSpace freelist.new.space }

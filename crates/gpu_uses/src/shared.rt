@@ -10,6 +10,7 @@ ghost use Rattle.gpu_alloc_base.specs.Accounts.{IsCounted};
 ghost use Rattle.gpu_alloc_base.specs.FreeSpace.{IsMultipleOf};
 ghost use Rattle.gpu_alloc_base.specs.InHand.{Offers};
 ghost use Rattle.gpu_alloc_base.specs.Sizes.{up};
+ghost use Rattle.gpu_alloc_base.specs.Steps.{Begins};
 ghost use Rattle.gpu_alloc_buddy.specs.Buddy.{Agrees};
 ghost use Rattle.gpu_alloc_freelist.specs.FreeListAllocator.{Agrees as ListAgrees};
 
@@ -110,9 +111,9 @@ fn two_uncounted<M: MemoryObject, D: MemoryDevice<M>, L: Ledger, K: Ledger, R: L
     requires live { set.len allocator.live ≡ 0 }
     requires held { map.len allocator.chunks ≡ 0 }
     requires bound { heap.old.used ≤ 2 ^ 126 }
-    requires looks { (looks.name ≡ L.name) × (looks.parts ≡ L.parts) × (0 < looks.parts) }
-    requires splits { (splits.name ≡ K.name) × (splits.parts ≡ K.parts) × (0 < splits.parts) }
-    requires releases { (releases.name ≡ R.name) × (releases.parts ≡ R.parts) × (0 < releases.parts) }
+    requires looks { Begins looks L.name L.parts }
+    requires splits { Begins splits K.name K.parts }
+    requires releases { Begins releases R.name R.parts }
 {
     two_in_a_buddy_chunk(
         allocator,

@@ -6,6 +6,7 @@ ghost use Rattle.gpu_alloc_types.specs.Device.{Asked};
 ghost use Rattle.gpu_alloc_base.specs.Accounts.{account, IsCounted};
 ghost use Rattle.gpu_alloc_base.specs.AlignMasks.{IsAlignMask};
 ghost use Rattle.gpu_alloc_base.specs.Case.{RefusesFirst};
+ghost use Rattle.gpu_alloc_base.specs.Steps.{Begins};
 ghost use Rattle.gpu_alloc_base.specs.Wanted.{requested, wanted};
 ghost use Rattle.gpu_alloc_buddy.specs.Buddy.{Agrees, CallAllocates, case_of, Frees, IsGranted, IsUnusedChunk};
 ghost use Rattle.gpu_alloc_buddy.specs.Buddy.{ObjectsAfter, ObjectsFreed, without_leaf};
@@ -29,9 +30,7 @@ pub(super) fn refuses<M: MemoryObject, A: Allocator, L: Ledger>(
     allocations_remains: u32,
     blank: Blank,
 ) -> Option<AllocationError>
-    requires name { blank.name ≡ L.name }
-    requires parts { blank.parts ≡ L.parts }
-    requires some { 0 < blank.parts }
+    requires begins { Begins blank L.name L.parts }
     requires nonempty { 0 < size }
     requires alignment { IsAlignMask align_mask }
     ensures { (flags : ℕ)
@@ -54,12 +53,8 @@ pub(super) fn alloc<M: MemoryObject, A: Allocator, D: MemoryDevice<M>, L: Ledger
     looks: Blank,
     splits: Blank,
 ) -> Result<BuddyBlock<M>, AllocationError>
-    requires looks_name { looks.name ≡ L.name }
-    requires looks_parts { looks.parts ≡ L.parts }
-    requires looks_some { 0 < looks.parts }
-    requires splits_name { splits.name ≡ K.name }
-    requires splits_parts { splits.parts ≡ K.parts }
-    requires splits_some { 0 < splits.parts }
+    requires looks { Begins looks L.name L.parts }
+    requires splits { Begins splits K.name K.parts }
     requires nonempty { 0 < size }
     requires alignment { IsAlignMask align_mask }
     requires address { IsTrue (has_bit (allocation_bits flags) with_device_address)
@@ -97,9 +92,7 @@ pub(super) fn give_back<M: MemoryObject, A: Allocator, D: MemoryDevice<M>, L: Le
     allocations_remains: &mut u32,
     blank: Blank,
 ) -> bool
-    requires name { blank.name ≡ L.name }
-    requires parts { blank.parts ≡ L.parts }
-    requires some { 0 < blank.parts }
+    requires begins { Begins blank L.name L.parts }
     requires live { IsLiveLeaf buddy.old block }
     requires agrees { Agrees buddy.old (D.properties device.old) (D.objects device.old) }
     requires counted { IsCounted (buddy.old).chunks heap.old allocations_remains.old }

@@ -271,9 +271,7 @@ impl<M: MemoryObject, A: Allocator> FreeList<M, A> {
     ///
     /// fn put_back<M: MemoryObject, L: Ledger>(list: &mut FreeList<M>, block: FreeListBlock<M>, blank: Blank)
     ///     requires live { IsLiveSlot (list.old).space block }
-    ///     requires name { blank.name ≡ L.name }
-    ///     requires parts { blank.parts ≡ L.parts }
-    ///     requires some { 0 < blank.parts }
+    ///     requires begins { Begins blank L.name L.parts }
     /// {
     ///     list.insert_block(block, &mut Steps::<L>::new(blank));
     /// }

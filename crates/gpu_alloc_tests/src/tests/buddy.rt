@@ -4,6 +4,7 @@ ghost use Rattle.std.specs.Prelude.{◌≡◌, ◌<◌, IfOk};
 ghost use Rattle.gpu_alloc.specs.Buddy.{Adds, Leaves, Removes};
 ghost use Rattle.gpu_alloc.specs.BuddyState.{IsLiveLeaf};
 ghost use Rattle.gpu_alloc.specs.AlignMasks.{IsAlignMask};
+ghost use Rattle.gpu_alloc.specs.Steps.{Begins};
 ghost use Rattle.gpu_sim.specs.Question.{CanRefuse};
 
 use super::offers::HEAPS;
@@ -122,9 +123,7 @@ impl Chunks {
     /// What is told before a request for one byte. It counts nothing.
     fn told<L: Ledger>(&self, align_mask: u64, blank: Blank) -> Option<AllocationError>
         requires alignment { IsAlignMask align_mask }
-        requires name { blank.name ≡ L.name }
-        requires parts { blank.parts ≡ L.parts }
-        requires some { 0 < blank.parts }
+        requires begins { Begins blank L.name L.parts }
     {
         let looks = &mut Steps::<L>::new(blank);
         self.allocator
@@ -142,12 +141,8 @@ impl Chunks {
     ) -> Result<BuddyBlock<SimMemory>, AllocationError>
         requires nonempty { 0 < size }
         requires alignment { IsAlignMask align_mask }
-        requires looks_name { looks.name ≡ L.name }
-        requires looks_parts { looks.parts ≡ L.parts }
-        requires looks_some { 0 < looks.parts }
-        requires splits_name { splits.name ≡ K.name }
-        requires splits_parts { splits.parts ≡ K.parts }
-        requires splits_some { 0 < splits.parts }
+        requires looks { Begins looks L.name L.parts }
+        requires splits { Begins splits K.name K.parts }
         ensures added { IfOk result (Adds self.old self.new) }
         ensures leaves { Leaves self.old self.new }
     {
@@ -194,9 +189,7 @@ impl Chunks {
     /// Takes a block back, and counts nothing.
     fn give_back_uncounted<L: Ledger>(&mut self, block: BuddyBlock<SimMemory>, blank: Blank)
         requires live { IsLiveLeaf self.old block }
-        requires name { blank.name ≡ L.name }
-        requires parts { blank.parts ≡ L.parts }
-        requires some { 0 < blank.parts }
+        requires begins { Begins blank L.name L.parts }
         ensures removed { Removes self.old block self.new }
     {
         self.allocator.dealloc(

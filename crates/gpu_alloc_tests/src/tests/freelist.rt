@@ -3,6 +3,7 @@
 ghost use Rattle.std.specs.Prelude.{◌≡◌, ◌≤◌, ◌<◌, ◌≢◌};
 ghost use Rattle.std.specs.FinMap as map;
 ghost use Rattle.gpu_alloc.specs.FreeListState.{IsLiveSlot};
+ghost use Rattle.gpu_alloc.specs.Steps.{Begins};
 ghost use Rattle.gpu_alloc.specs.Types.Slot.{Slot};
 ghost use Rattle.gpu_sim.specs.Question.{CanRefuse};
 
@@ -380,9 +381,7 @@ fn compare_sides(rt: &impl Abort, block: &FreeListBlock<Handle>) {
 
 /// Takes a block back, and counts nothing.
 fn put_back<L: Ledger>(list: &mut FreeList<Handle>, block: FreeListBlock<Handle>, blank: Blank)
-    requires name { blank.name ≡ L.name }
-    requires parts { blank.parts ≡ L.parts }
-    requires some { 0 < blank.parts }
+    requires begins { Begins blank L.name L.parts }
     requires live { IsLiveSlot list.old.space block }
     ensures { map.len list.new.space.chunks ≡ map.len list.old.space.chunks }
 {
