@@ -11,4 +11,6 @@ pub mod LiveSlots
 pub mod NumberSearch
 pub mod NumberedRows
 pub mod RunLists
+pub mod RunSearch
+pub mod RunsKept
 pub mod Spaces

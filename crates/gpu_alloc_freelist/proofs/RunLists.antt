@@ -7,6 +7,7 @@ use Rattle.std.proofs.lemmas.List.Edits.{length-remove, get_or-remove_below, get
 use Rattle.std.proofs.lemmas.List.Quantifiers.{all_pairs_remove}
 use Rattle.std.proofs.lemmas.List.Elements.{Contains-get_or}
 use Rattle.gpu_alloc_freelist.specs.FreeListInside.{IsJoint}
+use Rattle.gpu_alloc_freelist.specs.Runs.{StartsBefore}
 use Rattle.gpu_alloc_base.specs.FreeRuns.{IsBefore, AreRising, Without, With, AreRuns, AreRunsBeside}
 use Rattle.gpu_alloc_base.specs.declared.region.FreeListRegion.{FreeListRegion}
 use Rattle.gpu_alloc_base.proofs.FreeRuns.{Touches, IsJoined, tail_taken, taken_whole, joined, not_before_itself}
@@ -211,10 +212,6 @@ module _ (F : ℕ → ℕ → Type 0) (regions : List FreeListRegion) (i : ℕ) 
 
 -- A block comes back.
 
--- the first starts before the second, or is of an earlier chunk
-abbrev StartsBefore : FreeListRegion → FreeListRegion → Type 0
-StartsBefore r x = (r.chunk < x.chunk) ⊎ ((r.chunk ≡ x.chunk) × (r.start < x.start))
-
 -- the first ends before the second or where it starts, or is of an earlier chunk
 abbrev EndsBefore : FreeListRegion → FreeListRegion → Type 0
 EndsBefore r x = (r.chunk < x.chunk) ⊎ ((r.chunk ≡ x.chunk) × (r.end ≤ x.start))
@@ -255,6 +252,13 @@ module _ (regions : List FreeListRegion) (place : ℕ) (x d : FreeListRegion) (f
 
   pub joint_order : from ≤ to
   joint_order = omega (arith, joint_low, joint_high)
+
+  -- it stands in place of two at most
+  pub joint_two : to ≤ from + 2
+  joint_two = elim (j.before) [
+    | inl touch ↦ elim (j.after) [ inl also ↦ omega (arith, touch.1.0, also.1.0) | inr end ↦ omega (arith, touch.1.0, end.1.0) ]
+    | inr alone ↦ elim (j.after) [ inl also ↦ omega (arith, alone.1.0, also.1.0) | inr end ↦ omega (arith, alone.1.0, end.1.0) ]
+  ]
 
   pub joint_within : to ≤ length regions
   joint_within = elim (j.after) [ inl touch ↦ omega (arith, touch.0.0, touch.1.0) | inr alone ↦ omega (arith, alone.1.0, within) ]

@@ -1,12 +1,14 @@
 -- How the values that contracts see are stored.
-use Rattle.std.specs.Prelude.{ℕ, refl}
-use Rattle.std.specs.Coded.{Coded, code_by, coded×, coded_ℕ}
+use Rattle.std.specs.Prelude.{ℕ, List, refl}
+use Rattle.std.specs.Coded.{Coded, code_by, coded×, coded_ℕ, coded_list}
 use Rattle.std.specs.FinMap as map
 use Rattle.std.specs.FinSet as set
 use Rattle.std.specs.Ordering.{nat_cmp}
 use Rattle.gpu_alloc_base.specs.Codes.{chunk_code, slot_code}
 use Rattle.gpu_alloc_base.specs.Chunks.{Chunk}
+use Rattle.gpu_alloc_base.specs.declared.region.FreeListRegion.{FreeListRegion}
 use Rattle.gpu_alloc_freelist.specs.FreeListState.{Space, Store, Listing}
+use Rattle.gpu_alloc_freelist.specs.Runs.{Runs}
 use Rattle.gpu_alloc_base.specs.Slots.{slot_cmp}
 
 abbrev pub space_code : Coded Space
@@ -35,3 +37,13 @@ listing_code =
       atom = c.1.1.1.1;
     })
     (λ _. refl)
+
+abbrev pub region_code : Coded FreeListRegion
+region_code =
+    code_by (ℕ × (ℕ × ℕ)) (coded× coded_ℕ (coded× coded_ℕ coded_ℕ)) (λ r. (r.chunk, (r.start, r.end)))
+    (λ c. record { chunk = c.0; start = c.1.0; end = c.1.1 }) (λ _. refl)
+
+abbrev pub runs_code : Coded Runs
+runs_code =
+    code_by (List FreeListRegion × ℕ) (coded× (coded_list region_code) coded_ℕ) (λ r. (r.regions, r.room))
+    (λ c. record { regions = c.0; room = c.1 }) (λ _. refl)

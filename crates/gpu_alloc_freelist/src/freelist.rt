@@ -28,6 +28,7 @@ ghost use Rattle.gpu_alloc_base.specs.Steps.{Begins};
 
 mod list;
 mod regions;
+mod runs;
 
 use gpu_alloc_base::heap::Heap;
 use gpu_alloc_base::range_order::put_in_order;

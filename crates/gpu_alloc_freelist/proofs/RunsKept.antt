@@ -1,0 +1,130 @@
+-- The runs of a list, as one loses its tail or goes, and as a range comes back: whatever the free bytes are, they stay
+-- exactly those.
+use Rattle.std.proofs.Common.{◌≡◌, inl, inr, ℕ, ◌+◌, ◌<◌, ◌≤◌, List, [], ◌∷◌, ◌++◌, length, take, drop, get_or, refl, sym, ◌∙◌, ap, subst, arith}
+use Rattle.std.specs.List.{All, Contains, remove}
+use Rattle.std.proofs.lemmas.Bool.{cases_lt, cases_order}
+use Rattle.std.proofs.lemmas.List.{length-append, get_or_default}
+use Rattle.std.proofs.lemmas.List.Elements.{All-push, Contains-get_or}
+use Rattle.std.proofs.lemmas.List.Quantifiers.{all_pairs_push}
+use Rattle.gpu_alloc_base.specs.FreeRuns.{IsBefore, With, AreRuns, AreRunsBeside}
+use Rattle.gpu_alloc_base.specs.declared.region.FreeListRegion.{FreeListRegion}
+use Rattle.gpu_alloc_base.proofs.SameRuns.{runs_same}
+use Rattle.gpu_alloc_freelist.specs.Runs.{AreInPlace, Cuts, IsApart, PutsBack}
+use Rattle.gpu_alloc_freelist.proofs.RunLists.{run_goes, tail_goes, whole_goes, block_joined, joint_length}
+
+-- Of any free bytes.
+
+module _ (F : ℕ → ℕ → Type 0) where
+  -- a run loses its tail, or goes whole
+  pub cut_beside : (old new : List FreeListRegion) (i start : ℕ) (d : FreeListRegion) → AreRuns old F → i < length old
+      → (get_or old i d).start ≤ start → start < (get_or old i d).end → Cuts old i start new → AreRunsBeside new F (record (get_or old i d) { start = start })
+  cut_beside old new i start d runs within from to cuts = elim (cuts d) [
+    | inl some ↦ subst (λ list. AreRunsBeside list F (record (get_or old i d) { start = start })) (sym some.1) (tail_goes F old i d runs within start some.0 to)
+    | inr none ↦ subst (λ list. AreRunsBeside list F (record (get_or old i d) { start = start })) (sym none.1) (whole_goes F old i d runs within start (sym none.0))
+  ]
+
+  -- a range comes back
+  pub put_back_runs : (old : List FreeListRegion) (x : FreeListRegion) (new : List FreeListRegion) → AreRunsBeside old F x → x.start < x.end → PutsBack old x new → AreRuns new F
+  put_back_runs old x new beside some p =
+      subst (λ list. AreRuns list F) (sym p.is)
+      (block_joined F old x beside some p.place p.before (λ d lt. p.behind p.place d (omega arith) lt) p.within x p.from p.to p.joint (p.joined x))
+
+  -- what comes back has no byte in common with the runs beside it
+  pub beside_apart : (regions : List FreeListRegion) (x : FreeListRegion) → AreRunsBeside regions F x → x.start < x.end → All (λ r. IsApart r x) regions
+  beside_apart regions x beside some k d lt same =
+      let r : FreeListRegion = get_or regions k d in
+      let has : Contains regions r = Contains-get_or regions k d lt in
+      let nonempty : r.start < r.end = beside.rest.spaced.nonempty r has in
+      let no_byte = λ (b : ℕ) (low : r.start ≤ b) (high : b < r.end) (from : x.start ≤ b) (to : b < x.end). (beside.rest.spaced.free r has b low high).1 same from to in
+      elim (cases_lt x.start r.end) [
+        | inr le ↦ inl le
+        | inl long ↦ elim (cases_lt r.start x.end) [
+          | inr le ↦ inr le
+          | inl short ↦ elim (cases_lt r.start x.start) [
+            | inl less ↦ absurd (no_byte x.start (omega arith) long (omega arith) some)
+            | inr not_less ↦ absurd (no_byte r.start (omega arith) nonempty not_less short)
+          ]
+        ]
+      ]
+
+  -- the regions that are runs are in place
+  pub runs_in_place : (regions : List FreeListRegion) → AreRuns regions F → AreInPlace regions
+  runs_in_place regions runs = record {
+    nonempty = λ k d lt. runs.spaced.nonempty (get_or regions k d) (Contains-get_or regions k d lt);
+    rising = runs.rising;
+  }
+
+-- there is at most one run more, and at least one
+pub put_back_length : (old : List FreeListRegion) (x : FreeListRegion) (new : List FreeListRegion) → PutsBack old x new → length new ≤ length old + 1
+put_back_length old x new p =
+    subst (λ list. length list ≤ length old + 1) (sym p.is) (joint_length old p.place x x p.from p.to p.joint (p.joined x) p.within)
+
+pub put_back_some : (old : List FreeListRegion) (x : FreeListRegion) (new : List FreeListRegion) → PutsBack old x new → 0 < length new
+put_back_some old x new p =
+    let n : length new ≡ length (take p.from old) + (length (drop p.to old) + 1) = ap length p.is ∙ length-append (take p.from old) (p.joint ∷ drop p.to old) ∙ omega arith in
+    omega (arith, n)
+
+-- Of regions in place alone: they are the runs of their own bytes.
+
+module _ (regions : List FreeListRegion) (placed : AreInPlace regions) where
+  -- the byte lies in a region
+  abbrev Covered : ℕ → ℕ → Type 0
+  Covered chunk at = (r : FreeListRegion) × Contains regions r × (r.chunk ≡ chunk) × (r.start ≤ at) × (at < r.end)
+
+  touch_none : (r s : FreeListRegion) → IsBefore r s → r.chunk ≡ s.chunk → s.start ≤ r.end → ⊥
+  touch_none r s (inl less) same le = omega (arith, less, same)
+  touch_none r s (inr gap) same le = omega (arith, gap.1, le)
+
+  own_runs : AreRuns regions Covered
+  own_runs = record {
+    spaced = record {
+      nonempty = λ r (k, lt, is). subst (λ (q : FreeListRegion). q.start < q.end) is (placed.nonempty k r lt);
+      apart = λ r s (i, lt_i, is_i) (j, lt_j, is_j) same low high.
+          let at_j : get_or regions j r ≡ s = get_or_default regions j r s lt_j ∙ is_j in
+          elim (cases_order i j) [
+            | inl here ↦ sym is_i ∙ ap (λ n. get_or regions n r) here ∙ at_j
+            | inr (inl less) ↦ absurd (touch_none r s (subst (λ q. IsBefore q s) is_i (subst (IsBefore (get_or regions i r)) at_j (placed.rising i j r less lt_j))) same high)
+            | inr (inr more) ↦ absurd (touch_none s r (subst (λ q. IsBefore q r) at_j (subst (IsBefore (get_or regions j r)) is_i (placed.rising j i r more lt_i))) (sym same) low)
+          ];
+      free = λ r has at low high. (r, has, refl, low, high);
+      covers = λ chunk at free. free;
+    };
+    rising = placed.rising;
+  }
+
+  -- and beside a range with no byte in common
+  own_runs_beside : (x : FreeListRegion) → All (λ r. IsApart r x) regions → AreRunsBeside regions (With Covered x) x
+  own_runs_beside x apart = record {
+    rest = runs_same (record {
+      to = λ chunk at (r, has, is, low, high). (inl (r, has, is, low, high), λ same from to. outside r has (is ∙ same) at low high from to);
+      from = λ chunk at (free, out). in_region chunk at free out;
+    }) regions own_runs;
+    inside = λ at from to. inr (refl, from, to);
+  } where
+    outside : (r : FreeListRegion) → Contains regions r → r.chunk ≡ x.chunk → (at : ℕ) → r.start ≤ at → at < r.end → x.start ≤ at → at < x.end → ⊥
+    outside r (k, lt, is) same at low high from to =
+        elim (subst (λ q. IsApart q x) is (apart k r lt) same) [ inl before ↦ omega (arith, before) | inr behind ↦ omega (arith, behind) ]
+
+    in_region : (chunk at : ℕ) → With Covered x chunk at → (chunk ≡ x.chunk → x.start ≤ at → at < x.end → ⊥) → Covered chunk at
+    in_region chunk at (inl covered) out = covered
+    in_region chunk at (inr inside) out = absurd (out inside.0 inside.1 inside.2)
+
+  -- they stay in place as one loses its tail or goes
+  pub cut_in_place : (new : List FreeListRegion) (i start : ℕ) (d : FreeListRegion) → i < length regions
+      → (get_or regions i d).start ≤ start → start < (get_or regions i d).end → Cuts regions i start new → AreInPlace new
+  cut_in_place new i start d within from to cuts =
+      runs_in_place _ new (cut_beside Covered regions new i start d own_runs within from to cuts).rest
+
+  pub removed_in_place : (i : ℕ) (d : FreeListRegion) → i < length regions → AreInPlace (remove regions i)
+  removed_in_place i d within = runs_in_place _ (remove regions i) (run_goes Covered regions i d own_runs within).rest
+
+  -- as one comes behind them
+  pub pushed_in_place : (r : FreeListRegion) → r.start < r.end → All (λ q. IsBefore q r) regions → AreInPlace (regions ++ r ∷ [])
+  pushed_in_place r some last = record {
+    nonempty = All-push (λ q. q.start < q.end) regions r placed.nonempty some;
+    rising = all_pairs_push IsBefore regions r placed.rising last;
+  }
+
+  -- and as a range comes back
+  pub put_back_in_place : (x : FreeListRegion) (new : List FreeListRegion) → All (λ r. IsApart r x) regions → x.start < x.end → PutsBack regions x new → AreInPlace new
+  put_back_in_place x new apart some p = runs_in_place _ new (put_back_runs (With Covered x) regions x new (own_runs_beside x apart) some p)
