@@ -13,7 +13,8 @@ use Rattle.std.specs.FinSet as set
 use Rattle.gpu_alloc_base.specs.Chunks.{Chunk}
 use Rattle.gpu_alloc_freelist.specs.FreeList.{HasPlace, IsTail, TakesTail, first_tail, with_slot, with_chunk}
 use Rattle.gpu_alloc_base.specs.Slots.{region_of, slot_cmp}
-use Rattle.gpu_alloc_freelist.specs.FreeListInside.{by_number, AreNumbered, IsLastFit, IsListed, room_for, same_slot, slot_set, space_in}
+use Rattle.gpu_alloc_freelist.specs.FreeListInside.{by_number, AreNumbered, IsListed, room_for, same_slot, slot_set, space_in}
+use Rattle.gpu_alloc_freelist.specs.Runs.{IsLastFit}
 use Rattle.gpu_alloc_freelist.specs.FreeListSound.{IsSoundSpace}
 use Rattle.gpu_alloc_freelist.specs.FreeListState.{Space, IsFreeIn}
 use Rattle.gpu_alloc_base.specs.FreeRuns.{AreFree, AreRuns, AreRunsBeside, HasRoom, IsBefore, IsFreeRun, IsLastWithRoom, IsSpaced, Without, tail_start}

@@ -6,8 +6,7 @@ use Rattle.std.proofs.lemmas.List.{length-append, length-take-le, length-drop, g
 use Rattle.std.proofs.lemmas.List.Edits.{length-remove, get_or-remove_below, get_or-remove_above}
 use Rattle.std.proofs.lemmas.List.Quantifiers.{all_pairs_remove}
 use Rattle.std.proofs.lemmas.List.Elements.{Contains-get_or}
-use Rattle.gpu_alloc_freelist.specs.FreeListInside.{IsJoint}
-use Rattle.gpu_alloc_freelist.specs.Runs.{StartsBefore}
+use Rattle.gpu_alloc_freelist.specs.Runs.{IsJoint, StartsBefore}
 use Rattle.gpu_alloc_base.specs.FreeRuns.{IsBefore, AreRising, Without, With, AreRuns, AreRunsBeside}
 use Rattle.gpu_alloc_base.specs.declared.region.FreeListRegion.{FreeListRegion}
 use Rattle.gpu_alloc_base.proofs.FreeRuns.{Touches, IsJoined, tail_taken, taken_whole, joined, not_before_itself}

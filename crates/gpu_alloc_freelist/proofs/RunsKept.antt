@@ -9,7 +9,7 @@ use Rattle.std.proofs.lemmas.List.Quantifiers.{all_pairs_push}
 use Rattle.gpu_alloc_base.specs.FreeRuns.{IsBefore, With, AreRuns, AreRunsBeside}
 use Rattle.gpu_alloc_base.specs.declared.region.FreeListRegion.{FreeListRegion}
 use Rattle.gpu_alloc_base.proofs.SameRuns.{runs_same}
-use Rattle.gpu_alloc_freelist.specs.Runs.{AreInPlace, Cuts, IsApart, PutsBack}
+use Rattle.gpu_alloc_freelist.specs.Runs.{AreSorted, Cuts, IsApart, PutsBack}
 use Rattle.gpu_alloc_freelist.proofs.RunLists.{run_goes, tail_goes, whole_goes, block_joined, joint_length}
 
 -- Of any free bytes.
@@ -27,7 +27,7 @@ module _ (F : ℕ → ℕ → Type 0) where
   pub put_back_runs : (old : List FreeListRegion) (x : FreeListRegion) (new : List FreeListRegion) → AreRunsBeside old F x → x.start < x.end → PutsBack old x new → AreRuns new F
   put_back_runs old x new beside some p =
       subst (λ list. AreRuns list F) (sym p.is)
-      (block_joined F old x beside some p.place p.before (λ d lt. p.behind p.place d (omega arith) lt) p.within x p.from p.to p.joint (p.joined x))
+      (block_joined F old x beside some p.place p.at.before (λ d lt. p.at.behind p.place d (omega arith) lt) p.at.within x p.from p.to p.joint (p.joined x))
 
   -- what comes back has no byte in common with the runs beside it
   pub beside_apart : (regions : List FreeListRegion) (x : FreeListRegion) → AreRunsBeside regions F x → x.start < x.end → All (λ r. IsApart r x) regions
@@ -47,26 +47,32 @@ module _ (F : ℕ → ℕ → Type 0) where
         ]
       ]
 
-  -- the regions that are runs are in place
-  pub runs_in_place : (regions : List FreeListRegion) → AreRuns regions F → AreInPlace regions
-  runs_in_place regions runs = record {
+  -- regions that are the runs are sorted
+  pub runs_sorted : (regions : List FreeListRegion) → AreRuns regions F → AreSorted regions
+  runs_sorted regions runs = record {
     nonempty = λ k d lt. runs.spaced.nonempty (get_or regions k d) (Contains-get_or regions k d lt);
     rising = runs.rising;
   }
 
+  -- one whose chunk comes after those of all free bytes comes last
+  pub last_by_chunk : (regions : List FreeListRegion) (r : FreeListRegion) → AreRuns regions F → ((chunk at : ℕ) → F chunk at → chunk < r.chunk) → All (λ q. IsBefore q r) regions
+  last_by_chunk regions r runs below k d lt =
+      let has : Contains regions (get_or regions k d) = Contains-get_or regions k d lt in
+      inl (below (get_or regions k d).chunk (get_or regions k d).start (runs.spaced.free (get_or regions k d) has (get_or regions k d).start (omega arith) (runs.spaced.nonempty (get_or regions k d) has)))
+
 -- there is at most one run more, and at least one
 pub put_back_length : (old : List FreeListRegion) (x : FreeListRegion) (new : List FreeListRegion) → PutsBack old x new → length new ≤ length old + 1
 put_back_length old x new p =
-    subst (λ list. length list ≤ length old + 1) (sym p.is) (joint_length old p.place x x p.from p.to p.joint (p.joined x) p.within)
+    subst (λ list. length list ≤ length old + 1) (sym p.is) (joint_length old p.place x x p.from p.to p.joint (p.joined x) p.at.within)
 
 pub put_back_some : (old : List FreeListRegion) (x : FreeListRegion) (new : List FreeListRegion) → PutsBack old x new → 0 < length new
 put_back_some old x new p =
     let n : length new ≡ length (take p.from old) + (length (drop p.to old) + 1) = ap length p.is ∙ length-append (take p.from old) (p.joint ∷ drop p.to old) ∙ omega arith in
     omega (arith, n)
 
--- Of regions in place alone: they are the runs of their own bytes.
+-- Of sorted regions alone: they are the runs of their own bytes.
 
-module _ (regions : List FreeListRegion) (placed : AreInPlace regions) where
+module _ (regions : List FreeListRegion) (sorted : AreSorted regions) where
   -- the byte lies in a region
   abbrev Covered : ℕ → ℕ → Type 0
   Covered chunk at = (r : FreeListRegion) × Contains regions r × (r.chunk ≡ chunk) × (r.start ≤ at) × (at < r.end)
@@ -78,18 +84,18 @@ module _ (regions : List FreeListRegion) (placed : AreInPlace regions) where
   own_runs : AreRuns regions Covered
   own_runs = record {
     spaced = record {
-      nonempty = λ r (k, lt, is). subst (λ (q : FreeListRegion). q.start < q.end) is (placed.nonempty k r lt);
+      nonempty = λ r (k, lt, is). subst (λ (q : FreeListRegion). q.start < q.end) is (sorted.nonempty k r lt);
       apart = λ r s (i, lt_i, is_i) (j, lt_j, is_j) same low high.
           let at_j : get_or regions j r ≡ s = get_or_default regions j r s lt_j ∙ is_j in
           elim (cases_order i j) [
             | inl here ↦ sym is_i ∙ ap (λ n. get_or regions n r) here ∙ at_j
-            | inr (inl less) ↦ absurd (touch_none r s (subst (λ q. IsBefore q s) is_i (subst (IsBefore (get_or regions i r)) at_j (placed.rising i j r less lt_j))) same high)
-            | inr (inr more) ↦ absurd (touch_none s r (subst (λ q. IsBefore q r) at_j (subst (IsBefore (get_or regions j r)) is_i (placed.rising j i r more lt_i))) (sym same) low)
+            | inr (inl less) ↦ absurd (touch_none r s (subst (λ q. IsBefore q s) is_i (subst (IsBefore (get_or regions i r)) at_j (sorted.rising i j r less lt_j))) same high)
+            | inr (inr more) ↦ absurd (touch_none s r (subst (λ q. IsBefore q r) at_j (subst (IsBefore (get_or regions j r)) is_i (sorted.rising j i r more lt_i))) (sym same) low)
           ];
       free = λ r has at low high. (r, has, refl, low, high);
       covers = λ chunk at free. free;
     };
-    rising = placed.rising;
+    rising = sorted.rising;
   }
 
   -- and beside a range with no byte in common
@@ -109,22 +115,22 @@ module _ (regions : List FreeListRegion) (placed : AreInPlace regions) where
     in_region chunk at (inl covered) out = covered
     in_region chunk at (inr inside) out = absurd (out inside.0 inside.1 inside.2)
 
-  -- they stay in place as one loses its tail or goes
-  pub cut_in_place : (new : List FreeListRegion) (i start : ℕ) (d : FreeListRegion) → i < length regions
-      → (get_or regions i d).start ≤ start → start < (get_or regions i d).end → Cuts regions i start new → AreInPlace new
-  cut_in_place new i start d within from to cuts =
-      runs_in_place _ new (cut_beside Covered regions new i start d own_runs within from to cuts).rest
+  -- they stay sorted as one loses its tail or goes
+  pub cut_sorted : (new : List FreeListRegion) (i start : ℕ) (d : FreeListRegion) → i < length regions
+      → (get_or regions i d).start ≤ start → start < (get_or regions i d).end → Cuts regions i start new → AreSorted new
+  cut_sorted new i start d within from to cuts =
+      runs_sorted _ new (cut_beside Covered regions new i start d own_runs within from to cuts).rest
 
-  pub removed_in_place : (i : ℕ) (d : FreeListRegion) → i < length regions → AreInPlace (remove regions i)
-  removed_in_place i d within = runs_in_place _ (remove regions i) (run_goes Covered regions i d own_runs within).rest
+  pub removed_sorted : (i : ℕ) (d : FreeListRegion) → i < length regions → AreSorted (remove regions i)
+  removed_sorted i d within = runs_sorted _ (remove regions i) (run_goes Covered regions i d own_runs within).rest
 
   -- as one comes behind them
-  pub pushed_in_place : (r : FreeListRegion) → r.start < r.end → All (λ q. IsBefore q r) regions → AreInPlace (regions ++ r ∷ [])
-  pushed_in_place r some last = record {
-    nonempty = All-push (λ q. q.start < q.end) regions r placed.nonempty some;
-    rising = all_pairs_push IsBefore regions r placed.rising last;
+  pub pushed_sorted : (r : FreeListRegion) → r.start < r.end → All (λ q. IsBefore q r) regions → AreSorted (regions ++ r ∷ [])
+  pushed_sorted r some last = record {
+    nonempty = All-push (λ q. q.start < q.end) regions r sorted.nonempty some;
+    rising = all_pairs_push IsBefore regions r sorted.rising last;
   }
 
   -- and as a range comes back
-  pub put_back_in_place : (x : FreeListRegion) (new : List FreeListRegion) → All (λ r. IsApart r x) regions → x.start < x.end → PutsBack regions x new → AreInPlace new
-  put_back_in_place x new apart some p = runs_in_place _ new (put_back_runs (With Covered x) regions x new (own_runs_beside x apart) some p)
+  pub put_back_sorted : (x : FreeListRegion) (new : List FreeListRegion) → All (λ r. IsApart r x) regions → x.start < x.end → PutsBack regions x new → AreSorted new
+  put_back_sorted x new apart some p = runs_sorted _ new (put_back_runs (With Covered x) regions x new (own_runs_beside x apart) some p)

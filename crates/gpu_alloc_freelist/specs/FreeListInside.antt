@@ -1,5 +1,5 @@
 -- What the fields of a free list and of its allocator keep.
-use Rattle.std.specs.Prelude.{◌≡◌, ◌⊎◌, ℕ, ◌+◌, ◌-◌, ◌/◌, ◌<◌, ◌≤◌, Bool, true, List, length, map, min, get_or, Some}
+use Rattle.std.specs.Prelude.{◌≡◌, ◌⊎◌, ℕ, ◌+◌, ◌/◌, ◌<◌, ◌≤◌, Bool, true, List, length, map, min, get_or, Some}
 use Rattle.std.specs.List.{IsDistinct}
 use Rattle.std.specs.FinMap as map_of
 use Rattle.std.specs.FinSet as set
@@ -9,7 +9,7 @@ use Rattle.gpu_alloc_freelist.specs.FreeListState.{Space, Store, Listing, IsFree
 use Rattle.gpu_alloc_base.specs.Slots.{slot_cmp}
 use Rattle.gpu_alloc_freelist.specs.FreeListSound.{IsSoundSpace}
 use Rattle.gpu_alloc_base.specs.AlignMasks.{IsAlignMask}
-use Rattle.gpu_alloc_base.specs.FreeRuns.{AreRuns, HasRoom}
+use Rattle.gpu_alloc_base.specs.FreeRuns.{AreRuns}
 use Rattle.gpu_alloc_base.specs.declared.free_list_block.Slot.{Slot}
 use Rattle.gpu_alloc_base.specs.declared.region.FreeListRegion.{FreeListRegion}
 
@@ -70,37 +70,6 @@ pub record FitsAChunk (l : Listing) (size align_mask : ℕ) : Type 0 where
 -- the run comes before the block
 abbrev pub IsBeforeBlock : FreeListRegion → Slot → Type 0
 IsBeforeBlock r slot = (r.chunk < slot.chunk) ⊎ ((r.chunk ≡ slot.chunk) × (r.start < slot.offset))
-
--- the last one that has room stands here
-pub record IsLastFit (regions : List FreeListRegion) (size alignment i : ℕ) (d : FreeListRegion) : Type 0 where
-  pub room : HasRoom size alignment (get_or regions i d).start (get_or regions i d).end
-  pub later : (j : ℕ) → i < j → j < length regions
-      → HasRoom size alignment (get_or regions j d).start (get_or regions j d).end → ⊥
-
--- the run before this place ends where the block starts
-abbrev pub TouchesBefore : List FreeListRegion → ℕ → FreeListRegion → FreeListRegion → Type 0
-TouchesBefore regions place block d =
-    (0 < place)
-    × (((get_or regions (place - 1) d).chunk ≡ block.chunk) × ((get_or regions (place - 1) d).end ≡ block.start))
-
--- the run at this place starts where the block ends
-abbrev pub TouchesAfter : List FreeListRegion → ℕ → FreeListRegion → FreeListRegion → Type 0
-TouchesAfter regions place block d =
-    (place < length regions)
-    × (((get_or regions place d).chunk ≡ block.chunk) × ((get_or regions place d).start ≡ block.end))
-
--- The block at this place is joined with the runs that it touches: the joint stands in place of those from one index on
--- to before another.
-pub record IsJoint (regions : List FreeListRegion) (place : ℕ) (block d : FreeListRegion) (from to : ℕ)
-    (joint : FreeListRegion) : Type 0 where
-  pub chunk : joint.chunk ≡ block.chunk
-  pub before :
-      (TouchesBefore regions place block d ×
-      ((from + 1 ≡ place) × (joint.start ≡ (get_or regions (place - 1) d).start)))
-      ⊎ ((TouchesBefore regions place block d → ⊥) × ((from ≡ place) × (joint.start ≡ block.start)))
-  pub after :
-      (TouchesAfter regions place block d × ((to ≡ place + 1) × (joint.end ≡ (get_or regions place d).end)))
-      ⊎ ((TouchesAfter regions place block d → ⊥) × ((to ≡ place) × (joint.end ≡ block.end)))
 
 -- the run is a whole chunk, by the sizes of chunks
 abbrev pub IsWholeRegion : map_of.FinMap nat_cmp ℕ → FreeListRegion → Type 0

@@ -1,9 +1,8 @@
 -- The free runs of a list in their order, and what its calls make of them.
 use Rattle.std.specs.Prelude.{◌≡◌, ◌⊎◌, ℕ, ◌+◌, ◌-◌, ◌*◌, ◌^◌, ◌<◌, ◌≤◌, List, ◌∷◌, ◌++◌, length, take, drop, set, get_or}
 use Rattle.std.specs.List.{All, remove}
-use Rattle.gpu_alloc_base.specs.FreeRuns.{AreRising}
+use Rattle.gpu_alloc_base.specs.FreeRuns.{AreRising, HasRoom}
 use Rattle.gpu_alloc_base.specs.declared.region.FreeListRegion.{FreeListRegion}
-use Rattle.gpu_alloc_freelist.specs.FreeListInside.{IsJoint}
 
 -- The regions of the runs, and for how many more of them there is room.
 pub record Runs : Type 0 where
@@ -11,9 +10,23 @@ pub record Runs : Type 0 where
   pub room : ℕ
 
 -- the regions are not empty, and rise
-pub record AreInPlace (regions : List FreeListRegion) : Type 0 where
+pub record AreSorted (regions : List FreeListRegion) : Type 0 where
   pub nonempty : All (λ r. r.start < r.end) regions
   pub rising : AreRising regions
+
+-- the last one that has room stands here
+pub record IsLastFit (regions : List FreeListRegion) (size alignment i : ℕ) (d : FreeListRegion) : Type 0 where
+  pub room : HasRoom size alignment (get_or regions i d).start (get_or regions i d).end
+  pub later : (j : ℕ) → i < j → j < length regions
+      → HasRoom size alignment (get_or regions j d).start (get_or regions j d).end → ⊥
+
+-- The bytes from `start` on go out of the region at this index: what is left of it stays, if anything is.
+abbrev pub Cuts : List FreeListRegion → ℕ → ℕ → List FreeListRegion → Type 0
+Cuts old i start new = (d : FreeListRegion) →
+    (((get_or old i d).start < start) × (new ≡ set old i (record (get_or old i d) { end = start })))
+    ⊎ (((get_or old i d).start ≡ start) × (new ≡ remove old i))
+
+-- How a block comes back.
 
 -- the two have no byte in common
 abbrev pub IsApart : FreeListRegion → FreeListRegion → Type 0
@@ -23,24 +36,48 @@ IsApart r x = r.chunk ≡ x.chunk → (r.end ≤ x.start) ⊎ (x.end ≤ r.start
 abbrev pub StartsBefore : FreeListRegion → FreeListRegion → Type 0
 StartsBefore r x = (r.chunk < x.chunk) ⊎ ((r.chunk ≡ x.chunk) × (r.start < x.start))
 
--- The bytes from `start` on go out of the region at this index: what is left of it stays, if anything is.
-abbrev pub Cuts : List FreeListRegion → ℕ → ℕ → List FreeListRegion → Type 0
-Cuts old i start new = (d : FreeListRegion) →
-    (((get_or old i d).start < start) × (new ≡ set old i (record (get_or old i d) { end = start })))
-    ⊎ (((get_or old i d).start ≡ start) × (new ≡ remove old i))
+-- so many of the regions start before the block, and no other one does
+pub record IsPlaceOf (block : FreeListRegion) (regions : List FreeListRegion) (place : ℕ) : Type 0 where
+  pub within : place ≤ length regions
+  pub before : (k : ℕ) (d : FreeListRegion) → k < place → StartsBefore (get_or regions k d) block
+  pub behind : (k : ℕ) (d : FreeListRegion) → place ≤ k → k < length regions
+      → StartsBefore (get_or regions k d) block → ⊥
 
--- A range comes back at the place behind all that start before it, and is joined with those that it touches there.
-pub record PutsBack (old : List FreeListRegion) (x : FreeListRegion) (new : List FreeListRegion) : Type 0 where
+-- the run before this place ends where the block starts
+abbrev pub TouchesBefore : List FreeListRegion → ℕ → FreeListRegion → FreeListRegion → Type 0
+TouchesBefore regions place block d =
+    (0 < place)
+    × (((get_or regions (place - 1) d).chunk ≡ block.chunk) × ((get_or regions (place - 1) d).end ≡ block.start))
+
+-- the run at this place starts where the block ends
+abbrev pub TouchesAfter : List FreeListRegion → ℕ → FreeListRegion → FreeListRegion → Type 0
+TouchesAfter regions place block d =
+    (place < length regions)
+    × (((get_or regions place d).chunk ≡ block.chunk) × ((get_or regions place d).start ≡ block.end))
+
+-- The block at this place is joined with the runs that it touches: the joint stands in place of those from one index on
+-- to before another.
+pub record IsJoint (regions : List FreeListRegion) (place : ℕ) (block d : FreeListRegion) (from to : ℕ)
+    (joint : FreeListRegion) : Type 0 where
+  pub chunk : joint.chunk ≡ block.chunk
+  pub before :
+      (TouchesBefore regions place block d ×
+      ((from + 1 ≡ place) × (joint.start ≡ (get_or regions (place - 1) d).start)))
+      ⊎ ((TouchesBefore regions place block d → ⊥) × ((from ≡ place) × (joint.start ≡ block.start)))
+  pub after :
+      (TouchesAfter regions place block d × ((to ≡ place + 1) × (joint.end ≡ (get_or regions place d).end)))
+      ⊎ ((TouchesAfter regions place block d → ⊥) × ((to ≡ place) × (joint.end ≡ block.end)))
+
+-- The block is joined with the runs that it touches, at the place behind those that start before it.
+pub record PutsBack (old : List FreeListRegion) (block : FreeListRegion) (new : List FreeListRegion) : Type 0 where
   pub place : ℕ
   pub from : ℕ
   pub to : ℕ
   pub joint : FreeListRegion
-  pub within : place ≤ length old
-  pub before : (k : ℕ) (d : FreeListRegion) → k < place → StartsBefore (get_or old k d) x
-  pub behind : (k : ℕ) (d : FreeListRegion) → place ≤ k → k < length old → StartsBefore (get_or old k d) x → ⊥
-  pub joined : (d : FreeListRegion) → IsJoint old place x d from to joint
+  pub at : IsPlaceOf block old place
+  pub joined : (d : FreeListRegion) → IsJoint old place block d from to joint
   pub is : new ≡ take from old ++ joint ∷ drop to old
 
--- a count of comparisons rose by no more than the binary digits of so many regions
+-- the count of comparisons rose by no more than the number of regions has binary digits
 abbrev pub AreFewComparisons : ℕ → ℕ → ℕ → Type 0
 AreFewComparisons regions old new = 2 ^ (new - old) ≤ 2 * regions + 1

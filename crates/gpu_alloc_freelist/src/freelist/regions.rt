@@ -5,8 +5,9 @@ ghost use Rattle.std.specs.Prelude.{◌≡◌, ◌≤◌, ◌<◌, ◌+◌, ◌-
 ghost use Rattle.std.specs.Prelude.{IfSome, IfNone, vec_len, vec_capacity, true, false};
 ghost use Rattle.std.specs.List.{All};
 ghost use Rattle.gpu_alloc_base.specs.Slots.{region_cmp, region_of};
-ghost use Rattle.gpu_alloc_freelist.specs.FreeListInside.{IsBeforeBlock, IsJoint, IsLastFit};
+ghost use Rattle.gpu_alloc_freelist.specs.FreeListInside.{IsBeforeBlock};
 ghost use Rattle.gpu_alloc_freelist.specs.FreeListState.{Space, IsFreeIn};
+ghost use Rattle.gpu_alloc_freelist.specs.Runs.{IsJoint, IsLastFit};
 ghost use Rattle.gpu_alloc_base.specs.FreeRuns.{AreRuns, AreRunsBeside, AreRising, HasRoom, tail_start};
 ghost use Rattle.gpu_alloc_base.specs.AlignMasks.{IsAlignMask};
 ghost use Rattle.gpu_alloc_base.specs.declared.region.FreeListRegion.{FreeListRegion as Region};

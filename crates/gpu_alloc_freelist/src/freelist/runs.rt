@@ -1,15 +1,16 @@
 //! The free runs of a list as one sorted vector: a run loses its tail, and a block that comes back is joined with its
 //! neighbours in place.
 
-ghost use Rattle.std.specs.Prelude.{◌≡◌, ◌≤◌, ◌<◌, ◌+◌, ◌-◌, ◌++◌, ◌∷◌, ◌^◌, [], ℕ, length, take, drop};
-ghost use Rattle.std.specs.Prelude.{slice_index_or, IfSome, IfNone, IsOk, OnOk, Some, vec_len, vec_capacity, true, false};
+ghost use Rattle.std.specs.Prelude.{◌≡◌, ◌≤◌, ◌<◌, ◌+◌, ◌-◌, ◌^◌, ◌++◌, ◌∷◌, ◌↔◌, [], ℕ, length, take, drop};
+ghost use Rattle.std.specs.Prelude.{slice_index_or, IfSome, IfNone, IsOk, IsTrue, OnOk, Some, true, false};
+ghost use Rattle.std.specs.Prelude.{vec_len, vec_capacity};
 ghost use Rattle.std.specs.List.{All, remove};
 ghost use Rattle.gpu_alloc_base.specs.AlignMasks.{IsAlignMask};
 ghost use Rattle.gpu_alloc_base.specs.FreeRuns.{HasRoom, IsBefore, tail_start};
 ghost use Rattle.gpu_alloc_base.specs.Slots.{region_cmp, region_of};
 ghost use Rattle.gpu_alloc_base.specs.declared.region.FreeListRegion.{FreeListRegion as Region};
-ghost use Rattle.gpu_alloc_freelist.specs.FreeListInside.{IsJoint, IsLastFit};
-ghost use Rattle.gpu_alloc_freelist.specs.Runs.{AreFewComparisons, AreInPlace, Cuts, IsApart, PutsBack, StartsBefore};
+ghost use Rattle.gpu_alloc_freelist.specs.Runs.{AreFewComparisons, AreSorted, Cuts, IsApart, IsJoint, IsLastFit};
+ghost use Rattle.gpu_alloc_freelist.specs.Runs.{IsPlaceOf, PutsBack};
 
 use gpu_alloc_base::free_list_block::{Slot, slot_of};
 use gpu_alloc_base::steps::Steps;
@@ -36,20 +37,21 @@ impl<A: Allocator> Model for Runs<A> {
     ghost coded = { runs_code };
 
     ghost use Rattle.std.specs.Prelude.{◌-◌, length, vec_capacity};
-    ghost use Rattle.gpu_alloc_freelist.specs.Runs.{AreInPlace};
+    ghost use Rattle.gpu_alloc_freelist.specs.Runs.{AreSorted};
 
     ghost view = { λ r. record {
       regions = r.regions.items;
       room = vec_capacity r.regions - length r.regions.items;
     } };
 
-    ghost invariant = { λ r. AreInPlace r.regions.items };
+    ghost invariant = { λ r. AreSorted r.regions.items };
 }
 
 impl<A: Allocator> Runs<A> {
     /// No run. `alloc` gives the memory of the vector, of which this call takes none.
     pub(super) fn new(alloc: A) -> Self
-        ensures { result.regions ≡ [] }
+        ensures regions { result.regions ≡ [] }
+        ensures room { result.room ≡ 0 }
     {
         Runs {
             regions: Vec::new(alloc),
@@ -59,25 +61,25 @@ impl<A: Allocator> Runs<A> {
     /// Makes room for so many more runs. The only refusal is want of memory. The runs stay as they are, and the room is
     /// no less, after a refusal too.
     pub(super) fn reserve(&mut self, runs: usize) -> Result<(), AllocError>
-        ensures room { OnOk result (runs ≤ (self.new).room) }
-        ensures stays { (self.old).room ≤ (self.new).room }
-        ensures succeeds { runs ≤ (self.old).room → IsOk result }
-        ensures kept { (self.new).regions ≡ (self.old).regions }
+        ensures room { OnOk result (runs ≤ self.new.room) }
+        ensures stays { self.old.room ≤ self.new.room }
+        ensures succeeds { runs ≤ self.old.room → IsOk result }
+        ensures kept { self.new.regions ≡ self.old.regions }
     {
         self.regions.reserve(runs)
     }
 
     /// The runs, by chunk number, then by start.
     pub(super) fn as_slice(&self) -> &[FreeListRegion]
-        ensures { result.now ≡ (self.now).regions }
+        ensures { result.now ≡ self.now.regions }
     {
         self.regions.as_slice()
     }
 
     /// The run at this index.
     pub(super) fn get(&self, index: usize) -> FreeListRegion
-        requires { index < length (self.now).regions }
-        ensures { result ≡ slice_index_or (self.now).regions index result }
+        requires { index < length self.now.regions }
+        ensures { result ≡ slice_index_or self.now.regions index result }
     {
         self.regions[index]
     }
@@ -95,28 +97,23 @@ impl<A: Allocator> Runs<A> {
     pub(super) fn last_with_room(&self, size: u64, align_mask: u64) -> Option<usize>
         requires { IsAlignMask align_mask }
         ensures some { IfSome result
-            (λ i. (i < length (self.now).regions)
-            × ((d : Region) → IsLastFit (self.now).regions size (align_mask + 1) i d)) }
-        ensures none { IfNone result (All (λ r. HasRoom size (align_mask + 1) r.start r.end → ⊥) (self.now).regions) }
+            (λ i. (i < length self.now.regions)
+            × ((d : Region) → IsLastFit self.now.regions size (align_mask + 1) i d)) }
+        ensures none { IfNone result (All (λ r. HasRoom size (align_mask + 1) r.start r.end → ⊥) self.now.regions) }
     {
-        let mut behind = self.regions.len();
-        while behind > 0 {
-            behind -= 1;
-            if has_room(self.regions[behind], size, align_mask) {
-                return Some(behind);
-            }
-        }
-        None
+        self.regions
+            .iter()
+            .rposition(|region| has_room(*region, size, align_mask))
     }
 
     /// Takes the bytes from `start` on out of the run at this index, in place. Where none is left of it, the run goes.
     pub(super) fn cut(&mut self, index: usize, start: u64)
-        requires in_range { index < length (self.old).regions }
-        requires within { (d : Region) → ((slice_index_or (self.old).regions index d).start ≤ start)
-            × (start < (slice_index_or (self.old).regions index d).end) }
-        ensures cuts { Cuts (self.old).regions index start (self.new).regions }
-        ensures capacity { length (self.new).regions + (self.new).room ≡ length (self.old).regions + (self.old).room }
-        ensures room { (self.old).room ≤ (self.new).room }
+        requires in_range { index < length self.old.regions }
+        requires within { (d : Region) → ((slice_index_or self.old.regions index d).start ≤ start)
+            × (start < (slice_index_or self.old.regions index d).end) }
+        ensures cuts { Cuts self.old.regions index start self.new.regions }
+        ensures capacity { length self.new.regions + self.new.room ≡ length self.old.regions + self.old.room }
+        ensures room { self.old.room ≤ self.new.room }
     {
         if self.regions[index].start < start {
             self.regions[index].end = start;
@@ -128,20 +125,20 @@ impl<A: Allocator> Runs<A> {
     /// Adds a run behind all others, where `reserve` made room.
     pub(super) fn push(&mut self, region: FreeListRegion)
         requires nonempty { region.start < region.end }
-        requires last { All (λ r. IsBefore r region) (self.old).regions }
-        requires room { 0 < (self.old).room }
-        ensures regions { (self.new).regions ≡ (self.old).regions ++ region ∷ [] }
-        ensures room { (self.new).room + 1 ≡ (self.old).room }
+        requires last { All (λ r. IsBefore r region) self.old.regions }
+        requires room { 0 < self.old.room }
+        ensures regions { self.new.regions ≡ self.old.regions ++ region ∷ [] }
+        ensures room { self.new.room + 1 ≡ self.old.room }
     {
         self.regions.push_reserved(region);
     }
 
     /// Takes the run at this index out.
     pub(super) fn remove(&mut self, index: usize) -> FreeListRegion
-        requires { index < length (self.old).regions }
-        ensures value { result ≡ slice_index_or (self.old).regions index result }
-        ensures regions { (self.new).regions ≡ remove (self.old).regions index }
-        ensures room { (self.new).room ≡ (self.old).room + 1 }
+        requires { index < length self.old.regions }
+        ensures value { result ≡ slice_index_or self.old.regions index result }
+        ensures regions { self.new.regions ≡ remove self.old.regions index }
+        ensures room { self.new.room ≡ self.old.room + 1 }
     {
         self.regions.remove(index)
     }
@@ -154,31 +151,21 @@ impl<A: Allocator> Runs<A> {
         block: &FreeListBlock<M>,
         steps: &mut Steps<L>,
     )
-        requires nonempty { 0 < (block.now).size }
-        requires fits { (block.now).offset + (block.now).size < 2 ^ 64 }
-        requires apart { All (λ r. IsApart r (region_of block.now)) (self.old).regions }
-        requires room { 0 < (self.old).room }
-        ensures joined { PutsBack (self.old).regions (region_of block.now) (self.new).regions }
-        ensures one_more { length (self.new).regions ≤ length (self.old).regions + 1 }
-        ensures capacity { length (self.new).regions + (self.new).room ≡ length (self.old).regions + (self.old).room }
-        ensures few { AreFewComparisons (length (self.old).regions) steps.old steps.new }
-        ensures some { 0 < length (self.old).regions → steps.old < steps.new }
+        requires nonempty { 0 < block.now.size }
+        requires fits { block.now.offset + block.now.size < 2 ^ 64 }
+        requires apart { All (λ r. IsApart r (region_of block.now)) self.old.regions }
+        requires room { 0 < self.old.room }
+        ensures joined { PutsBack self.old.regions (region_of block.now) self.new.regions }
+        ensures one_more { length self.new.regions ≤ length self.old.regions + 1 }
+        ensures capacity { length self.new.regions + self.new.room ≡ length self.old.regions + self.old.room }
+        ensures few { AreFewComparisons (length self.old.regions) steps.old steps.new }
+        ensures some { 0 < length self.old.regions → steps.old < steps.new }
         ensures counted { steps.old ≤ steps.new }
     {
         let place = place_of(self.regions.as_slice(), block, steps);
         let joint = join(self.regions.as_slice(), place, slot_of(block));
         splice(&mut self.regions, joint);
     }
-}
-
-/// Where a block of this size starts that ends where a run does: the last aligned byte that leaves the size.
-fn tail_start(end: u64, size: u64, align_mask: u64) -> u64
-    requires alignment { IsAlignMask align_mask }
-    requires enough { size ≤ end }
-    ensures { result ≡ tail_start size (align_mask + 1) end }
-{
-    let last = end - size;
-    last - last % (align_mask + 1)
 }
 
 /// The block that is the tail of a run which has room for it, or of a new chunk.
@@ -210,18 +197,24 @@ fn has_room(region: FreeListRegion, size: u64, align_mask: u64) -> bool
     size <= region.end && region.start <= tail_start(region.end, size, align_mask)
 }
 
+/// Where a block of this size starts that ends where a run does: the last aligned byte that leaves the size.
+fn tail_start(end: u64, size: u64, align_mask: u64) -> u64
+    requires alignment { IsAlignMask align_mask }
+    requires enough { size ≤ end }
+    ensures { result ≡ tail_start size (align_mask + 1) end }
+{
+    let last = end - size;
+    last - last % (align_mask + 1)
+}
+
 /// How many runs come before a block, by halves: the window of those that are not yet known shrinks until it is empty.
 fn place_of<M: MemoryObject, L: Ledger>(
     regions: &[FreeListRegion],
     block: &FreeListBlock<M>,
     steps: &mut Steps<L>,
 ) -> usize
-    requires { AreInPlace regions.now }
-    ensures within { result ≤ length regions.now }
-    ensures before { (k : ℕ) (d : Region) → k < result
-        → StartsBefore (slice_index_or regions.now k d) (region_of block.now) }
-    ensures behind { (k : ℕ) (d : Region) → result ≤ k → k < length regions.now
-        → StartsBefore (slice_index_or regions.now k d) (region_of block.now) → ⊥ }
+    requires { AreSorted regions.now }
+    ensures place { IsPlaceOf (region_of block.now) regions.now result }
     ensures few { AreFewComparisons (length regions.now) steps.old steps.new }
     ensures some { 0 < length regions.now → steps.old < steps.new }
     ensures counted { steps.old ≤ steps.new }
@@ -277,19 +270,26 @@ fn join(regions: &[FreeListRegion], place: usize, block: Slot) -> Joint
     };
     if place > 0 {
         let before = regions[place - 1];
-        if before.chunk == block.chunk && before.end == joint.region.start {
+        if touches(before, joint.region) {
             joint.from = place - 1;
             joint.region.start = before.start;
         }
     }
     if place < regions.len() {
         let after = regions[place];
-        if after.chunk == block.chunk && after.start == joint.region.end {
+        if touches(joint.region, after) {
             joint.to = place + 1;
             joint.region.end = after.end;
         }
     }
     joint
+}
+
+/// Whether a run ends where another one starts.
+fn touches(before: FreeListRegion, after: FreeListRegion) -> bool
+    ensures { IsTrue result ↔ (before.chunk ≡ after.chunk) × (before.end ≡ after.start) }
+{
+    before.chunk == after.chunk && before.end == after.start
 }
 
 /// Puts a joint in place of the runs that it joins, two at most: one of them becomes it, or it is inserted.

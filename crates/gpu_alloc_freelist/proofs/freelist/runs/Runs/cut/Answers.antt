@@ -4,7 +4,7 @@ use Rattle.std.specs.List.{remove}
 use Rattle.std.proofs.lemmas.List.{get_or_default}
 use Rattle.gpu_alloc_base.specs.declared.region.FreeListRegion.{FreeListRegion}
 use Rattle.gpu_alloc_freelist.specs.Runs.{Cuts}
-use Rattle.gpu_alloc_freelist.proofs.RunsKept.{cut_in_place}
+use Rattle.gpu_alloc_freelist.proofs.RunsKept.{cut_sorted}
 use Rattle.gpu_alloc_freelist.proofs.freelist.runs.Runs.cut.Goals as goal
 
 module _ (regions : List FreeListRegion) (i start : ℕ) (x : FreeListRegion) (is_x : x ≡ get_or regions i x) (within : i < length regions) where
@@ -26,7 +26,7 @@ invariant_of-self g c =
     let x = c.index.result.now in
     let within = rw (← c.self.view_is) at c.requires.in_range in
     let bounds = rw (← c.self.view_is) at (c.requires.within x) in
-    cut_in_place c.self.inside.regions.items c.self.invariant _ c.args.index c.args.start x within bounds.0 bounds.1
+    cut_sorted c.self.inside.regions.items c.self.invariant _ c.args.index c.args.start x within bounds.0 bounds.1
     (cuts_some c.self.inside.regions.items c.args.index c.args.start x c.index.ensures within c.index_mut.result.now c.index_mut.ensures.value c.if-index-start.true)
 
 pub invariant_of-self-else-index-start : goal.invariant_of-self-else-index-start
@@ -35,5 +35,5 @@ invariant_of-self-else-index-start g c =
     let within = rw (← c.self.view_is) at c.requires.in_range in
     let bounds = rw (← c.self.view_is) at (c.requires.within x) in
     rw c.remove.ensures.items
-    (cut_in_place c.self.inside.regions.items c.self.invariant _ c.args.index c.args.start x within bounds.0 bounds.1
+    (cut_sorted c.self.inside.regions.items c.self.invariant _ c.args.index c.args.start x within bounds.0 bounds.1
     (cuts_none c.self.inside.regions.items c.args.index c.args.start x c.index.ensures within bounds.0 c.if-index-start.false))

@@ -3,24 +3,24 @@ use Rattle.std.proofs.Common.{arith}
 use Rattle.gpu_alloc_base.specs.Slots.{region_of}
 use Rattle.gpu_alloc_freelist.specs.Runs.{PutsBack}
 use Rattle.gpu_alloc_freelist.proofs.RunLists.{joint_order, joint_two, joint_within}
-use Rattle.gpu_alloc_freelist.proofs.RunsKept.{put_back_in_place, put_back_length}
+use Rattle.gpu_alloc_freelist.proofs.RunsKept.{put_back_sorted, put_back_length}
 use Rattle.gpu_alloc_freelist.proofs.freelist.runs.Runs.put_back.Given.{Over}
 use Rattle.gpu_alloc_freelist.proofs.freelist.runs.Runs.put_back.Goals as goal
 
 pub splice-requires-clause-within : goal.splice-requires-clause-within
 splice-requires-clause-within g c =
     let x = region_of c.args.block.now in
-    let within = rw c.as_slice.ensures.value at c.place_of-place.ensures.within in
+    let at = rw c.as_slice.ensures.value at c.place_of-place.ensures.place in
     let joint = rw (c.as_slice-2.ensures.value, c.slot_of.ensures) at (c.join-joint.ensures x) in
-    let ends = joint_within c.self.inside.regions.items _ x x _ _ _ joint within in
-    (joint_order c.self.inside.regions.items _ x x _ _ _ joint within, omega (arith, ends, c.self.inside.regions.ok.0))
+    let ends = joint_within c.self.inside.regions.items _ x x _ _ _ joint at.within in
+    (joint_order c.self.inside.regions.items _ x x _ _ _ joint at.within, omega (arith, ends, c.self.inside.regions.ok.0))
 
 pub splice-requires-clause-two : goal.splice-requires-clause-two
 splice-requires-clause-two g c =
     let x = region_of c.args.block.now in
-    let within = rw c.as_slice.ensures.value at c.place_of-place.ensures.within in
+    let at = rw c.as_slice.ensures.value at c.place_of-place.ensures.place in
     let joint = rw (c.as_slice-2.ensures.value, c.slot_of.ensures) at (c.join-joint.ensures x) in
-    joint_two c.self.inside.regions.items _ x x _ _ _ joint within
+    joint_two c.self.inside.regions.items _ x x _ _ _ joint at.within
 
 puts_back : (g : Over) (c : goal.After-splice g) → PutsBack c.self.inside.regions.items (region_of c.args.block.now) c.splice.new.regions.items
 puts_back g c = record {
@@ -28,16 +28,14 @@ puts_back g c = record {
   from = c.join-joint.result.from;
   to = c.join-joint.result.to;
   joint = c.join-joint.result.region;
-  within = rw c.as_slice.ensures.value at c.place_of-place.ensures.within;
-  before = rw c.as_slice.ensures.value at c.place_of-place.ensures.before;
-  behind = rw c.as_slice.ensures.value at c.place_of-place.ensures.behind;
+  at = rw c.as_slice.ensures.value at c.place_of-place.ensures.place;
   joined = λ d. rw (c.as_slice-2.ensures.value, c.slot_of.ensures) at (c.join-joint.ensures d);
   is = c.splice.ensures.items;
 }
 
 pub invariant_of-self : goal.invariant_of-self
 invariant_of-self g c =
-    put_back_in_place c.self.inside.regions.items c.self.invariant (region_of c.args.block.now) c.splice.new.regions.items
+    put_back_sorted c.self.inside.regions.items c.self.invariant (region_of c.args.block.now) c.splice.new.regions.items
     (rw (← c.self.view_is) at c.requires.apart) (omega (arith, c.requires.nonempty)) (puts_back g c)
 
 pub returns-clause-joined : goal.returns-clause-joined
