@@ -1,11 +1,10 @@
 -- The runs of a list, as one loses its tail or goes, and as a range comes back: whatever the free bytes are, they stay
 -- exactly those.
-use Rattle.std.proofs.Common.{◌≡◌, inl, inr, ℕ, ◌+◌, ◌<◌, ◌≤◌, List, [], ◌∷◌, ◌++◌, length, take, drop, get_or, refl, sym, ◌∙◌, ap, subst, arith}
+use Rattle.std.proofs.Common.{◌≡◌, inl, inr, ℕ, ◌+◌, ◌<◌, ◌≤◌, List, ◌∷◌, length, take, drop, get_or, refl, sym, ◌∙◌, ap, subst, arith}
 use Rattle.std.specs.List.{All, Contains, remove}
 use Rattle.std.proofs.lemmas.Bool.{cases_lt, cases_order}
 use Rattle.std.proofs.lemmas.List.{length-append, get_or_default}
-use Rattle.std.proofs.lemmas.List.Elements.{All-push, Contains-get_or}
-use Rattle.std.proofs.lemmas.List.Quantifiers.{all_pairs_push}
+use Rattle.std.proofs.lemmas.List.Elements.{Contains-get_or}
 use Rattle.gpu_alloc_base.specs.FreeRuns.{IsBefore, With, AreRuns, AreRunsBeside}
 use Rattle.gpu_alloc_base.specs.declared.region.FreeListRegion.{FreeListRegion}
 use Rattle.gpu_alloc_base.proofs.SameRuns.{runs_same}
@@ -123,13 +122,6 @@ module _ (regions : List FreeListRegion) (sorted : AreSorted regions) where
 
   pub removed_sorted : (i : ℕ) (d : FreeListRegion) → i < length regions → AreSorted (remove regions i)
   removed_sorted i d within = runs_sorted _ (remove regions i) (run_goes Covered regions i d own_runs within).rest
-
-  -- as one comes behind them
-  pub pushed_sorted : (r : FreeListRegion) → r.start < r.end → All (λ q. IsBefore q r) regions → AreSorted (regions ++ r ∷ [])
-  pushed_sorted r some last = record {
-    nonempty = All-push (λ q. q.start < q.end) regions r sorted.nonempty some;
-    rising = all_pairs_push IsBefore regions r sorted.rising last;
-  }
 
   -- and as a range comes back
   pub put_back_sorted : (x : FreeListRegion) (new : List FreeListRegion) → All (λ r. IsApart r x) regions → x.start < x.end → PutsBack regions x new → AreSorted new
