@@ -14,3 +14,4 @@ pub mod RunLists
 pub mod RunSearch
 pub mod RunsKept
 pub mod Spaces
+pub mod WholeCounts

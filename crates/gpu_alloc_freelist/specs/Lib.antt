@@ -5,3 +5,4 @@ pub mod FreeListInside
 pub mod FreeListSound
 pub mod FreeListState
 pub mod Runs
+pub mod Wholes
