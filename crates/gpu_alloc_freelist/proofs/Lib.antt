@@ -7,6 +7,7 @@ pub mod FreeListReturns
 pub mod FreeListSizes
 pub mod GoneChunks
 pub mod InHand
+pub mod LiveBlocks
 pub mod LiveSlots
 pub mod NumberSearch
 pub mod NumberedRows

@@ -7,6 +7,7 @@ use Rattle.std.specs.Ordering.{nat_cmp}
 use Rattle.gpu_alloc_base.specs.Codes.{chunk_code, slot_code}
 use Rattle.gpu_alloc_base.specs.Chunks.{Chunk}
 use Rattle.gpu_alloc_freelist.specs.FreeListState.{Space, Store, Listing}
+use Rattle.gpu_alloc_freelist.specs.Live.{LiveBlocks}
 use Rattle.gpu_alloc_base.specs.Slots.{slot_cmp}
 
 abbrev pub space_code : Coded Space
@@ -35,3 +36,8 @@ listing_code =
       atom = c.1.1.1.1;
     })
     (λ _. refl)
+
+abbrev pub live_blocks_code : Coded LiveBlocks
+live_blocks_code =
+    code_by (set.FinSet slot_cmp × ℕ) (coded× (set.code slot_code) coded_ℕ) (λ l. (l.slots, l.room))
+    (λ c. record { slots = c.0; room = c.1 }) (λ _. refl)

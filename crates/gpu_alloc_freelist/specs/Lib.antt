@@ -4,3 +4,4 @@ pub mod FreeListAllocator
 pub mod FreeListInside
 pub mod FreeListSound
 pub mod FreeListState
+pub mod Live

@@ -27,6 +27,7 @@ ghost use Rattle.gpu_alloc_base.specs.Sizes.{up};
 ghost use Rattle.gpu_alloc_base.specs.Steps.{Begins};
 
 mod list;
+mod live;
 mod regions;
 
 use gpu_alloc_base::heap::Heap;
