@@ -1,3 +1,4 @@
+pub mod Chunks
 pub mod Codes
 pub mod FreeList
 pub mod FreeListAllocator

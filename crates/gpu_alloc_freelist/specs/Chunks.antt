@@ -1,0 +1,44 @@
+-- The held chunks of a free list by number, as contracts see them, and the rising numbers by which they are found.
+use Rattle.std.specs.Prelude.{◌≡◌, ◌↔◌, ℕ, ◌-◌, List, min, Some}
+use Rattle.std.specs.FinMap as map
+use Rattle.std.specs.List.{Contains}
+use Rattle.std.specs.Ordering.{nat_cmp}
+use Rattle.slab.specs.Slab.{Slab, get, slab_len}
+use Rattle.gpu_alloc_base.specs.Accounts.{HeldChunks}
+use Rattle.gpu_alloc_base.specs.Chunks.{Chunk}
+use Rattle.gpu_alloc_base.specs.SlabViews.{map_by}
+use Rattle.gpu_alloc_base.specs.declared.region.FreeListRegion.{FreeListRegion}
+use Rattle.gpu_alloc_freelist.specs.FreeListInside.{AreNumbered, by_number}
+use Rattle.gpu_alloc_freelist.specs.declared.freelist.chunks.NumberedKey.{NumberedKey}
+
+-- the held chunks by number, and for how many more there is room
+pub record NumberedChunks : Type 0 where
+  pub held : HeldChunks
+  pub room : ℕ
+
+-- the region is all of its chunk
+pub record IsWholeChunk (held : HeldChunks) (r : FreeListRegion) : Type 0 where
+  pub start : r.start ≡ 0
+  pub chunk : Chunk
+  pub is : map.get held r.chunk ≡ Some chunk
+  pub end : chunk.size ≡ r.end
+
+-- What the fields keep.
+
+-- the keys by their numbers
+abbrev pub keys_in : List NumberedKey → map.FinMap nat_cmp ℕ
+keys_in numbers = by_number (λ n. n.number) (λ n. n.key) numbers
+
+-- the rows of a slab as chunks, and what both stores can still take
+abbrev pub chunks_in : {T : Type 0} → (T → ℕ) → (T → Chunk) → Slab T → ℕ → NumberedChunks
+chunks_in number chunk rows spare =
+    record { held = map_by number chunk rows; room = min (rows.capacity - slab_len rows) spare }
+
+-- under the key is a row of the number
+abbrev pub IsFiled : {T : Type 0} → (T → ℕ) → Slab T → NumberedKey → Type 0
+IsFiled {T} number rows n = (row : T) × (get rows n.key ≡ Some row) × (number row ≡ n.number)
+
+-- the numbers rise, and are those of the rows, each with its row's key
+pub record AreFiled {T : Type 0} (number : T → ℕ) (rows : Slab T) (numbers : List NumberedKey) : Type 0 where
+  pub rising : AreNumbered (λ n. n.number) numbers
+  pub exact : (n : NumberedKey) → Contains numbers n ↔ IsFiled number rows n
