@@ -13,7 +13,7 @@ use Rattle.std.specs.List.{Contains, remove}
 use Rattle.std.specs.List.Sorted.{IsPermutation}
 use Rattle.gpu_alloc_base.proofs.ListViews.{IsMore, IsLess, IsOneToOne, named_there, named_absent, named_more, named_less, seek_name}
 use Rattle.gpu_alloc_base.proofs.Lists.{contains_cases, contains_later}
-use Rattle.gpu_alloc_freelist.specs.FreeListInside.{by_number, AreNumbered}
+use Rattle.gpu_alloc_freelist.specs.Chunks.{by_number, AreNumbered}
 
 module _ {T X : Type 0} (number : T → ℕ) (value : T → X) where
   -- one number, one row

@@ -1,6 +1,6 @@
 -- The held chunks of a free list by number, as contracts see them, and the rising numbers by which they are found.
-use Rattle.std.specs.Prelude.{◌≡◌, ◌↔◌, ℕ, ◌-◌, List, min, Some}
-use Rattle.std.specs.FinMap as map
+use Rattle.std.specs.Prelude.{◌≡◌, ◌↔◌, ℕ, ◌-◌, ◌<◌, List, length, map, min, get_or, Some}
+use Rattle.std.specs.FinMap as map_of
 use Rattle.std.specs.List.{Contains}
 use Rattle.std.specs.Ordering.{nat_cmp}
 use Rattle.slab.specs.Slab.{Slab, get, slab_len}
@@ -8,7 +8,6 @@ use Rattle.gpu_alloc_base.specs.Accounts.{HeldChunks}
 use Rattle.gpu_alloc_base.specs.Chunks.{Chunk}
 use Rattle.gpu_alloc_base.specs.SlabViews.{map_by}
 use Rattle.gpu_alloc_base.specs.declared.region.FreeListRegion.{FreeListRegion}
-use Rattle.gpu_alloc_freelist.specs.FreeListInside.{AreNumbered, by_number}
 use Rattle.gpu_alloc_freelist.specs.declared.freelist.chunks.NumberedKey.{NumberedKey}
 
 -- the held chunks by number, and for how many more there is room
@@ -20,13 +19,22 @@ pub record NumberedChunks : Type 0 where
 pub record IsWholeChunk (held : HeldChunks) (r : FreeListRegion) : Type 0 where
   pub start : r.start ≡ 0
   pub chunk : Chunk
-  pub is : map.get held r.chunk ≡ Some chunk
+  pub is : map_of.get held r.chunk ≡ Some chunk
   pub end : chunk.size ≡ r.end
 
 -- What the fields keep.
 
+-- rows as a finite map from their numbers to what they say
+abbrev pub by_number : {T X : Type 0} → (T → ℕ) → (T → X) → List T → map_of.FinMap nat_cmp X
+by_number number value rows = map_of.from_entries (map (λ row. (number row, value row)) rows)
+
+-- the numbers of the rows rise
+abbrev pub AreNumbered : {T : Type 0} → (T → ℕ) → List T → Type 0
+AreNumbered {T} number rows =
+    (i j : ℕ) (d : T) → i < j → j < length rows → number (get_or rows i d) < number (get_or rows j d)
+
 -- the keys by their numbers
-abbrev pub keys_in : List NumberedKey → map.FinMap nat_cmp ℕ
+abbrev pub keys_in : List NumberedKey → map_of.FinMap nat_cmp ℕ
 keys_in numbers = by_number (λ n. n.number) (λ n. n.key) numbers
 
 -- the rows of a slab as chunks, and what both stores can still take

@@ -2,8 +2,7 @@
 
 ghost use Rattle.std.specs.Prelude.{◌≡◌, ◌↔◌, ◌+◌, ◌<◌, ◌≤◌, ℕ, length, slice_get, Some, IfSome, IsOk, IsSome, IsTrue, OnOk};
 ghost use Rattle.std.specs.FinMap as map;
-ghost use Rattle.gpu_alloc_freelist.specs.Chunks.{IsWholeChunk, keys_in};
-ghost use Rattle.gpu_alloc_freelist.specs.FreeListInside.{AreNumbered};
+ghost use Rattle.gpu_alloc_freelist.specs.Chunks.{AreNumbered, IsWholeChunk, keys_in};
 
 use gpu_alloc_base::FreeListRegion;
 use gpu_alloc_types::MemoryObject;
@@ -28,7 +27,8 @@ struct NumberedKey {
 
 /// The held chunks of a free list: in a slab, and beside it their numbers in rising order, each with its chunk's key.
 ///
-/// A chunk is found in a time that grows with the logarithm of how many are held.
+/// A chunk is found in a time that grows with the logarithm of how many are held. Where one goes, the greater numbers
+/// move up in their vector, and no other chunk moves.
 #[derive(Drop)]
 pub(super) struct Chunks<M: MemoryObject, A: Allocator = Global> {
     rows: Slab<NumberedChunk<M>, A>,
@@ -55,7 +55,7 @@ impl<M: MemoryObject, A: Allocator> Model for Chunks<M, A> {
 impl<M: MemoryObject, A: Allocator + Copy> Chunks<M, A> {
     /// No chunk. `alloc` gives the memory of the two stores, of which this call takes none.
     pub(super) fn new(alloc: A) -> Self
-        ensures { result.held ≡ map.empty }
+        ensures empty { result.held ≡ map.empty }
     {
         Chunks {
             rows: Slab::new(alloc),
@@ -94,7 +94,7 @@ impl<M: MemoryObject, A: Allocator> Chunks<M, A> {
         self.numbers.push_reserved(NumberedKey { number, key });
     }
 
-    /// The held chunk of this number.
+    /// The chunk of a held number.
     pub(super) fn get(&self, number: u64) -> &NumberedChunk<M>
         requires { IsSome (map.get self.now.held number) }
         ensures { map.get self.now.held number
@@ -134,7 +134,7 @@ fn place_of(numbers: &[NumberedKey], number: u64) -> usize
     ensures within { result < length numbers.now }
     ensures number { IfSome (slice_get numbers.now result) (λ n. n.number ≡ number) }
 {
-    match numbers.binary_search_by_key(&number, |n| n.number) {
+    match numbers.binary_search_by_key(&number, |entry| entry.number) {
         Ok(place) => place,
         Err(_) => unreachable!(),
     }

@@ -3,7 +3,6 @@
 ghost use Rattle.std.specs.Prelude.{◌≡◌, ◌≢◌, ◌+◌, ◌<◌, ◌≤◌, ℕ, Some, false, IsOk, IsTrue, MatchOption, OnOk};
 ghost use Rattle.std.specs.FinSet as set;
 ghost use Rattle.slab.specs.Slab.{get};
-ghost use Rattle.gpu_alloc_freelist.specs.Live.{slots_in};
 
 use gpu_alloc_base::free_list_block::Slot;
 use slab::Slab;
@@ -38,7 +37,7 @@ impl<A: Allocator> Model for Live<A> {
 impl<A: Allocator> Live<A> {
     /// No live block. `alloc` gives the memory of the blocks, of which this call takes none.
     pub(super) fn new(alloc: A) -> Self
-        ensures { result.slots ≡ set.empty }
+        ensures empty { result.slots ≡ set.empty }
     {
         Live {
             slots: Slab::new(alloc),
