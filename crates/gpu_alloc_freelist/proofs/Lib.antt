@@ -1,3 +1,4 @@
+pub mod FiledChanges
 pub mod FiledRows
 pub mod ForCallers
 pub mod FreeListAnswers

@@ -8,6 +8,7 @@ use Rattle.gpu_alloc_base.specs.Accounts.{HeldChunks}
 use Rattle.gpu_alloc_base.specs.Chunks.{Chunk}
 use Rattle.gpu_alloc_base.specs.SlabViews.{map_by}
 use Rattle.gpu_alloc_base.specs.declared.region.FreeListRegion.{FreeListRegion}
+use Rattle.gpu_alloc_freelist.specs.declared.freelist.chunks.NumberedChunk.{NumberedChunk}
 use Rattle.gpu_alloc_freelist.specs.declared.freelist.chunks.NumberedKey.{NumberedKey}
 
 -- the held chunks by number, and for how many more there is room
@@ -37,16 +38,24 @@ AreNumbered {T} number rows =
 abbrev pub keys_in : List NumberedKey → map_of.FinMap nat_cmp ℕ
 keys_in numbers = by_number (λ n. n.number) (λ n. n.key) numbers
 
--- the rows of a slab as chunks, and what both stores can still take
-abbrev pub chunks_in : {T : Type 0} → (T → ℕ) → (T → Chunk) → Slab T → ℕ → NumberedChunks
-chunks_in number chunk rows spare =
-    record { held = map_by number chunk rows; room = min (rows.capacity - slab_len rows) spare }
+-- the chunk that a row says, by the name of its object
+abbrev pub chunk_of : {M : Type 0} → (M → ℕ) → NumberedChunk M → Chunk
+chunk_of object row = record { object = object row.memory; size = row.size }
 
--- under the key is a row of the number
-abbrev pub IsFiled : {T : Type 0} → (T → ℕ) → Slab T → NumberedKey → Type 0
-IsFiled {T} number rows n = (row : T) × (get rows n.key ≡ Some row) × (number row ≡ n.number)
+-- the chunks of a slab by number
+abbrev pub held_in : {M : Type 0} → (M → ℕ) → Slab (NumberedChunk M) → HeldChunks
+held_in object rows = map_by (λ row. row.number) (chunk_of object) rows
+
+-- there is room for a chunk where there is room for its row and for its number
+abbrev pub chunks_in : {M : Type 0} → (M → ℕ) → Slab (NumberedChunk M) → ℕ → NumberedChunks
+chunks_in object rows numbers_room =
+    record { held = held_in object rows; room = min (rows.capacity - slab_len rows) numbers_room }
+
+-- the row of the number stands under the key
+abbrev pub IsFiled : {M : Type 0} → Slab (NumberedChunk M) → NumberedKey → Type 0
+IsFiled {M} rows n = (row : NumberedChunk M) × (get rows n.key ≡ Some row) × (row.number ≡ n.number)
 
 -- the numbers rise, and are those of the rows, each with its row's key
-pub record AreFiled {T : Type 0} (number : T → ℕ) (rows : Slab T) (numbers : List NumberedKey) : Type 0 where
+pub record AreFiled {M : Type 0} (rows : Slab (NumberedChunk M)) (numbers : List NumberedKey) : Type 0 where
   pub rising : AreNumbered (λ n. n.number) numbers
-  pub exact : (n : NumberedKey) → Contains numbers n ↔ IsFiled number rows n
+  pub exact : (n : NumberedKey) → Contains numbers n ↔ IsFiled rows n

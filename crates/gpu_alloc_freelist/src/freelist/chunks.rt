@@ -2,7 +2,7 @@
 
 ghost use Rattle.std.specs.Prelude.{◌≡◌, ◌↔◌, ◌+◌, ◌<◌, ◌≤◌, ℕ, length, slice_get, Some, IfSome, IsOk, IsSome, IsTrue, OnOk};
 ghost use Rattle.std.specs.FinMap as map;
-ghost use Rattle.gpu_alloc_freelist.specs.Chunks.{AreNumbered, IsWholeChunk, keys_in};
+ghost use Rattle.gpu_alloc_freelist.specs.Chunks.{AreNumbered, IsWholeChunk, chunk_of, keys_in};
 
 use gpu_alloc_base::FreeListRegion;
 use gpu_alloc_types::MemoryObject;
@@ -46,10 +46,9 @@ impl<M: MemoryObject, A: Allocator> Model for Chunks<M, A> {
     ghost use Rattle.std.specs.Prelude.{◌-◌, length, vec_capacity};
     ghost use Rattle.gpu_alloc_freelist.specs.Chunks.{AreFiled, chunks_in};
 
-    ghost view = { λ c. chunks_in (λ row. row.number) (λ row. record { object = M.object row.memory; size = row.size })
-        c.rows (vec_capacity c.numbers - length c.numbers.items) };
+    ghost view = { λ c. chunks_in M.object c.rows (vec_capacity c.numbers - length c.numbers.items) };
 
-    ghost invariant = { λ c. AreFiled (λ row. row.number) c.rows c.numbers.items };
+    ghost invariant = { λ c. AreFiled c.rows c.numbers.items };
 }
 
 impl<M: MemoryObject, A: Allocator + Copy> Chunks<M, A> {
@@ -97,8 +96,7 @@ impl<M: MemoryObject, A: Allocator> Chunks<M, A> {
     /// The chunk of a held number.
     pub(super) fn get(&self, number: u64) -> &NumberedChunk<M>
         requires { IsSome (map.get self.now.held number) }
-        ensures { map.get self.now.held number
-            ≡ Some (record { object = M.object result.now.memory; size = result.now.size }) }
+        ensures { map.get self.now.held number ≡ Some (chunk_of M.object result.now) }
     {
         let place = place_of(self.numbers.as_slice(), number);
         &self.rows[self.numbers[place].key]
@@ -116,8 +114,7 @@ impl<M: MemoryObject, A: Allocator> Chunks<M, A> {
     pub(super) fn remove(&mut self, number: u64) -> NumberedChunk<M>
         requires { IsSome (map.get self.old.held number) }
         ensures number { result.number ≡ number }
-        ensures chunk { map.get self.old.held number
-            ≡ Some (record { object = M.object result.memory; size = result.size }) }
+        ensures chunk { map.get self.old.held number ≡ Some (chunk_of M.object result) }
         ensures held { self.new.held ≡ map.remove self.old.held number }
         ensures room { self.new.room ≡ self.old.room + 1 }
     {
