@@ -58,6 +58,14 @@ module _ {M : Type 0} where
     number_is : x.number ≡ n.number
     number_is = let f = (filed.exact n).0 less.had in let both = sym h.was ∙ f.1 in let row : x ≡ f.0 = cc in ap number_in row ∙ f.2
 
+    -- no other entry has its key
+    one_key : (m : NumberedKey) → Contains numbers m → m.key ≡ n.key → m ≡ n
+    one_key m has same =
+        let f = (filed.exact m).0 has in
+        let both = sym f.1 ∙ ap (get old) same ∙ h.was in
+        let row : f.0 ≡ x = cc in
+        same_entry m n (sym f.2 ∙ ap number_in row ∙ number_is) same
+
     pub filed_removed : AreFiled new (remove numbers i)
     filed_removed = record {
       rising = numbered_remove number_of key_of numbers i filed.rising within;
@@ -65,10 +73,7 @@ module _ {M : Type 0} where
         λ has.
             let was = less.kept m has in
             let f = (filed.exact m).0 was.1 in
-            let other : m.key ≢ n.key = λ same.
-            let both = sym f.1 ∙ ap (get old) same ∙ h.was in
-            let row : f.0 ≡ x = cc in
-            was.0 (same_entry m n (sym f.2 ∙ ap number_in row ∙ number_is) same) in
+            let other : m.key ≢ n.key = λ same. was.0 (one_key m was.1 same) in
             (f.0, h.updates.others m.key other ∙ f.1, f.2),
         λ f.
             let other : m.key ≢ n.key = λ same. let gone = sym f.1 ∙ ap (get new) same ∙ h.updates.changed in absurd (cc) in

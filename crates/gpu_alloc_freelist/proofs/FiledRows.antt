@@ -37,7 +37,7 @@ module _ {M : Type 0} where
       let has_k = (filed.exact (entry a.number k)).1 (b, at_k, sym same) in
       ap key_of (one_row number_of key_of numbers (entry a.number i) (entry a.number k) filed.rising has_i has_k refl)
 
-  -- Only the slots matter.
+  -- only the slots matter
   pub filed_roomier : (old new : Slab (NumberedChunk M)) (numbers : List NumberedKey) → new.slots ≡ old.slots → AreFiled old numbers → AreFiled new numbers
   filed_roomier old new numbers slots filed = record { rising = filed.rising; exact = λ n. rw slots (filed.exact n) }
 
