@@ -1,3 +1,5 @@
+pub mod FiledChanges
+pub mod FiledRows
 pub mod ForCallers
 pub mod FreeListAnswers
 pub mod FreeListEmpty
@@ -7,6 +9,7 @@ pub mod FreeListReturns
 pub mod FreeListSizes
 pub mod GoneChunks
 pub mod InHand
+pub mod LiveBlocks
 pub mod LiveSlots
 pub mod NumberSearch
 pub mod NumberedRows

@@ -1,29 +1,18 @@
 -- The list of live blocks, as one is found, kept or forgotten.
-use Rattle.std.proofs.Common.{◌≡◌, Bool, true, List, ◌∷◌, ℕ, ◌<◌, ◌==◌, ◌&&◌, false, inl, inr, length, get_or, IsTrue, refl, sym, ◌∙◌, ap, subst, arith}
-use Rattle.std.specs.Bool.{Decides}
+use Rattle.std.proofs.Common.{◌≡◌, Bool, true, List, ◌∷◌, ℕ, ◌<◌, false, inl, inr, length, get_or, IsTrue, refl, sym, ◌∙◌, ap, subst, arith}
 use Rattle.std.specs.List.{Contains, AllWithin, HoldsAt, IsDistinct, insert, remove}
 use Rattle.gpu_alloc_base.specs.declared.free_list_block.Slot.{Slot}
 use Rattle.gpu_alloc_base.proofs.Lists.{contains_cases, contains_head, contains_later, less_permuted}
 use mathlib.Core.Bool.{true≢false}
 use Rattle.std.specs.List.Sorted.{IsPermutation}
-use Rattle.std.proofs.lemmas.Bool.Decides.{Decides-and, Decides-eqb, same_from_decides}
+use Rattle.std.proofs.lemmas.Bool.Decides.{same_from_decides}
 use Rattle.std.proofs.lemmas.List.Elements.{Contains-get_or, recursion_from_All}
 use Rattle.std.proofs.lemmas.List.Sorted.{IsPermutation-insert, IsPermutation-remove, IsPermutation-sym, Contains-permutation}
 use Rattle.std.proofs.lemmas.Map.Keys.{IsDistinct-cons, IsDistinct-IsPermutation}
 use Rattle.gpu_alloc_freelist.specs.FreeListInside.{same_slot, slot_set}
+use Rattle.gpu_alloc_freelist.proofs.LiveBlocks.{same_fields, fields_test}
 use Rattle.std.specs.FinSet as set
 use Rattle.gpu_alloc_base.proofs.Slots.{slot_total, slot_exact, slot_test, in_slots, slot_inserted, slots_less}
-
--- as the code compares them
-abbrev pub same_fields : Slot → Slot → Bool
-same_fields a b = (a.object == b.object) && ((a.chunk == b.chunk) && ((a.offset == b.offset) && (a.size == b.size)))
-
-fields_test : (a b : Slot) → Decides (same_fields a b) (a ≡ b)
-fields_test a b =
-    let d = Decides-and _ _ (Decides-eqb a.object b.object) (Decides-and _ _ (Decides-eqb a.chunk b.chunk) (Decides-and _ _ (Decides-eqb a.offset b.offset) (Decides-eqb a.size b.size))) in (
-      (λ t. let f = d.0 t in λ i. record { object = f.0 i; chunk = f.1.0 i; offset = f.1.1.0 i; size = f.1.1.1 i }),
-      (λ e. d.1 (ap (λ (s : Slot). s.object) e, (ap (λ (s : Slot). s.chunk) e, (ap (λ (s : Slot). s.offset) e, ap (λ (s : Slot). s.size) e)))),
-    )
 
 same_slot-flips : (a b : Slot) → same_slot a b ≡ same_slot b a
 same_slot-flips a b = same_from_decides _ _ (slot_test a b) ((λ t. sym ((slot_test b a).0 t)), λ e. (slot_test b a).1 (sym e))

@@ -12,7 +12,7 @@ use Rattle.std.specs.List.Sorted.{IsNonDecreasingBy, IsPartitionPoint}
 use Rattle.std.specs.Ordering.{nat_cmp, ordering_index}
 use Rattle.std.specs.declared.cmp.Ordering.TheVariants.{Less, Equal, Greater}
 use Rattle.gpu_alloc_base.proofs.ListedRanges.{some_value}
-use Rattle.gpu_alloc_freelist.specs.FreeListInside.{by_number, AreNumbered}
+use Rattle.gpu_alloc_freelist.specs.Chunks.{by_number, AreNumbered}
 use Rattle.gpu_alloc_freelist.proofs.NumberedRows.{numbered_place, row_found}
 
 -- what holds at a place holds of what stands there

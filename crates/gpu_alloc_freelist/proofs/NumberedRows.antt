@@ -11,9 +11,9 @@ use Rattle.std.specs.FinMap as map
 use Rattle.std.specs.FinMap.{nat_cmp-IsAntisymmetric}
 use Rattle.std.specs.List.{Contains, remove}
 use Rattle.std.specs.List.Sorted.{IsPermutation}
-use Rattle.gpu_alloc_base.proofs.ListViews.{IsOneToOne, named_there, named_absent, named_more, named_less, seek_name}
+use Rattle.gpu_alloc_base.proofs.ListViews.{IsMore, IsLess, IsOneToOne, named_there, named_absent, named_more, named_less, seek_name}
 use Rattle.gpu_alloc_base.proofs.Lists.{contains_cases, contains_later}
-use Rattle.gpu_alloc_freelist.specs.FreeListInside.{by_number, AreNumbered}
+use Rattle.gpu_alloc_freelist.specs.Chunks.{by_number, AreNumbered}
 
 module _ {T X : Type 0} (number : T → ℕ) (value : T → X) where
   -- one number, one row
@@ -53,13 +53,15 @@ module _ {T X : Type 0} (number : T → ℕ) (value : T → X) where
   pub numbered_push : (rows : List T) (x : T) → AreNumbered number rows → ((row : T) → Contains rows row → number row < number x) → AreNumbered number (rows ++ x ∷ [])
   numbered_push rows x rise greater = all_pairs_push (λ a b. number a < number b) rows x rise (λ k d lt. greater (get_or rows k d) (Contains-get_or rows k d lt))
 
+  pub rows_more : (rows : List T) (x : T) → IsMore rows (rows ++ x ∷ []) x
+  rows_more rows x = record {
+    has = Contains-push rows x;
+    kept = λ a has. Contains-append_left rows (x ∷ []) a has;
+    cases = λ a has. elim (Contains-push_cases rows x a has) [ inl old ↦ inr old | inr new ↦ inl (sym new) ];
+  }
+
   pub pushed : (rows : List T) (x : T) → AreNumbered number rows → ((row : T) → Contains rows row → number row < number x) → by_number number value (rows ++ x ∷ []) ≡ map.insert (by_number number value rows) (number x) (value x)
-  pushed rows x rise greater =
-      named_more nat_cmp_total nat_cmp-IsAntisymmetric number value rows (rows ++ x ∷ []) x (once (rows ++ x ∷ []) (numbered_push rows x rise greater)) (record {
-        has = Contains-push rows x;
-        kept = λ a has. Contains-append_left rows (x ∷ []) a has;
-        cases = λ a has. elim (Contains-push_cases rows x a has) [ inl old ↦ inr old | inr new ↦ inl (sym new) ];
-      })
+  pushed rows x rise greater = named_more nat_cmp_total nat_cmp-IsAntisymmetric number value rows (rows ++ x ∷ []) x (once (rows ++ x ∷ []) (numbered_push rows x rise greater)) (rows_more rows x)
 
   -- a row goes
   pub numbered_remove : (rows : List T) (i : ℕ) → AreNumbered number rows → i < length rows → AreNumbered number (remove rows i)
@@ -75,16 +77,19 @@ module _ {T X : Type 0} (number : T → ℕ) (value : T → X) where
         | inr above ↦ omega (arith, rise i (k + 1) row (omega arith) (omega arith), ap number (get_or-remove_above rows i row k above lt), ap number is, ap number at_i, same)
       ]
 
-  pub removed : (rows : List T) (i : ℕ) (d : T) → AreNumbered number rows → i < length rows → by_number number value (remove rows i) ≡ map.remove (by_number number value rows) (number (get_or rows i d))
-  removed rows i d rise lt =
+  pub rows_less : (rows : List T) (i : ℕ) (d : T) → AreNumbered number rows → i < length rows → IsLess rows (remove rows i) (get_or rows i d)
+  rows_less rows i d rise lt =
       let x = get_or rows i d in
       let perm : IsPermutation rows (x ∷ remove rows i) = IsPermutation-remove rows i x lt (get_or_default rows i d x lt) in
       let back : IsPermutation (x ∷ remove rows i) rows = IsPermutation-sym rows (x ∷ remove rows i) perm in
-      named_less nat_cmp_total nat_cmp-IsAntisymmetric number value rows (remove rows i) x (once rows rise) (record {
+      record {
         had = Contains-get_or rows i d lt;
         kept = λ a has. (
           λ same. other_number rows i d a rise lt has (ap number same),
           Contains-permutation (x ∷ remove rows i) rows a back (contains_later x a (remove rows i) has),
         );
         cases = λ a has. contains_cases x a (remove rows i) (Contains-permutation rows (x ∷ remove rows i) a perm has);
-      })
+      }
+
+  pub removed : (rows : List T) (i : ℕ) (d : T) → AreNumbered number rows → i < length rows → by_number number value (remove rows i) ≡ map.remove (by_number number value rows) (number (get_or rows i d))
+  removed rows i d rise lt = named_less nat_cmp_total nat_cmp-IsAntisymmetric number value rows (remove rows i) (get_or rows i d) (once rows rise) (rows_less rows i d rise lt)

@@ -5,9 +5,12 @@ use Rattle.std.specs.FinMap as map
 use Rattle.std.specs.FinSet as set
 use Rattle.std.specs.Ordering.{nat_cmp}
 use Rattle.gpu_alloc_base.specs.Codes.{chunk_code, slot_code}
+use Rattle.gpu_alloc_base.specs.Accounts.{HeldChunks}
 use Rattle.gpu_alloc_base.specs.Chunks.{Chunk}
 use Rattle.gpu_alloc_base.specs.declared.region.FreeListRegion.{FreeListRegion}
+use Rattle.gpu_alloc_freelist.specs.Chunks.{NumberedChunks}
 use Rattle.gpu_alloc_freelist.specs.FreeListState.{Space, Store, Listing}
+use Rattle.gpu_alloc_freelist.specs.Live.{LiveBlocks}
 use Rattle.gpu_alloc_freelist.specs.Runs.{Runs}
 use Rattle.gpu_alloc_base.specs.Slots.{slot_cmp}
 
@@ -47,3 +50,13 @@ abbrev pub runs_code : Coded Runs
 runs_code =
     code_by (List FreeListRegion × ℕ) (coded× (coded_list region_code) coded_ℕ) (λ r. (r.regions, r.room))
     (λ c. record { regions = c.0; room = c.1 }) (λ _. refl)
+
+abbrev pub live_blocks_code : Coded LiveBlocks
+live_blocks_code =
+    code_by (set.FinSet slot_cmp × ℕ) (coded× (set.code slot_code) coded_ℕ) (λ l. (l.slots, l.room))
+    (λ c. record { slots = c.0; room = c.1 }) (λ _. refl)
+
+abbrev pub numbered_chunks_code : Coded NumberedChunks
+numbered_chunks_code =
+    code_by (HeldChunks × ℕ) (coded× (map.code coded_ℕ chunk_code) coded_ℕ) (λ l. (l.held, l.room))
+    (λ c. record { held = c.0; room = c.1 }) (λ _. refl)

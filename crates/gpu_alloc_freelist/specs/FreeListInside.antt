@@ -1,26 +1,18 @@
 -- What the fields of a free list and of its allocator keep.
-use Rattle.std.specs.Prelude.{◌≡◌, ◌⊎◌, ℕ, ◌+◌, ◌/◌, ◌<◌, ◌≤◌, Bool, true, List, length, map, min, get_or, Some}
+use Rattle.std.specs.Prelude.{◌≡◌, ◌⊎◌, ℕ, ◌+◌, ◌/◌, ◌<◌, ◌≤◌, Bool, true, List, length, min, get_or, Some}
 use Rattle.std.specs.List.{IsDistinct}
 use Rattle.std.specs.FinMap as map_of
 use Rattle.std.specs.FinSet as set
 use Rattle.std.specs.Ordering.{nat_cmp, eq_by_cmp}
 use Rattle.gpu_alloc_base.specs.Chunks.{Chunk}
 use Rattle.gpu_alloc_freelist.specs.FreeListState.{Space, Store, Listing, IsFreeIn}
+pub use Rattle.gpu_alloc_freelist.specs.Chunks.{AreNumbered, by_number}
 use Rattle.gpu_alloc_base.specs.Slots.{slot_cmp}
 use Rattle.gpu_alloc_freelist.specs.FreeListSound.{IsSoundSpace}
 use Rattle.gpu_alloc_base.specs.AlignMasks.{IsAlignMask}
 use Rattle.gpu_alloc_base.specs.FreeRuns.{AreRuns}
 use Rattle.gpu_alloc_base.specs.declared.free_list_block.Slot.{Slot}
 use Rattle.gpu_alloc_base.specs.declared.region.FreeListRegion.{FreeListRegion}
-
--- rows as a finite map from their numbers to what they say
-abbrev pub by_number : {T X : Type 0} → (T → ℕ) → (T → X) → List T → map_of.FinMap nat_cmp X
-by_number number value rows = map_of.from_entries (map (λ row. (number row, value row)) rows)
-
--- the numbers of the rows rise
-abbrev pub AreNumbered : {T : Type 0} → (T → ℕ) → List T → Type 0
-AreNumbered {T} number rows =
-    (i j : ℕ) (d : T) → i < j → j < length rows → number (get_or rows i d) < number (get_or rows j d)
 
 -- a list of live blocks as a set
 abbrev pub slot_set : List Slot → set.FinSet slot_cmp

@@ -1,8 +1,10 @@
+pub mod Chunks
 pub mod Codes
 pub mod FreeList
 pub mod FreeListAllocator
 pub mod FreeListInside
 pub mod FreeListSound
 pub mod FreeListState
+pub mod Live
 pub mod Runs
 pub mod Wholes

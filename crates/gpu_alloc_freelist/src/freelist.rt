@@ -26,7 +26,9 @@ ghost use Rattle.gpu_alloc_base.specs.RangeOrder.{AreInOrder};
 ghost use Rattle.gpu_alloc_base.specs.Sizes.{up};
 ghost use Rattle.gpu_alloc_base.specs.Steps.{Begins};
 
+mod chunks;
 mod list;
+mod live;
 mod regions;
 mod runs;
 

@@ -1,7 +1,8 @@
 use Rattle.std.proofs.Common.{◌≡◌, true, false, rules}
 use borrow.Author.Tests.{tests}
 use Rattle.std.proofs.lemmas.Iterator.{YieldsList-from_slice, IsFirst-from_position}
-use Rattle.gpu_alloc_freelist.proofs.LiveSlots.{same_fields, is_found, taken_off}
+use Rattle.gpu_alloc_freelist.proofs.LiveBlocks.{same_fields}
+use Rattle.gpu_alloc_freelist.proofs.LiveSlots.{is_found, taken_off}
 use Rattle.gpu_alloc_freelist.proofs.freelist.list.forget.Goals as goal
 
 pub unreachable-requires : goal.unreachable-requires

@@ -1,0 +1,19 @@
+-- The live blocks of a free list, as contracts see them.
+use Rattle.std.specs.Prelude.{ℕ, ◌-◌}
+use Rattle.std.specs.FinSet as set
+use Rattle.slab.specs.Slab.{Slab, slab_len}
+use Rattle.gpu_alloc_base.specs.SlabViews.{set_by}
+use Rattle.gpu_alloc_base.specs.Slots.{slot_cmp}
+use Rattle.gpu_alloc_base.specs.declared.free_list_block.Slot.{Slot}
+
+-- the live blocks, and for how many more there is room
+pub record LiveBlocks : Type 0 where
+  pub slots : set.FinSet slot_cmp
+  pub room : ℕ
+
+-- the blocks of a slab, under whatever keys
+abbrev pub slots_in : Slab Slot → set.FinSet slot_cmp
+slots_in slots = set_by (λ slot. slot) slots
+
+abbrev pub live_in : Slab Slot → LiveBlocks
+live_in slots = record { slots = slots_in slots; room = slots.capacity - slab_len slots }

@@ -1,0 +1,111 @@
+//! The live blocks of a free list. Each stands under a key that it carries, so that it is found in few steps.
+
+ghost use Rattle.std.specs.Prelude.{◌≡◌, ◌≢◌, ◌+◌, ◌<◌, ◌≤◌, ℕ, Some, false, IsOk, IsTrue, MatchOption, OnOk};
+ghost use Rattle.std.specs.FinSet as set;
+ghost use Rattle.slab.specs.Slab.{get};
+
+use gpu_alloc_base::free_list_block::Slot;
+use slab::Slab;
+use std::alloc::{AllocError, Allocator, Global};
+use std::marker::Model;
+
+/// The live blocks of a free list, each under a key that its block carries.
+///
+/// With that key a block is found in constant time, and with another one in a time that grows with the number of live
+/// blocks.
+#[derive(Drop)]
+pub(super) struct Live<A: Allocator = Global> {
+    slots: Slab<Slot, A>,
+}
+
+impl<A: Allocator> Model for Live<A> {
+    ghost use Rattle.gpu_alloc_freelist.specs.Live.{LiveBlocks};
+    ghost use Rattle.gpu_alloc_freelist.specs.Codes.{live_blocks_code};
+
+    ghost Value = { LiveBlocks };
+
+    ghost coded = { live_blocks_code };
+
+    ghost use Rattle.gpu_alloc_base.specs.SlabViews.{HasOneKeyEach};
+    ghost use Rattle.gpu_alloc_freelist.specs.Live.{live_in};
+
+    ghost view = { λ l. live_in l.slots };
+
+    ghost invariant = { λ l. HasOneKeyEach (λ slot. slot) l.slots };
+}
+
+impl<A: Allocator> Live<A> {
+    /// No live block. `alloc` gives the memory of the blocks, of which this call takes none.
+    pub(super) fn new(alloc: A) -> Self
+        ensures empty { result.slots ≡ set.empty }
+    {
+        Live {
+            slots: Slab::new(alloc),
+        }
+    }
+
+    /// Makes room for one more block, so that one `keep` cannot fail.
+    ///
+    /// The only refusal is want of memory. Nothing but the room changes, which is no less, after a refusal too.
+    pub(super) fn reserve(&mut self) -> Result<(), AllocError>
+        ensures room { OnOk result (0 < self.new.room) }
+        ensures stays { self.old.room ≤ self.new.room }
+        ensures succeeds { 0 < self.old.room → IsOk result }
+        ensures kept { self.new.slots ≡ self.old.slots }
+    {
+        self.slots.reserve(1)
+    }
+
+    /// Adds a block that is not live, into room that was made, and tells its key, which the block is to carry.
+    pub(super) fn keep(&mut self, slot: Slot) -> usize
+        requires room { 0 < self.old.room }
+        requires fresh { set.contains self.old.slots slot ≡ false }
+        ensures slots { self.new.slots ≡ set.insert self.old.slots slot }
+        ensures len { set.len self.new.slots ≡ set.len self.old.slots + 1 }
+        ensures room { self.old.room ≡ self.new.room + 1 }
+    {
+        self.slots.insert_reserved(slot)
+    }
+
+    /// Takes a block off those that are live. It takes no memory and cannot fail.
+    ///
+    /// What comes of it is the same whatever the key is. The key that `keep` gave for the block makes it fast.
+    pub(super) fn forget(&mut self, key: usize, slot: Slot)
+        requires live { IsTrue (set.contains self.old.slots slot) }
+        ensures slots { self.new.slots ≡ set.remove self.old.slots slot }
+        ensures len { set.len self.new.slots + 1 ≡ set.len self.old.slots }
+        ensures room { self.new.room ≡ self.old.room + 1 }
+    {
+        match key_of(&self.slots, key, slot) {
+            Some(found) => {
+                let _ = self.slots.remove(found);
+            }
+            None => unreachable!(),
+        }
+    }
+}
+
+/// The key of a block: this one where the block stands under it, and else the one that a search of all blocks finds.
+#[inline(always)]
+fn key_of<A: Allocator>(slots: &Slab<Slot, A>, key: usize, slot: Slot) -> Option<usize>
+    ensures { MatchOption result ((key : ℕ) → get slots.now key ≢ Some slot)
+        (λ key. get slots.now key ≡ Some slot) }
+{
+    match slots.get(key) {
+        Some(there) if *there == slot => Some(key),
+        _ => search(slots, slot),
+    }
+}
+
+/// The key of a block, by a search of all blocks.
+fn search<A: Allocator>(slots: &Slab<Slot, A>, slot: Slot) -> Option<usize>
+    ensures { MatchOption result ((key : ℕ) → get slots.now key ≢ Some slot)
+        (λ key. get slots.now key ≡ Some slot) }
+{
+    for (key, there) in slots.iter() {
+        if *there == slot {
+            return Some(key);
+        }
+    }
+    None
+}
