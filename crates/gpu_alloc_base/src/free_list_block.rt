@@ -29,6 +29,8 @@ pub struct FreeListBlock<M: MemoryObject> {
     chunk: u64,
     offset: u64,
     size: u64,
+    // Where its list keeps it. The list confirms it, so that contracts see none.
+    key: usize,
 }
 
 impl<M: MemoryObject> Model for FreeListBlock<M> {
@@ -43,10 +45,11 @@ impl<M: MemoryObject> Model for FreeListBlock<M> {
 }
 
 impl<M: MemoryObject> FreeListBlock<M> {
-    /// The block with this handle of its chunk's object. It is public for the crates above: users get their blocks from
-    /// a free list.
+    /// The block with this handle of its chunk's object, which its list keeps under this key. With any other key the list
+    /// finds it too, in a time that grows with the number of its live blocks. It is public for the crates above: users
+    /// get their blocks from a free list.
     #[inline(always)]
-    pub fn new(memory: M, slot: Slot) -> Self
+    pub fn new(memory: M, slot: Slot, key: usize) -> Self
         requires { slot.object ≡ M.object memory }
         ensures { result ≡ slot }
     {
@@ -55,6 +58,7 @@ impl<M: MemoryObject> FreeListBlock<M> {
             chunk: slot.chunk,
             offset: slot.offset,
             size: slot.size,
+            key,
         }
     }
 
@@ -104,9 +108,15 @@ pub fn slot_of<M: MemoryObject>(block: &FreeListBlock<M>) -> Slot
     }
 }
 
-/// Takes a block apart, for its handle and what it was known by.
+/// The key under which its list keeps a block.
 #[inline(always)]
-pub fn into_parts<M: MemoryObject>(block: FreeListBlock<M>) -> (M, Slot)
+pub fn key_of<M: MemoryObject>(block: &FreeListBlock<M>) -> usize {
+    block.key
+}
+
+/// Takes a block apart, for its handle, what it was known by, and the key under which its list keeps it.
+#[inline(always)]
+pub fn into_parts<M: MemoryObject>(block: FreeListBlock<M>) -> (M, Slot, usize)
     ensures handle { M.object result.0 ≡ block.object }
     ensures slot { result.1 ≡ block }
 {
@@ -116,6 +126,7 @@ pub fn into_parts<M: MemoryObject>(block: FreeListBlock<M>) -> (M, Slot)
         chunk: _,
         offset: _,
         size: _,
+        key,
     } = block;
-    (memory, slot)
+    (memory, slot, key)
 }

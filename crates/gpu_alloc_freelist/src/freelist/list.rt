@@ -166,7 +166,7 @@ impl<M: MemoryObject, A: Allocator> FreeList<M, A> {
             });
         }
         keep(&mut self.live, slot);
-        Ok(FreeListBlock::new(handle, slot))
+        Ok(FreeListBlock::new(handle, slot, 0))
     }
 
     /// A block as [`get_block_from_new_memory`](FreeList::get_block_from_new_memory) gives it, in a chunk that the
@@ -241,7 +241,7 @@ impl<M: MemoryObject, A: Allocator> FreeList<M, A> {
         let slot = tail_of(region, memory.object(), size, align_mask);
         take_tail(&mut self.regions, index, slot.offset);
         keep(&mut self.live, slot);
-        Ok(Some(FreeListBlock::new(memory, slot)))
+        Ok(Some(FreeListBlock::new(memory, slot, 0)))
     }
 
     /// Whether some free run has room for such a block, so that `get_block` answers none where it has not.
