@@ -83,6 +83,7 @@ module _ (s : State) (r : Request) (hint : Option Dedicated) where
     Refused e = Refuses s e es answer new
 
     of_allocation : {X : Type 0} → ((e : AllocationError) → Refused e → X) → (TriesAll s r hint (candidates_of s r) es answer new → X) → Allocates s r hint es answer new → X
+    unfolding Allocates
     of_allocation refused tried =
         by_tests (nat_lt s.properties.max_memory_allocation_size r.size) (is_required hint && (s.remaining == 0)) (nat_eq (length (candidates_of s r)) 0)
         (refused OutOfDeviceMemory) (refused TooManyObjects) (refused NoCompatibleMemoryTypes) tried

@@ -99,7 +99,7 @@ abbrev pub candidates_of : State → Request → List ℕ
 candidates_of s r = candidates s.properties.memory_types (usage_bits r.usage) r.memory_types
 
 -- An allocation: the checks before any candidate in their order, and then the candidates.
-abbrev pub Allocates : State → Request → Option Dedicated → List Event → Result Block AllocationError → State → Type 0
+unfoldable pub Allocates : State → Request → Option Dedicated → List Event → Result Block AllocationError → State → Type 0
 Allocates s r hint es answer new =
     MatchBool (nat_lt s.properties.max_memory_allocation_size r.size) (Refuses s OutOfDeviceMemory es answer new) (
     MatchBool (is_required hint && (s.remaining == 0)) (Refuses s TooManyObjects es answer new) (

@@ -253,6 +253,7 @@ impl<M: MemoryObject, A: Allocator> GpuAllocator<M, A> {
     }
 
     /// Allocates a block with a hint or none.
+    #[tactic(auto, unfolding(crate::specs::Allocation::Allocates))]
     fn allocate<D: MemoryDevice<M>>(
         &mut self,
         device: &mut D,

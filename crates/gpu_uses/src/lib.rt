@@ -1,6 +1,5 @@
 //! Programs that call the allocator, each over any device. They are checked with no proof of their own: what their
-//! calls need, the contracts of the calls before them give. A loop's invariant repeats clauses, and `two_buffers` names
-//! one to the search.
+//! calls need, the contracts of the calls before them give. A loop's invariant repeats clauses.
 #![tactic(auto)]
 
 pub mod buffers;
