@@ -1,7 +1,6 @@
 -- A free list and its allocator that hold nothing.
-use Rattle.std.proofs.Common.{◌≡◌, ℕ, ◌<◌, ◌≤◌, ◌^◌, [], None, Some, arith}
+use Rattle.std.proofs.Common.{◌≡◌, ℕ, ◌<◌, ◌≤◌, ◌^◌, [], None, Some, refl, arith}
 use Rattle.std.specs.FinMap as map
-use Rattle.std.specs.List.{IsDistinct}
 use Rattle.std.specs.Ordering.{nat_cmp}
 use Rattle.gpu_alloc_base.specs.FreeSpace.{IsPowerUpTo, IsMultipleOf}
 use Rattle.gpu_alloc_base.specs.Chunks.{Chunk}
@@ -29,9 +28,8 @@ sound_space = record {
 }
 
 -- no byte is free, and there are no runs
-pub listed_none : (capacity : ℕ) → IsListed no_space [] [] capacity
-unfolding IsDistinct
-listed_none capacity = record {
+pub listed_none : IsListed no_space [] 0 0 0
+listed_none = record {
   sound = sound_space;
   runs = record {
     spaced = record {
@@ -42,8 +40,8 @@ listed_none capacity = record {
     };
     rising = λ i j d less within. absurd (omega arith);
   };
-  once = tt;
   room = omega arith;
+  whole = refl;
 }
 
 -- sizes of whole atoms, the largest of which is no less than the first

@@ -6,24 +6,25 @@ use Rattle.std.proofs.lemmas.List.Elements.{Contains-get_or, Contains-append_lef
 use Rattle.std.proofs.lemmas.List.Quantifiers.{all_pairs_push}
 use Rattle.std.specs.Prelude.{IfSome, IfNone, IsSome, is_some}
 use Rattle.std.specs.Result.{IsErr}
-use Rattle.std.specs.List.{All, IsDistinct}
+use Rattle.std.specs.List.{All}
 use Rattle.std.specs.Ordering.{nat_cmp}
 use Rattle.std.specs.FinMap as map
 use Rattle.std.specs.FinSet as set
+use Rattle.gpu_alloc_base.specs.Accounts.{HeldChunks}
 use Rattle.gpu_alloc_base.specs.Chunks.{Chunk}
 use Rattle.gpu_alloc_freelist.specs.FreeList.{HasPlace, IsTail, TakesTail, first_tail, with_slot, with_chunk}
 use Rattle.gpu_alloc_base.specs.Slots.{region_of, slot_cmp}
-use Rattle.gpu_alloc_freelist.specs.FreeListInside.{by_number, AreNumbered, IsListed, room_for, same_slot, slot_set, space_in}
+use Rattle.gpu_alloc_freelist.specs.FreeListInside.{IsListed, room_for, space_in}
 use Rattle.gpu_alloc_freelist.specs.Runs.{IsLastFit}
 use Rattle.gpu_alloc_freelist.specs.FreeListSound.{IsSoundSpace}
 use Rattle.gpu_alloc_freelist.specs.FreeListState.{Space, IsFreeIn}
-use Rattle.gpu_alloc_base.specs.FreeRuns.{AreFree, AreRuns, AreRunsBeside, HasRoom, IsBefore, IsFreeRun, IsLastWithRoom, IsSpaced, Without, tail_start}
+use Rattle.gpu_alloc_freelist.specs.Wholes.{wholes}
+use Rattle.gpu_alloc_base.specs.FreeRuns.{AreFree, AreRising, AreRuns, AreRunsBeside, HasRoom, IsBefore, IsFreeRun, IsLastWithRoom, IsSpaced, Without, tail_start}
 use Rattle.gpu_alloc_base.specs.declared.free_list_block.Slot.{Slot}
 use Rattle.gpu_alloc_base.specs.declared.region.FreeListRegion.{FreeListRegion}
 use Rattle.gpu_alloc_base.proofs.FreeRuns.{region_is_run, run_is_region, place_has_run, run_has_place, last_is, not_both, tail_below}
 use Rattle.gpu_alloc_base.proofs.Lists.{contains_head, contains_later, contains_cases, contains_none}
-use Rattle.gpu_alloc_base.proofs.Maps.{one_value, own_inserted, inserted_cases, inserted_kept}
-use Rattle.gpu_alloc_freelist.proofs.NumberedRows.{numbered_place, numbered_push, pushed, row_found}
+use Rattle.gpu_alloc_base.proofs.Maps.{found_value, one_value, own_inserted, inserted_cases, inserted_kept}
 use Rattle.gpu_alloc_base.proofs.SameRuns.{runs_same}
 use Rattle.gpu_alloc_freelist.proofs.Spaces.{was_live, still_live, now_live, space_with_slot, next_is_new, none_in_next, space_with_chunk}
 
@@ -87,6 +88,13 @@ same_runs F xs ys runs_x runs_y =
     risen_same IsBefore xs ys (λ a b has_a has_b. not_both a b (runs_x.spaced.nonempty a has_a) (runs_x.spaced.nonempty b has_b)) runs_x.rising runs_y.rising
     (λ r has. run_is_region F (Contains ys) runs_y.spaced r (region_is_run F (Contains xs) runs_x.spaced r has))
     (λ r has. run_is_region F (Contains xs) runs_x.spaced r (region_is_run F (Contains ys) runs_y.spaced r has))
+
+-- and one list with these runs in their order is that of the runs
+pub one_list : (F : ℕ → ℕ → Type 0) (xs ys : List FreeListRegion) → ((r : FreeListRegion) → Contains xs r ↔ IsFreeRun F r.chunk r.start r.end) → AreRising xs → AreRuns ys F → xs ≡ ys
+one_list F xs ys are rising runs =
+    risen_same IsBefore xs ys (λ a b has_a has_b. not_both a b ((are a).0 has_a).nonempty ((are b).0 has_b).nonempty) rising runs.rising
+    (λ r has. run_is_region F (Contains ys) runs.spaced r ((are r).0 has))
+    (λ r has. (are r).1 (region_is_run F (Contains ys) runs.spaced r has))
 
 -- what was found in one list of runs is found in another of the same bytes
 pub found_again : (s t : Space) (xs ys : List FreeListRegion) (size alignment i : ℕ) → s ≡ t → AreRuns xs (IsFreeIn s) → AreRuns ys (IsFreeIn t) → IsFoundAt ys size alignment i → IsFoundAt xs size alignment i
@@ -352,38 +360,21 @@ module _ (regions : List FreeListRegion) (size alignment i : ℕ) (r : FreeListR
     pub tail_taken : (new : List FreeListRegion) → 0 < size → IsSoundSpace s → ((d : FreeListRegion) → AreRunsBeside new (IsFreeIn s) (record (get_or regions i d) { start = slot.offset })) → IsTaken s new slot
     tail_taken new some sound beside = taken s new slot chunk sound (subst (AreRunsBeside new (IsFreeIn s)) (tail_region r) (beside r)) (tail_some some) tail_held object
 
--- Chunks in their list.
+-- What the stores keep with a block more.
 
-module _ {T : Type 0} (number : T → ℕ) (rows : List T) (rises : AreNumbered number rows) where
-  module _ (value : T → Chunk) (live : List Slot) (latest : ℕ) where
-    -- numbers are not above the latest
-    pub number_below : IsSoundSpace (space_in (by_number number value rows) live latest) → (row : T) → Contains rows row → number row < latest + 1
-    number_below sound row has = omega (arith, (sound.numbers (number row) (value row) (row_found number value rows row rises has)).1)
+-- no number that is held is above the latest
+pub below_next : (s : Space) → IsSoundSpace s → (k : ℕ) → IsSome (map.get s.chunks k) → k < s.latest + 1
+below_next s sound k some = let found = found_value (map.get s.chunks k) some in omega (arith, (sound.numbers k found.0 found.1).1)
 
-    -- the chunk of a run is in the list, whatever is asked of it
-    pub chunk_found : {X : Type 0} (other : T → X) (regions : List FreeListRegion) (r : FreeListRegion) → AreRuns regions (IsFreeIn (space_in (by_number number value rows) live latest)) → Contains regions r → IsSome (map.get (by_number number other rows) r.chunk)
-    chunk_found other regions r runs has =
-        let first = runs.spaced.free r has r.start (omega arith) (runs.spaced.nonempty r has) in
-        let place = numbered_place number value rows r.chunk first.held rises first.is in
-        let there = subst (λ k. map.get (by_number number other rows) k ≡ Some (other place.0)) place.2.0 (row_found number other rows place.0 rises place.1) in
-        rw there refl
-
--- The lists with a block more.
-
--- the lists tell the space with the block
-pub with_slot_in : (chunks : map.FinMap nat_cmp Chunk) (latest : ℕ) (live new : List Slot) (slot : Slot) → slot_set new ≡ set.insert (slot_set live) slot → space_in chunks new latest ≡ with_slot (space_in chunks live latest) slot
-with_slot_in chunks latest live new slot is = ap (λ (l : set.FinSet slot_cmp). let s : Space = record { chunks = chunks; live = l; latest = latest } in s) is
-
--- what the lists keep
-pub listed : (chunks : map.FinMap nat_cmp Chunk) (latest : ℕ) (live new : List Slot) (regions : List FreeListRegion) (slot : Slot) (capacity : ℕ) → slot_set new ≡ set.insert (slot_set live) slot → IsDistinct same_slot new
-    → IsTaken (space_in chunks live latest) regions slot → length regions + length new ≤ capacity → IsListed (space_in chunks new latest) regions new capacity
-listed chunks latest live new regions slot capacity is once took room =
-    let e = with_slot_in chunks latest live new slot is in
+pub listed : (chunks : HeldChunks) (latest : ℕ) (live new : set.FinSet slot_cmp) (regions : List FreeListRegion) (slot : Slot) (count room whole : ℕ) → new ≡ set.insert live slot
+    → IsTaken (space_in chunks live latest) regions slot → count ≤ room → wholes chunks regions ≡ whole → IsListed (space_in chunks new latest) regions count room whole
+listed chunks latest live new regions slot count room whole is took enough counted =
+    let e : with_slot (space_in chunks live latest) slot ≡ space_in chunks new latest = ap (λ l. space_in chunks l latest) (sym is) in
     record {
-      sound = subst IsSoundSpace (sym e) took.sound;
-      runs = subst (λ s. AreRuns regions (IsFreeIn s)) (sym e) took.runs;
-      once = once;
-      room = room;
+      sound = subst IsSoundSpace e took.sound;
+      runs = subst (λ s. AreRuns regions (IsFreeIn s)) e took.runs;
+      room = enough;
+      whole = counted;
     }
 
 -- room for one more chunk with a block is room in each list
@@ -443,32 +434,18 @@ module _ (s : Space) (object whole size alignment : ℕ) (slot : Slot) (of : IsF
       taken (with_chunk s object whole) new slot chunk (space_with_chunk s object whole sound (omega (arith, first_below)) fits) beside (omega (arith, first_start, first_size, first_below))
       (subst (λ k. map.get (with_chunk s object whole).chunks k ≡ Some chunk) number own) (ap (λ (x : Slot). x.object) of.is)
 
-module _ (chunks more : map.FinMap nat_cmp Chunk) (latest now object whole : ℕ) (live new : List Slot) (slot : Slot)
-    (chunks_are : more ≡ map.insert chunks (latest + 1) (record { object = object; size = whole })) (now_is : now ≡ latest + 1) (live_are : slot_set new ≡ set.insert (slot_set live) slot) where
-  -- the lists tell the space with the chunk and the block
+module _ (chunks more : HeldChunks) (latest now object whole : ℕ) (live new : set.FinSet slot_cmp) (slot : Slot) (chunks_are : more ≡ map.insert chunks (latest + 1) (record { object = object; size = whole })) (now_is : now ≡ latest + 1)
+    (live_are : new ≡ set.insert live slot) where
+  -- the stores tell the space with the chunk and the block
   pub with_chunk_in : space_in more new now ≡ with_slot (with_chunk (space_in chunks live latest) object whole) slot
   with_chunk_in = λ k. record { chunks = chunks_are k; live = live_are k; latest = now_is k }
 
-  -- what the lists keep
-  pub listed_with_chunk : (regions : List FreeListRegion) (capacity : ℕ) → IsDistinct same_slot new → IsTaken (with_chunk (space_in chunks live latest) object whole) regions slot → length regions + length new ≤ capacity
-      → IsListed (space_in more new now) regions new capacity
-  listed_with_chunk regions capacity once took room = record {
+  -- and what they keep
+  pub listed_with_chunk : (regions : List FreeListRegion) (count room counted : ℕ) → IsTaken (with_chunk (space_in chunks live latest) object whole) regions slot → count ≤ room → wholes more regions ≡ counted
+      → IsListed (space_in more new now) regions count room counted
+  listed_with_chunk regions count room counted took enough is = record {
     sound = subst IsSoundSpace (sym with_chunk_in) took.sound;
     runs = subst (λ s. AreRuns regions (IsFreeIn s)) (sym with_chunk_in) took.runs;
-    once = once;
-    room = room;
+    room = enough;
+    whole = is;
   }
-
--- a chunk with the next number is pushed
-module _ {T : Type 0} (number : T → ℕ) (value : T → Chunk) (rows : List T) (row : T) (live : List Slot) (latest : ℕ) (rises : AreNumbered number rows) (sound : IsSoundSpace (space_in (by_number number value rows) live latest)) (next : number row ≡ latest + 1) where
-  -- its number is the greatest
-  greater : (x : T) → Contains rows x → number x < number row
-  greater x has = omega (arith, next, number_below number rows rises value live latest sound x has)
-
-  -- the numbers rise still
-  pub next_numbered : AreNumbered number (rows ++ row ∷ [])
-  next_numbered = numbered_push number value rows row rises greater
-
-  -- it is found under its number
-  pub next_pushed : by_number number value (rows ++ row ∷ []) ≡ map.insert (by_number number value rows) (latest + 1) (value row)
-  next_pushed = pushed number value rows row rises greater ∙ ap (λ k. map.insert (by_number number value rows) k (value row)) next

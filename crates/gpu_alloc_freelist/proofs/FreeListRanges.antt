@@ -9,25 +9,14 @@ use Rattle.gpu_alloc_base.specs.FreeRuns.{AreRising, IsBefore, IsFreeRun}
 use Rattle.gpu_alloc_base.specs.RangeOrder.{same_start}
 use Rattle.gpu_alloc_base.specs.declared.region.FreeListRegion.{FreeListRegion}
 use Rattle.gpu_alloc_freelist.specs.FreeListAllocator.{object_of, IsRunOf}
-use Rattle.gpu_alloc_freelist.specs.FreeListInside.{by_number, AreNumbered}
 use Rattle.gpu_alloc_freelist.specs.FreeListSound.{IsSound}
 use Rattle.gpu_alloc_freelist.specs.FreeListState.{Space, Listing, IsFreeIn}
-use Rattle.gpu_alloc_base.proofs.ListedRanges.{some_value, told_object, listed, start_apart}
+use Rattle.gpu_alloc_base.proofs.ListedRanges.{told_object, listed, start_apart}
 use Rattle.gpu_alloc_base.proofs.RangeOrder.{starts_apart}
-use Rattle.gpu_alloc_freelist.proofs.NumberedRows.{numbered_place, row_found}
 
 -- a region as a range of its object
 abbrev pub range_of : Space → FreeListRegion → FreeRange
 range_of s r = record { object = object_of s r.chunk; start = r.start; end = r.end }
-
--- a number that a row has is found, whatever is asked of the row
-pub number_found : {T X Y : Type 0} (number : T → ℕ) (rows : List T) → AreNumbered number rows → (value : T → X) (other : T → Y) (k : ℕ)
-    → IsSome (map_of.get (by_number number value rows) k) → IsSome (map_of.get (by_number number other rows) k)
-number_found number rows rises value other k some =
-    let is = some_value _ some in
-    let place = numbered_place number value rows k is.0 rises is.1 in
-    let there = subst (λ n. map_of.get (by_number number other rows) n ≡ Some (other place.0)) place.2.0 (row_found number other rows place.0 rises place.1) in
-    rw there refl
 
 -- the chunk of a run is held
 held_of : (s : Space) (r : FreeListRegion) → IsFreeRun (IsFreeIn s) r.chunk r.start r.end → (chunk : Chunk) × (map_of.get s.chunks r.chunk ≡ Some chunk)

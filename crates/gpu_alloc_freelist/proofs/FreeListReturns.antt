@@ -5,24 +5,26 @@ use Rattle.std.proofs.lemmas.List.{get_or_default}
 use Rattle.std.proofs.lemmas.List.Elements.{Contains-get_or}
 use Rattle.std.specs.FinMap as map
 use Rattle.std.specs.FinSet as set
-use Rattle.std.specs.List.{Contains, IsDistinct, remove}
-use Rattle.std.specs.Ordering.{nat_cmp}
+use Rattle.std.specs.List.{Contains, remove}
+use Rattle.gpu_alloc_base.specs.Accounts.{HeldChunks}
 use Rattle.gpu_alloc_base.specs.Chunks.{Chunk}
 use Rattle.gpu_alloc_freelist.specs.FreeList.{without_slot, without_chunk, IsFirstToGo, MayGo}
-use Rattle.gpu_alloc_base.specs.Slots.{region_of}
-use Rattle.gpu_alloc_freelist.specs.FreeListInside.{AreNumbered, IsFirstWhole, IsListed, IsWholeRegion, MayBeTaken, by_number, same_slot, slot_set, space_in}
+use Rattle.gpu_alloc_base.specs.Slots.{region_of, slot_cmp}
+use Rattle.gpu_alloc_freelist.specs.Wholes.{wholes}
+use Rattle.gpu_alloc_freelist.specs.Chunks.{IsWholeChunk}
+use Rattle.gpu_alloc_freelist.specs.FreeListInside.{IsFirstWhole, IsListed, MayBeTaken, space_in}
 use Rattle.gpu_alloc_freelist.specs.FreeListSound.{IsSoundSpace}
 use Rattle.gpu_alloc_freelist.specs.FreeListState.{Space, IsFreeIn, IsLiveSlot}
 use Rattle.gpu_alloc_base.specs.FreeRuns.{AreFree, AreRuns, AreRunsBeside, IsBefore, IsLastRun, Without}
 use Rattle.gpu_alloc_base.specs.declared.free_list_block.Slot.{Slot}
 use Rattle.gpu_alloc_base.specs.declared.region.FreeListRegion.{FreeListRegion}
 use Rattle.gpu_alloc_base.proofs.FreeRuns.{range_in, region_is_run, run_is_region, not_both, not_before_itself}
-use Rattle.gpu_alloc_base.proofs.Maps.{one_value, found_value}
-use Rattle.gpu_alloc_freelist.proofs.NumberedRows.{numbered_place, numbered_remove, removed, row_found}
+use Rattle.gpu_alloc_base.proofs.Maps.{one_value, found_value, kept_other}
 use Rattle.gpu_alloc_base.proofs.Slots.{slot_removed, slot_same_or_left}
 use Rattle.gpu_alloc_base.proofs.SameRuns.{runs_same}
 use Rattle.gpu_alloc_freelist.proofs.Spaces.{space_without_slot, space_without_chunk, still_free, was_free}
 use Rattle.gpu_alloc_freelist.proofs.RunLists.{run_goes}
+use Rattle.gpu_alloc_freelist.proofs.WholeRuns.{wholes_removed, wholes_same}
 
 -- A block comes back.
 
@@ -73,42 +75,25 @@ module _ (s : Space) (sound : IsSoundSpace s) (slot : Slot) (live : IsLiveSlot s
     inside = slot_is_free;
   }
 
--- the list without it is what its fields are to be
-pub listed_without_slot : (chunks : map.FinMap nat_cmp Chunk) (old new : List Slot) (latest : ℕ) (regions joined : List FreeListRegion) (capacity wide : ℕ) (slot : Slot)
-    → IsListed (space_in chunks old latest) regions old capacity
+-- what the stores keep without it
+pub listed_without_slot : (chunks : HeldChunks) (old new : set.FinSet slot_cmp) (latest : ℕ) (regions joined : List FreeListRegion) (count room whole : ℕ) (slot : Slot)
+    → IsSoundSpace (space_in chunks old latest)
+    → AreRuns regions (IsFreeIn (space_in chunks old latest))
     → IsLiveSlot (space_in chunks old latest) slot
-    → slot_set new ≡ set.remove (slot_set old) slot
-    → IsDistinct same_slot new
-    → ((s : Space) → AreRunsBeside regions (IsFreeIn s) (region_of slot) → AreRuns joined (IsFreeIn s))
-    → length joined + length new ≤ wide
-    → IsListed (space_in chunks new latest) joined new wide
-listed_without_slot chunks old new latest regions joined capacity wide slot listed live left once join room =
+    → new ≡ set.remove old slot
+    → ((F : ℕ → ℕ → Type 0) → AreRunsBeside regions F (region_of slot) → AreRuns joined F)
+    → count ≤ room
+    → wholes chunks joined ≡ whole
+    → IsListed (space_in chunks new latest) joined count room whole
+listed_without_slot chunks old new latest regions joined count room whole slot sound runs live left join enough counted =
     let s = space_in chunks old latest in
-    let is : without_slot s slot ≡ space_in chunks new latest = λ i. record { chunks = chunks; live = sym left i; latest = latest } in
+    let is : without_slot s slot ≡ space_in chunks new latest = ap (λ l. space_in chunks l latest) (sym left) in
     record {
-      sound = subst IsSoundSpace is (space_without_slot s slot listed.sound);
-      runs = subst (λ x. AreRuns joined (IsFreeIn x)) is (join (without_slot s slot) (runs_beside_slot s listed.sound slot live regions listed.runs));
-      once = once;
-      room = room;
+      sound = subst IsSoundSpace is (space_without_slot s slot sound);
+      runs = subst (λ x. AreRuns joined (IsFreeIn x)) is (join (IsFreeIn (without_slot s slot)) (runs_beside_slot s sound slot live regions runs));
+      room = enough;
+      whole = counted;
     }
-
--- Rows by number.
-
--- each chunk has its size there
-pub record AreSizes (sizes : map.FinMap nat_cmp ℕ) (chunks : map.FinMap nat_cmp Chunk) : Type 0 where
-  pub of_chunk : (k : ℕ) (c : Chunk) → map.get chunks k ≡ Some c → map.get sizes k ≡ Some c.size
-  pub of_size : (k n : ℕ) → map.get sizes k ≡ Some n → (c : Chunk) × ((map.get chunks k ≡ Some c) × (c.size ≡ n))
-
-pub sizes_of_rows : {T : Type 0} (number : T → ℕ) (seen : T → Chunk) (rows : List T) → AreNumbered number rows → AreSizes (by_number number (λ row. (seen row).size) rows) (by_number number seen rows)
-sizes_of_rows number seen rows rise = record {
-  of_chunk = λ k c is.
-      let place = numbered_place number seen rows k c rise is in
-      subst (λ q. map.get (by_number number (λ row. (seen row).size) rows) q ≡ Some c.size) place.2.0
-      (row_found number (λ row. (seen row).size) rows place.0 rise place.1 ∙ ap (λ (x : Chunk). Some x.size) place.2.1);
-  of_size = λ k n is.
-      let place = numbered_place number (λ row. (seen row).size) rows k n rise is in
-      (seen place.0, (subst (λ q. map.get (by_number number seen rows) q ≡ Some (seen place.0)) place.2.0 (row_found number seen rows place.0 rise place.1), place.2.1));
-}
 
 -- Runs in a list.
 
@@ -159,7 +144,7 @@ module _ (s : Space) (sound : IsSoundSpace s) (regions : List FreeListRegion) (r
   region_held r has = let free = runs.spaced.free r has r.start (omega arith) (runs.spaced.nonempty r has) in rw (free.is) refl
 
   -- and does not reach beyond it
-  region_inside : (r : FreeListRegion) (c : Chunk) → Contains regions r → map.get s.chunks r.chunk ≡ Some c → r.end ≤ c.size
+  pub region_inside : (r : FreeListRegion) (c : Chunk) → Contains regions r → map.get s.chunks r.chunk ≡ Some c → r.end ≤ c.size
   region_inside r c has is =
       let some = runs.spaced.nonempty r has in
       let free = runs.spaced.free r has (r.end - 1) (omega (arith, some)) (omega (arith, some)) in
@@ -185,31 +170,28 @@ module _ (s : Space) (sound : IsSoundSpace s) (regions : List FreeListRegion) (r
       let free = runs.spaced.free r has slot.offset (omega (arith, start)) (omega (arith, end, lies.nonempty, lies.inside, size)) in
       free.unused slot live same (record { from = omega arith; to = omega (arith, lies.nonempty) })
 
-  module _ (sizes : map.FinMap nat_cmp ℕ) (are : AreSizes sizes s.chunks) (keep_last : Bool) where
-    pub regions_have_sizes : (r : FreeListRegion) → Contains regions r → IsSome (map.get sizes r.chunk)
-    regions_have_sizes r has = let found = found_value (map.get s.chunks r.chunk) (region_held r has) in rw (are.of_chunk r.chunk found.0 found.1) refl
-
+  module _ (keep_last : Bool) where
     -- the chunk of a region that may be taken may go
-    pub taken_may_go : (i : ℕ) (d : FreeListRegion) → MayBeTaken sizes regions keep_last d i → MayGo s keep_last (get_or regions i d).chunk
+    pub taken_may_go : (i : ℕ) (d : FreeListRegion) → MayBeTaken s.chunks regions keep_last d i → MayGo s keep_last (get_or regions i d).chunk
     taken_may_go i d taken =
         let r = get_or regions i d in
         let own = Contains-get_or regions i d taken.within in
-        let chunk = are.of_size r.chunk r.end taken.whole.1 in (
-          record { held = region_held r own; unused = whole_is_unused r chunk.0 own chunk.1.0 taken.whole.0 (sym chunk.1.1) },
+        let chunk = taken.whole.chunk in (
+          record { held = region_held r own; unused = whole_is_unused r chunk own taken.whole.is taken.whole.start (sym taken.whole.end) },
           λ keep last.
               let q = last.0 in
               let end = last_run_at (IsFreeIn s) regions runs q last.1.0 in
               let some = runs.spaced.nonempty q end.0 in
-              let inside = region_inside q chunk.0 end.0 (ap (map.get s.chunks) last.1.1 ∙ chunk.1.0) in
+              let inside = region_inside q chunk end.0 (ap (map.get s.chunks) last.1.1 ∙ taken.whole.is) in
               let before : IsBefore r q = subst (IsBefore r) (stands (IsFreeIn s) regions runs q d end.0) (runs.rising i end.0.0 d (omega (arith, taken.not_last keep, end.1)) end.0.1) in
               elim (before) [
                 | inl less ↦ omega (arith, less, last.1.1)
-                | inr same ↦ omega (arith, same.1, some, inside, chunk.1.1)
+                | inr same ↦ omega (arith, same.1, some, inside, taken.whole.end)
               ],
         )
 
     -- and a chunk that may go is such a region
-    pub may_be_taken : (number : ℕ) (d : FreeListRegion) → MayGo s keep_last number → (i : ℕ) × (MayBeTaken sizes regions keep_last d i × ((get_or regions i d).chunk ≡ number))
+    pub may_be_taken : (number : ℕ) (d : FreeListRegion) → MayGo s keep_last number → (i : ℕ) × (MayBeTaken s.chunks regions keep_last d i × ((get_or regions i d).chunk ≡ number))
     may_be_taken number d go =
         let found = found_value (map.get s.chunks number) go.0.held in
         let c = found.0 in
@@ -220,7 +202,7 @@ module _ (s : Space) (sound : IsSoundSpace s) (regions : List FreeListRegion) (r
           (
             record {
               within = has.1;
-              whole = subst (IsWholeRegion sizes) (sym is) (refl, are.of_chunk number c found.1);
+              whole = subst (IsWholeChunk s.chunks) (sym is) (record { start = refl; chunk = c; is = found.1; end = refl });
               not_last = λ keep. elim (cases_lt (has.0 + 1) (length regions)) [
                 | inl less ↦ less
                 | inr end ↦ absurd (go.1 keep (get_or regions has.0 d, (end_is_last (IsFreeIn s) regions runs has.0 d has.1 end, chunk)))
@@ -231,7 +213,7 @@ module _ (s : Space) (sound : IsSoundSpace s) (regions : List FreeListRegion) (r
         )
 
     -- the chunk of the first one has the least number
-    pub first_to_go : (i : ℕ) (d : FreeListRegion) → IsFirstWhole sizes regions keep_last d i → IsFirstToGo s keep_last (get_or regions i d).chunk
+    pub first_to_go : (i : ℕ) (d : FreeListRegion) → IsFirstWhole s.chunks regions keep_last d i → IsFirstToGo s keep_last (get_or regions i d).chunk
     first_to_go i d first = record {
       goes = taken_may_go i d first.taken;
       least = λ other go.
@@ -248,7 +230,7 @@ module _ (s : Space) (sound : IsSoundSpace s) (regions : List FreeListRegion) (r
     }
 
     -- where no region may be taken, no chunk may go
-    pub none_to_go : ((i : ℕ) (d : FreeListRegion) → MayBeTaken sizes regions keep_last d i → ⊥) → (number : ℕ) → MayGo s keep_last number → ⊥
+    pub none_to_go : ((i : ℕ) (d : FreeListRegion) → MayBeTaken s.chunks regions keep_last d i → ⊥) → (number : ℕ) → MayGo s keep_last number → ⊥
     none_to_go none number go =
         let d : FreeListRegion = record { chunk = 0; start = 0; end = 0 } in
         let at = may_be_taken number d go in
@@ -266,69 +248,41 @@ module _ (s : Space) (sound : IsSoundSpace s) (regions : List FreeListRegion) (r
     free_there : (chunk at : ℕ) → IsFreeIn (without_chunk s r.chunk) chunk at → Without (IsFreeIn s) r chunk at
     free_there chunk at free = let was = was_free s r.chunk chunk at free in (was.1, λ same low high. was.0 same)
 
--- What `take_whole` takes off two lists: the first region that may be taken, and the row of its chunk.
-pub record IsTakenWhole {T : Type 0} (number : T → ℕ) (seen : T → Chunk) (rows : List T) (regions : List FreeListRegion) (keep_last : Bool) (i at : ℕ) (r : FreeListRegion) (row : T) : Type 0 where
-  pub first : IsFirstWhole (by_number number (λ x. (seen x).size) rows) regions keep_last r i
-  pub region : r ≡ get_or regions i r
-  pub within : at < length rows
-  pub is : row ≡ get_or rows at row
-  pub same : number row ≡ r.chunk
+-- What the stores keep without a chunk that may go: the first region that may be taken, and its chunk.
+pub record AreLess (held less : HeldChunks) (live : set.FinSet slot_cmp) (latest : ℕ) (regions left : List FreeListRegion) : Type 0 where
+  pub sound : IsSoundSpace (space_in less live latest)
+  pub runs : AreRuns left (IsFreeIn (space_in less live latest))
+  pub fewer : wholes less left + 1 ≡ wholes held regions
 
-module _ {T : Type 0} (number : T → ℕ) (seen : T → Chunk) (rows : List T) (rise : AreNumbered number rows) {live : List Slot} (latest : ℕ) {regions : List FreeListRegion} {capacity : ℕ}
-    (listed : IsListed (space_in (by_number number seen rows) live latest) regions live capacity) where
-  abbrev all : Space
-  all = space_in (by_number number seen rows) live latest
+pub stores_less : (held less : HeldChunks) (live : set.FinSet slot_cmp) (latest : ℕ) (regions left : List FreeListRegion) (keep_last : Bool) (i : ℕ) (r : FreeListRegion)
+    → IsSoundSpace (space_in held live latest) → AreRuns regions (IsFreeIn (space_in held live latest)) → IsFirstWhole held regions keep_last r i
+    → r ≡ get_or regions i r → less ≡ map.remove held r.chunk → left ≡ remove regions i → AreLess held less live latest regions left
+stores_less held less live latest regions left keep_last i r sound runs first is gone fewer = record {
+  sound = subst IsSoundSpace (sym space_less) (space_without_chunk (space_in held live latest) r.chunk sound (whole_is_unused (space_in held live latest) sound regions runs r whole.chunk has whole.is whole.start (sym whole.end)));
+  runs = runs_less;
+  fewer = omega (arith, wholes_same less held left elsewhere, ap (wholes held) fewer, wholes_removed held regions i r first.taken.within first.taken.whole);
+}
+  where
+    whole : IsWholeChunk held r
+    whole = subst (IsWholeChunk held) (sym is) first.taken.whole
 
-  abbrev sizes : map.FinMap nat_cmp ℕ
-  sizes = by_number number (λ x. (seen x).size) rows
+    has : Contains regions r
+    has = (i, first.taken.within, sym is)
 
-  are : AreSizes sizes (by_number number seen rows)
-  are = sizes_of_rows number seen rows rise
+    space_less : space_in less live latest ≡ without_chunk (space_in held live latest) r.chunk
+    space_less = ap (λ h. space_in h live latest) gone
 
-  -- each region's chunk has a size
-  pub sized_regions : (r : FreeListRegion) → Contains regions r → IsSome (map.get sizes r.chunk)
-  sized_regions = regions_have_sizes all listed.sound regions listed.runs sizes are true
+    runs_less : AreRuns left (IsFreeIn (space_in less live latest))
+    runs_less =
+        let at_all = free_elsewhere (space_in held live latest) sound regions runs r whole.chunk whole.is whole.start (sym whole.end) in
+        let from_all = free_there (space_in held live latest) sound regions runs r whole.chunk whole.is whole.start (sym whole.end) in
+        let without : AreRuns left (Without (IsFreeIn (space_in held live latest)) r) =
+        subst (λ x. AreRuns left (Without (IsFreeIn (space_in held live latest)) x)) (sym is) (subst (λ xs. AreRuns xs (Without (IsFreeIn (space_in held live latest)) (get_or regions i r))) (sym fewer) (run_goes (IsFreeIn (space_in held live latest)) regions i r runs first.taken.within).rest) in
+        subst (λ x. AreRuns left (IsFreeIn x)) (sym space_less) (runs_same (record { to = at_all; from = from_all }) left without)
 
-  -- where no region may be taken, no chunk may go
-  pub none_may_go : (keep_last : Bool) → ((i : ℕ) (d : FreeListRegion) → MayBeTaken sizes regions keep_last d i → ⊥) → (k : ℕ) → MayGo all keep_last k → ⊥
-  none_may_go keep_last = none_to_go all listed.sound regions listed.runs sizes are keep_last
-
-  module _ {keep_last : Bool} {i at : ℕ} {r : FreeListRegion} {row : T} (taken : IsTakenWhole number seen rows regions keep_last i at r row) where
-    -- the chunk of least number goes
-    pub taken_first : IsFirstToGo all keep_last (number row)
-    taken_first =
-        let same : (get_or regions i r).chunk ≡ number row = ap (λ (x : FreeListRegion). x.chunk) (sym taken.region) ∙ sym taken.same in
-        subst (IsFirstToGo all keep_last) same (first_to_go all listed.sound regions listed.runs sizes are keep_last i r taken.first)
-
-    -- it is the chunk of the row
-    pub taken_chunk : map.get (by_number number seen rows) (number row) ≡ Some (seen row)
-    taken_chunk = row_found number seen rows row rise (at, taken.within, sym taken.is)
-
-    module _ (rest : List T) (less : rest ≡ remove rows at) where
-      -- and no other goes
-      taken_map : by_number number seen rest ≡ map.remove (by_number number seen rows) (number row)
-      taken_map = ap (by_number number seen) less ∙ removed number seen rows at row rise taken.within ∙ ap (λ x. map.remove (by_number number seen rows) (number x)) (sym taken.is)
-
-      pub taken_gone : space_in (by_number number seen rest) live latest ≡ without_chunk all (number row)
-      taken_gone = λ k. record { chunks = taken_map k; live = slot_set live; latest = latest }
-
-      pub taken_numbered : AreNumbered number rest
-      taken_numbered = subst (AreNumbered number) (sym less) (numbered_remove number seen rows at rise taken.within)
-
-      -- the list without it is what its fields are to be
-      pub taken_listed : (left : List FreeListRegion) (wide : ℕ) → left ≡ remove regions i → length left + length live ≤ wide → IsListed (space_in (by_number number seen rest) live latest) left live wide
-      taken_listed left wide fewer room =
-          let chunk = are.of_size r.chunk r.end (subst (λ x. map.get sizes x.chunk ≡ Some x.end) (sym taken.region) taken.first.taken.whole.1) in
-          let start : r.start ≡ 0 = ap (λ (x : FreeListRegion). x.start) taken.region ∙ taken.first.taken.whole.0 in
-          let has : Contains regions r = (i, taken.first.taken.within, sym taken.region) in
-          let is : without_chunk all r.chunk ≡ space_in (by_number number seen rest) live latest = ap (without_chunk all) (sym taken.same) ∙ sym taken_gone in
-          let at_all = free_elsewhere all listed.sound regions listed.runs r chunk.0 chunk.1.0 start (sym chunk.1.1) in
-          let from_all = free_there all listed.sound regions listed.runs r chunk.0 chunk.1.0 start (sym chunk.1.1) in
-          let without : AreRuns left (Without (IsFreeIn all) r) =
-          subst (λ x. AreRuns left (Without (IsFreeIn all) x)) (sym taken.region) (subst (λ xs. AreRuns xs (Without (IsFreeIn all) (get_or regions i r))) (sym fewer) (run_goes (IsFreeIn all) regions i r listed.runs taken.first.taken.within).rest) in
-          record {
-            sound = subst IsSoundSpace is (space_without_chunk all r.chunk listed.sound (whole_is_unused all listed.sound regions listed.runs r chunk.0 has chunk.1.0 start (sym chunk.1.1)));
-            runs = subst (λ x. AreRuns left (IsFreeIn x)) is (runs_same (record { to = at_all; from = from_all }) left without);
-            once = listed.once;
-            room = room;
-          }
+    -- the runs that are left lie in other chunks
+    elsewhere : (q : FreeListRegion) → Contains left q → map.get less q.chunk ≡ map.get held q.chunk
+    elsewhere q in_left =
+        let free = runs_less.spaced.free q in_left q.start (omega arith) (runs_less.spaced.nonempty q in_left) in
+        let other = (was_free (space_in held live latest) r.chunk q.chunk q.start (subst (λ x. IsFreeIn x q.chunk q.start) space_less free)).0 in
+        ap (λ h. map.get h q.chunk) gone ∙ kept_other held r.chunk q.chunk other

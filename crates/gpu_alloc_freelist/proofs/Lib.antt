@@ -1,3 +1,4 @@
+pub mod CutBlocks
 pub mod FiledChanges
 pub mod FiledRows
 pub mod ForCallers
@@ -10,7 +11,7 @@ pub mod FreeListSizes
 pub mod GoneChunks
 pub mod InHand
 pub mod LiveBlocks
-pub mod LiveSlots
+pub mod NewWholes
 pub mod NumberSearch
 pub mod NumberedRows
 pub mod RunLists
@@ -18,3 +19,4 @@ pub mod RunSearch
 pub mod RunsKept
 pub mod Spaces
 pub mod WholeCounts
+pub mod WholeRuns

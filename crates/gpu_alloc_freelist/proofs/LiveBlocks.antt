@@ -34,17 +34,3 @@ fresh_nowhere s slot fresh key there at same = let live = (in_set slot_total slo
 pub once_kept : (old new : Slab Slot) (key : ℕ) (slot : Slot) → HasOneKeyEach (λ (x : Slot). x) old → set.contains (slots_in old) slot ≡ false → IsInserted old new key slot
     → HasOneKeyEach (λ (x : Slot). x) new
 once_kept old new key slot once fresh h = once_inserted (λ (x : Slot). x) old new key slot once (fresh_nowhere old slot fresh) h
-
--- How many there are.
-
-module _ (s : set.FinSet slot_cmp) (slot : Slot) where
-  pub len_kept : set.contains s slot ≡ false → set.len (set.insert s slot) ≡ set.len s + 1
-  len_kept fresh = set.len-insert slot_total s slot ∙ ap (λ b. cond b (set.len s) (set.len s + 1)) fresh
-
-  pub len_forgot : set.contains s slot ≡ true → set.len (set.remove s slot) + 1 ≡ set.len s
-  len_forgot live =
-      let less : set.len (set.remove s slot) ≡ set.len s - 1 = set.len-remove slot_total s slot ∙ ap (λ b. cond b (set.len s - 1) (set.len s)) live in
-      omega (arith, less, some)
-    where
-      some : set.len s ≢ 0
-      some none = let absent = ap (λ (t : set.FinSet slot_cmp). set.contains t slot) (set.empty_of_len s none) ∙ set.contains-empty slot_cmp slot in absurd (cc)

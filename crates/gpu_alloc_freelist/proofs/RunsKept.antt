@@ -23,10 +23,10 @@ module _ (F : ℕ → ℕ → Type 0) where
   ]
 
   -- a range comes back
-  pub put_back_runs : (old : List FreeListRegion) (x : FreeListRegion) (new : List FreeListRegion) → AreRunsBeside old F x → x.start < x.end → PutsBack old x new → AreRuns new F
-  put_back_runs old x new beside some p =
+  pub put_back_runs : (old : List FreeListRegion) (x joint : FreeListRegion) (new : List FreeListRegion) → AreRunsBeside old F x → x.start < x.end → PutsBack old x joint new → AreRuns new F
+  put_back_runs old x joint new beside some p =
       subst (λ list. AreRuns list F) (sym p.is)
-      (block_joined F old x beside some p.place p.at.before (λ d lt. p.at.behind p.place d (omega arith) lt) p.at.within x p.from p.to p.joint (p.joined x))
+      (block_joined F old x beside some p.place p.at.before (λ d lt. p.at.behind p.place d (omega arith) lt) p.at.within x p.from p.to joint (p.joined x))
 
   -- what comes back has no byte in common with the runs beside it
   pub beside_apart : (regions : List FreeListRegion) (x : FreeListRegion) → AreRunsBeside regions F x → x.start < x.end → All (λ r. IsApart r x) regions
@@ -60,13 +60,13 @@ module _ (F : ℕ → ℕ → Type 0) where
       inl (below (get_or regions k d).chunk (get_or regions k d).start (runs.spaced.free (get_or regions k d) has (get_or regions k d).start (omega arith) (runs.spaced.nonempty (get_or regions k d) has)))
 
 -- there is at most one run more, and at least one
-pub put_back_length : (old : List FreeListRegion) (x : FreeListRegion) (new : List FreeListRegion) → PutsBack old x new → length new ≤ length old + 1
-put_back_length old x new p =
-    subst (λ list. length list ≤ length old + 1) (sym p.is) (joint_length old p.place x x p.from p.to p.joint (p.joined x) p.at.within)
+pub put_back_length : (old : List FreeListRegion) (x joint : FreeListRegion) (new : List FreeListRegion) → PutsBack old x joint new → length new ≤ length old + 1
+put_back_length old x joint new p =
+    subst (λ list. length list ≤ length old + 1) (sym p.is) (joint_length old p.place x x p.from p.to joint (p.joined x) p.at.within)
 
-pub put_back_some : (old : List FreeListRegion) (x : FreeListRegion) (new : List FreeListRegion) → PutsBack old x new → 0 < length new
-put_back_some old x new p =
-    let n : length new ≡ length (take p.from old) + (length (drop p.to old) + 1) = ap length p.is ∙ length-append (take p.from old) (p.joint ∷ drop p.to old) ∙ omega arith in
+pub put_back_some : (old : List FreeListRegion) (x joint : FreeListRegion) (new : List FreeListRegion) → PutsBack old x joint new → 0 < length new
+put_back_some old x joint new p =
+    let n : length new ≡ length (take p.from old) + (length (drop p.to old) + 1) = ap length p.is ∙ length-append (take p.from old) (joint ∷ drop p.to old) ∙ omega arith in
     omega (arith, n)
 
 -- Of sorted regions alone: they are the runs of their own bytes.
@@ -124,5 +124,5 @@ module _ (regions : List FreeListRegion) (sorted : AreSorted regions) where
   removed_sorted i d within = runs_sorted _ (remove regions i) (run_goes Covered regions i d own_runs within).rest
 
   -- and as a range comes back
-  pub put_back_sorted : (x : FreeListRegion) (new : List FreeListRegion) → All (λ r. IsApart r x) regions → x.start < x.end → PutsBack regions x new → AreSorted new
-  put_back_sorted x new apart some p = runs_sorted _ new (put_back_runs (With Covered x) regions x new (own_runs_beside x apart) some p)
+  pub put_back_sorted : (x joint : FreeListRegion) (new : List FreeListRegion) → All (λ r. IsApart r x) regions → x.start < x.end → PutsBack regions x joint new → AreSorted new
+  put_back_sorted x joint new apart some p = runs_sorted _ new (put_back_runs (With Covered x) regions x joint new (own_runs_beside x apart) some p)

@@ -12,7 +12,7 @@ module _ {X : Type 0} (p : X → Bool) where
   pub count_both : (xs ys : List X) → count_by p (xs ++ ys) ≡ count_by p xs + count_by p ys
   count_both xs ys = sum_by-append one xs ys
 
-  count_next : (x : X) (xs : List X) → count_by p (x ∷ xs) ≡ one x + count_by p xs
+  pub count_next : (x : X) (xs : List X) → count_by p (x ∷ xs) ≡ one x + count_by p xs
   count_next x xs =
       let alone : count_by p (x ∷ []) ≡ 0 + one x = refl in
       omega (arith, count_both (x ∷ []) xs, alone)

@@ -53,8 +53,8 @@ runs_code =
 
 abbrev pub live_blocks_code : Coded LiveBlocks
 live_blocks_code =
-    code_by (set.FinSet slot_cmp × ℕ) (coded× (set.code slot_code) coded_ℕ) (λ l. (l.slots, l.room))
-    (λ c. record { slots = c.0; room = c.1 }) (λ _. refl)
+    code_by (set.FinSet slot_cmp × (ℕ × ℕ)) (coded× (set.code slot_code) (coded× coded_ℕ coded_ℕ))
+    (λ l. (l.slots, (l.count, l.room))) (λ c. record { slots = c.0; count = c.1.0; room = c.1.1 }) (λ _. refl)
 
 abbrev pub numbered_chunks_code : Coded NumberedChunks
 numbered_chunks_code =

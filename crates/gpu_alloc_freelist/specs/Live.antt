@@ -6,9 +6,10 @@ use Rattle.gpu_alloc_base.specs.SlabViews.{set_by}
 use Rattle.gpu_alloc_base.specs.Slots.{slot_cmp}
 use Rattle.gpu_alloc_base.specs.declared.free_list_block.Slot.{Slot}
 
--- the live blocks, and for how many more there is room
+-- the live blocks, how many they are, and for how many more there is room
 pub record LiveBlocks : Type 0 where
   pub slots : set.FinSet slot_cmp
+  pub count : ℕ
   pub room : ℕ
 
 -- the blocks of a slab, under whatever keys
@@ -16,4 +17,4 @@ abbrev pub slots_in : Slab Slot → set.FinSet slot_cmp
 slots_in slots = set_by (λ slot. slot) slots
 
 abbrev pub live_in : Slab Slot → LiveBlocks
-live_in slots = record { slots = slots_in slots; room = slots.capacity - slab_len slots }
+live_in slots = record { slots = slots_in slots; count = slab_len slots; room = slots.capacity - slab_len slots }

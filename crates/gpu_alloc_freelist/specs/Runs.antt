@@ -69,11 +69,10 @@ pub record IsJoint (regions : List FreeListRegion) (place : ℕ) (block d : Free
       ⊎ ((TouchesAfter regions place block d → ⊥) × ((to ≡ place) × (joint.end ≡ block.end)))
 
 -- The block is joined with the runs that it touches, at the place behind those that start before it.
-pub record PutsBack (old : List FreeListRegion) (block : FreeListRegion) (new : List FreeListRegion) : Type 0 where
+pub record PutsBack (old : List FreeListRegion) (block joint : FreeListRegion) (new : List FreeListRegion) : Type 0 where
   pub place : ℕ
   pub from : ℕ
   pub to : ℕ
-  pub joint : FreeListRegion
   pub at : IsPlaceOf block old place
   pub joined : (d : FreeListRegion) → IsJoint old place block d from to joint
   pub is : new ≡ take from old ++ joint ∷ drop to old

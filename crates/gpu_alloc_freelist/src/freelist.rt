@@ -29,7 +29,6 @@ ghost use Rattle.gpu_alloc_base.specs.Steps.{Begins};
 mod chunks;
 mod list;
 mod live;
-mod regions;
 mod runs;
 
 use gpu_alloc_base::heap::Heap;

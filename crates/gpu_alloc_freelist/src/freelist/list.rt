@@ -1,28 +1,29 @@
 //! A free list: chunks of memory by number, their free runs, and the blocks that are live in them.
 
-ghost use Rattle.std.specs.Prelude.{◌≡◌, ◌⊎◌, ◌≤◌, ◌<◌, ◌+◌, ◌↔◌, ℕ, length, slice_get, false, Some, None};
-ghost use Rattle.std.specs.Prelude.{IfSome};
-ghost use Rattle.std.specs.Prelude.{IfNone, IfOk, IfErr, OnOk, OnErr, IsOk, IsSome, IsTrue, vec_len};
-ghost use Rattle.std.specs.Prelude.{vec_capacity};
+ghost use Rattle.std.specs.Prelude.{◌≡◌, ◌≤◌, ◌<◌, ◌+◌, ◌↔◌, ℕ, List, length, slice_index_or, Some};
+ghost use Rattle.std.specs.Prelude.{IfSome, IfNone, IfOk, IfErr, OnOk, OnErr, IsOk, IsSome, IsTrue};
 ghost use Rattle.std.specs.FinMap as map;
-ghost use Rattle.std.specs.FinSet as set;
-ghost use Rattle.std.specs.List.{Contains, IsDistinct};
+ghost use Rattle.std.specs.List.{Contains};
 ghost use Rattle.gpu_alloc_types.specs.Flags.{allocation_bits};
 ghost use Rattle.gpu_alloc_types.specs.Properties.{is_host_visible};
 ghost use Rattle.gpu_alloc_types.specs.Device.{Asked, IsAskable};
+ghost use Rattle.gpu_alloc_freelist.specs.Chunks.{IsWholeChunk};
 ghost use Rattle.gpu_alloc_freelist.specs.FreeList.{TakesTail, IsFirstToGo, MayGo, HasNumber, HasPlace, with_slot};
 ghost use Rattle.gpu_alloc_freelist.specs.FreeList.{without_slot, with_chunk, without_chunk, first_tail, no_space};
-ghost use Rattle.gpu_alloc_freelist.specs.FreeListInside.{AreNumbered, by_number, IsWholeRegion, MayBeTaken, IsFirstWhole};
-ghost use Rattle.gpu_alloc_freelist.specs.FreeListInside.{same_slot, slot_set};
+ghost use Rattle.gpu_alloc_freelist.specs.FreeListInside.{MayBeTaken, IsFirstWhole};
 ghost use Rattle.gpu_alloc_freelist.specs.FreeListSound.{IsSoundSpace};
 ghost use Rattle.gpu_alloc_freelist.specs.FreeListState.{IsLiveSlot, IsFreeIn};
+ghost use Rattle.gpu_alloc_freelist.specs.Runs.{AreFewComparisons};
+ghost use Rattle.gpu_alloc_freelist.specs.Wholes.{wholes};
 ghost use Rattle.gpu_alloc_base.specs.FreeRuns.{IsFreeRun, AreRising};
 ghost use Rattle.gpu_alloc_base.specs.AlignMasks.{IsAlignMask};
 ghost use Rattle.gpu_alloc_base.specs.NewChunk.{AsksBlock, ChunkAfter, chunk_question, told_object};
 ghost use Rattle.gpu_alloc_base.specs.declared.region.FreeListRegion.{FreeListRegion as Region};
 
-use super::regions::{insert, last_with_room, tail_of, take_tail};
-use gpu_alloc_base::free_list_block::{Slot, into_parts, slot_of};
+use super::chunks::{Chunks, NumberedChunk};
+use super::live::Live;
+use super::runs::{Runs, tail_of};
+use gpu_alloc_base::free_list_block::{into_parts, key_of, slot_of};
 use gpu_alloc_base::new_chunk::new_chunk;
 use gpu_alloc_base::steps::Steps;
 use gpu_alloc_base::{AllocationError, FreeListBlock, FreeListRegion};
@@ -31,25 +32,18 @@ use std::alloc::{AllocError, Allocator, Global};
 use std::marker::Model;
 use std::sync::ledger::Ledger;
 
-/// A held chunk: its number, a handle of its object, and its size in bytes.
-#[derive(Drop)]
-pub(super) struct ListChunk<M: MemoryObject> {
-    number: u64,
-    pub(super) memory: M,
-    pub(super) size: u64,
-}
-
 /// Chunks of memory, the free runs in them, and the blocks that are live. It cannot be let go:
 /// [`close`](FreeList::close) ends it.
 ///
 /// Chunks are numbered from 1 on, and no number comes twice. Between calls the regions are exactly the free runs: the
 /// longest ranges of bytes that lie in a chunk and in no live block.
 pub struct FreeList<M: MemoryObject, A: Allocator = Global> {
-    chunks: Vec<ListChunk<M>, A>,
-    regions: Vec<FreeListRegion, A>,
-    // Into which an insertion copies the regions. Both have room for a region more with each live block.
-    spare: Vec<FreeListRegion, A>,
-    live: Vec<Slot, A>,
+    chunks: Chunks<M, A>,
+    // With room for a run more with each live block.
+    runs: Runs<A>,
+    live: Live<A>,
+    // How many of the runs are whole chunks.
+    whole: usize,
     latest: u64,
 }
 
@@ -61,32 +55,27 @@ impl<M: MemoryObject, A: Allocator> Model for FreeList<M, A> {
 
     ghost coded = { store_code };
 
-    ghost use Rattle.std.specs.Prelude.{◌+◌, ◌-◌, min, length, vec_capacity};
-    ghost use Rattle.gpu_alloc_freelist.specs.FreeListInside.{by_number, space_in, store_in, room_for, AreNumbered};
-    ghost use Rattle.gpu_alloc_freelist.specs.FreeListInside.{IsListed};
+    ghost use Rattle.std.specs.Prelude.{◌-◌};
+    ghost use Rattle.gpu_alloc_freelist.specs.FreeListInside.{space_in, store_in, room_for, IsListed};
 
-    ghost view = { λ l. store_in (space_in
-        (by_number (λ c. c.number) (λ c. record { object = M.object c.memory; size = c.size }) l.chunks.items)
-        l.live.items l.latest) (room_for (vec_capacity l.chunks - length l.chunks.items)
-        (vec_capacity l.live - length l.live.items)
-        (min (vec_capacity l.regions) (vec_capacity l.spare) - (length l.regions.items + length l.live.items))) };
+    ghost view = { λ l. store_in (space_in (l.chunks).held (l.live).slots l.latest)
+        (room_for (l.chunks).room (l.live).room ((l.runs).room - (l.live).count)) };
 
-    ghost invariant = { λ l. AreNumbered (λ c. c.number) l.chunks.items × IsListed
-        (space_in (by_number (λ c. c.number) (λ c. record { object = M.object c.memory; size = c.size }) l.chunks.items)
-        l.live.items l.latest) l.regions.items l.live.items (min (vec_capacity l.regions) (vec_capacity l.spare)) };
+    ghost invariant = { λ l. IsListed (space_in (l.chunks).held (l.live).slots l.latest) (l.runs).regions (l.live).count
+        (l.runs).room l.whole };
 }
 
 impl<M: MemoryObject, A: Allocator + Copy> FreeList<M, A> {
-    /// A list of no chunk. `alloc` gives the memory of its vectors, of which this call takes none.
+    /// A list of no chunk. `alloc` gives the memory of its stores, of which this call takes none.
     pub fn new(alloc: A) -> Self
         ensures empty { result.space ≡ no_space }
         ensures sound { IsSoundSpace result.space }
     {
         FreeList {
-            chunks: Vec::new(alloc),
-            regions: Vec::new(alloc),
-            spare: Vec::new(alloc),
-            live: Vec::new(alloc),
+            chunks: Chunks::new(alloc),
+            runs: Runs::new(alloc),
+            live: Live::new(alloc),
+            whole: 0,
             latest: 0,
         }
     }
@@ -103,13 +92,9 @@ impl<M: MemoryObject, A: Allocator> FreeList<M, A> {
         ensures succeeds { 0 < self.old.room → IsOk result }
         ensures kept { self.new.space ≡ self.old.space }
     {
-        let runs = self.live.len().checked_add(2).ok_or(AllocError)?;
-        self.chunks.reserve(1)?;
-        self.live.reserve(1)?;
-        self.regions.reserve(runs)?;
-        let all = self.regions.len().checked_add(runs).ok_or(AllocError)?;
-        self.spare.clear();
-        self.spare.reserve(all)
+        self.chunks.reserve()?;
+        self.live.reserve()?;
+        self.runs.reserve(self.live.len())
     }
 
     /// A block that is the tail of a new chunk: all from the last multiple of `align_mask + 1` on that leaves `size`
@@ -153,20 +138,16 @@ impl<M: MemoryObject, A: Allocator> FreeList<M, A> {
             end: memory_size,
         };
         let slot = tail_of(whole, memory.object(), size, align_mask);
-        self.chunks.push_reserved(ListChunk {
-            number,
-            memory,
-            size: memory_size,
-        });
+        self.chunks.push(number, memory, memory_size);
         if slot.offset > 0 {
-            self.regions.push_reserved(FreeListRegion {
+            self.runs.push(FreeListRegion {
                 chunk: number,
                 start: 0,
                 end: slot.offset,
             });
         }
-        keep(&mut self.live, slot);
-        Ok(FreeListBlock::new(handle, slot, 0))
+        let key = self.live.keep(slot);
+        Ok(FreeListBlock::new(handle, slot, key))
     }
 
     /// A block as [`get_block_from_new_memory`](FreeList::get_block_from_new_memory) gives it, in a chunk that the
@@ -232,16 +213,17 @@ impl<M: MemoryObject, A: Allocator> FreeList<M, A> {
         ensures stays { OnErr result (self.old.room ≤ self.new.room) }
         ensures sound { IsSoundSpace self.new.space }
     {
-        let Some(index) = last_with_room(self.regions.as_slice(), size, align_mask) else {
+        let Some(index) = self.runs.last_with_room(size, align_mask) else {
             return Ok(None);
         };
         self.reserve()?;
-        let region = self.regions[index];
+        let region = self.runs.get(index);
         let memory = self.chunk(region.chunk).memory.duplicate()?;
         let slot = tail_of(region, memory.object(), size, align_mask);
-        take_tail(&mut self.regions, index, slot.offset);
-        keep(&mut self.live, slot);
-        Ok(Some(FreeListBlock::new(memory, slot, 0)))
+        self.whole -= usize::from(self.chunks.is_whole(region));
+        self.runs.cut(index, slot.offset);
+        let key = self.live.keep(slot);
+        Ok(Some(FreeListBlock::new(memory, slot, key)))
     }
 
     /// Whether some free run has room for such a block, so that `get_block` answers none where it has not.
@@ -250,7 +232,7 @@ impl<M: MemoryObject, A: Allocator> FreeList<M, A> {
         requires alignment { IsAlignMask align_mask }
         ensures { IsTrue result ↔ HasPlace self.now.space size (align_mask + 1) }
     {
-        last_with_room(self.regions.as_slice(), size, align_mask).is_some()
+        self.runs.last_with_room(size, align_mask).is_some()
     }
 
     /// Whether there is a number for one more chunk: not after 2^64 - 1 chunks.
@@ -264,7 +246,8 @@ impl<M: MemoryObject, A: Allocator> FreeList<M, A> {
     /// was made stays.
     ///
     /// The block has to be live here, by its object, chunk, offset and size. `steps` counts the comparisons of a run
-    /// with the block. A caller who counts nothing makes a counter in a ledger that nothing else uses:
+    /// with the block: no more than the number of runs has binary digits (`few`), and one at least where there is a run
+    /// (`some`). A caller who counts nothing makes a counter in a ledger that nothing else uses:
     ///
     /// ```text
     /// put_back::<M, Brand>(&mut list, block, Blank::new(1));
@@ -281,9 +264,14 @@ impl<M: MemoryObject, A: Allocator> FreeList<M, A> {
         ensures back { self.new.space ≡ without_slot self.old.space block }
         ensures room { self.old.room ≤ self.new.room }
         ensures sound { IsSoundSpace self.new.space }
+        ensures few { (runs : List Region)
+            → ((r : Region) → Contains runs r ↔ IsFreeRun (IsFreeIn self.old.space) r.chunk r.start r.end)
+            → AreRising runs → AreFewComparisons (length runs) steps.old steps.new }
+        ensures some { (r : Region) → IsFreeRun (IsFreeIn self.old.space) r.chunk r.start r.end → steps.old < steps.new }
     {
-        forget(&mut self.live, slot_of(&block));
-        insert(&mut self.regions, &mut self.spare, &block, steps);
+        self.live.forget(key_of(&block), slot_of(&block));
+        let joint = self.runs.put_back(&block, steps);
+        self.whole += usize::from(self.chunks.is_whole(joint));
         let _ = into_parts(block);
     }
 
@@ -301,14 +289,17 @@ impl<M: MemoryObject, A: Allocator> FreeList<M, A> {
         ensures room { self.old.room ≤ self.new.room }
         ensures sound { IsSoundSpace self.new.space }
     {
-        let index = first_whole(self.regions.as_slice(), self.chunks.as_slice(), keep_last)?;
-        let region = self.regions.remove(index);
-        let chunk = chunk_at(self.chunks.as_slice(), region.chunk);
-        let ListChunk {
+        if none_goes(self.runs.as_slice(), &self.chunks, self.whole, keep_last) {
+            return None;
+        }
+        let index = first_whole(self.runs.as_slice(), &self.chunks, keep_last)?;
+        let region = self.runs.remove(index);
+        let NumberedChunk {
             number,
             memory,
             size,
-        } = self.chunks.remove(chunk);
+        } = self.chunks.remove(region.chunk);
+        self.whole -= 1;
         Some((memory, size, number))
     }
 
@@ -318,25 +309,24 @@ impl<M: MemoryObject, A: Allocator> FreeList<M, A> {
             ↔ IsFreeRun (IsFreeIn self.now.space) r.chunk r.start r.end }
         ensures rising { AreRising result.now }
     {
-        self.regions.as_slice()
+        self.runs.as_slice()
     }
 
     /// A held chunk.
-    pub(super) fn chunk(&self, number: u64) -> &ListChunk<M>
+    pub(super) fn chunk(&self, number: u64) -> &NumberedChunk<M>
         requires { IsSome (map.get (self.now.space).chunks number) }
         ensures { map.get (self.now.space).chunks number
             ≡ Some (record { object = M.object result.now.memory; size = result.now.size }) }
     {
-        let chunk = chunk_at(self.chunks.as_slice(), number);
-        &self.chunks[chunk]
+        self.chunks.get(number)
     }
 
-    /// The allocator of its vectors.
+    /// The allocator of its stores.
     pub(crate) fn allocator(&self) -> A
     where
         A: Copy,
     {
-        *self.regions.allocator()
+        self.runs.allocator()
     }
 
     /// Ends a list that holds no chunk.
@@ -345,98 +335,64 @@ impl<M: MemoryObject, A: Allocator> FreeList<M, A> {
     {
         let FreeList {
             chunks: _,
-            regions: _,
-            spare: _,
+            runs: _,
             live: _,
+            whole: _,
             latest: _,
         } = self;
     }
 }
 
-/// Where a held chunk stands.
-fn chunk_at<M: MemoryObject>(chunks: &[ListChunk<M>], number: u64) -> usize
-    requires rising { AreNumbered (λ c. c.number) chunks.now }
-    requires held { IsSome (map.get (by_number (λ c. c.number) (λ c. c.size) chunks.now) number) }
-    ensures within { result < length chunks.now }
-    ensures number { IfSome (slice_get chunks.now result) (λ c. c.number ≡ number) }
-    ensures size { IfSome (slice_get chunks.now result)
-        (λ c. map.get (by_number (λ c. c.number) (λ c. c.size) chunks.now) number ≡ Some c.size) }
+/// Whether no chunk may go, as the count of the runs that are whole chunks tells.
+fn none_goes<M: MemoryObject, A: Allocator>(
+    regions: &[FreeListRegion],
+    chunks: &Chunks<M, A>,
+    whole: usize,
+    keep_last: bool,
+) -> bool
+    requires held { (r : Region) → Contains regions.now r → IsSome (map.get (chunks.now).held r.chunk) }
+    requires counted { wholes (chunks.now).held regions.now ≡ whole }
+    ensures { IsTrue result
+        → (i : ℕ) (d : Region) → MayBeTaken (chunks.now).held regions.now keep_last d i → ⊥ }
 {
-    match chunks.binary_search_by_key(&number, |chunk| chunk.number) {
-        Ok(at) => at,
-        Err(_) => unreachable!(),
+    match whole {
+        0 => true,
+        1 => keep_last && last_is_whole(regions, chunks),
+        _ => false,
     }
 }
 
-/// Whether a run is a whole chunk.
-fn is_whole<M: MemoryObject>(chunks: &[ListChunk<M>], region: FreeListRegion) -> bool
-    requires rising { AreNumbered (λ c. c.number) chunks.now }
-    requires held { IsSome (map.get (by_number (λ c. c.number) (λ c. c.size) chunks.now) region.chunk) }
-    ensures { IsTrue result ↔ IsWholeRegion (by_number (λ c. c.number) (λ c. c.size) chunks.now) region }
+/// Whether the last run is a whole chunk.
+fn last_is_whole<M: MemoryObject, A: Allocator>(
+    regions: &[FreeListRegion],
+    chunks: &Chunks<M, A>,
+) -> bool
+    requires { (r : Region) → Contains regions.now r → IsSome (map.get (chunks.now).held r.chunk) }
+    ensures { IsTrue result → (d : Region) → (last : ℕ) × ((last + 1 ≡ length regions.now)
+        × IsWholeChunk (chunks.now).held (slice_index_or regions.now last d)) }
 {
-    region.start == 0 && chunks[chunk_at(chunks, region.chunk)].size == region.end
+    match regions.last() {
+        Some(&run) => chunks.is_whole(run),
+        None => false,
+    }
 }
 
 /// Where the first run stands that is a whole chunk: the last run is passed over, where it is to be kept.
-fn first_whole<M: MemoryObject>(
+fn first_whole<M: MemoryObject, A: Allocator>(
     regions: &[FreeListRegion],
-    chunks: &[ListChunk<M>],
+    chunks: &Chunks<M, A>,
     keep_last: bool,
 ) -> Option<usize>
-    requires rising { AreNumbered (λ c. c.number) chunks.now }
-    requires held { (r : Region) → Contains regions.now r
-        → IsSome (map.get (by_number (λ c. c.number) (λ c. c.size) chunks.now) r.chunk) }
-    ensures some { IfSome result
-        (λ i. (d : Region)
-        → IsFirstWhole (by_number (λ c. c.number) (λ c. c.size) chunks.now) regions.now keep_last d i) }
+    requires held { (r : Region) → Contains regions.now r → IsSome (map.get (chunks.now).held r.chunk) }
+    ensures some { IfSome result (λ i. (d : Region) → IsFirstWhole (chunks.now).held regions.now keep_last d i) }
     ensures none { IfNone result
-        ((i : ℕ) (d : Region)
-        → MayBeTaken (by_number (λ c. c.number) (λ c. c.size) chunks.now) regions.now keep_last d i → ⊥) }
+        ((i : ℕ) (d : Region) → MayBeTaken (chunks.now).held regions.now keep_last d i → ⊥) }
 {
     let kept = usize::from(keep_last);
     for index in 0..regions.len().saturating_sub(kept) {
-        if is_whole(chunks, regions[index]) {
+        if chunks.is_whole(regions[index]) {
             return Some(index);
         }
     }
     None
-}
-
-/// Whether a block comes before another one: by chunk number, then by where each starts.
-fn is_before(slot: &Slot, other: &Slot) -> bool
-    ensures { IsTrue result ↔ (slot.now.chunk < other.now.chunk)
-        ⊎ ((slot.now.chunk ≡ other.now.chunk) × (slot.now.offset < other.now.offset)) }
-{
-    (slot.chunk, slot.offset) < (other.chunk, other.offset)
-}
-
-/// Adds a block to those that are live, in their order.
-fn keep<A: Allocator>(live: &mut Vec<Slot, A>, slot: Slot)
-    requires room { vec_len live.old < vec_capacity live.old }
-    ensures live { slot_set live.new.items ≡ set.insert (slot_set live.old.items) slot }
-    ensures once { IsDistinct same_slot live.old.items → set.contains (slot_set live.old.items) slot ≡ false
-        → IsDistinct same_slot live.new.items }
-    ensures len { vec_len live.new ≡ vec_len live.old + 1 }
-    ensures capacity { vec_capacity live.old ≤ vec_capacity live.new }
-{
-    let after = live.iter().position(|other| is_before(&slot, other));
-    let place = after.unwrap_or(live.len());
-    live.insert(place, slot).unwrap();
-}
-
-/// Takes a block off those that are live.
-fn forget<A: Allocator>(live: &mut Vec<Slot, A>, slot: Slot)
-    requires once { IsDistinct same_slot live.old.items }
-    requires live { IsTrue (set.contains (slot_set live.old.items) slot) }
-    ensures once { IsDistinct same_slot live.new.items }
-    ensures live { slot_set live.new.items ≡ set.remove (slot_set live.old.items) slot }
-    ensures len { vec_len live.new + 1 ≡ vec_len live.old }
-    ensures capacity { vec_capacity live.new ≡ vec_capacity live.old }
-{
-    match live.iter().position(|other| *other == slot) {
-        Some(at) => {
-            let _ = live.remove(at);
-        }
-        None => unreachable!(),
-    }
 }

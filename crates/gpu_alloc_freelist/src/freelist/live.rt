@@ -38,10 +38,18 @@ impl<A: Allocator> Live<A> {
     /// No live block. `alloc` gives the memory of the blocks, of which this call takes none.
     pub(super) fn new(alloc: A) -> Self
         ensures empty { result.slots ≡ set.empty }
+        ensures count { result.count ≡ 0 }
     {
         Live {
             slots: Slab::new(alloc),
         }
+    }
+
+    /// How many blocks are live.
+    pub(super) fn len(&self) -> usize
+        ensures { result ≡ self.now.count }
+    {
+        self.slots.len()
     }
 
     /// Makes room for one more block, so that one `keep` cannot fail.
@@ -51,7 +59,7 @@ impl<A: Allocator> Live<A> {
         ensures room { OnOk result (0 < self.new.room) }
         ensures stays { self.old.room ≤ self.new.room }
         ensures succeeds { 0 < self.old.room → IsOk result }
-        ensures kept { self.new.slots ≡ self.old.slots }
+        ensures kept { (self.new.slots ≡ self.old.slots) × (self.new.count ≡ self.old.count) }
     {
         self.slots.reserve(1)
     }
@@ -61,7 +69,7 @@ impl<A: Allocator> Live<A> {
         requires room { 0 < self.old.room }
         requires fresh { set.contains self.old.slots slot ≡ false }
         ensures slots { self.new.slots ≡ set.insert self.old.slots slot }
-        ensures len { set.len self.new.slots ≡ set.len self.old.slots + 1 }
+        ensures count { self.new.count ≡ self.old.count + 1 }
         ensures room { self.old.room ≡ self.new.room + 1 }
     {
         self.slots.insert_reserved(slot)
@@ -73,7 +81,7 @@ impl<A: Allocator> Live<A> {
     pub(super) fn forget(&mut self, key: usize, slot: Slot)
         requires live { IsTrue (set.contains self.old.slots slot) }
         ensures slots { self.new.slots ≡ set.remove self.old.slots slot }
-        ensures len { set.len self.new.slots + 1 ≡ set.len self.old.slots }
+        ensures count { self.new.count + 1 ≡ self.old.count }
         ensures room { self.new.room ≡ self.old.room + 1 }
     {
         match key_of(&self.slots, key, slot) {

@@ -58,14 +58,19 @@ impl<A: Allocator> Runs<A> {
         }
     }
 
-    /// Makes room for so many more runs. The only refusal is want of memory. The runs stay as they are, and the room is
-    /// no less, after a refusal too.
-    pub(super) fn reserve(&mut self, runs: usize) -> Result<(), AllocError>
-        ensures room { OnOk result (runs ≤ self.new.room) }
+    /// Makes room for a run more with each of so many live blocks, and for two more. The only refusal is want of memory.
+    /// The runs stay as they are, and the room is no less, after a refusal too.
+    pub(super) fn reserve(&mut self, live: usize) -> Result<(), AllocError>
+        ensures room { OnOk result (live + 2 ≤ self.new.room) }
         ensures stays { self.old.room ≤ self.new.room }
-        ensures succeeds { runs ≤ self.old.room → IsOk result }
+        ensures succeeds { live + 2 ≤ self.old.room → IsOk result }
         ensures kept { self.new.regions ≡ self.old.regions }
     {
+        let spare = self.regions.capacity() - self.regions.len();
+        if spare.saturating_sub(live) >= 2 {
+            return Ok(());
+        }
+        let runs = live.checked_add(2).ok_or(AllocError)?;
         self.regions.reserve(runs)
     }
 
@@ -144,20 +149,21 @@ impl<A: Allocator> Runs<A> {
     }
 
     /// Puts a block back that has no byte in common with a run, where `reserve` made room: it is joined with the run
-    /// before it and the run behind it where it touches them, in place. `steps` counts the comparisons of a run with
-    /// the block: no more than the number of runs has binary digits.
+    /// before it and the run behind it where it touches them, in place, and what comes of it is told. `steps` counts the
+    /// comparisons of a run with the block: no more than the number of runs has binary digits.
     pub(super) fn put_back<M: MemoryObject, L: Ledger>(
         &mut self,
         block: &FreeListBlock<M>,
         steps: &mut Steps<L>,
-    )
+    ) -> FreeListRegion
         requires nonempty { 0 < block.now.size }
         requires fits { block.now.offset + block.now.size < 2 ^ 64 }
         requires apart { All (λ r. IsApart r (region_of block.now)) self.old.regions }
         requires room { 0 < self.old.room }
-        ensures joined { PutsBack self.old.regions (region_of block.now) self.new.regions }
+        ensures joined { PutsBack self.old.regions (region_of block.now) result self.new.regions }
         ensures one_more { length self.new.regions ≤ length self.old.regions + 1 }
         ensures capacity { length self.new.regions + self.new.room ≡ length self.old.regions + self.old.room }
+        ensures bounded { length self.new.regions < 2 ^ 64 }
         ensures few { AreFewComparisons (length self.old.regions) steps.old steps.new }
         ensures some { 0 < length self.old.regions → steps.old < steps.new }
         ensures counted { steps.old ≤ steps.new }
@@ -165,6 +171,7 @@ impl<A: Allocator> Runs<A> {
         let place = place_of(self.regions.as_slice(), block, steps);
         let joint = join(self.regions.as_slice(), place, slot_of(block));
         splice(&mut self.regions, joint);
+        joint.region
     }
 }
 

@@ -1,21 +1,22 @@
 use Rattle.std.proofs.Common.{◌≡◌, ◌+◌, ◌-◌, ◌<◌, ◌↔◌, ℕ, Bool, true, false, refl, subst, arith, length, get_or, List, IsTrue}
 use Rattle.std.proofs.lemmas.List.{get_or_default}
-use Rattle.std.specs.FinMap as map
-use Rattle.std.specs.Ordering.{nat_cmp}
-use Rattle.gpu_alloc_freelist.specs.FreeListInside.{IsWholeRegion, MayBeTaken}
+use Rattle.gpu_alloc_base.specs.Accounts.{HeldChunks}
 use Rattle.gpu_alloc_base.specs.declared.region.FreeListRegion.{FreeListRegion}
+use Rattle.gpu_alloc_freelist.specs.Chunks.{IsWholeChunk}
+use Rattle.gpu_alloc_freelist.specs.FreeListInside.{MayBeTaken}
 use Rattle.gpu_alloc_freelist.proofs.freelist.list.first_whole.Goals as goal
 use borrow.Author.Count.{below_more}
 use mir.Val.{bool_byte}
 
 -- whether a run is whole does not turn on what a read past the end gives
-whole_at : (sizes : map.FinMap nat_cmp ℕ) (regions : List FreeListRegion) (i : ℕ) (d e : FreeListRegion) → i < length regions → IsWholeRegion sizes (get_or regions i d) → IsWholeRegion sizes (get_or regions i e)
-whole_at sizes regions i d e within = subst (IsWholeRegion sizes) (get_or_default regions i d e within)
+whole_at : (held : HeldChunks) (regions : List FreeListRegion) (i : ℕ) (d e : FreeListRegion) → i < length regions → IsWholeChunk held (get_or regions i d) → IsWholeChunk held (get_or regions i e)
+whole_at held regions i d e within = subst (IsWholeChunk held) (get_or_default regions i d e within)
 
 -- one more that may not be taken
-none_yet : (sizes : map.FinMap nat_cmp ℕ) (regions : List FreeListRegion) (keep_last : Bool) (e : FreeListRegion) (found : Bool) (i : ℕ) → found ≡ false → IsTrue found ↔ IsWholeRegion sizes (get_or regions i e) → ((k : ℕ) (d : FreeListRegion) → k < i → MayBeTaken sizes regions keep_last d k → ⊥) → (k : ℕ) (d : FreeListRegion) → k < i + 1 → MayBeTaken sizes regions keep_last d k → ⊥
-none_yet sizes regions keep_last e found i missed is before k d lt =
-    below_more (λ (n : ℕ). MayBeTaken sizes regions keep_last d n → ⊥) i (λ n less. before n d less) (λ t. let yes = is.1 (whole_at sizes regions i d e t.within t.whole) in cc) k lt
+none_yet : (held : HeldChunks) (regions : List FreeListRegion) (keep_last : Bool) (e : FreeListRegion) (found : Bool) (i : ℕ) → found ≡ false → IsTrue found ↔ IsWholeChunk held (get_or regions i e)
+    → ((k : ℕ) (d : FreeListRegion) → k < i → MayBeTaken held regions keep_last d k → ⊥) → (k : ℕ) (d : FreeListRegion) → k < i + 1 → MayBeTaken held regions keep_last d k → ⊥
+none_yet held regions keep_last e found i missed is before k d lt =
+    below_more (λ (n : ℕ). MayBeTaken held regions keep_last d n → ⊥) i (λ n less. before n d less) (λ t. let yes = is.1 (whole_at held regions i d e t.within t.whole) in cc) k lt
 
 -- an index that may be taken is one that was looked at
 looked_at : (keep_last : Bool) (len kept end i : ℕ) → kept ≡ bool_byte keep_last → end ≡ len - kept → i < len → (keep_last ≡ true → i + 1 < len) → i < end

@@ -4,8 +4,7 @@ use Rattle.gpu_alloc_freelist.proofs.freelist.list.FreeList.has_place.Goals as g
 
 pub returns : goal.returns
 returns g c =
-    let slice = c.as_slice.ensures.value in
     rw (← c.self.view_is, c.is_some.ensures) (
-    found_or_none _ c.self.inside.regions.items c.self.invariant.1.runs c.args.size (c.args.align_mask + 1) (omega arith) c.last_with_room.result c.requires.nonempty
-    (rw (slice) at c.last_with_room.ensures.some) (rw (slice) at c.last_with_room.ensures.none)
+    found_or_none _ c.self.inside.runs.regions c.self.invariant.runs c.args.size (c.args.align_mask + 1) (omega arith) c.last_with_room.result c.requires.nonempty
+    c.last_with_room.ensures.some c.last_with_room.ensures.none
     )

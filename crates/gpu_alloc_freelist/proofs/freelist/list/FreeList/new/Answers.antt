@@ -1,10 +1,15 @@
-use Rattle.std.proofs.Common.{arith}
+use Rattle.std.proofs.Common.{[], sym, subst}
+use Rattle.std.specs.FinSet as set
+use Rattle.gpu_alloc_base.specs.Accounts.{HeldChunks}
+use Rattle.gpu_alloc_freelist.specs.FreeListInside.{IsListed, space_in}
+use Rattle.gpu_alloc_freelist.specs.FreeListSound.{IsSoundSpace}
 use Rattle.gpu_alloc_freelist.proofs.FreeListEmpty.{sound_space, listed_none}
 use Rattle.gpu_alloc_freelist.proofs.freelist.list.FreeList.new.Goals as goal
 
 pub invariant_of-result : goal.invariant_of-result
 invariant_of-result g c =
-    rw (c.new.ensures.items, c.new-2.ensures.items, c.new-4.ensures.items) ((λ i j d less within. absurd (omega arith)), listed_none _)
+    rw (c.new-2.ensures.regions, c.new-2.ensures.room, c.new-3.ensures.empty, c.new-3.ensures.count)
+    (subst (λ (held : HeldChunks). IsListed (space_in held set.empty 0) [] 0 0 0) (sym c.new.ensures.empty) listed_none)
 
 pub returns-clause-sound : goal.returns-clause-sound
-returns-clause-sound g c = rw (c.new.ensures.items, c.new-4.ensures.items) sound_space
+returns-clause-sound g c = rw (c.new-3.ensures.empty) (subst (λ (held : HeldChunks). IsSoundSpace (space_in held set.empty 0)) (sym c.new.ensures.empty) sound_space)

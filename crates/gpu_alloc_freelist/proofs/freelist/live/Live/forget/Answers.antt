@@ -4,7 +4,7 @@ use Rattle.gpu_alloc_base.specs.declared.free_list_block.Slot.{Slot}
 use Rattle.gpu_alloc_base.proofs.SlabViews.{IsRemoved, set_removed}
 use Rattle.gpu_alloc_base.proofs.Slots.{slot_total, slot_exact}
 use Rattle.gpu_alloc_freelist.specs.Live.{slots_in}
-use Rattle.gpu_alloc_freelist.proofs.LiveBlocks.{len_forgot, live_stands}
+use Rattle.gpu_alloc_freelist.proofs.LiveBlocks.{live_stands}
 use Rattle.gpu_alloc_freelist.proofs.freelist.live.Live.forget.Given.{Over}
 use Rattle.gpu_alloc_freelist.proofs.freelist.live.Live.forget.Goals as goal
 
@@ -19,8 +19,3 @@ fewer g c = set_removed slot_total slot_exact (λ (x : Slot). x) _ _ _ _ c.self.
 
 pub returns-clause-slots : goal.returns-clause-slots
 returns-clause-slots g c = rw (← c.self.view_is) (fewer g c)
-
-pub returns-clause-len : goal.returns-clause-len
-returns-clause-len g c =
-    let live : set.contains (slots_in c.self.inside.slots) c.args.slot ≡ true = rw (← c.self.view_is) at c.requires.live in
-    rw (fewer g c, ← c.self.view_is) (len_forgot (slots_in c.self.inside.slots) c.args.slot live)

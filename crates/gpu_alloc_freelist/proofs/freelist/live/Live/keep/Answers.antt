@@ -5,7 +5,7 @@ use Rattle.gpu_alloc_base.specs.declared.free_list_block.Slot.{Slot}
 use Rattle.gpu_alloc_base.proofs.SlabViews.{IsInserted, set_inserted}
 use Rattle.gpu_alloc_base.proofs.Slots.{slot_total, slot_exact}
 use Rattle.gpu_alloc_freelist.specs.Live.{LiveBlocks, slots_in}
-use Rattle.gpu_alloc_freelist.proofs.LiveBlocks.{len_kept, once_kept}
+use Rattle.gpu_alloc_freelist.proofs.LiveBlocks.{once_kept}
 use Rattle.gpu_alloc_freelist.proofs.freelist.live.Live.keep.Given.{Over}
 use Rattle.gpu_alloc_freelist.proofs.freelist.live.Live.keep.Goals as goal
 
@@ -23,6 +23,3 @@ invariant_of-self g c = once_kept _ _ _ _ c.self.invariant (fresh g c) (inserted
 
 pub returns-clause-slots : goal.returns-clause-slots
 returns-clause-slots g c = rw (← c.self.view_is) (more g c)
-
-pub returns-clause-len : goal.returns-clause-len
-returns-clause-len g c = rw (← c.self.view_is) (ap (λ (s : set.FinSet slot_cmp). set.len s) (more g c) ∙ len_kept (slots_in c.self.inside.slots) c.args.slot (fresh g c))

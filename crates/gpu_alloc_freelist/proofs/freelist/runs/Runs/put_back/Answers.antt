@@ -22,12 +22,11 @@ splice-requires-clause-two g c =
     let joint = rw (c.as_slice-2.ensures.value, c.slot_of.ensures) at (c.join-joint.ensures x) in
     joint_two c.self.inside.regions.items _ x x _ _ _ joint at.within
 
-puts_back : (g : Over) (c : goal.After-splice g) → PutsBack c.self.inside.regions.items (region_of c.args.block.now) c.splice.new.regions.items
+puts_back : (g : Over) (c : goal.After-result-1 g) → PutsBack c.self.inside.regions.items (region_of c.args.block.now) c.join-joint.result.region c.splice.new.regions.items
 puts_back g c = record {
   place = c.place_of-place.result;
   from = c.join-joint.result.from;
   to = c.join-joint.result.to;
-  joint = c.join-joint.result.region;
   at = rw c.as_slice.ensures.value at c.place_of-place.ensures.place;
   joined = λ d. rw (c.as_slice-2.ensures.value, c.slot_of.ensures) at (c.join-joint.ensures d);
   is = c.splice.ensures.items;
@@ -35,7 +34,7 @@ puts_back g c = record {
 
 pub invariant_of-self : goal.invariant_of-self
 invariant_of-self g c =
-    put_back_sorted c.self.inside.regions.items c.self.invariant (region_of c.args.block.now) c.splice.new.regions.items
+    put_back_sorted c.self.inside.regions.items c.self.invariant (region_of c.args.block.now) c.join-joint.result.region c.splice.new.regions.items
     (rw (← c.self.view_is) at c.requires.apart) (omega (arith, c.requires.nonempty)) (puts_back g c)
 
 pub returns-clause-joined : goal.returns-clause-joined
@@ -43,4 +42,4 @@ returns-clause-joined g c = rw (← c.self.view_is) (puts_back g c)
 
 pub returns-clause-one_more : goal.returns-clause-one_more
 returns-clause-one_more g c =
-    rw (← c.self.view_is) (put_back_length c.self.inside.regions.items (region_of c.args.block.now) c.splice.new.regions.items (puts_back g c))
+    rw (← c.self.view_is) (put_back_length c.self.inside.regions.items (region_of c.args.block.now) c.join-joint.result.region c.splice.new.regions.items (puts_back g c))
