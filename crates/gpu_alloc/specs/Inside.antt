@@ -165,9 +165,9 @@ span_of_slot slot = record { object = slot.object; offset = slot.offset; size = 
 abbrev pub slot_at : Span → ℕ → Slot
 slot_at span number = record { object = span.object; chunk = number; offset = span.offset; size = span.size }
 
--- a block of a free list has no place in a store of its own
-abbrev pub no_place : Place
-no_place = record { chunk = 0; index = 0 }
+-- a block of a free list stands under its key there
+abbrev pub place_of_slot : ℕ → Place
+place_of_slot key = record { chunk = 0; index = key }
 
 -- the held objects with the block's chunk, where it was not among them
 abbrev pub with_chunk_of_slot : map_of.FinMap nat_cmp HeldObject → Slot → HeldObject → map_of.FinMap nat_cmp HeldObject

@@ -568,9 +568,9 @@ impl<M: MemoryObject, A: Allocator> GpuAllocator<M, A> {
             Ok(block) => {
                 let props = self.limits.props(memory_type);
                 let atom = self.limits.atom(memory_type);
-                let (memory, slot) = free_list_block::into_parts(block);
+                let (memory, slot, list_key) = free_list_block::into_parts(block);
                 let chunk_size = self.free_lists[own].chunk_size(slot.chunk);
-                let key = add_slot(&mut self.spans, slot, memory_type, chunk_size);
+                let key = add_slot(&mut self.spans, slot, list_key, memory_type, chunk_size);
                 Ok(Some(MemoryBlock::new(
                     memory,
                     slot.offset,

@@ -31,7 +31,8 @@ pub struct LiveSpan {
     /// The block's chunk among those of its buddy allocator, or 0 where the block is none of a buddy allocator.
     pub chunk: usize,
 
-    /// The block's place in its buddy allocator's own store, or 0 where the block is none of a buddy allocator.
+    /// The block's place in its buddy allocator's own store, or its key in its free list, or 0 where the block has an
+    /// object of its own.
     pub index: usize,
 }
 

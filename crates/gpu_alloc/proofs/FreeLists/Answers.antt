@@ -24,7 +24,7 @@ use Rattle.gpu_alloc_types.specs.Flags.{has_bit}
 use Rattle.gpu_alloc.proofs.NewObjects.{counted_new}
 use Rattle.gpu_alloc_freelist.specs.FreeListSound.{IsSound}
 use Rattle.gpu_alloc_freelist.specs.FreeListState.{Listing}
-use Rattle.gpu_alloc.specs.Inside.{state_in, properties_in, with_chunk_of_slot, span_of_slot, slot_at, no_place, IsConsistent}
+use Rattle.gpu_alloc.specs.Inside.{state_in, properties_in, with_chunk_of_slot, span_of_slot, slot_at, place_of_slot, IsConsistent}
 use Rattle.gpu_alloc.specs.FreeListSharing.{list_question, list_block, latest_number, tail_of, with_list_chunk}
 use Rattle.gpu_alloc_base.specs.NewChunk.{ChunkQuestion, made}
 use Rattle.gpu_alloc.specs.BuddySharing.{with_span}
@@ -82,14 +82,14 @@ module _ {A : Type 0} {limits : Limits A} {heaps : List Heap} {buddies : List Bu
   block = list_block before index slot.chunk (span_of_slot slot)
 
   -- The table with the block's span, and its chunk where that is new.
-  module _ (now : Table) (counted : ℕ) (sound : IsSound after.allocator) (size_is : IfSome (finite.get after.allocator.space.chunks slot.chunk) (λ c. c.size ≡ counted))
+  module _ (now : Table) (counted key : ℕ) (sound : IsSound after.allocator) (size_is : IfSome (finite.get after.allocator.space.chunks slot.chunk) (λ c. c.size ≡ counted))
       (held : now.held ≡ with_chunk_of_slot t.held slot (record { memory_type = index; counted = counted; kind = FreeListChunk slot.chunk }))
-      (live : now.live ≡ set_of.insert t.live (span_of_slot slot)) (places : now.places ≡ finite.insert t.places (span_of_slot slot) no_place) where
+      (live : now.live ≡ set_of.insert t.live (span_of_slot slot)) (places : now.places ≡ finite.insert t.places (span_of_slot slot) (place_of_slot key)) where
     abbrev chunk_row : HeldObject
     chunk_row = record { memory_type = index; counted = counted; kind = FreeListChunk slot.chunk }
 
     more : HasSlotMore t now slot
-    more = record { free = slot_is_free; live = live; places = places }
+    more = record { key = key; free = slot_is_free; live = live; places = places }
 
     abbrev state_of : Account Listing → State
     state_of a = state_in limits (set heaps i a.heap) buddies (set lists index a.allocator) now a.remaining

@@ -12,7 +12,7 @@ use Rattle.gpu_alloc_base.specs.Accounts.{IsCounted}
 use Rattle.gpu_alloc_freelist.specs.FreeListAllocator.{listing_with_slot, chunk_size, next_size}
 use Rattle.gpu_alloc_freelist.specs.FreeListSound.{IsSound}
 use Rattle.gpu_alloc_freelist.specs.FreeListState.{Listing}
-use Rattle.gpu_alloc.specs.Inside.{state_in, properties_in, types_in, lists_in, list_object, span_of_slot, no_place, IsConsistent, IsListOf}
+use Rattle.gpu_alloc.specs.Inside.{state_in, properties_in, types_in, lists_in, list_object, span_of_slot, place_of_slot, IsConsistent, IsListOf}
 use Rattle.gpu_alloc.specs.FreeListSharing.{list_question, largest_list_chunk, latest_number, with_next_list, with_list_chunk}
 use Rattle.gpu_alloc.specs.BuddySharing.{with_span}
 use Rattle.gpu_alloc_base.specs.Sizes.{up, doubled_chunk}
@@ -108,7 +108,7 @@ module _ {A : Type 0} (limits : Limits A) (heaps : List Heap) (buddies : List Bu
       }
 
       slot_beside : IsBeside t now slot.object
-      slot_beside = beside_more t now (span_of_slot slot) (λ q other. ap (λ (x : Held). finite.get x q) held) no_place more.live more.places
+      slot_beside = beside_more t now (span_of_slot slot) (λ q other. ap (λ (x : Held). finite.get x q) held) (place_of_slot more.key) more.live more.places
 
       found_still : finite.get now.held slot.object ≡ Some (list_object l slot.chunk chunk)
       found_still = ap (λ (x : Held). finite.get x slot.object) held ∙ chunk_held
@@ -157,7 +157,7 @@ module _ {A : Type 0} (limits : Limits A) (heaps : List Heap) (buddies : List Bu
       found_now = ap (λ (x : Held). finite.get x slot.object) held ∙ own_inserted t.held slot.object object_of
 
       chunk_beside : IsBeside t now slot.object
-      chunk_beside = beside_more t now (span_of_slot slot) (λ q other. ap (λ (x : Held). finite.get x q) held ∙ other_inserted t.held slot.object object_of q other) no_place more.live more.places
+      chunk_beside = beside_more t now (span_of_slot slot) (λ q other. ap (λ (x : Held). finite.get x q) held ∙ other_inserted t.held slot.object object_of q other) (place_of_slot more.key) more.live more.places
 
       pub consistent_with_list_chunk : IsConsistentWith list_after changed now (remaining - 1)
       consistent_with_list_chunk =

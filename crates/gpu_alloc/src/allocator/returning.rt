@@ -121,8 +121,9 @@ impl<M: MemoryObject, A: Allocator> GpuAllocator<M, A> {
             offset,
             size,
         };
-        self.spans.remove(key, slot.object, offset, size, false);
-        self.free_lists[memory_type as usize].free(FreeListBlock::new(memory, slot));
+        let removed = self.spans.remove(key, slot.object, offset, size, false);
+        let list_key = removed.span.index;
+        self.free_lists[memory_type as usize].free(FreeListBlock::new(memory, slot, list_key));
     }
 
     /// Gives a memory type's free-list chunks in which no block is live back to the device, the oldest first, but not

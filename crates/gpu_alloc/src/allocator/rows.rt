@@ -3,8 +3,8 @@
 ghost use Rattle.std.specs.Prelude.{◌≡◌, ◌+◌, ◌^◌, ◌<◌, false};
 ghost use Rattle.std.specs.FinMap as map;
 ghost use Rattle.std.specs.FinSet as set;
-ghost use Rattle.gpu_alloc.specs.Inside.{span_of_leaf, place_of_leaf, leaf_at, with_chunk_of, span_of_slot, no_place};
-ghost use Rattle.gpu_alloc.specs.Inside.{with_chunk_of_slot};
+ghost use Rattle.gpu_alloc.specs.Inside.{span_of_leaf, place_of_leaf, leaf_at, with_chunk_of, span_of_slot};
+ghost use Rattle.gpu_alloc.specs.Inside.{place_of_slot, with_chunk_of_slot};
 ghost use Rattle.gpu_alloc.specs.Spans.{span_in, place_in};
 
 use crate::spans::{HeldRow, LiveSpan, Spans};
@@ -46,11 +46,13 @@ pub(super) fn add_leaf<A: Allocator>(
     spans.insert(span, chunk)
 }
 
-/// Adds the span of a free list's block, and its chunk where it was not held, into room that was made.
+/// Adds the span of a free list's block with its key in that list, and its chunk where it was not held, into room that
+/// was made.
 #[inline(always)]
 pub(super) fn add_slot<A: Allocator>(
     spans: &mut Spans<A>,
     slot: Slot,
+    list_key: usize,
     memory_type: u32,
     chunk_size: u64,
 ) -> usize
@@ -62,7 +64,7 @@ pub(super) fn add_slot<A: Allocator>(
       kind = Kind.FreeListChunk slot.chunk;
     }) }
     ensures live { spans.new.live ≡ set.insert spans.old.live (span_of_slot slot) }
-    ensures places { spans.new.places ≡ map.insert spans.old.places (span_of_slot slot) no_place }
+    ensures places { spans.new.places ≡ map.insert spans.old.places (span_of_slot slot) (place_of_slot list_key) }
 {
     let chunk = match spans.held(slot.object) {
         Some(_) => None,
@@ -77,7 +79,7 @@ pub(super) fn add_slot<A: Allocator>(
         offset: slot.offset,
         size: slot.size,
         chunk: 0,
-        index: 0,
+        index: list_key,
     };
     spans.insert(span, chunk)
 }

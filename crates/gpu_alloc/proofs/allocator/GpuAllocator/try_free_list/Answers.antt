@@ -7,7 +7,7 @@ use Rattle.std.specs.FinSet as set_of
 use Rattle.gpu_alloc_types.specs.Flags.{allocation_bits}
 use Rattle.gpu_alloc_types.specs.Properties.{Properties}
 use Rattle.gpu_alloc_base.specs.Accounts.{account}
-use Rattle.gpu_alloc.specs.Inside.{state_in, properties_in, with_chunk_of_slot, span_of_slot, no_place}
+use Rattle.gpu_alloc.specs.Inside.{state_in, properties_in, with_chunk_of_slot, span_of_slot, place_of_slot}
 use Rattle.gpu_alloc_base.specs.Case.{GivesInPlace, GivesInNewObject}
 use Rattle.gpu_alloc_base.specs.NewChunk.{flags_of}
 use Rattle.gpu_alloc.specs.FreeListSharing.{list_block, list_size}
@@ -134,10 +134,10 @@ live_is g c =
     c.add_slot-key.ensures.live ∙ ap (λ (t : Table). set_of.insert t.live (span_of_slot c.into_parts-memory.result.1)) c.reserve.ensures.kept
     ∙ ap (λ slot. set_of.insert c.self.inside.spans.live (span_of_slot slot)) c.into_parts-memory.ensures.slot
 
-places_are : (g : Over) (c : goal.After-new g) → c.add_slot-key.new.spans.places ≡ finite.insert c.self.inside.spans.places (span_of_slot c.in-Ok.block) no_place
+places_are : (g : Over) (c : goal.After-new g) → c.add_slot-key.new.spans.places ≡ finite.insert c.self.inside.spans.places (span_of_slot c.in-Ok.block) (place_of_slot c.into_parts-memory.result.2)
 places_are g c =
-    c.add_slot-key.ensures.places ∙ ap (λ (t : Table). finite.insert t.places (span_of_slot c.into_parts-memory.result.1) no_place) c.reserve.ensures.kept
-    ∙ ap (λ slot. finite.insert c.self.inside.spans.places (span_of_slot slot) no_place) c.into_parts-memory.ensures.slot
+    c.add_slot-key.ensures.places ∙ ap (λ (t : Table). finite.insert t.places (span_of_slot c.into_parts-memory.result.1) (place_of_slot c.into_parts-memory.result.2)) c.reserve.ensures.kept
+    ∙ ap (λ slot. finite.insert c.self.inside.spans.places (span_of_slot slot) (place_of_slot c.into_parts-memory.result.2)) c.into_parts-memory.ensures.slot
 
 abbrev before : (g : Over) → goal.After-new g → State
 before g c = state_in c.self.inside.limits c.self.inside.heaps.items c.self.inside.buddies.items c.self.inside.free_lists.items c.self.inside.spans c.self.inside.allocations_remains
@@ -160,10 +160,10 @@ after g c =
     c.add_slot-key.new.spans c.alloc-answer.new.allocations_remains
 
 is : (g : Over) (c : goal.After-new g)
-    → IsServed (given g c) _ _ _ c.in-Ok.ensures.allocates.0 _ c.in-Ok.ensures.allocates.2 c.in-Ok.ensures.objects (some_bytes c.requires.askable.nonempty c.in-Ok.ensures.granted.enough) c.add_slot-key.new.spans c.chunk_size-chunk_size.result c.in-Ok.ensures.sound (size_is g c) (held_is g c) (live_is g c)
+    → IsServed (given g c) _ _ _ c.in-Ok.ensures.allocates.0 _ c.in-Ok.ensures.allocates.2 c.in-Ok.ensures.objects (some_bytes c.requires.askable.nonempty c.in-Ok.ensures.granted.enough) c.add_slot-key.new.spans c.chunk_size-chunk_size.result c.into_parts-memory.result.2 c.in-Ok.ensures.sound (size_is g c) (held_is g c) (live_is g c)
     (places_are g c) (account c.alloc-answer.new.self c.alloc-answer.new.heap c.alloc-answer.new.allocations_remains)
 is g c =
-    list_served (given g c) _ _ _ c.in-Ok.ensures.allocates.0 _ c.in-Ok.ensures.allocates.2 c.in-Ok.ensures.objects (some_bytes c.requires.askable.nonempty c.in-Ok.ensures.granted.enough) c.add_slot-key.new.spans c.chunk_size-chunk_size.result c.in-Ok.ensures.sound (size_is g c) (held_is g c) (live_is g c)
+    list_served (given g c) _ _ _ c.in-Ok.ensures.allocates.0 _ c.in-Ok.ensures.allocates.2 c.in-Ok.ensures.objects (some_bytes c.requires.askable.nonempty c.in-Ok.ensures.granted.enough) c.add_slot-key.new.spans c.chunk_size-chunk_size.result c.into_parts-memory.result.2 c.in-Ok.ensures.sound (size_is g c) (held_is g c) (live_is g c)
     (places_are g c)
 
 pub invariant_of-self-in-Ok : goal.invariant_of-self-in-Ok
