@@ -35,15 +35,15 @@ IsFoundAt regions size alignment i = (i < length regions) × ((d : FreeListRegio
 -- Lists that rise.
 
 module _ {X : Type 0} (Before : X → X → Type 0) where
-  abbrev Rises : List X → Type 0
+  abbrev pub Rises : List X → Type 0
   Rises xs = (i j : ℕ) (d : X) → i < j → j < length xs → Before (get_or xs i d) (get_or xs j d)
 
   -- the head comes before each later member
-  head_before : (x : X) (xs : List X) (y : X) → Rises (x ∷ xs) → Contains xs y → Before x y
+  pub head_before : (x : X) (xs : List X) (y : X) → Rises (x ∷ xs) → Contains xs y → Before x y
   head_before x xs y rises (k, lt, e) = subst (Before x) e (rises 0 (suc k) y (omega arith) (omega arith))
 
   -- the rest of a list that rises does
-  tail_rises : (x : X) (xs : List X) → Rises (x ∷ xs) → Rises xs
+  pub tail_rises : (x : X) (xs : List X) → Rises (x ∷ xs) → Rises xs
   tail_rises x xs rises i j d lt inside = rises (suc i) (suc j) d (omega arith) (omega arith)
 
   -- lists that rise and have the same members are one

@@ -1,4 +1,5 @@
 pub mod CutBlocks
+pub mod FewRuns
 pub mod FiledChanges
 pub mod FiledRows
 pub mod ForCallers

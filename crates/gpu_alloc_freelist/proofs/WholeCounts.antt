@@ -81,3 +81,8 @@ module _ {X : Type 0} (p : X → Bool) where
       let first : count_by p (take (i + 1) (take j xs)) ≡ count_by p (take i (take j xs)) + one (get_or (take j xs) i d) = count_more (take j xs) i d (omega (arith, before, length-take-le j xs (omega (arith, within)))) in
       let same : one (get_or (take j xs) i d) ≡ one (get_or xs i d) = ap one (get_or-take j xs i d before) in
       omega (arith, count_at xs (j + 1), count_more xs j d within, one_i, one_j, up_to, first, same)
+
+-- all pass a test that each passes
+pub count_all : {X : Type 0} (xs : List X) → count_by (λ _. true) xs ≡ length xs
+count_all [] = refl
+count_all (x ∷ xs) = omega (arith, count_next (λ _. true) x xs, count_all xs)

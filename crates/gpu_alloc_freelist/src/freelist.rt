@@ -1,8 +1,9 @@
 //! The free-list allocator: shared chunks of one memory type, whose blocks are the tails of free runs.
 
 ghost use Rattle.std.specs.Prelude.{◌≡◌, ℕ, ◌+◌, ◌≤◌, ◌<◌, ◌^◌, ◌↔◌, Contains, IfOk, IfSome, OnErr};
-ghost use Rattle.std.specs.Prelude.{IsSome, IsTrue, Some, None, true, false};
+ghost use Rattle.std.specs.Prelude.{IsSome, IsTrue, Some, None, length, true, false};
 ghost use Rattle.std.specs.FinMap as map;
+ghost use Rattle.std.specs.FinSet as set;
 ghost use Rattle.std.specs.Int.{is_power_of_two};
 ghost use Rattle.gpu_alloc_types.specs.Flags.{allocation_bits, property_bits, has_bit, with_device_address};
 ghost use Rattle.gpu_alloc_types.specs.Device.{Asked};
@@ -119,12 +120,15 @@ impl<M: MemoryObject, A: Allocator + Copy> FreeListAllocator<M, A> {
     }
 
     /// The free ranges of the held chunks: the longest ranges of bytes that lie in a chunk and in no live block, by the
-    /// name of their object, then by start. Each is in bytes of its object.
+    /// name of their object, then by start. Each is in bytes of its object. There are no more of them than live blocks and
+    /// held chunks together (`few`).
     ///
     /// The only refusal is want of host memory. Nothing changes.
     pub fn free_ranges(&self) -> Result<Vec<FreeRange, A>, AllocError>
         ensures runs { IfOk result (λ ranges. (r : Range) → Contains ranges.items r ↔ IsRunOf (self.now).space r) }
         ensures order { IfOk result (λ ranges. AreInOrder ranges.items) }
+        ensures few { IfOk result (λ ranges. length ranges.items
+            ≤ set.len ((self.now).space).live + map.len ((self.now).space).chunks) }
     {
         let regions = self.freelist.regions();
         let mut ranges = Vec::with_capacity(self.freelist.allocator(), regions.len())?;

@@ -3,6 +3,7 @@
 ghost use Rattle.std.specs.Prelude.{◌≡◌, ◌≤◌, ◌<◌, ◌+◌, ◌↔◌, ℕ, List, length, slice_index_or, Some};
 ghost use Rattle.std.specs.Prelude.{IfSome, IfNone, IfOk, IfErr, OnOk, OnErr, IsOk, IsSome, IsTrue};
 ghost use Rattle.std.specs.FinMap as map;
+ghost use Rattle.std.specs.FinSet as set;
 ghost use Rattle.std.specs.List.{Contains};
 ghost use Rattle.gpu_alloc_types.specs.Flags.{allocation_bits};
 ghost use Rattle.gpu_alloc_types.specs.Properties.{is_host_visible};
@@ -303,11 +304,13 @@ impl<M: MemoryObject, A: Allocator> FreeList<M, A> {
         Some((memory, size, number))
     }
 
-    /// The free runs, by chunk number, then by start.
+    /// The free runs, by chunk number, then by start. There are no more of them than live blocks and held chunks together
+    /// (`few`).
     pub fn regions(&self) -> &[FreeListRegion]
         ensures runs { (r : Region) → Contains result.now r
             ↔ IsFreeRun (IsFreeIn self.now.space) r.chunk r.start r.end }
         ensures rising { AreRising result.now }
+        ensures few { length result.now ≤ set.len (self.now.space).live + map.len (self.now.space).chunks }
     {
         self.runs.as_slice()
     }

@@ -1,6 +1,8 @@
-use Rattle.std.proofs.Common.{◌≡◌, ◌+◌, ◌↔◌, map, get_or, Contains, sym, ◌∙◌, ap, subst, arith}
+use Rattle.std.proofs.Common.{◌≡◌, ◌+◌, ◌≤◌, ◌↔◌, true, length, map, get_or, Contains, sym, ◌∙◌, ap, subst, arith}
 use Rattle.std.specs.FinMap as map_of
+use Rattle.std.specs.FinSet as set
 use Rattle.std.specs.List.{IsDistinct}
+use Rattle.std.proofs.lemmas.List.{length-map}
 use Rattle.std.proofs.lemmas.List.Elements.{Contains-get_or}
 use Rattle.gpu_alloc_types.specs.Flags.{property_bits}
 use Rattle.gpu_alloc_base.specs.FreeRuns.{IsFreeRun}
@@ -10,6 +12,7 @@ use Rattle.gpu_alloc_freelist.specs.FreeListInside.{listing_in}
 use Rattle.gpu_alloc_freelist.specs.FreeListState.{Listing, IsFreeIn}
 use Rattle.gpu_alloc_base.specs.declared.region.FreeListRegion.{FreeListRegion}
 use Rattle.gpu_alloc_base.proofs.ListedRanges.{told_name, one_more, all_listed}
+use Rattle.gpu_alloc_freelist.proofs.WholeCounts.{count_all}
 use Rattle.gpu_alloc_freelist.proofs.FreeListRanges.{range_of, is_held, all_runs, runs_apart}
 use Rattle.gpu_alloc_freelist.proofs.freelist.FreeListAllocator.free_ranges.Goals as goal
 
@@ -58,3 +61,12 @@ returns-clause-runs g c r =
       (λ has. exact.0 (subst (λ xs. Contains xs r) is (same.0 has))),
       (λ run. same.1 (subst (λ xs. Contains xs r) (sym is) (exact.1 run))),
     )
+
+-- of every test as many, and so of the one that all pass
+pub returns-clause-few : goal.returns-clause-few
+returns-clause-few g c =
+    let is = all_listed (range_of c.args.self.now.space) c.regions-regions.result.now c.loop-region.region-index c.loop-region.ranges.items (omega (arith, c.loop-region-test.false)) c.loop-region.invariant.0 in
+    let same = c.put_in_order.ensures.count (λ _. true) in
+    let long = ap length is ∙ length-map c.regions-regions.result.now (range_of c.args.self.now.space) in
+    let few = subst (λ (l : Listing). length c.regions-regions.result.now ≤ set.len l.space.live + map_of.len l.space.chunks) c.self.view_is c.regions-regions.ensures.few in
+    omega (arith, few, same, long, count_all c.put_in_order.new.ranges.items, count_all c.loop-region.ranges.items)
