@@ -1,5 +1,5 @@
 -- A block that is the tail of a run, in the stores of a free list.
-use Rattle.std.proofs.Common.{◌≡◌, ℕ, ◌+◌, ◌<◌, ◌≤◌, List, length, get_or, Some, sym, ◌∙◌, ap, subst, arith}
+use Rattle.std.proofs.Common.{◌≡◌, ℕ, ◌+◌, ◌<◌, List, get_or, Some, sym, ◌∙◌, ap, arith}
 use Rattle.std.specs.FinMap as map
 use Rattle.std.specs.FinSet as set
 use Rattle.gpu_alloc_base.specs.Accounts.{HeldChunks}

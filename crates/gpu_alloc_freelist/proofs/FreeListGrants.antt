@@ -7,7 +7,6 @@ use Rattle.std.proofs.lemmas.List.Quantifiers.{all_pairs_push}
 use Rattle.std.specs.Prelude.{IfSome, IfNone, IsSome, is_some}
 use Rattle.std.specs.Result.{IsErr}
 use Rattle.std.specs.List.{All}
-use Rattle.std.specs.Ordering.{nat_cmp}
 use Rattle.std.specs.FinMap as map
 use Rattle.std.specs.FinSet as set
 use Rattle.gpu_alloc_base.specs.Accounts.{HeldChunks}

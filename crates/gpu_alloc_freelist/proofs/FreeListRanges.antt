@@ -1,5 +1,5 @@
 -- The free runs as ranges of their objects.
-use Rattle.std.proofs.Common.{◌≡◌, inl, inr, ℕ, ◌↔◌, false, List, map, get_or, Contains, Some, IsSome, refl, sym, ◌∙◌, subst, arith}
+use Rattle.std.proofs.Common.{◌≡◌, inl, inr, ◌↔◌, false, List, map, get_or, Contains, Some, IsSome, refl, sym, ◌∙◌, arith}
 use Rattle.std.proofs.lemmas.List.Elements.{Contains-get_or}
 use Rattle.std.specs.FinMap as map_of
 use Rattle.std.specs.List.{IsDistinct}

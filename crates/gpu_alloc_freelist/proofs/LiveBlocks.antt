@@ -1,11 +1,10 @@
 -- Live blocks in a slab, each under a key: where one stands, and how many are left as one comes or goes.
-use Rattle.std.proofs.Common.{◌≡◌, ◌≢◌, ◌==◌, ◌&&◌, ℕ, ◌+◌, ◌-◌, Bool, true, false, cond, Some, IsTrue, ◌∙◌, ap, arith}
+use Rattle.std.proofs.Common.{◌≡◌, ◌≢◌, ◌==◌, ◌&&◌, ℕ, Bool, false, Some, IsTrue, ◌∙◌, ap}
 use Rattle.std.proofs.lemmas.Bool.Decides.{Decides-and, Decides-eqb}
 use Rattle.std.specs.Bool.{Decides}
 use Rattle.std.specs.FinSet as set
 use Rattle.slab.specs.Slab.{Slab, get}
 use Rattle.gpu_alloc_base.specs.SlabViews.{HasOneKeyEach}
-use Rattle.gpu_alloc_base.specs.Slots.{slot_cmp}
 use Rattle.gpu_alloc_base.specs.declared.free_list_block.Slot.{Slot}
 use Rattle.gpu_alloc_base.proofs.SlabViews.{IsInserted, in_set, once_inserted}
 use Rattle.gpu_alloc_base.proofs.Slots.{slot_total, slot_exact}

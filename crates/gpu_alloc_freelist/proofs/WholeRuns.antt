@@ -1,18 +1,17 @@
 -- Runs that are whole chunks, as runs and chunks come and go.
-use Rattle.std.proofs.Common.{ℕ, ◌≡◌, ◌==◌, ◌&&◌, ◌⊎◌, inl, inr, ◌+◌, ◌-◌, ◌<◌, ◌≤◌, ◌↔◌, Bool, true, false, cond, IsTrue, List, [], ◌∷◌, ◌++◌, length, take, drop, set, get_or, Option, Some, None, refl, sym, ◌∙◌, ap, subst, arith}
+use Rattle.std.proofs.Common.{ℕ, ◌≡◌, ◌==◌, ◌&&◌, inl, inr, ◌+◌, ◌-◌, ◌<◌, ◌≤◌, ◌↔◌, Bool, true, false, cond, IsTrue, List, [], ◌∷◌, ◌++◌, length, get_or, Option, Some, None, refl, sym, ◌∙◌, ap, arith}
 use Rattle.std.specs.Bool.{Decides}
 use Rattle.std.specs.FinMap as map
 use Rattle.std.specs.List.{Contains, remove}
-use Rattle.std.proofs.lemmas.Bool.{cases_lt, cases_order}
+use Rattle.std.proofs.lemmas.Bool.{cases_lt}
 use Rattle.std.proofs.lemmas.Bool.Decides.{Decides-and, Decides-eqb}
-use Rattle.std.proofs.lemmas.List.{get_or_default}
 use Rattle.gpu_alloc_base.specs.Accounts.{HeldChunks}
 use Rattle.gpu_alloc_base.specs.Chunks.{Chunk}
 use Rattle.gpu_alloc_base.specs.declared.region.FreeListRegion.{FreeListRegion}
 use Rattle.gpu_alloc_base.proofs.Lists.{contains_head, contains_later}
 use Rattle.gpu_alloc_freelist.specs.Chunks.{IsWholeChunk}
 use Rattle.gpu_alloc_freelist.specs.FreeListInside.{MayBeTaken}
-use Rattle.gpu_alloc_freelist.specs.Runs.{Cuts, IsJoint, PutsBack}
+use Rattle.gpu_alloc_freelist.specs.Runs.{Cuts, PutsBack}
 use Rattle.gpu_alloc_freelist.specs.Wholes.{has_size, is_whole, wholes}
 use Rattle.gpu_alloc_freelist.proofs.RunLists.{joint_order, joint_within}
 use mir.Val.{bool_byte}

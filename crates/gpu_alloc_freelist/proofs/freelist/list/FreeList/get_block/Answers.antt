@@ -1,4 +1,4 @@
-use Rattle.std.proofs.Common.{◌≡◌, ◌+◌, ◌<◌, ◌≤◌, length, Some, refl, sym, ◌∙◌, ap, subst, arith}
+use Rattle.std.proofs.Common.{◌≡◌, ◌+◌, ◌<◌, Some, refl, sym, ◌∙◌, ap, subst, arith}
 use Rattle.std.specs.FinMap as map
 use Rattle.std.specs.FinSet as set
 use Rattle.gpu_alloc_base.specs.Chunks.{Chunk}
@@ -6,10 +6,9 @@ use Rattle.gpu_alloc_base.specs.Slots.{slot_cmp}
 use Rattle.gpu_alloc_base.specs.declared.free_list_block.Slot.{Slot}
 use Rattle.gpu_alloc_freelist.specs.FreeList.{IsTail, with_slot}
 use Rattle.gpu_alloc_freelist.specs.FreeListInside.{space_in}
-use Rattle.gpu_alloc_freelist.specs.FreeListSound.{IsSoundSpace}
 use Rattle.gpu_alloc_freelist.specs.FreeListState.{Space, Store}
 use Rattle.gpu_alloc_freelist.proofs.CutBlocks.{cut_taken, cut_counts}
-use Rattle.gpu_alloc_freelist.proofs.FreeListGrants.{IsFoundAt, IsTailOf, IsTaken, found_again, found_room, is_tail_of, last_tail, listed, no_place, place_at, refused, some_room, tail_within}
+use Rattle.gpu_alloc_freelist.proofs.FreeListGrants.{IsFoundAt, IsTailOf, found_again, found_room, is_tail_of, last_tail, listed, no_place, place_at, refused, some_room, tail_within}
 use Rattle.gpu_alloc_freelist.proofs.FreeListReturns.{region_held}
 use Rattle.gpu_alloc_freelist.proofs.WholeRuns.{one_counts, one_is}
 use Rattle.gpu_alloc_freelist.proofs.freelist.list.FreeList.get_block.Goals as goal

@@ -1,6 +1,5 @@
-use Rattle.std.proofs.Common.{ℕ, ◌≡◌, ◌≢◌, ◌+◌, ◌<◌, ◌≤◌, ◌++◌, ◌∷◌, [], refl, sym, ◌∙◌, ap, subst, arith}
+use Rattle.std.proofs.Common.{◌≡◌, ◌+◌, ◌<◌, ◌≤◌, refl, sym, ◌∙◌, ap, subst, arith}
 use Rattle.std.specs.FinMap as map
-use Rattle.gpu_alloc_base.specs.Accounts.{HeldChunks}
 use Rattle.gpu_alloc_base.specs.Chunks.{Chunk}
 use Rattle.gpu_alloc_base.specs.FreeRuns.{AreRunsBeside}
 use Rattle.gpu_alloc_base.specs.Slots.{region_of}
@@ -12,7 +11,7 @@ use Rattle.gpu_alloc_freelist.specs.Chunks.{NumberedChunks}
 use Rattle.gpu_alloc_freelist.specs.Live.{LiveBlocks}
 use Rattle.gpu_alloc_freelist.specs.Wholes.{wholes}
 use Rattle.gpu_alloc_freelist.specs.declared.freelist.list.FreeList.TheInside.{Inside}
-use Rattle.gpu_alloc_freelist.proofs.FreeListGrants.{IsFirstTail, IsTaken, below_next, begun_at_0, begun_behind, begun_taken, listed_with_chunk, room_taken, some_room, with_chunk_in}
+use Rattle.gpu_alloc_freelist.proofs.FreeListGrants.{IsFirstTail, IsTaken, begun_at_0, begun_behind, begun_taken, listed_with_chunk, some_room, with_chunk_in}
 use Rattle.gpu_alloc_freelist.proofs.NewWholes.{wholes_begun, wholes_begun_behind}
 use Rattle.gpu_alloc_freelist.proofs.RunsKept.{last_by_chunk}
 use Rattle.gpu_alloc_freelist.proofs.freelist.list.FreeList.get_block_from_new_memory.Given.{Over}

@@ -1,4 +1,4 @@
-use Rattle.std.proofs.Common.{ℕ, ◌≡◌, ◌+◌, ◌<◌, ◌≤◌, length, sym, ◌∙◌, ap, subst, arith}
+use Rattle.std.proofs.Common.{◌+◌, ◌<◌, length, sym, ◌∙◌, ap, subst, arith}
 use Rattle.std.proofs.lemmas.List.Sums.{count_by-le-length}
 use Rattle.std.specs.FinSet as set
 use Rattle.gpu_alloc_base.specs.Slots.{region_of}
@@ -48,5 +48,5 @@ returns-clause-sound g c = (invariant_of-self g c).sound
 pub returns-clause-few : goal.returns-clause-few
 returns-clause-few g c =
     rw (← c.self.view_is) (λ list are rising.
-        let same = one_list (IsFreeIn (space_in c.self.inside.chunks.held c.self.inside.live.slots c.self.inside.latest)) list c.self.inside.runs.regions are rising c.self.invariant.runs in
-        subst (λ n. AreFewComparisons n c.args.steps.now c.put_back-joint.new.steps) (sym (ap length same)) c.put_back-joint.ensures.few)
+    let same = one_list (IsFreeIn (space_in c.self.inside.chunks.held c.self.inside.live.slots c.self.inside.latest)) list c.self.inside.runs.regions are rising c.self.invariant.runs in
+    subst (λ n. AreFewComparisons n c.args.steps.now c.put_back-joint.new.steps) (sym (ap length same)) c.put_back-joint.ensures.few)

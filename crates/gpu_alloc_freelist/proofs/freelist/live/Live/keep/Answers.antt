@@ -1,6 +1,5 @@
 use Rattle.std.proofs.Common.{◌≡◌, false, ap, ◌∙◌}
 use Rattle.std.specs.FinSet as set
-use Rattle.gpu_alloc_base.specs.Slots.{slot_cmp}
 use Rattle.gpu_alloc_base.specs.declared.free_list_block.Slot.{Slot}
 use Rattle.gpu_alloc_base.proofs.SlabViews.{IsInserted, set_inserted}
 use Rattle.gpu_alloc_base.proofs.Slots.{slot_total, slot_exact}
