@@ -4,7 +4,6 @@ use Rattle.gpu_alloc_types.specs.Flags.{property_bits}
 use Rattle.gpu_alloc_types.specs.Properties.{Properties, bits_of}
 use Rattle.gpu_alloc_types.specs.declared.types.MemoryType.{MemoryType}
 use Rattle.gpu_alloc.specs.State.{State}
-use Rattle.gpu_alloc_tests.specs.Bench.{HasTwoTypes}
 use Rattle.gpu_alloc_tests.proofs.tests.bench.Bench.over.Goals as goal
 
 -- the properties of the first type, where there is one
