@@ -3,13 +3,15 @@
 ghost use Rattle.std.specs.Prelude.{◌≡◌, ◌+◌, ◌≤◌, ◌<◌, ◌^◌, length, vec_len, IfSome, IfOk, IfErr, OnErr, None, IsTrue};
 ghost use Rattle.std.specs.FinMap as map;
 ghost use Rattle.gpu_alloc_types.specs.Flags.{property_bits};
-ghost use Rattle.gpu_alloc_types.specs.Properties.{IsUsable, properties_of, props_at};
+ghost use Rattle.gpu_alloc_types.specs.Properties.{IsUsable, properties_of};
 ghost use Rattle.gpu_alloc.specs.Agreement.{Agrees, BlockAgrees};
 ghost use Rattle.gpu_alloc.specs.Importing.{MayBeImported};
 ghost use Rattle.gpu_alloc.specs.Owned.{Leaves};
 ghost use Rattle.gpu_alloc.specs.State.{IsOwned};
+ghost use Rattle.gpu_alloc_tests.specs.Bench.{HasTwoTypes};
 
 use super::offers::{again, offer};
+use super::same::{holds, same, same_at};
 use gpu_alloc::laws::{
     agrees_at_first, imports_agree, made_objects_may_be_imported, which_objects_may_be_imported,
 };
@@ -44,10 +46,10 @@ pub(super) struct Bench<A: Allocator + Copy = Global> {
 }
 
 impl<A: Allocator + Copy> Model for Bench<A> {
-    ghost use Rattle.std.specs.Prelude.{◌≡◌, ℕ, ◌<◌, length};
+    ghost use Rattle.std.specs.Prelude.{ℕ};
     ghost use Rattle.gpu_alloc.specs.Agreement.{Agrees};
+    ghost use Rattle.gpu_alloc_tests.specs.Bench.{HasTwoTypes};
     ghost use Rattle.gpu_alloc_types.specs.Flags.{property_bits};
-    ghost use Rattle.gpu_alloc_types.specs.Properties.{props_at};
     ghost use Rattle.gpu_sim.specs.Sim.{objects_of};
 
     ghost Value = { ℕ };
@@ -55,10 +57,7 @@ impl<A: Allocator + Copy> Model for Bench<A> {
     ghost view = { λ _. 0 };
 
     ghost invariant = { λ b. Agrees b.allocator (b.device).properties (objects_of b.device) ×
-        ((0 < length ((b.allocator).properties).memory_heaps) ×
-        ((0 < length ((b.allocator).properties).memory_types) ×
-        ((property_bits b.props ≡ props_at (b.allocator).properties 0) ×
-        (1 < length ((b.allocator).properties).memory_types)))) };
+        HasTwoTypes (b.allocator).properties (property_bits b.props) };
 }
 
 impl<A: Allocator + Copy> Bench<A> {
@@ -72,11 +71,9 @@ impl<A: Allocator + Copy> Bench<A> {
     ) -> Result<Self, Fail> {
         let types = [memory_type, memory_type];
         let offered = offer(&types, atom);
-        assert!(rt; offered.is_usable());
-        if offered.memory_heaps.is_empty() || offered.memory_types.is_empty() {
-            panic!(rt; "no memory type");
-        }
-        assert!(rt; offered.memory_types.len() > 1);
+        holds(rt, offered.is_usable(), "properties of no use");
+        holds(rt, offered.memory_heaps.len() > 0, "no heap");
+        holds(rt, offered.memory_types.len() > 1, "no second memory type");
         let blocks = Vec::with_capacity(alloc, 8)?;
         match Sim::new(alloc, again(&offered)) {
             Ok(device) => Bench::over(alloc, offered, device, blocks),
@@ -96,7 +93,6 @@ impl<A: Allocator + Copy> Bench<A> {
     ) -> Result<Self, Fail>
         requires usable { IsUsable (properties_of offered) }
         requires heap { 0 < length offered.memory_heaps.now }
-        requires memory_type { 0 < length offered.memory_types.now }
         requires second { 1 < length offered.memory_types.now }
         requires same { device.properties ≡ properties_of offered }
         requires empty { vec_len blocks ≡ 0 }
@@ -122,11 +118,12 @@ impl<A: Allocator + Copy> Bench<A> {
 
     /// What is held.
     pub(super) fn held(&self) -> Held {
+        let (held, remaining, used) = counts(&self.allocator);
         Held {
             objects: self.device.objects(),
-            held: self.allocator.held_objects(),
-            remaining: self.allocator.remaining_allocations(),
-            used: self.allocator.heap_used(0),
+            held,
+            remaining,
+            used,
         }
     }
 
@@ -137,58 +134,36 @@ impl<A: Allocator + Copy> Bench<A> {
         request: Request,
         hint: Option<Dedicated>,
     ) -> Result<(), AllocationError> {
-        assert!(rt; request.is_askable(false));
-        assert!(rt; self.blocks.len() < self.blocks.capacity());
-        match hint {
-            None => {
-                let block = self.allocator.alloc(&mut self.device, request)?;
-                self.blocks.push_reserved(block);
-                Ok(())
-            }
-            Some(hint) => {
-                let block = self
-                    .allocator
-                    .alloc_with_dedicated(&mut self.device, request, hint)?;
-                self.blocks.push_reserved(block);
-                Ok(())
-            }
-        }
+        let block = ask(rt, &mut self.allocator, &mut self.device, request, hint)?;
+        keep(rt, &mut self.blocks, block);
+        Ok(())
     }
 
     /// Whether the allocator holds an object of this name, and owns the latest block.
     pub(super) fn holds_and_owns(&self, rt: &impl Abort, object: u64) -> (bool, bool) {
-        match self.blocks.last() {
-            Some(block) => (self.allocator.holds(object), self.allocator.owns(block)),
-            None => panic!(rt; "no block"),
-        }
+        let block = self.blocks.last().expect(rt, "no block");
+        (self.allocator.holds(object), self.allocator.owns(block))
     }
 
     /// From now on so many more objects may be held.
     pub(super) fn allow(&mut self, rt: &impl Abort, remaining: u32) {
-        assert!(rt; u64::from(remaining) + u64::from(self.allocator.held_objects()) < 1 << 32);
-        self.allocator.set_remaining_allocations(remaining);
+        allow(rt, &mut self.allocator, &self.device, remaining);
     }
 
     /// Has the device make an object of 64 bytes, and imports it. Where either is refused memory, what is held is as
     /// before, and it is served with ample memory.
     pub(super) fn import_or_again(&mut self, rt: &impl Abort, memory: &ScarceMemory) -> Imported {
-        assert!(rt; self.allocator.remaining_allocations() > 0);
-        assert!(rt; self.blocks.len() < self.blocks.capacity());
         let before = self.held();
         if let Some(object) = make(&self.allocator, &mut self.device, whole(64)) {
             let device = &self.device;
             let allocator = &mut self.allocator;
-            let (served, block) = import_or_again(
+            let (imported, block) = import_or_again(
                 rt, memory, allocator, device, object, self.props,
             );
-            self.blocks.push_reserved(block);
-            return if served {
-                Imported::AtOnce
-            } else {
-                Imported::InTheEnd
-            };
+            keep(rt, &mut self.blocks, block);
+            return imported;
         }
-        assert_eq!(rt; self.held(), before);
+        same(rt, "what is held", &self.held(), &before);
         memory.lift();
         self.import(rt, whole(64));
         Imported::OnceMade
@@ -196,16 +171,9 @@ impl<A: Allocator + Copy> Bench<A> {
 
     /// An object of the device's own, of which this part may be imported.
     pub(super) fn import(&mut self, rt: &impl Abort, part: Part) {
-        assert!(rt; is_end(part));
-        assert!(rt; self.allocator.remaining_allocations() > 0);
-        assert!(rt; self.blocks.len() < self.blocks.capacity());
-        let Some(memory) = make(&self.allocator, &mut self.device, part) else {
-            panic!(rt; "no object");
-        };
-        match import(&mut self.allocator, &self.device, memory, self.props, part) {
-            Ok(block) => self.blocks.push_reserved(block),
-            Err(_) => panic!(rt; "no import"),
-        }
+        let device = &mut self.device;
+        let block = make_and_import(rt, &mut self.allocator, device, self.props, part);
+        keep(rt, &mut self.blocks, block);
     }
 
     /// Takes a block, and calls it where no memory is left.
@@ -216,43 +184,24 @@ impl<A: Allocator + Copy> Bench<A> {
         request: Request,
         hint: Dedicated,
     ) {
-        assert!(rt; request.is_askable(false) && request.size >= 4);
-        assert!(rt; self.blocks.len() < self.blocks.capacity());
-        let answer = self
-            .allocator
-            .alloc_with_dedicated(&mut self.device, request, hint);
-        let Ok(mut block) = answer else {
-            panic!(rt; "refused with ample memory");
-        };
-        leave_nothing(rt, memory);
-        map_and_unmap(rt, &self.allocator, &mut self.device, &mut block);
-        write_and_read(rt, &self.allocator, &mut self.device, &mut block);
-        memory.lift();
-        self.blocks.push_reserved(block);
+        let answer = ask(
+            rt,
+            &mut self.allocator,
+            &mut self.device,
+            request,
+            Some(hint),
+        );
+        let mut block = answer.expect(rt, "refused with ample memory");
+        call_without_memory(rt, memory, &self.allocator, &mut self.device, &mut block);
+        keep(rt, &mut self.blocks, block);
     }
 
     /// Imports an object of 64 bytes, and calls its block where no memory is left.
     pub(super) fn import_and_call(&mut self, rt: &impl Abort, memory: &ScarceMemory) {
-        assert!(rt; self.allocator.remaining_allocations() > 0);
-        assert!(rt; self.blocks.len() < self.blocks.capacity());
-        let Some(object) = make(&self.allocator, &mut self.device, whole(64)) else {
-            panic!(rt; "no object");
-        };
-        let answer = import(
-            &mut self.allocator,
-            &self.device,
-            object,
-            self.props,
-            whole(64),
-        );
-        let Ok(mut block) = answer else {
-            panic!(rt; "no import");
-        };
-        leave_nothing(rt, memory);
-        map_and_unmap(rt, &self.allocator, &mut self.device, &mut block);
-        write_and_read(rt, &self.allocator, &mut self.device, &mut block);
-        memory.lift();
-        self.blocks.push_reserved(block);
+        let device = &mut self.device;
+        let mut block = make_and_import(rt, &mut self.allocator, device, self.props, whole(64));
+        call_without_memory(rt, memory, &self.allocator, &mut self.device, &mut block);
+        keep(rt, &mut self.blocks, block);
     }
 
     /// The free ranges of a memory type.
@@ -261,28 +210,27 @@ impl<A: Allocator + Copy> Bench<A> {
         rt: &impl Abort,
         memory_type: u32,
     ) -> Result<Vec<FreeRange, A>, AllocationError> {
-        assert!(rt; memory_type < 2);
+        holds(rt, memory_type < 2, "no such memory type");
         self.allocator.free_ranges(memory_type)
     }
 
     /// Gives back the block at this place of those that are kept. The latest takes its place.
     pub(super) fn give_back_at(&mut self, rt: &impl Abort, at: usize) {
-        assert!(rt; at < self.blocks.len());
+        holds(rt, at < self.blocks.len(), "no such block");
         let block = self.blocks.swap_remove(at);
-        assert!(rt; self.allocator.owns(&block));
-        self.allocator.dealloc(&mut self.device, block);
+        give_back(rt, &mut self.allocator, &mut self.device, block);
     }
 
     /// Gives back the block in an object that has no other.
     pub(super) fn give_back(&mut self, rt: &impl Abort, object: u64) {
-        let place = self
-            .blocks
-            .iter()
-            .position(|block| block.memory().object() == object);
-        match place {
-            Some(at) => self.give_back_at(rt, at),
-            None => panic!(rt; "no block in {object}"),
+        let mut found = None;
+        for (at, block) in self.blocks.iter().enumerate() {
+            if block.memory().object() == object {
+                found = Some(at);
+            }
         }
+        same_at(rt, "a block is in", &object, &found.is_some(), &true);
+        self.give_back_at(rt, found.unwrap_or(0));
     }
 
     /// Gives all blocks back.
@@ -294,14 +242,24 @@ impl<A: Allocator + Copy> Bench<A> {
 
     /// Gives back what free lists keep, and ends the allocator. Nothing is held then.
     pub(super) fn end(mut self, rt: &impl Abort, remaining: u32) {
-        self.allocator.cleanup(&mut self.device);
+        self.clean();
         let nothing = Held {
             objects: 0,
             held: 0,
             remaining,
             used: 0,
         };
-        assert_eq!(rt; self.held(), nothing);
+        same(rt, "what is held at the end", &self.held(), &nothing);
+        self.close(rt);
+    }
+
+    /// Gives back what free lists keep.
+    fn clean(&mut self) {
+        self.allocator.cleanup(&mut self.device);
+    }
+
+    /// Ends the allocator, which holds nothing.
+    fn close(self, rt: &impl Abort) {
         let Bench {
             allocator,
             device,
@@ -309,9 +267,9 @@ impl<A: Allocator + Copy> Bench<A> {
             blocks,
         } = self;
         drop(device);
-        assert!(rt; allocator.held_objects() == 0);
         assert!(rt; blocks.is_empty());
         blocks.destroy_empty();
+        assert!(rt; allocator.held_objects() == 0);
         allocator.close();
     }
 }
@@ -319,26 +277,92 @@ impl<A: Allocator + Copy> Bench<A> {
 impl Bench {
     /// Imports a part of an object and writes to its first bytes.
     pub(super) fn import_and_write(&mut self, rt: &impl Abort, part: Part, data: &[u8]) {
-        assert!(rt; is_end(part));
-        assert!(rt; data.len() as u64 <= part.size);
-        assert!(rt; self.allocator.remaining_allocations() > 0);
-        assert!(rt; self.blocks.len() < self.blocks.capacity());
-        let Some(memory) = make(&self.allocator, &mut self.device, part) else {
-            panic!(rt; "no object");
-        };
-        match import(&mut self.allocator, &self.device, memory, self.props, part) {
-            Ok(mut block) => {
-                let written = block.write_bytes(&mut self.device, 0, data).is_ok();
-                assert!(rt; written);
-                self.blocks.push_reserved(block);
-            }
-            Err(_) => panic!(rt; "no import"),
-        }
+        let device = &mut self.device;
+        let mut block = make_and_import(rt, &mut self.allocator, device, self.props, part);
+        holds(
+            rt,
+            data.len() as u64 <= block.size(),
+            "more bytes than the part has",
+        );
+        let written = block.write_bytes(&mut self.device, 0, data);
+        same(rt, "what is written", &written, &Ok(()));
+        keep(rt, &mut self.blocks, block);
     }
 }
 
+/// Keeps a block where there is a place for it.
+fn keep<M: MemoryObject, A: Allocator>(
+    rt: &impl Abort,
+    blocks: &mut Vec<MemoryBlock<M>, A>,
+    block: MemoryBlock<M>,
+) {
+    holds(rt, blocks.len() < blocks.capacity(), "no place for a block");
+    blocks.push_reserved(block);
+}
+
+/// Asks for a block, with that hint or none.
+fn ask<M: MemoryObject, D: MemoryDevice<M>, A: Allocator>(
+    rt: &impl Abort,
+    allocator: &mut GpuAllocator<M, A>,
+    device: &mut D,
+    request: Request,
+    hint: Option<Dedicated>,
+) -> Result<MemoryBlock<M>, AllocationError>
+    requires agrees { Agrees allocator.old (D.properties device.old) (D.objects device.old) }
+    ensures agrees { Agrees allocator.new (D.properties device.new) (D.objects device.new) }
+    ensures ready { IfOk result (λ block. BlockAgrees block (D.properties device.new) (D.objects device.new)) }
+    ensures owned { IfOk result (IsOwned allocator.new) }
+    ensures leaves { Leaves allocator.old allocator.new }
+{
+    holds(
+        rt,
+        request.is_askable(false),
+        "a request that may not be asked",
+    );
+    match hint {
+        None => allocator.alloc(device, request),
+        Some(hint) => allocator.alloc_with_dedicated(device, request, hint),
+    }
+}
+
+/// From now on so many more objects may be held.
+fn allow<M: MemoryObject, D: MemoryDevice<M>, A: Allocator>(
+    rt: &impl Abort,
+    allocator: &mut GpuAllocator<M, A>,
+    device: &D,
+    remaining: u32,
+)
+    requires agrees { Agrees allocator.old (D.properties device.now) (D.objects device.now) }
+    ensures agrees { Agrees allocator.new (D.properties device.now) (D.objects device.now) }
+    ensures properties { allocator.new.properties ≡ allocator.old.properties }
+{
+    let _ = device;
+    let held = u64::from(allocator.held_objects());
+    holds(
+        rt,
+        u64::from(remaining) + held < 1 << 32,
+        "too many objects",
+    );
+    allocator.set_remaining_allocations(remaining);
+}
+
+/// Gives back a block, which the allocator has to own.
+fn give_back<M: MemoryObject, D: MemoryDevice<M>, A: Allocator>(
+    rt: &impl Abort,
+    allocator: &mut GpuAllocator<M, A>,
+    device: &mut D,
+    block: MemoryBlock<M>,
+)
+    requires agrees { Agrees allocator.old (D.properties device.old) (D.objects device.old) }
+    ensures agrees { Agrees allocator.new (D.properties device.new) (D.objects device.new) }
+    ensures properties { allocator.new.properties ≡ allocator.old.properties }
+{
+    holds(rt, allocator.owns(&block), "a block that is not owned");
+    allocator.dealloc(device, block);
+}
+
 /// How an import of a new object was served in the end.
-#[derive(Clone, Copy, Debug, PartialEq, Eq)]
+#[derive(Clone, Copy)]
 pub(super) enum Imported {
     /// Without a refusal.
     AtOnce,
@@ -352,8 +376,7 @@ pub(super) enum Imported {
 
 /// From now on no memory is left.
 pub(super) fn leave_nothing(rt: &impl Abort, memory: &ScarceMemory) {
-    let left = memory.leave(0).is_ok();
-    assert!(rt; left);
+    holds(rt, memory.leave(0).is_ok(), "the host lacks memory");
 }
 
 /// Maps the first bytes of a block, and unmaps it.
@@ -375,7 +398,36 @@ fn map_and_unmap<M: MemoryObject, D: MemoryDevice<M>, A: Allocator>(
     let _ = allocator;
     let mapped = block.map(device, 0, 4).is_ok();
     let unmapped = block.unmap(device);
-    assert_eq!(rt; (mapped, unmapped), (true, true));
+    same(
+        rt,
+        "mapped and unmapped",
+        &(mapped, unmapped),
+        &(true, true),
+    );
+}
+
+/// Calls a block of four bytes or more where no memory is left. Then it is ample.
+fn call_without_memory<M: MemoryObject, D: MemoryDevice<M>, A: Allocator>(
+    rt: &impl Abort,
+    memory: &ScarceMemory,
+    allocator: &GpuAllocator<M, A>,
+    device: &mut D,
+    block: &mut MemoryBlock<M>,
+)
+    requires agrees { Agrees allocator.now (D.properties device.old) (D.objects device.old) }
+    requires owned { IsOwned allocator.now block.old }
+    requires ready { BlockAgrees block.old (D.properties device.old) (D.objects device.old) }
+    ensures agrees { Agrees allocator.now (D.properties device.new) (D.objects device.new) }
+{
+    holds(
+        rt,
+        block.size() >= 4,
+        "a block of fewer bytes than are written",
+    );
+    leave_nothing(rt, memory);
+    map_and_unmap(rt, allocator, device, block);
+    write_and_read(rt, allocator, device, block);
+    memory.lift();
 }
 
 /// Writes the first bytes of a block, and reads them.
@@ -395,12 +447,12 @@ fn write_and_read<M: MemoryObject, D: MemoryDevice<M>, A: Allocator>(
     let mut bytes = [0; 4];
     let written = block.write_bytes(device, 0, &[1, 2, 3, 4]).is_ok();
     let read = block.read_bytes(device, 0, &mut bytes).is_ok();
-    assert_eq!(rt; (written, read), (true, true));
-    assert_eq!(rt; bytes, [1, 2, 3, 4]);
+    same(rt, "written and read", &(written, read), &(true, true));
+    same(rt, "the bytes", &bytes, &[1, 2, 3, 4]);
 }
 
-/// Imports an object, and once more with ample memory where that was refused: then the object came back, and what is
-/// held is as before. It tells whether it was served at once.
+/// Imports an object of 64 bytes, and once more with ample memory where that was refused: then the object came back, and
+/// what is held is as before.
 fn import_or_again<M: MemoryObject, D: MemoryDevice<M>, A: Allocator>(
     rt: &impl Abort,
     memory: &ScarceMemory,
@@ -408,11 +460,8 @@ fn import_or_again<M: MemoryObject, D: MemoryDevice<M>, A: Allocator>(
     device: &D,
     object: M,
     props: MemoryPropertyFlags,
-) -> (bool, MemoryBlock<M>)
-    requires heaps { 0 < length (allocator.old.properties).memory_heaps }
-    requires known { 0 < length (allocator.old.properties).memory_types }
-    requires props { property_bits props ≡ props_at allocator.old.properties 0 }
-    requires remains { 0 < allocator.old.remaining }
+) -> (Imported, MemoryBlock<M>)
+    requires offered { HasTwoTypes allocator.old.properties (property_bits props) }
     requires unheld { map.get allocator.old.held (M.object object) ≡ None }
     requires agrees { Agrees allocator.old (D.properties device.now) (D.objects device.now) }
     requires may { MayBeImported (D.properties device.now) (D.objects device.now) (M.object object) 0 0 64 }
@@ -421,14 +470,19 @@ fn import_or_again<M: MemoryObject, D: MemoryDevice<M>, A: Allocator>(
 {
     let name = object.object();
     let before = counts(allocator);
-    match import(allocator, device, object, props, whole(64)) {
-        Ok(block) => (true, block),
+    match import(rt, allocator, device, object, props, whole(64)) {
+        Ok(block) => (Imported::AtOnce, block),
         Err(handed) => {
-            assert_eq!(rt; (handed.object(), allocator.holds(name)), (name, false));
-            assert_eq!(rt; counts(allocator), before);
+            let came = (handed.object(), allocator.holds(name), counts(allocator));
+            same(
+                rt,
+                "an object that came back",
+                &came,
+                &(name, false, before),
+            );
             memory.lift();
-            match import(allocator, device, handed, props, whole(64)) {
-                Ok(block) => (false, block),
+            match import(rt, allocator, device, handed, props, whole(64)) {
+                Ok(block) => (Imported::InTheEnd, block),
                 Err(_) => panic!(rt; "refused with ample memory"),
             }
         }
@@ -464,6 +518,29 @@ fn is_end(part: Part) -> bool
     part.size > 0 && part.offset <= part.object && part.object - part.offset == part.size
 }
 
+/// Imports a part of an object that the device makes for it.
+fn make_and_import<M: MemoryObject, D: MemoryDevice<M>, A: Allocator>(
+    rt: &impl Abort,
+    allocator: &mut GpuAllocator<M, A>,
+    device: &mut D,
+    props: MemoryPropertyFlags,
+    part: Part,
+) -> MemoryBlock<M>
+    requires offered { HasTwoTypes allocator.old.properties (property_bits props) }
+    requires agrees { Agrees allocator.old (D.properties device.old) (D.objects device.old) }
+    ensures agrees { Agrees allocator.new (D.properties device.new) (D.objects device.new) }
+    ensures ready { BlockAgrees result (D.properties device.new) (D.objects device.new) }
+    ensures owned { IsOwned allocator.new result }
+    ensures properties { allocator.new.properties ≡ allocator.old.properties }
+{
+    holds(rt, is_end(part), "a part that ends before its object");
+    let memory = make(allocator, device, part).expect(rt, "no object");
+    match import(rt, allocator, device, memory, props, part) {
+        Ok(block) => block,
+        Err(_) => panic!(rt; "no import"),
+    }
+}
+
 /// An object that the device makes, of which a part may be imported.
 fn make<M: MemoryObject, D: MemoryDevice<M>, A: Allocator>(
     allocator: &GpuAllocator<M, A>,
@@ -487,15 +564,14 @@ fn make<M: MemoryObject, D: MemoryDevice<M>, A: Allocator>(
 
 /// Imports a part of an object of the device's.
 fn import<M: MemoryObject, D: MemoryDevice<M>, A: Allocator>(
+    rt: &impl Abort,
     allocator: &mut GpuAllocator<M, A>,
     device: &D,
     memory: M,
     props: MemoryPropertyFlags,
     part: Part,
 ) -> Result<MemoryBlock<M>, M>
-    requires known { 0 < length (allocator.old.properties).memory_types }
-    requires props { property_bits props ≡ props_at allocator.old.properties 0 }
-    requires remains { 0 < allocator.old.remaining }
+    requires offered { HasTwoTypes allocator.old.properties (property_bits props) }
     requires some { 0 < part.size }
     requires ends { part.offset + part.size < 2 ^ 64 }
     requires unheld { map.get allocator.old.held (M.object memory) ≡ None }
@@ -505,12 +581,16 @@ fn import<M: MemoryObject, D: MemoryDevice<M>, A: Allocator>(
     ensures agrees { IfOk result (λ _. Agrees allocator.new (D.properties device.now) (D.objects device.now)) }
     ensures ready { IfOk result (λ block. BlockAgrees block (D.properties device.now) (D.objects device.now)) }
     ensures owned { IfOk result (IsOwned allocator.new) }
-    ensures size { IfOk result (λ block. block.size ≡ part.size) }
-    ensures leaves { Leaves allocator.old allocator.new }
+    ensures properties { allocator.new.properties ≡ allocator.old.properties }
     ensures refused { OnErr result (allocator.new ≡ allocator.old) }
     ensures handed_back { IfErr result (λ handed. handed ≡ memory) }
 {
     let _ = device;
+    holds(
+        rt,
+        allocator.remaining_allocations() > 0,
+        "no object remains",
+    );
     let block = allocator.import_memory(memory, 0, props, part.offset, part.size)?;
     imports_agree();
     Ok(block)

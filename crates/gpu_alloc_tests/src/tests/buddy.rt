@@ -9,6 +9,7 @@ ghost use Rattle.gpu_sim.specs.Question.{CanRefuse};
 
 use super::offers::HEAPS;
 use super::ranges::compare_ranges;
+use super::same::{holds, same};
 use gpu_alloc::buddy::{BuddyAllocator, BuddyBlock};
 use gpu_alloc::heap::Heap;
 use gpu_alloc::steps::Steps;
@@ -113,10 +114,10 @@ impl Chunks {
         requires { IsAlignMask case.now.align_mask }
     {
         let told = self.told::<Brand>(case.align_mask, Blank::new(1));
-        assert_eq!(rt; told, case.told);
+        same(rt, "what is told", &told, &case.told);
         match self.ask(rt, 1, case.align_mask) {
             Ok(block) => panic!(rt; "a block at {}", block.offset()),
-            Err(error) => assert_eq!(rt; error, case.error),
+            Err(error) => same(rt, "a refusal", &error, &case.error),
         }
     }
 
@@ -146,7 +147,11 @@ impl Chunks {
         ensures added { IfOk result (Adds self.old self.new) }
         ensures leaves { Leaves self.old self.new }
     {
-        assert!(rt; self.heap.used() <= 1 << 127);
+        holds(
+            rt,
+            self.heap.used() <= 1 << 127,
+            "more than a ledger counts",
+        );
         self.allocator.alloc(
             &mut self.device,
             size,
@@ -179,7 +184,7 @@ impl Chunks {
         ensures added { Adds self.old self.new result }
         ensures leaves { Leaves self.old self.new }
     {
-        assert!(rt; size > 0);
+        holds(rt, size > 0, "a block of no bytes");
         match self.ask(rt, size, 0) {
             Ok(block) => block,
             Err(error) => panic!(rt; "{error}"),
@@ -211,15 +216,15 @@ impl Chunks {
 
     /// Compares how often the device was asked to allocate, how many objects it holds, and how much the ledger counts.
     fn compare(&self, rt: &impl Abort, asked: u64, objects: usize, used: u128) {
-        assert_eq!(rt;
-            (
-                self.device.asked(Question::Allocate),
-                self.device.objects(),
-                self.heap.used()
-            ),
-            (asked, objects, used)
+        let (questions, _) = self.asked();
+        let (held, bytes, _) = self.held();
+        let came = (questions, held, bytes, self.heap.size());
+        same(
+            rt,
+            "what was asked and is held",
+            &came,
+            &(asked, objects, used, 1 << 20),
         );
-        assert_eq!(rt; self.heap.size(), 1 << 20);
     }
 
     /// How many objects the device holds, how many bytes the ledger counts, and how many more objects may be held.
@@ -238,10 +243,7 @@ impl Chunks {
 
     /// The free ranges.
     pub(super) fn free_ranges(&self, rt: &impl Abort) -> Vec<FreeRange> {
-        match self.allocator.free_ranges() {
-            Ok(ranges) => ranges,
-            Err(_) => panic!(rt; "no memory"),
-        }
+        self.allocator.free_ranges().expect(rt, "no memory")
     }
 
     /// Compares the free ranges, each by its object, its start and its end.
@@ -260,7 +262,7 @@ impl Chunks {
             most,
         } = self;
         drop(device);
-        assert!(rt; remaining == most);
+        holds(rt, remaining == most, "objects held at the end");
         allocator.close();
     }
 }
@@ -278,7 +280,7 @@ fn compare_refusal(
 {
     let mut chunks = Chunks::new(alloc, case.props, case.remaining)?;
     let planned = chunks.refuse(kind, cause);
-    assert_eq!(rt; planned, Ok(()));
+    same(rt, "a plan", &planned, &Ok(()));
     chunks.compare_refusal(rt, case);
     chunks.compare(rt, case.asked, 0, 0);
     chunks.end(rt);
@@ -375,8 +377,8 @@ fn two_blocks_share_a_chunk(rt: HostRuntime) -> Result<(), Fail> {
     let mut chunks = Chunks::new(rt.alloc(), MemoryPropertyFlags::DEVICE_LOCAL, 4096)?;
     let first = chunks.take(&rt, 100);
     let second = chunks.take(&rt, 200);
-    assert_eq!(rt; place_of(&first), (1, 0, 128));
-    assert_eq!(rt; place_of(&second), (1, 256, 256));
+    same(&rt, "the first block", &place_of(&first), &(1, 0, 128));
+    same(&rt, "the second block", &place_of(&second), &(1, 256, 256));
     chunks.compare(&rt, 1, 1, 8192);
     chunks.give_back(second);
     chunks.compare(&rt, 1, 1, 8192);

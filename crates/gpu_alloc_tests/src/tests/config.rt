@@ -1,5 +1,6 @@
 //! The default configurations, and a configuration as text: what is written, what is read, and what is refused.
 
+use super::same::{holds, same, same_at};
 use gpu_alloc::Config;
 use serde_json::Error;
 use std::alloc::{AllocError, Global};
@@ -37,7 +38,13 @@ fn read(alloc: Global, text: &str) -> Result<Config, Error> {
 
 /// A text that no configuration has.
 fn compare_refused(rt: &impl Abort, alloc: Global, text: &str) {
-    assert!(rt; read(alloc, text).is_err(), "at {text}");
+    same_at(
+        rt,
+        "it is refused at",
+        &text,
+        &read(alloc, text).is_err(),
+        &true,
+    );
 }
 
 /// Fields that no configuration has.
@@ -55,7 +62,13 @@ fn compare_refused_fields(
 fn compare_potato(rt: &impl Abort, alloc: Global, fields: &[Field]) -> Result<(), Fail> {
     let text = object(alloc, fields)?;
     let config = read(alloc, text.as_str())?;
-    assert_eq!(rt; config, Config::i_am_potato(), "at {text}");
+    same_at(
+        rt,
+        "what is read at",
+        &text,
+        &config,
+        &Config::i_am_potato(),
+    );
     Ok(())
 }
 
@@ -73,10 +86,10 @@ fn a_configuration_is_read_as_it_was_written(rt: HostRuntime) -> Result<(), Fail
     };
     for config in [Config::i_am_potato(), Config::i_am_prototyping(), most] {
         let text = serde_json::to_string(alloc, &config)?;
-        assert_eq!(rt; read(alloc, text.as_str())?, config);
+        same(&rt, "what is read", &read(alloc, text.as_str())?, &config);
     }
     let text = serde_json::to_string(alloc, &Config::i_am_potato())?;
-    assert_eq!(rt; text, object(alloc, &POTATO)?);
+    same(&rt, "what is written", &text, &object(alloc, &POTATO)?);
     Ok(())
 }
 
@@ -87,7 +100,7 @@ fn compare_with_unknown(
     index: usize,
     value: &'static str,
 ) -> Result<(), Fail> {
-    assert!(rt; index < 8);
+    holds(rt, index < 8, "a place beyond the fields");
     let mut fields = Vec::from_slice(alloc, &POTATO)?;
     fields.insert(index, ("unknown", value))?;
     compare_potato(rt, alloc, fields.as_slice())?;
@@ -111,7 +124,7 @@ fn compare_doubled_and_missing(
     alloc: Global,
     index: usize,
 ) -> Result<(), AllocError> {
-    assert!(rt; index < 7);
+    holds(rt, index < 7, "no such field");
     let mut fields = Vec::from_slice(alloc, &POTATO)?;
     fields.push(POTATO[index])?;
     compare_refused_fields(rt, alloc, fields.as_slice())?;
@@ -127,7 +140,7 @@ fn compare_wrong_value(
     index: usize,
     value: &'static str,
 ) -> Result<(), AllocError> {
-    assert!(rt; index < 7);
+    holds(rt, index < 7, "no such field");
     let mut fields = POTATO;
     fields[index].1 = value;
     compare_refused_fields(rt, alloc, &fields)
@@ -170,7 +183,7 @@ fn compare_cut_and_longer(rt: &impl Abort, alloc: Global) -> Result<(), AllocErr
         cut.pop();
         compare_refused(rt, alloc, cut.as_str());
     }
-    assert!(rt; cut.is_empty());
+    holds(rt, cut.is_empty(), "a text that was not cut to its start");
     Ok(())
 }
 
@@ -198,11 +211,8 @@ fn a_text_of_no_configuration_is_refused(rt: HostRuntime) -> Result<(), Fail> {
 
 #[test]
 fn a_list_of_the_values_is_read(rt: HostRuntime) -> Result<(), Fail> {
-    let alloc = rt.alloc();
-    assert_eq!(rt;
-        read(alloc, "[32768,1024,131072,8192,131072,1,8192]")?,
-        Config::i_am_potato()
-    );
+    let config = read(rt.alloc(), "[32768,1024,131072,8192,131072,1,8192]")?;
+    same(&rt, "what is read", &config, &Config::i_am_potato());
     Ok(())
 }
 
@@ -220,14 +230,16 @@ fn sizes(config: Config) -> [u64; 7] {
 
 #[test]
 fn defaults_are_the_documented_sizes(rt: HostRuntime) {
-    assert_eq!(rt;
-        sizes(Config::i_am_potato()),
-        [32768, 1024, 131072, 8192, 131072, 1, 8192]
+    let potato = sizes(Config::i_am_potato());
+    same(
+        &rt,
+        "a potato",
+        &potato,
+        &[32768, 1024, 131072, 8192, 131072, 1, 8192],
     );
-    assert_eq!(rt;
-        sizes(Config::i_am_prototyping()),
-        [
-            33554432, 1048576, 134217728, 8388608, 134217728, 1024, 8388608
-        ]
-    );
+    let prototyping = sizes(Config::i_am_prototyping());
+    let wanted = [
+        33554432, 1048576, 134217728, 8388608, 134217728, 1024, 8388608,
+    ];
+    same(&rt, "prototyping", &prototyping, &wanted);
 }

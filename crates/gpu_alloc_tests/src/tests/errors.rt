@@ -1,7 +1,22 @@
 //! The texts of errors.
 
+use super::same::same;
 use gpu_alloc::{AllocationError, DeviceMapError, MapError, OutOfMemory};
-use std::alloc::AllocError;
+use std::alloc::{AllocError, Global};
+use std::fmt::Display;
+use std::process::Abort;
+
+/// Compares the text of an error.
+fn compare_text(
+    rt: &impl Abort,
+    alloc: Global,
+    error: &impl Display,
+    text: &str,
+) -> Result<(), AllocError> {
+    let printed = format!(in alloc; "{error}")?;
+    same(rt, "the text of an error", &printed.as_str(), &text);
+    Ok(())
+}
 
 #[test]
 fn errors_print_their_texts(rt: HostRuntime) -> Result<(), AllocError> {
@@ -24,7 +39,7 @@ fn errors_print_their_texts(rt: HostRuntime) -> Result<(), AllocError> {
         ),
     ];
     for (error, text) in cases {
-        assert_eq!(rt; format!(in rt.alloc(); "{error}")?.as_str(), text);
+        compare_text(&rt, rt.alloc(), &error, text)?;
     }
     Ok(())
 }
@@ -59,7 +74,7 @@ fn map_errors_print_their_texts(rt: HostRuntime) -> Result<(), AllocError> {
         (MapError::AlreadyMapped, "Block is already mapped"),
     ];
     for (error, text) in cases {
-        assert_eq!(rt; format!(in rt.alloc(); "{error}")?.as_str(), text);
+        compare_text(&rt, rt.alloc(), &error, text)?;
     }
     Ok(())
 }

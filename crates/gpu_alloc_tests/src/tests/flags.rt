@@ -1,5 +1,6 @@
 //! Flags as generic code and sets see them.
 
+use super::same::{holds, same};
 use bitflags::Flags;
 use gpu_alloc_types::{AllocationFlags, MemoryPropertyFlags, UsageFlags};
 use std::alloc::{AllocError, Global};
@@ -23,12 +24,17 @@ fn numbers<F: Flags<Bits = u8> + Copy>(bits: u8) -> [u8; 4] {
 
 #[test]
 fn generic_code_calls_the_same(rt: HostRuntime) {
-    assert_eq!(rt; numbers::<UsageFlags>(0xd2), [0x3f, 0x12, 0x2d, 0xd3]);
-    assert_eq!(rt;
-        numbers::<MemoryPropertyFlags>(0xd2),
-        [0x3f, 0x12, 0x2d, 0xd3]
+    let usage = numbers::<UsageFlags>(0xd2);
+    same(&rt, "of a usage", &usage, &[0x3f, 0x12, 0x2d, 0xd3]);
+    let properties = numbers::<MemoryPropertyFlags>(0xd2);
+    same(&rt, "of properties", &properties, &[0x3f, 0x12, 0x2d, 0xd3]);
+    let allocation = numbers::<AllocationFlags>(0xd2);
+    same(
+        &rt,
+        "of an allocation",
+        &allocation,
+        &[0x01, 0x00, 0x01, 0xd3],
     );
-    assert_eq!(rt; numbers::<AllocationFlags>(0xd2), [0x01, 0x00, 0x01, 0xd3]);
 }
 
 fn hash_of<T: Hash>(value: &T) -> u64 {
@@ -49,9 +55,19 @@ fn members<F: Flags<Bits = u8> + Hash>(alloc: Global) -> Result<usize, AllocErro
 
 #[test]
 fn flags_are_hashed_by_their_numbers(rt: HostRuntime) -> Result<(), Fail> {
-    assert_eq!(rt; members::<UsageFlags>(rt.alloc())?, 256);
-    assert_eq!(rt; members::<MemoryPropertyFlags>(rt.alloc())?, 256);
-    assert_eq!(rt; members::<AllocationFlags>(rt.alloc())?, 256);
+    same(&rt, "usages", &members::<UsageFlags>(rt.alloc())?, &256);
+    same(
+        &rt,
+        "properties",
+        &members::<MemoryPropertyFlags>(rt.alloc())?,
+        &256,
+    );
+    same(
+        &rt,
+        "allocations",
+        &members::<AllocationFlags>(rt.alloc())?,
+        &256,
+    );
     compare_hashes(&rt);
     Ok(())
 }
@@ -59,8 +75,27 @@ fn flags_are_hashed_by_their_numbers(rt: HostRuntime) -> Result<(), Fail> {
 // Flags of one number are hashed alike, whatever they are of, and others are not.
 fn compare_hashes(rt: &impl Abort) {
     let usage = hash_of(&UsageFlags::UPLOAD);
-    assert_eq!(rt; usage, hash_of(&UsageFlags::from_bits_retain(8)));
-    assert!(rt; usage != hash_of(&UsageFlags::DOWNLOAD));
-    assert_eq!(rt; usage, hash_of(&MemoryPropertyFlags::HOST_CACHED));
-    assert_eq!(rt; usage, hash_of(&AllocationFlags::from_bits_retain(8)));
+    same(
+        rt,
+        "a usage",
+        &hash_of(&UsageFlags::from_bits_retain(8)),
+        &usage,
+    );
+    holds(
+        rt,
+        usage != hash_of(&UsageFlags::DOWNLOAD),
+        "one hash for two usages",
+    );
+    same(
+        rt,
+        "properties",
+        &hash_of(&MemoryPropertyFlags::HOST_CACHED),
+        &usage,
+    );
+    same(
+        rt,
+        "an allocation",
+        &hash_of(&AllocationFlags::from_bits_retain(8)),
+        &usage,
+    );
 }

@@ -8,6 +8,7 @@ ghost use Rattle.gpu_alloc.specs.Types.Slot.{Slot};
 ghost use Rattle.gpu_sim.specs.Question.{CanRefuse};
 
 use super::offers::HEAPS;
+use super::same::{holds, same, same_at};
 use gpu_alloc::freelist::{FreeList, FreeListAllocator, FreeListBlock, FreeListRegion};
 use gpu_alloc::heap::Heap;
 use gpu_alloc::steps::Steps;
@@ -46,11 +47,15 @@ fn compare_nothing_held(
     remaining: u32,
     case: &Refused,
 ) {
-    assert_eq!(rt; device.objects(), 0);
-    assert_eq!(rt; device.asked(Question::Allocate), case.asked);
-    assert_eq!(rt; heap.size(), 1 << 20);
-    assert_eq!(rt; heap.used(), 0);
-    assert_eq!(rt; remaining, case.remaining);
+    let asked = device.asked(Question::Allocate);
+    same(
+        rt,
+        "objects and questions",
+        &(device.objects(), asked),
+        &(0, case.asked),
+    );
+    same(rt, "the heap", &(heap.size(), heap.used()), &(1 << 20, 0));
+    same(rt, "remaining", &remaining, &case.remaining);
 }
 
 /// Compares a refusal where the device refuses the first question of a kind. Nothing is held after it.
@@ -88,7 +93,7 @@ fn compare_refusal(
     let mut remaining = case.remaining;
     let mut allocator = FreeListAllocator::new(alloc, 8192, 32768, 0, case.props, 0);
     let told = allocator.refuses(100, 0, &heap, remaining);
-    assert_eq!(rt; told, case.told);
+    same(rt, "what is told", &told, &case.told);
     match allocator.alloc(
         &mut device,
         100,
@@ -99,7 +104,7 @@ fn compare_refusal(
     ) {
         Ok(block) => panic!(rt; "a block at {}", block.offset()),
         Err(error) => {
-            assert_eq!(rt; error, case.error);
+            same(rt, "a refusal", &error, &case.error);
             compare_nothing_held(rt, &device, &heap, remaining, case);
             allocator.close();
         }
@@ -224,9 +229,12 @@ impl Chunks {
         ensures new { IsLiveSlot (self.old).space result → ⊥ }
         ensures others { (slot : Slot) → IsLiveSlot (self.old).space slot → IsLiveSlot (self.new).space slot }
     {
-        assert!(rt; size > 0);
-        assert!(rt; size <= 32768);
-        assert!(rt; self.heap.used() <= 1 << 127);
+        holds(rt, size > 0 && size <= 32768, "a block that no chunk has");
+        holds(
+            rt,
+            self.heap.used() <= 1 << 127,
+            "more than a ledger counts",
+        );
         match self.allocator.alloc(
             &mut self.device,
             size,
@@ -256,8 +264,9 @@ impl Chunks {
 
     /// Compares how many objects the device holds, and how much the ledger counts. It was asked for one chunk.
     fn compare(&self, rt: &impl Abort, objects: usize, used: u128) {
-        assert_eq!(rt; self.device.asked(Question::Allocate), 1);
-        assert_eq!(rt; (self.device.objects(), self.heap.used()), (objects, used));
+        let asked = self.device.asked(Question::Allocate);
+        let came = (asked, self.device.objects(), self.heap.used());
+        same(rt, "what was asked and is held", &came, &(1, objects, used));
     }
 
     /// Compares the free ranges.
@@ -265,7 +274,7 @@ impl Chunks {
         let Ok(found) = self.allocator.free_ranges() else {
             panic!(rt; "no memory");
         };
-        assert_eq!(rt; found.as_slice(), ranges);
+        same(rt, "free ranges", &found.as_slice(), &ranges);
     }
 
     /// Ends the allocator, which holds nothing.
@@ -277,7 +286,7 @@ impl Chunks {
             remaining,
         } = self;
         drop(device);
-        assert_eq!(rt; remaining, 4096);
+        holds(rt, remaining == 4096, "objects held at the end");
         allocator.close();
     }
 }
@@ -295,8 +304,8 @@ fn two_blocks_share_a_chunk(rt: HostRuntime) -> Result<(), Fail> {
     let mut chunks = Chunks::new(rt.alloc())?;
     let first = chunks.take(&rt, 100);
     let second = chunks.take(&rt, 200);
-    assert_eq!(rt; place_of(&first), (1, 8092, 100));
-    assert_eq!(rt; place_of(&second), (1, 7892, 200));
+    same(&rt, "the first block", &place_of(&first), &(1, 8092, 100));
+    same(&rt, "the second block", &place_of(&second), &(1, 7892, 200));
     chunks.compare(&rt, 1, 8192);
     let free = FreeRange {
         object: 1,
@@ -359,7 +368,7 @@ fn compare_run(rt: &impl Abort, list: &FreeList<Handle>, end: u64) {
         start: 0,
         end,
     };
-    assert_eq!(rt; list.regions(), [run].as_slice());
+    same(rt, "runs", &list.regions(), &[run].as_slice());
 }
 
 /// Compares on which side of a block some runs lie: a run before it in its chunk, one behind it, and one in the next
@@ -375,7 +384,13 @@ fn compare_sides(rt: &impl Abort, block: &FreeListBlock<Handle>) {
             start,
             end: start + 1,
         };
-        assert_eq!(rt; run.cmp(block), side, "at {start} of {chunk}");
+        same_at(
+            rt,
+            "a run of chunk and start",
+            &(chunk, start),
+            &run.cmp(block),
+            &side,
+        );
     }
 }
 
@@ -398,7 +413,7 @@ fn end_with_chunk(rt: &impl Abort, mut list: FreeList<Handle>)
     let Some((handle, size, number)) = list.take_whole(false) else {
         panic!(rt; "no chunk");
     };
-    assert_eq!(rt; (handle.object(), size, number), (7, 64, 1));
+    same(rt, "a chunk", &(handle.object(), size, number), &(7, 64, 1));
     list.close();
 }
 
@@ -407,8 +422,13 @@ fn end_with_chunk(rt: &impl Abort, mut list: FreeList<Handle>)
 #[test]
 fn a_block_comes_back_to_its_list(rt: HostRuntime) {
     let (mut list, block) = open_with_block(&rt, rt.alloc());
-    assert_eq!(rt; (block.chunk(), block.offset(), block.size()), (1, 54, 10));
-    assert_eq!(rt; block.memory().object(), 7);
+    let place = (
+        block.chunk(),
+        block.offset(),
+        block.size(),
+        block.memory().object(),
+    );
+    same(&rt, "a block", &place, &(1, 54, 10, 7));
     compare_run(&rt, &list, 54);
     compare_sides(&rt, &block);
     put_back::<Brand>(&mut list, block, Blank::new(1));

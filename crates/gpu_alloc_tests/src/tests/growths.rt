@@ -3,6 +3,7 @@
 
 use super::bench::{Bench, Imported, leave_nothing};
 use super::offers::offer;
+use super::same::{holds, same};
 use gpu_alloc::{
     AllocationError, Config, Dedicated, GpuAllocator, MemoryPropertyFlags, MemoryType, Request,
     UsageFlags,
@@ -66,10 +67,15 @@ fn take_or_again(
     match bench.take(rt, request, Some(hint)) {
         Ok(()) => true,
         Err(error) => {
-            assert_eq!(rt; error, AllocationError::OutOfHostMemory);
-            assert_eq!(rt; bench.held(), before);
+            same(rt, "a refusal", &error, &AllocationError::OutOfHostMemory);
+            same(rt, "what is held after a refusal", &bench.held(), &before);
             memory.lift();
-            assert_eq!(rt; bench.take(rt, request, Some(hint)), Ok(()));
+            same(
+                rt,
+                "with ample memory",
+                &bench.take(rt, request, Some(hint)),
+                &Ok(()),
+            );
             false
         }
     }
@@ -88,7 +94,7 @@ fn take_each(
     };
     for (at, (request, hint)) in kinds().into_iter().enumerate() {
         if !take_or_again(rt, memory, bench, request, hint) {
-            assert_eq!(rt; refused, None);
+            same(rt, "what was refused before", &refused, &None);
             refused = Some(Refused::Block(at));
         }
     }
@@ -112,8 +118,7 @@ fn run_in(
 ) -> Result<(Option<Refused>, Option<usize>), Fail> {
     let memory = ScarceMemory::new(alloc)?;
     let mut bench = Bench::new(rt, memory.host(), NON_COHERENT, 64)?;
-    let left = memory.leave(room).is_ok();
-    assert!(rt; left);
+    holds(rt, memory.leave(room).is_ok(), "the host lacks memory");
     let refused = take_each(rt, &memory, &mut bench);
     memory.lift();
     let less = memory.less_room(room);
@@ -148,7 +153,12 @@ fn each_growth_of_an_allocator_is_refused_in_turn(rt: HostRuntime) -> Result<(),
         Some(Refused::Import),
         Some(Refused::Object),
     ];
-    assert_eq!(rt; met.as_slice(), wanted.as_slice());
+    same(
+        &rt,
+        "what was refused in turn",
+        &met.as_slice(),
+        &wanted.as_slice(),
+    );
     Ok(())
 }
 
@@ -158,7 +168,7 @@ fn is_opened_in(rt: &impl Abort, alloc: Global, room: usize) -> Result<bool, Fai
     memory.leave(room)?;
     let types = [NON_COHERENT];
     let offered = offer(&types, 64);
-    assert!(rt; offered.is_usable());
+    holds(rt, offered.is_usable(), "properties of no use");
     let opened: Result<ScarceAllocator<'_>, AllocationError> = GpuAllocator::new(
         memory.host(),
         Config::i_am_potato(),
@@ -166,12 +176,16 @@ fn is_opened_in(rt: &impl Abort, alloc: Global, room: usize) -> Result<bool, Fai
     );
     match opened {
         Ok(allocator) => {
-            assert!(rt; allocator.held_objects() == 0);
+            holds(
+                rt,
+                allocator.held_objects() == 0,
+                "objects of a new allocator",
+            );
             allocator.close();
             Ok(true)
         }
         Err(error) => {
-            assert_eq!(rt; error, AllocationError::OutOfHostMemory);
+            same(rt, "a refusal", &error, &AllocationError::OutOfHostMemory);
             Ok(false)
         }
     }
@@ -182,7 +196,7 @@ fn each_growth_of_an_opening_is_refused_in_turn(rt: HostRuntime) -> Result<(), F
     let mut refused = 0u32;
     for room in 0..4096 {
         if is_opened_in(&rt, rt.alloc(), room << 3)? {
-            assert!(rt; refused > 0, "none was refused");
+            holds(&rt, refused > 0, "none was refused");
             return Ok(());
         }
         refused = refused.saturating_add(1);

@@ -1,6 +1,7 @@
 //! Imports: what is flushed, held and counted, beside blocks of each kind, and without memory.
 
 use super::bench::{Bench, Held, Imported, Part, whole};
+use super::same::{holds, same, same_at};
 use gpu_alloc::{Dedicated, MemoryPropertyFlags, MemoryType, Request, UsageFlags};
 use gpu_sim::ScarceMemory;
 use std::alloc::Global;
@@ -27,7 +28,13 @@ fn take(rt: &impl Abort, bench: &mut Bench, size: u64, usage: UsageFlags, hint: 
         usage,
         memory_types: 1,
     };
-    assert_eq!(rt; bench.take(rt, request, hint), Ok(()), "{size} bytes");
+    same_at(
+        rt,
+        "what is taken of bytes",
+        &size,
+        &bench.take(rt, request, hint),
+        &Ok(()),
+    );
 }
 
 /// An import counts its own bytes, and what is written to it is flushed in whole atoms of its object.
@@ -49,23 +56,30 @@ fn an_import_is_flushed_in_atoms_of_its_object(rt: HostRuntime) -> Result<(), Fa
         remaining: 8,
         used: 0,
     };
-    assert_eq!(&rt; bench.held(), held);
+    same(&rt, "what is held at the end", &bench.held(), &held);
     bench.end(&rt, 8);
     Ok(())
 }
 
 /// Compares what is held with that import, and which range was flushed for it.
 fn compare_import(rt: &impl Abort, bench: &Bench) {
-    assert_eq!(rt; bench.device.last_range(), Some((1, 0, 64)));
+    same(
+        rt,
+        "the range",
+        &bench.device.last_range(),
+        &Some((1, 0, 64)),
+    );
     let held = Held {
         objects: 1,
         held: 1,
         remaining: 4095,
         used: 96,
     };
-    assert_eq!(rt; bench.held(), held);
-    assert_eq!(rt; bench.holds_and_owns(rt, 1), (true, true));
-    assert_eq!(rt; bench.holds_and_owns(rt, 2), (false, true));
+    same(rt, "what is held of an import", &bench.held(), &held);
+    for (object, is_held) in [(1, true), (2, false)] {
+        let known = bench.holds_and_owns(rt, object);
+        same_at(rt, "known is", &object, &known, &(is_held, true));
+    }
 }
 
 #[test]
@@ -78,7 +92,7 @@ fn an_import_may_be_as_large_as_any_object(rt: HostRuntime) -> Result<(), Fail> 
         remaining: 4095,
         used: u128::from(u64::MAX),
     };
-    assert_eq!(&rt; bench.held(), held);
+    same(&rt, "what is held", &bench.held(), &held);
     bench.give_back(&rt, 1);
     bench.end(&rt, 4096);
     Ok(())
@@ -183,13 +197,19 @@ fn compare_returns(rt: &impl Abort, alloc: Global, order: [u64; 5]) -> Result<()
         remaining: 4091,
         used: 18484,
     };
-    assert_eq!(rt; bench.held(), held, "before {order:?}");
+    same_at(rt, "what is held before", &order, &bench.held(), &held);
     for object in &order {
         bench.give_back(rt, *object);
         if *object != 4 {
             held = without(rt, held, *object);
         }
-        assert_eq!(rt; bench.held(), held, "after {object} of {order:?}");
+        same_at(
+            rt,
+            "what is held after one of",
+            &(*object, order),
+            &bench.held(),
+            &held,
+        );
     }
     bench.end(rt, 4096);
     Ok(())
@@ -198,8 +218,13 @@ fn compare_returns(rt: &impl Abort, alloc: Global, order: [u64; 5]) -> Result<()
 /// What is held without an object.
 fn without(rt: &impl Abort, held: Held, object: u64) -> Held {
     let at = object.wrapping_sub(1) as usize;
-    assert!(rt; at < COUNTED.len() && held.objects > 0 && held.held > 0);
-    assert!(rt; held.remaining < 4096 && held.used >= COUNTED[at]);
+    holds(rt, at < COUNTED.len(), "no such object");
+    holds(rt, held.objects > 0 && held.held > 0, "none is held");
+    holds(
+        rt,
+        held.remaining < 4096 && held.used >= COUNTED[at],
+        "less is held",
+    );
     Held {
         objects: held.objects - 1,
         held: held.held - 1,
@@ -220,8 +245,7 @@ fn imports_stand_beside_blocks_of_each_kind(rt: HostRuntime) -> Result<(), Fail>
 fn imported_in(rt: &impl Abort, alloc: Global, room: usize) -> Result<Imported, Fail> {
     let memory = ScarceMemory::new(alloc)?;
     let mut bench = Bench::new(rt, memory.host(), LOCAL, 1)?;
-    let left = memory.leave(room).is_ok();
-    assert!(rt; left);
+    holds(rt, memory.leave(room).is_ok(), "the host lacks memory");
     let imported = bench.import_or_again(rt, &memory);
     bench.give_all_back(rt);
     bench.end(rt, 4096);
@@ -238,10 +262,9 @@ fn an_import_without_room_comes_back(rt: HostRuntime) -> Result<(), Fail> {
             Imported::OnceMade => made = made.saturating_add(1),
             Imported::InTheEnd => imported = imported.saturating_add(1),
             Imported::AtOnce => {
-                assert!(&rt;
-                    made > 0 && imported > 0,
-                    "refused {made} and {imported} times"
-                );
+                let counts = (made, imported);
+                let both = made > 0 && imported > 0;
+                same_at(&rt, "how often each was refused:", &counts, &both, &true);
                 return Ok(());
             }
         }

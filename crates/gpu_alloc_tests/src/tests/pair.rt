@@ -7,6 +7,7 @@ ghost use Rattle.gpu_sim.specs.Question.{CanRefuse};
 ghost use Rattle.gpu_sim.specs.Sim.{objects_of};
 
 use super::bench::Bench;
+use super::same::{holds, never_with, same, same_at};
 use gpu_alloc::laws::kept_blocks_agree;
 use gpu_alloc::{
     Dedicated, GpuAllocator, MapError, Mapping, MemoryBlock, MemoryPropertyFlags, MemoryType,
@@ -24,6 +25,9 @@ const UNREAD: u8 = 0xC3;
 /// The most bytes that one step reads.
 const MOST: usize = 512;
 
+/// What is wrong with a range that does not lie in its block.
+const OUTSIDE: &str = "a range outside its block";
+
 /// What two blocks are asked for with, each.
 #[derive(Clone, Copy)]
 pub(super) struct Asking {
@@ -34,7 +38,7 @@ pub(super) struct Asking {
 }
 
 /// One of two blocks.
-#[derive(Clone, Copy, PartialEq, Eq)]
+#[derive(Clone, Copy)]
 pub(super) enum Which {
     First,
     Second,
@@ -114,7 +118,7 @@ impl Pair {
             props: _,
             blocks,
         } = Bench::new(rt, alloc, memory_type, 64)?;
-        assert!(rt; blocks.is_empty());
+        holds(rt, blocks.is_empty(), "blocks of a new allocator");
         blocks.destroy_empty();
         Ok(Pair::over(rt, allocator, device, asking))
     }
@@ -145,10 +149,16 @@ impl Pair {
             Step::Call(which, call) => self.call(rt, at, which, call),
             Step::Refuse(kind, cause) => self.refuse(rt, kind, cause),
             Step::Command(object, offset, bytes) => self.command(rt, object, offset, bytes),
-            Step::Asked(counts) => assert_eq!(rt; self.asked(), counts, "step {at}"),
+            Step::Asked(counts) => same_at(rt, "questions at step", &at, &self.asked(), &counts),
             Step::Range(object, offset, size) => {
                 let range = self.device.last_range();
-                assert_eq!(rt; range, Some((object, offset, size)), "step {at}");
+                same_at(
+                    rt,
+                    "the range of step",
+                    &at,
+                    &range,
+                    &Some((object, offset, size)),
+                );
             }
         }
     }
@@ -165,13 +175,13 @@ impl Pair {
     fn refuse(&mut self, rt: &impl Abort, kind: Question, cause: Cause) {
         let next = self.device.asked(kind).saturating_add(1);
         let planned = plan(rt, &mut self.device, kind, next, cause);
-        assert_eq!(rt; planned, Ok(()));
+        same(rt, "a plan", &planned, &Ok(()));
     }
 
     /// Has a command of the device write bytes into an object.
     fn command(&mut self, rt: &impl Abort, object: u64, offset: u64, bytes: &[u8]) {
         let written = self.device.gpu_write(object, offset, bytes);
-        assert!(rt; written);
+        holds(rt, written, "a command that writes outside its object");
     }
 
     /// How often the device was asked to allocate, map, flush and invalidate.
@@ -195,9 +205,9 @@ impl Pair {
         allocator.dealloc(&mut device, first);
         allocator.dealloc(&mut device, second);
         allocator.cleanup(&mut device);
-        assert_eq!(rt; device.objects(), 0);
+        same(rt, "objects at the end", &device.objects(), &0);
         drop(device);
-        assert!(rt; allocator.held_objects() == 0);
+        holds(rt, allocator.held_objects() == 0, "objects held at the end");
         allocator.close();
     }
 }
@@ -238,7 +248,11 @@ fn take(
         usage: asking.usage,
         memory_types: 1,
     };
-    assert!(rt; request.is_askable(false));
+    holds(
+        rt,
+        request.is_askable(false),
+        "a request that may not be asked",
+    );
     match allocator.alloc_with_dedicated(device, request, asking.hint) {
         Ok(block) => block,
         Err(error) => panic!(rt; "{error}"),
@@ -256,7 +270,11 @@ pub(super) fn plan(
     ensures properties { device.new.properties ≡ device.old.properties }
     ensures objects { objects_of device.new ≡ objects_of device.old }
 {
-    assert!(rt; can_refuse(kind, cause));
+    holds(
+        rt,
+        can_refuse(kind, cause),
+        "a cause that a question cannot have",
+    );
     device.refuse(kind, nth, cause)
 }
 
@@ -293,9 +311,9 @@ fn call_block(
 {
     match call {
         Call::Write(offset, bytes, answer) => {
-            assert!(rt; fits(block, offset, bytes.len()));
+            holds(rt, fits(block, offset, bytes.len()), OUTSIDE);
             let given = block.write_bytes(device, offset, bytes);
-            assert_eq!(rt; given, answer, "step {at}");
+            same_at(rt, "the write of step", &at, &given, &answer);
         }
         Call::Read(offset, bytes) => {
             let given = read(rt, device, block, offset, bytes.len());
@@ -306,20 +324,22 @@ fn call_block(
             compare_unread(rt, at, given, error);
         }
         Call::Map(offset, size, answer) => {
-            assert!(rt; size > 0);
-            assert!(rt; fits(block, offset, size));
+            holds(rt, size > 0 && fits(block, offset, size), OUTSIDE);
             let given = block.map(device, offset, size);
-            assert_eq!(rt; given, answer, "step {at}");
+            same_at(rt, "the mapping of step", &at, &given, &answer);
         }
         Call::Unmap(answer) => {
             let given = block.unmap(device);
-            assert_eq!(rt; given, answer, "step {at}");
+            same_at(rt, "the unmapping of step", &at, &given, &answer);
         }
         Call::Mapped(mapping) => {
-            assert_eq!(rt;
-                (block.mapping(), block.is_mapped()),
-                (mapping, mapping.is_some()),
-                "step {at}"
+            let given = (block.mapping(), block.is_mapped());
+            same_at(
+                rt,
+                "what is mapped at step",
+                &at,
+                &given,
+                &(mapping, mapping.is_some()),
             );
         }
     }
@@ -339,8 +359,8 @@ fn read(
         device.new.properties (objects_of device.new) }
     ensures same { IsSameBlock block.old block.new }
 {
-    assert!(rt; len <= MOST);
-    assert!(rt; fits(block, offset, len));
+    holds(rt, len <= MOST, "more bytes than the buffer has");
+    holds(rt, fits(block, offset, len), OUTSIDE);
     let mut buffer = [UNREAD; MOST];
     let given = block.read_bytes(device, offset, &mut buffer[..len]);
     (given, buffer)
@@ -354,9 +374,15 @@ fn compare_read(
     bytes: &[u8],
 ) {
     let (given, buffer) = read;
-    assert_eq!(rt; given, Ok(()), "step {at}");
-    assert!(rt; bytes.len() <= MOST);
-    assert_eq!(rt; &buffer[..bytes.len()], bytes, "step {at}");
+    same_at(rt, "the read of step", &at, &given, &Ok(()));
+    holds(rt, bytes.len() <= MOST, "more bytes than the buffer has");
+    same_at(
+        rt,
+        "what is read at step",
+        &at,
+        &&buffer[..bytes.len()],
+        &bytes,
+    );
 }
 
 /// Compares the cause of what was not read. The buffer is as it was.
@@ -367,6 +393,6 @@ fn compare_unread(
     error: MapError,
 ) {
     let (given, buffer) = read;
-    assert_eq!(rt; given, Err(error), "step {at}");
-    assert!(rt; buffer.iter().all(|byte| *byte == UNREAD), "step {at}");
+    same_at(rt, "the refused read of step", &at, &given, &Err(error));
+    same_at(rt, "the buffer at step", &at, &buffer, &[UNREAD; MOST]);
 }

@@ -2,9 +2,10 @@
 //! compared with plain lists of free pieces and live blocks.
 
 ghost use Rattle.gpu_alloc.specs.AlignMasks.{IsAlignMask};
-ghost use Rattle.std.specs.Prelude.{◌<◌};
+ghost use Rattle.std.specs.Prelude.{◌<◌, IfSome, length};
 
 use super::buddy::Chunks;
+use super::same::{holds, never_with, same, same_at};
 use gpu_alloc::buddy::BuddyBlock;
 use gpu_alloc::laws::align_masks_of_powers;
 use gpu_alloc::{FreeRange, MemoryPropertyFlags};
@@ -109,6 +110,41 @@ impl Piece {
     }
 }
 
+/// The place of a piece among others.
+fn find(pieces: &[Piece], wanted: Piece) -> Option<usize>
+    ensures { IfSome result (λ at. at < length pieces.now) }
+{
+    for (at, piece) in pieces.iter().enumerate() {
+        if *piece == wanted {
+            return Some(at);
+        }
+    }
+    None
+}
+
+/// The place of the first piece of an object.
+fn find_of(pieces: &[Piece], object: u64) -> Option<usize>
+    ensures { IfSome result (λ at. at < length pieces.now) }
+{
+    for (at, piece) in pieces.iter().enumerate() {
+        if piece.object == object {
+            return Some(at);
+        }
+    }
+    None
+}
+
+/// How many pieces have this length.
+fn count_of(pieces: &[Piece], length: u64) -> u64 {
+    let mut number = 0;
+    for piece in pieces {
+        if piece.length == length {
+            count(&mut number);
+        }
+    }
+    number
+}
+
 /// Where a block lies.
 fn place_of(block: &BuddyBlock<SimMemory>) -> Piece {
     Piece {
@@ -119,7 +155,7 @@ fn place_of(block: &BuddyBlock<SimMemory>) -> Piece {
 }
 
 /// How often the drawn lists came to something.
-#[derive(Clone, Copy, Debug, Drop)]
+#[derive(Clone, Copy, Drop)]
 struct Tally {
     /// A block was taken from a free piece.
     pieces: u64,
@@ -155,15 +191,21 @@ impl Tally {
 
     /// The drawn lists came to all of it, more often than every second list would have it once.
     fn has_all(&self, rt: &impl Abort) {
-        for count in [
-            self.pieces,
-            self.ties,
-            self.chunks,
-            self.grown,
-            self.gone,
-            self.joined,
+        for row in [
+            ("pieces", self.pieces),
+            ("ties", self.ties),
+            ("chunks", self.chunks),
+            ("grown", self.grown),
+            ("gone", self.gone),
+            ("joined", self.joined),
         ] {
-            assert!(rt; count > LISTS / 2, "too few of {self:?}");
+            same_at(
+                rt,
+                "it came often enough:",
+                &row,
+                &(row.1 > LISTS / 2),
+                &true,
+            );
         }
     }
 }
@@ -232,10 +274,16 @@ impl Lists {
         block: Piece,
         asked: Option<u64>,
     ) -> Result<(), AllocError> {
-        assert_eq!(rt; block.length, length, "the size of {block:?}");
+        same_at(rt, "the size of", &block, &block.length, &length);
         let piece = match self.shortest(length) {
             Some(shortest) => {
-                assert_eq!(rt; asked, None, "a chunk though {shortest} bytes are free");
+                same_at(
+                    rt,
+                    "the chunk asked for beside a piece of",
+                    &shortest,
+                    &asked,
+                    &None,
+                );
                 self.take(rt, block, shortest)
             }
             None => self.begin(rt, block, asked)?,
@@ -247,18 +295,14 @@ impl Lists {
 
     /// Takes the free piece of which a block is the front, and which has to be of this length.
     fn take(&mut self, rt: &impl Abort, block: Piece, length: u64) -> Piece {
-        let ties = self
-            .free
-            .iter()
-            .filter(|piece| piece.length == length)
-            .count();
+        let ties = count_of(self.free.as_slice(), length);
         let front = Piece {
             object: block.object,
             start: block.start,
             length,
         };
-        let Some(at) = self.free.iter().position(|piece| *piece == front) else {
-            panic!(rt; "{block:?} is no front of a shortest piece, which has {length} bytes");
+        let Some(at) = find(self.free.as_slice(), front) else {
+            return never_with(rt, "no shortest piece starts with", &(block, length));
         };
         count(&mut self.tally.pieces);
         if ties > 1 {
@@ -276,10 +320,10 @@ impl Lists {
         asked: Option<u64>,
     ) -> Result<Piece, AllocError> {
         let length = self.latest.max(block.length << 1);
-        assert_eq!(rt; asked, Some(length), "the size of a chunk for {block:?}");
-        assert_eq!(rt; block.start, 0, "the start of {block:?} in a new chunk");
-        let known = self.chunks.iter().any(|chunk| chunk.object == block.object);
-        assert!(rt; !known, "{block:?} in a chunk that was held");
+        same_at(rt, "the size of a chunk for", &block, &asked, &Some(length));
+        same_at(rt, "the start in a new chunk of", &block, &block.start, &0);
+        let known = find_of(self.chunks.as_slice(), block.object);
+        same_at(rt, "a chunk that was held has", &block, &known, &None);
         let chunk = Piece {
             object: block.object,
             start: 0,
@@ -308,11 +352,10 @@ impl Lists {
 
     /// Takes back the block at this place. Its chunk goes where no other block of it is live.
     fn take_back(&mut self, rt: &impl Abort, at: usize) -> Result<(), AllocError> {
-        assert!(rt; at < self.live.len());
+        holds(rt, at < self.live.len(), "no such block");
         let block = self.live.remove(at);
         self.join(block)?;
-        let used = self.live.iter().any(|other| other.object == block.object);
-        if !used {
+        if find_of(self.live.as_slice(), block.object).is_none() {
             self.let_go(rt, block.object);
         }
         Ok(())
@@ -322,8 +365,7 @@ impl Lists {
     fn join(&mut self, block: Piece) -> Result<(), AllocError> {
         let mut piece = block;
         for _ in 0..63 {
-            let other = piece.other_half();
-            let Some(at) = self.free.iter().position(|free| *free == other) else {
+            let Some(at) = find(self.free.as_slice(), piece.other_half()) else {
                 break;
             };
             self.free.swap_remove(at);
@@ -336,12 +378,12 @@ impl Lists {
 
     /// Lets a chunk go in which no block is live: it is one free piece.
     fn let_go(&mut self, rt: &impl Abort, object: u64) {
-        let Some(at) = self.chunks.iter().position(|chunk| chunk.object == object) else {
-            panic!(rt; "no chunk of the object {object}");
+        let Some(at) = find_of(self.chunks.as_slice(), object) else {
+            return never_with(rt, "no chunk of the object", &object);
         };
         let whole = self.chunks.swap_remove(at);
-        let Some(at) = self.free.iter().position(|piece| *piece == whole) else {
-            panic!(rt; "{whole:?} is not free as a whole");
+        let Some(at) = find(self.free.as_slice(), whole) else {
+            return never_with(rt, "not free as a whole:", &whole);
         };
         self.free.swap_remove(at);
         if !self.chunks.is_empty() {
@@ -407,7 +449,11 @@ impl Hand {
         requires nonempty { 0 < size }
         requires alignment { IsAlignMask align_mask }
     {
-        assert!(rt; self.blocks.len() < self.blocks.capacity());
+        holds(
+            rt,
+            self.blocks.len() < self.blocks.capacity(),
+            "no place for a block",
+        );
         match self.chunks.ask(rt, size, align_mask) {
             Ok(block) => {
                 let place = place_of(&block);
@@ -428,7 +474,7 @@ impl Hand {
     /// Ends the allocator, which holds nothing.
     fn end(self, rt: &impl Abort) {
         let Hand { chunks, blocks } = self;
-        assert!(rt; blocks.is_empty());
+        holds(rt, blocks.is_empty(), "blocks at the end");
         blocks.destroy_empty();
         chunks.end(rt);
     }
@@ -468,10 +514,10 @@ fn give_back(
 
 /// Compares what is held and what is free.
 fn compare(rt: &impl Abort, alloc: Global, hand: &Hand, lists: &Lists) -> Result<(), AllocError> {
-    assert_eq!(rt; hand.chunks.held(), lists.held(), "what is held");
+    same(rt, "what is held", &hand.chunks.held(), &lists.held());
     let found = hand.chunks.free_ranges(rt);
     let wanted = lists.ranges(alloc)?;
-    assert_eq!(rt; found.as_slice(), wanted.as_slice(), "what is free");
+    same(rt, "what is free", &found.as_slice(), &wanted.as_slice());
     Ok(())
 }
 
@@ -508,8 +554,8 @@ fn try_list(
     let mut hand = Hand::new(alloc)?;
     let mut lists = Lists::new(alloc, tally);
     let ran = run(rt, alloc, &mut hand, &mut lists, chance);
-    assert_eq!(rt; ran, Ok(()));
-    assert_eq!(rt; lists.held(), (0, 0, MOST));
+    same(rt, "a list", &ran, &Ok(()));
+    same(rt, "what is held at the end", &lists.held(), &(0, 0, MOST));
     hand.end(rt);
     Ok(lists.tally)
 }

@@ -1,6 +1,7 @@
 //! The free ranges of a memory type, as an allocator over the simulated device tells them.
 
 use super::bench::Bench;
+use super::same::{holds, never_with, same_at};
 use gpu_alloc::{
     AllocationError, Dedicated, FreeRange, MemoryPropertyFlags, MemoryType, Request, UsageFlags,
 };
@@ -63,13 +64,30 @@ pub(super) fn compare_ranges<A: Allocator>(
     found: &Vec<FreeRange, A>,
     wanted: &[(u64, u64, u64)],
 ) {
-    assert_eq!(rt; found.len(), wanted.len(), "step {at}");
-    for (range, (object, start, end)) in found.iter().zip(wanted) {
-        assert_eq!(rt;
-            (range.object, range.start, range.end),
-            (*object, *start, *end),
-            "step {at}"
-        );
+    same_at(
+        rt,
+        "how many free ranges at step",
+        &at,
+        &found.len(),
+        &wanted.len(),
+    );
+    for (range, place) in found.iter().zip(wanted) {
+        let came = (range.object, range.start, range.end);
+        same_at(rt, "a free range at step", &at, &came, place);
+    }
+}
+
+/// Compares the free ranges of a memory type with those of a row. The number tells which step it is.
+fn compare_free<A: Allocator + Copy>(
+    rt: &impl Abort,
+    at: usize,
+    bench: &Bench<A>,
+    memory_type: u32,
+    wanted: &[(u64, u64, u64)],
+) {
+    match bench.free_ranges(rt, memory_type) {
+        Ok(found) => compare_ranges(rt, at, &found, wanted),
+        Err(error) => never_with(rt, "no free ranges at a step:", &(at, error)),
     }
 }
 
@@ -77,13 +95,16 @@ pub(super) fn compare_ranges<A: Allocator>(
 fn take_step<A: Allocator + Copy>(rt: &impl Abort, bench: &mut Bench<A>, at: usize, step: Step) {
     match step {
         Step::Take(request, hint) => {
-            assert_eq!(rt; bench.take(rt, request, hint), Ok(()), "step {at}");
+            same_at(
+                rt,
+                "what is taken at step",
+                &at,
+                &bench.take(rt, request, hint),
+                &Ok(()),
+            );
         }
         Step::Return(place) => bench.give_back_at(rt, place),
-        Step::Free(memory_type, wanted) => match bench.free_ranges(rt, memory_type) {
-            Ok(found) => compare_ranges(rt, at, &found, wanted),
-            Err(error) => panic!(rt; "{error} at step {at}"),
-        },
+        Step::Free(memory_type, wanted) => compare_free(rt, at, bench, memory_type, wanted),
     }
 }
 
@@ -242,18 +263,22 @@ fn look_in(
     memory.leave(room)?;
     let answer = bench.free_ranges(rt, 0);
     memory.lift();
-    assert_eq!(rt; bench.held(), before);
+    same_at(
+        rt,
+        "what is held after a look in",
+        &room,
+        &bench.held(),
+        &before,
+    );
     match answer {
         Ok(found) => {
             compare_ranges(rt, room, &found, wanted);
             Ok(true)
         }
         Err(error) => {
-            assert_eq!(rt; error, AllocationError::OutOfHostMemory);
-            match bench.free_ranges(rt, 0) {
-                Ok(found) => compare_ranges(rt, room, &found, wanted),
-                Err(_) => panic!(rt; "refused with ample memory"),
-            }
+            let refusal = AllocationError::OutOfHostMemory;
+            same_at(rt, "the refusal in", &room, &error, &refusal);
+            compare_free(rt, room, bench, 0, wanted);
             Ok(false)
         }
     }
@@ -270,7 +295,13 @@ fn is_served_in(
     let memory = ScarceMemory::new(alloc)?;
     let mut bench = Bench::new(rt, memory.host(), LOCAL, 1)?;
     for request in requests {
-        assert_eq!(rt; bench.take(rt, *request, None), Ok(()));
+        same_at(
+            rt,
+            "what is taken for",
+            request,
+            &bench.take(rt, *request, None),
+            &Ok(()),
+        );
     }
     let served = look_in(rt, &memory, room, &bench, wanted);
     bench.give_all_back(rt);
@@ -288,7 +319,7 @@ fn compare_refusals(
     let mut refused = 0u32;
     for room in 0..4096 {
         if is_served_in(rt, alloc, room << 3, requests, wanted)? {
-            assert!(rt; refused > 0, "none was refused");
+            holds(rt, refused > 0, "none was refused");
             return Ok(());
         }
         refused = refused.saturating_add(1);

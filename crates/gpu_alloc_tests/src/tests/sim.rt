@@ -5,6 +5,7 @@ ghost use Rattle.gpu_alloc_types.specs.Flags.{has_bit, host_visible, property_bi
 
 use super::offers::HEAPS;
 use super::pair::plan;
+use super::same::{holds, same, same_at};
 use Cause::{Failed, Host};
 use gpu_alloc_types::{
     AllocationFlags, DeviceMapError, DeviceProperties, MemoryDevice, MemoryObject,
@@ -81,39 +82,56 @@ impl Device {
     fn refuse(&mut self, rt: &impl Abort, refused: Plan) {
         let (kind, nth, cause) = refused;
         let planned = plan(rt, &mut self.sim, kind, nth, cause);
-        assert_eq!(rt; planned, Ok(()));
+        same(rt, "a plan", &planned, &Ok(()));
     }
 
     /// Takes one step, and compares what comes of it. The number tells which one it is.
     fn take_step(&mut self, rt: &impl Abort, at: usize, step: Step) {
         match step {
             Step::Keep(size, answer, objects) => {
-                assert!(rt; size > 0);
-                assert_eq!(rt; ask(&mut self.sim, size), answer, "step {at}");
-                assert_eq!(rt; self.sim.objects(), objects, "step {at}");
+                holds(rt, size > 0, "an object of no bytes");
+                let given = ask(&mut self.sim, size);
+                let came = (given, self.sim.objects());
+                same_at(rt, "the object of step", &at, &came, &(answer, objects));
             }
             Step::Return(size, answer, objects) => {
-                assert_eq!(rt; self.ask_and_return(rt, size), answer, "step {at}");
-                assert_eq!(rt; self.sim.objects(), objects, "step {at}");
+                let given = self.ask_and_return(rt, size);
+                let came = (given, self.sim.objects());
+                same_at(
+                    rt,
+                    "the returned object of step",
+                    &at,
+                    &came,
+                    &(answer, objects),
+                );
             }
             Step::Duplicate(size, answer) => {
-                assert_eq!(rt; self.ask_and_duplicate(rt, size), Some(answer), "step {at}");
+                let given = self.ask_and_duplicate(rt, size);
+                same_at(rt, "the duplicate of step", &at, &given, &Some(answer));
             }
             Step::Map(size, answer) => {
-                assert_eq!(rt; self.map_new(rt, size), Ok(answer), "step {at}");
+                same_at(
+                    rt,
+                    "the mapping of step",
+                    &at,
+                    &self.map_new(rt, size),
+                    &Ok(answer),
+                );
             }
             Step::Asked(allocations, maps) => {
-                assert_eq!(rt; self.asked(), (allocations, maps), "step {at}");
+                let wanted = (allocations, maps);
+                same_at(rt, "questions at step", &at, &self.asked(), &wanted);
             }
             Step::Latest(latest) => {
-                assert_eq!(rt; self.sim.last_allocation(), latest, "step {at}");
+                let came = self.sim.last_allocation();
+                same_at(rt, "the latest question at step", &at, &came, &latest);
             }
         }
     }
 
     /// The name of an object that is given back.
     fn ask_and_return(&mut self, rt: &impl Abort, size: u64) -> Result<u64, OutOfMemory> {
-        assert!(rt; size > 0);
+        holds(rt, size > 0, "an object of no bytes");
         let flags = AllocationFlags::from_bits_retain(0);
         let memory = self.sim.allocate_memory(size, 0, flags)?;
         self.sim.deallocate_memory(&memory);
@@ -122,7 +140,7 @@ impl Device {
 
     /// The name of an object that is kept, by another handle once the first is gone.
     fn ask_and_duplicate(&mut self, rt: &impl Abort, size: u64) -> Option<u64> {
-        assert!(rt; size > 0);
+        holds(rt, size > 0, "an object of no bytes");
         let flags = AllocationFlags::from_bits_retain(0);
         let memory = self.sim.allocate_memory(size, 0, flags).ok()?;
         let other = memory.duplicate().ok()?;
@@ -142,7 +160,7 @@ impl Device {
         let answer = self.sim.map_memory(&memory, 0, size);
         if answer.is_err() {
             let again = self.sim.map_memory(&memory, 0, size);
-            assert_eq!(rt; again, Ok(()));
+            same(rt, "a second question", &again, &Ok(()));
         }
         Ok(answer)
     }
@@ -308,11 +326,16 @@ fn a_duplicate_is_refused_with_its_memory(rt: HostRuntime) -> Result<(), Fail> {
     for (room, count) in [(0, 0), (7, 0), (8, 1), (80, 10), (4096, 512), (8, 1)] {
         scarce.leave(room)?;
         let fit = count_duplicates(rt.alloc(), &memory)?;
-        assert_eq!(rt; fit, Some(count), "duplicates in {room} bytes");
+        same_at(&rt, "duplicates in bytes:", &room, &fit, &Some(count));
     }
     scarce.lift();
-    assert_eq!(rt; count_duplicates(rt.alloc(), &memory)?, None);
-    assert_eq!(rt; memory.object(), 2);
+    let fit = count_duplicates(rt.alloc(), &memory)?;
+    same(
+        &rt,
+        "duplicates and the object",
+        &(fit, memory.object()),
+        &(None, 2),
+    );
     Ok(())
 }
 
@@ -324,7 +347,14 @@ fn a_device_local_object_may_be_of_2_to_the_63_bytes(rt: HostRuntime) -> Result<
         let written = (sim.gpu_write(1, 0, &[1]), sim.gpu_write(2, 0, &[]));
         let objects = sim.objects();
         drop(sim);
-        assert_eq!(rt; (answer, written, objects), (Ok(1), (false, false), 1));
+        let came = (answer, written, objects);
+        same_at(
+            &rt,
+            "an object of bits",
+            &bits,
+            &came,
+            &(Ok(1), (false, false), 1),
+        );
     }
     Ok(())
 }
@@ -336,11 +366,16 @@ fn an_object_is_refused_with_its_bytes(rt: HostRuntime) -> Result<(), Fail> {
     let refused = Err(OutOfMemory::OutOfHostMemory);
     // Of 3,000 bytes there is room for the host's list alone.
     for (size, answer, objects) in [(3000, refused, 0), (1 << 63, refused, 0), (1000, Ok(1), 1)] {
-        assert!(rt; size > 0 && memory.leave(4096).is_ok());
-        assert_eq!(rt; ask(&mut sim, size), answer);
-        assert_eq!(rt; sim.objects(), objects);
+        holds(
+            &rt,
+            size > 0 && memory.leave(4096).is_ok(),
+            "the host lacks memory",
+        );
+        let given = ask(&mut sim, size);
+        let came = (given, sim.objects());
+        same_at(&rt, "an object of bytes", &size, &came, &(answer, objects));
     }
-    assert_eq!(rt; sim.asked(Question::Allocate), 3);
+    same(&rt, "questions", &sim.asked(Question::Allocate), &3);
     drop(sim);
     Ok(())
 }

@@ -1,6 +1,9 @@
 //! The bytes of an object of the simulated device: what the host sees once it and the device have written, and which
 //! part of a range is copied.
 
+ghost use Rattle.std.specs.Prelude.{◌≡◌, ◌+◌, ◌≤◌, ◌<◌, IsTrue};
+
+use super::same::{holds, same, same_at};
 use super::sim::{Device, NONE, Plan};
 use Act::{Flush, FlushTwo, Invalidate, Put, Remap, See, Told, Write};
 use Cause::Host;
@@ -14,6 +17,17 @@ use std::process::Abort;
 use std::test::Fail;
 
 const SIZE: u64 = 8;
+
+/// What is wrong with a range that does not lie in the object.
+const OUTSIDE: &str = "a range outside the object";
+
+/// Whether a range lies in the object and is not empty.
+fn is_inside(offset: u64, size: u64) -> bool
+    ensures some { IsTrue result → 0 < size }
+    ensures inside { IsTrue result → offset + size ≤ 8 }
+{
+    size > 0 && offset <= SIZE && size <= SIZE - offset
+}
 
 /// A device of one memory type with an object of 8 bytes, all of which are mapped. Contracts see the object's name.
 #[derive(Drop)]
@@ -51,31 +65,39 @@ impl Mapped {
         match act {
             Put(offset, bytes) => self.put(rt, offset, &bytes),
             Write(offset, bytes, answer) => {
-                assert_eq!(rt; self.write(offset, &bytes), answer, "act {at}");
+                same_at(
+                    rt,
+                    "the write of act",
+                    &at,
+                    &self.write(offset, &bytes),
+                    &answer,
+                );
             }
             Flush(offset, size, answer) => {
-                assert_eq!(rt; self.flush(rt, offset, size), answer, "act {at}");
+                same_at(
+                    rt,
+                    "the flush of act",
+                    &at,
+                    &self.flush(rt, offset, size),
+                    &answer,
+                );
             }
             FlushTwo => self.flush_two_and_none(rt),
             Invalidate(offset, size, answer) => {
-                assert_eq!(rt; self.invalidate(rt, offset, size), answer, "act {at}");
+                let given = self.invalidate(rt, offset, size);
+                same_at(rt, "the invalidation of act", &at, &given, &answer);
             }
             Remap => self.unmap_and_map(rt),
-            See(bytes) => assert_eq!(rt; self.read(), bytes, "act {at}"),
+            See(bytes) => same_at(rt, "what is seen at act", &at, &self.read(), &bytes),
             Told(flushes, invalidates, range) => {
-                assert_eq!(rt;
-                    self.told(),
-                    (flushes, invalidates, Some(range)),
-                    "act {at}"
-                );
+                let wanted = (flushes, invalidates, Some(range));
+                same_at(rt, "what is told at act", &at, &self.told(), &wanted);
             }
         }
     }
 
     fn put(&mut self, rt: &impl Abort, offset: u64, bytes: &[u8]) {
-        assert!(rt; bytes.len() > 0);
-        assert!(rt; offset <= SIZE);
-        assert!(rt; bytes.len() as u64 <= SIZE - offset);
+        holds(rt, is_inside(offset, bytes.len() as u64), OUTSIDE);
         self.sim.put_bytes(&self.memory, offset, bytes);
     }
 
@@ -85,9 +107,7 @@ impl Mapped {
     }
 
     fn flush(&mut self, rt: &impl Abort, offset: u64, size: u64) -> Result<(), OutOfMemory> {
-        assert!(rt; size > 0);
-        assert!(rt; offset <= SIZE);
-        assert!(rt; size <= SIZE - offset);
+        holds(rt, is_inside(offset, size), OUTSIDE);
         let memory = &self.memory;
         self.sim.flush_memory_ranges(&[MappedMemoryRange {
             memory,
@@ -97,9 +117,7 @@ impl Mapped {
     }
 
     fn invalidate(&mut self, rt: &impl Abort, offset: u64, size: u64) -> Result<(), OutOfMemory> {
-        assert!(rt; size > 0);
-        assert!(rt; offset <= SIZE);
-        assert!(rt; size <= SIZE - offset);
+        holds(rt, is_inside(offset, size), OUTSIDE);
         let memory = &self.memory;
         self.sim.invalidate_memory_ranges(&[MappedMemoryRange {
             memory,
@@ -111,7 +129,7 @@ impl Mapped {
     /// Flushes two bytes of it in one question, and then none. The latter leaves the latest range as it was.
     fn flush_two_and_none(&mut self, rt: &impl Abort) {
         let told = self.flush_two();
-        assert_eq!(rt; told, [Some((1, 2, 1)); 2]);
+        same(rt, "the latest ranges", &told, &[Some((1, 2, 1)); 2]);
     }
 
     // What was the latest range after each.

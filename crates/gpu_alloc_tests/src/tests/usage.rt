@@ -2,6 +2,7 @@
 
 ghost use Rattle.std.specs.Prelude.{◌≡◌, ◌≤◌, length};
 
+use super::same::{never_with, same, same_at};
 use gpu_alloc::{MemoryForUsage, MemoryPropertyFlags, MemoryType, UsageFlags};
 use std::process::Abort;
 
@@ -112,7 +113,7 @@ fn each_usage_ranks_the_types_of_three_devices(rt: HostRuntime) {
         are_ranked(&rt, [&few, &card, &shared], usage, row);
         usage = usage.saturating_add(1);
     }
-    assert_eq!(rt; usage, 64);
+    same(&rt, "rows", &usage, &64);
 }
 
 /// Compares how some tables rank the types for a usage with the words of a row.
@@ -121,22 +122,31 @@ fn are_ranked(rt: &impl Abort, tables: [&MemoryForUsage; 3], usage: u8, row: &st
     for table in tables {
         match words.next() {
             Some(digits) => is_ranked(rt, table, usage, digits.as_bytes()),
-            None => panic!(rt; "usage {usage} has no further word"),
+            None => never_with(rt, "no further word for usage", &usage),
         }
     }
-    assert!(rt; words.next().is_none(), "usage {usage}");
+    same_at(
+        rt,
+        "a word too many for usage",
+        &usage,
+        &words.next(),
+        &None,
+    );
 }
 
 fn is_ranked(rt: &impl Abort, table: &MemoryForUsage, usage: u8, digits: &[u8]) {
     let types = table.types(UsageFlags::from_bits_retain(usage));
-    assert_eq!(rt; types.len(), digits.len(), "usage {usage}");
+    same_at(
+        rt,
+        "how many types for usage",
+        &usage,
+        &types.len(),
+        &digits.len(),
+    );
     for (place, digit) in digits.iter().enumerate() {
         let want = u32::from(digit.wrapping_sub(b'0'));
-        assert_eq!(rt;
-            types.get(place),
-            Some(&want),
-            "usage {usage}, place {place}"
-        );
+        let at = (usage, place);
+        same_at(rt, "usage and place", &at, &types.get(place), &Some(&want));
     }
 }
 
@@ -147,8 +157,8 @@ fn compare_rows(rt: &impl Abort, types: &[MemoryType], rows: &[(u8, &[u32], u32)
     let table = MemoryForUsage::new(types);
     for (bits, want, mask) in rows {
         let usage = UsageFlags::from_bits_retain(*bits);
-        assert_eq!(rt; table.types(usage), *want, "usage {bits}");
-        assert_eq!(rt; table.mask(usage), *mask, "mask of usage {bits}");
+        same_at(rt, "usage", bits, &table.types(usage), want);
+        same_at(rt, "mask of usage", bits, &table.mask(usage), mask);
     }
 }
 

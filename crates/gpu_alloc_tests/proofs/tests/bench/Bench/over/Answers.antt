@@ -13,16 +13,13 @@ first_props (t ∷ types) d some = refl
 
 pub invariant_of-result : goal.invariant_of-result
 invariant_of-result g c =
-    let same = ap (λ (s : State). s.properties) c.in-Ok.ensures.opened in (
+    let same = ap (λ (s : State). s.properties) c.in-Ok.ensures.opened in
+    let first : 0 < length c.args.offered.memory_types.now = omega (arith, c.requires.second) in (
       c.agrees_at_first.ensures,
-      (
-        subst (λ (p : Properties). 0 < length p.memory_heaps) (sym same) c.requires.heap,
-        (
-          subst (λ (p : Properties). 0 < length p.memory_types) (sym same) c.requires.memory_type,
-          (
-            rw (same) (first_props c.args.offered.memory_types.now _ c.requires.memory_type),
-            subst (λ (p : Properties). 1 < length p.memory_types) (sym same) c.requires.second,
-          ),
-        ),
-      ),
+      record {
+        heap = subst (λ (p : Properties). 0 < length p.memory_heaps) (sym same) c.requires.heap;
+        first = subst (λ (p : Properties). 0 < length p.memory_types) (sym same) first;
+        second = subst (λ (p : Properties). 1 < length p.memory_types) (sym same) c.requires.second;
+        props = rw (same) (first_props c.args.offered.memory_types.now _ first);
+      },
     )
