@@ -1,6 +1,6 @@
 mod Commands
 mod EmptyMaps
 mod Hands
-mod LiveSlots
 mod OneChunk
 mod Ready
+mod WholeAtoms

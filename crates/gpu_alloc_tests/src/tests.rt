@@ -13,6 +13,7 @@ mod offers;
 mod pair;
 mod pieces;
 mod ranges;
+mod runs;
 mod same;
 mod sim;
 mod sim_bytes;

@@ -12,6 +12,7 @@ mod extremes;
 mod grants;
 mod growths;
 mod halves;
+mod kept_chunk;
 mod lines;
 mod lists;
 mod memory;

@@ -1,14 +1,18 @@
 //! The free-list allocator and its list by themselves.
 
-ghost use Rattle.std.specs.Prelude.{◌≡◌, ◌≤◌, ◌<◌, ◌≢◌};
+ghost use Rattle.std.specs.Prelude.{◌≡◌, ◌≤◌, ◌<◌, ◌+◌, ◌^◌, IfOk, IsTrue};
 ghost use Rattle.std.specs.FinMap as map;
+ghost use Rattle.std.specs.Int.{is_power_of_two};
+ghost use Rattle.gpu_alloc.specs.AlignMasks.{IsAlignMask};
+ghost use Rattle.gpu_alloc.specs.FreeListAllocator.{Adds, Leaves, Removes};
 ghost use Rattle.gpu_alloc.specs.FreeListState.{IsLiveSlot};
+ghost use Rattle.gpu_alloc.specs.FreeSpace.{IsMultipleOf};
 ghost use Rattle.gpu_alloc.specs.Steps.{Begins};
-ghost use Rattle.gpu_alloc.specs.Types.Slot.{Slot};
+ghost use Rattle.gpu_alloc_base.specs.Sizes.{up};
 ghost use Rattle.gpu_sim.specs.Question.{CanRefuse};
 
 use super::offers::HEAPS;
-use super::same::{holds, same, same_at};
+use super::same::{holds, same};
 use gpu_alloc::freelist::{FreeList, FreeListAllocator, FreeListBlock, FreeListRegion};
 use gpu_alloc::heap::Heap;
 use gpu_alloc::steps::Steps;
@@ -169,12 +173,21 @@ fn a_chunk_that_cannot_be_mapped_is_given_back(rt: HostRuntime) -> Result<(), Fa
     )
 }
 
+/// The size of the first chunk, in bytes, where the first block is not larger.
+pub(super) const FIRST: u64 = 8192;
+
+/// The size of the largest chunk.
+pub(super) const LARGEST: u64 = 32768;
+
 /// A free-list allocator with its device, its ledger and its count of objects. Contracts see the allocator.
-struct Chunks {
+pub(super) struct Chunks {
     allocator: FreeListAllocator<SimMemory>,
     device: Sim,
     heap: Heap,
     remaining: u32,
+
+    /// How many objects may be held in all.
+    most: u32,
 }
 
 impl Model for Chunks {
@@ -182,6 +195,7 @@ impl Model for Chunks {
     ghost use Rattle.gpu_alloc.specs.Codes.{listing_code};
     ghost use Rattle.gpu_alloc.specs.Accounts.{IsCounted, chunks_and_remaining};
     ghost use Rattle.gpu_alloc.specs.FreeListAllocator.{Agrees};
+    ghost use Rattle.gpu_alloc.specs.FreeListSound.{IsSound};
     ghost use Rattle.gpu_alloc.specs.FreeListState.{Listing};
     ghost use Rattle.gpu_sim.specs.Sim.{objects_of};
 
@@ -193,17 +207,30 @@ impl Model for Chunks {
 
     ghost invariant = { λ c. Agrees c.allocator (c.device).properties (objects_of c.device) ×
         (IsCounted ((c.allocator).space).chunks c.heap c.remaining ×
-        ((chunks_and_remaining ((c.allocator).space).chunks c.remaining ≡ 4096) ×
-        (((c.allocator).atom ≡ 1) × ((c.allocator).final_chunk ≡ 32768)))) };
+        ((chunks_and_remaining ((c.allocator).space).chunks c.remaining ≡ c.most) ×
+        (IsSound c.allocator × ((c.allocator).final_chunk ≡ 32768)))) };
 }
 
 impl Chunks {
-    /// One that holds nothing, over one device-local type.
-    fn new(alloc: Global) -> Result<Chunks, Fail> {
-        let types = [MemoryType {
-            heap: 0,
-            props: MemoryPropertyFlags::DEVICE_LOCAL,
-        }];
+    /// One that holds nothing, and may hold so many objects, over one device-local type. Each byte may start a block.
+    pub(super) fn new(alloc: Global, most: u32) -> Result<Chunks, Fail> {
+        Chunks::of_atoms(alloc, 0, most)
+    }
+
+    /// The same by atoms of 64 bytes.
+    pub(super) fn by_atoms(alloc: Global, most: u32) -> Result<Chunks, Fail> {
+        Chunks::of_atoms(alloc, 63, most)
+    }
+
+    /// The same by atoms of the mask and one.
+    fn of_atoms(alloc: Global, atom_mask: u64, most: u32) -> Result<Chunks, Fail>
+        requires atom { IsTrue (is_power_of_two (atom_mask + 1)) }
+        requires atom_bound { atom_mask + 1 ≤ 2 ^ 62 }
+        requires starting { IsMultipleOf (atom_mask + 1) 8192 }
+        requires largest { IsMultipleOf (atom_mask + 1) 32768 }
+    {
+        let props = MemoryPropertyFlags::DEVICE_LOCAL;
+        let types = [MemoryType { heap: 0, props }];
         let offered = DeviceProperties {
             memory_types: &types,
             memory_heaps: &HEAPS,
@@ -213,80 +240,139 @@ impl Chunks {
             buffer_device_address: false,
         };
         let device = Sim::new(alloc, offered)?;
-        let props = MemoryPropertyFlags::DEVICE_LOCAL;
-        let allocator = FreeListAllocator::new(alloc, 8192, 32768, 0, props, 0);
+        let allocator = FreeListAllocator::new(alloc, FIRST, LARGEST, 0, props, atom_mask);
         Ok(Chunks {
             allocator,
             device,
             heap: Heap::new(1 << 20),
-            remaining: 4096,
+            remaining: most,
+            most,
         })
     }
 
-    /// A block of at least so many bytes.
-    fn take(&mut self, rt: &impl Abort, size: u64) -> FreeListBlock<SimMemory>
-        ensures live { IsLiveSlot (self.new).space result }
-        ensures new { IsLiveSlot (self.old).space result → ⊥ }
-        ensures others { (slot : Slot) → IsLiveSlot (self.old).space slot → IsLiveSlot (self.new).space slot }
+    /// Has the device refuse a question for a chunk, of which so many come up to it, with it.
+    pub(super) fn refuse(&mut self, nth: u64) -> Result<(), AllocError>
+        ensures { self.new ≡ self.old }
     {
-        holds(rt, size > 0 && size <= 32768, "a block that no chunk has");
+        self.device.refuse(Question::Allocate, nth, Cause::Device)
+    }
+
+    /// What is told before a request for so many bytes at a multiple of the mask and one.
+    pub(super) fn told(
+        &self,
+        rt: &impl Abort,
+        size: u64,
+        align_mask: u64,
+    ) -> Option<AllocationError>
+        requires nonempty { 0 < size }
+        requires alignment { IsAlignMask align_mask }
+    {
+        assert!(rt; size <= LARGEST);
+        self.allocator
+            .refuses(size, align_mask, &self.heap, self.remaining)
+    }
+
+    /// Asks for a block of at least so many bytes at a multiple of the mask and one.
+    pub(super) fn ask(
+        &mut self,
+        rt: &impl Abort,
+        size: u64,
+        align_mask: u64,
+    ) -> Result<FreeListBlock<SimMemory>, AllocationError>
+        requires nonempty { 0 < size }
+        requires alignment { IsAlignMask align_mask }
+        ensures added { IfOk result (Adds self.old self.new) }
+        ensures leaves { Leaves self.old self.new }
+    {
+        assert!(rt; size <= LARGEST);
         holds(
             rt,
             self.heap.used() <= 1 << 127,
             "more than a ledger counts",
         );
-        match self.allocator.alloc(
+        self.allocator.alloc(
             &mut self.device,
             size,
-            0,
+            align_mask,
             AllocationFlags::empty(),
             &mut self.heap,
             &mut self.remaining,
-        ) {
+        )
+    }
+
+    /// A block of at least so many bytes.
+    fn take(&mut self, rt: &impl Abort, size: u64) -> FreeListBlock<SimMemory>
+        ensures added { Adds self.old self.new result }
+        ensures leaves { Leaves self.old self.new }
+    {
+        holds(rt, size > 0, "a block of no bytes");
+        match self.ask(rt, size, 0) {
             Ok(block) => block,
             Err(error) => panic!(rt; "{error}"),
         }
     }
 
-    fn give_back(&mut self, block: FreeListBlock<SimMemory>)
+    /// Takes a block back.
+    pub(super) fn give_back(&mut self, block: FreeListBlock<SimMemory>)
         requires live { IsLiveSlot (self.old).space block }
-        ensures others { (slot : Slot) → IsLiveSlot (self.old).space slot → slot ≢ block
-            → IsLiveSlot (self.new).space slot }
+        ensures removed { Removes self.old block self.new }
     {
         self.allocator.dealloc(&mut self.device, block, &mut self.heap, &mut self.remaining);
     }
 
     /// Gives every chunk back in which no block is live.
-    fn clean(&mut self) {
+    pub(super) fn clean(&mut self)
+        ensures leaves { Leaves self.old self.new }
+    {
         self.allocator
             .cleanup(&mut self.device, &mut self.heap, &mut self.remaining);
     }
 
     /// Compares how many objects the device holds, and how much the ledger counts. It was asked for one chunk.
     fn compare(&self, rt: &impl Abort, objects: usize, used: u128) {
-        let asked = self.device.asked(Question::Allocate);
-        let came = (asked, self.device.objects(), self.heap.used());
-        same(rt, "what was asked and is held", &came, &(1, objects, used));
+        let (asked, _) = self.asked();
+        let (held, bytes, _) = self.held();
+        same(
+            rt,
+            "what was asked and is held",
+            &(asked, held, bytes),
+            &(1, objects, used),
+        );
+    }
+
+    /// How many objects the device holds, how many bytes the ledger counts, and how many more objects may be held.
+    pub(super) fn held(&self) -> (usize, u128, u32) {
+        (self.device.objects(), self.heap.used(), self.remaining)
+    }
+
+    /// How often the device was asked to allocate, and for how many bytes the last time.
+    pub(super) fn asked(&self) -> (u64, Option<u64>) {
+        let size = match self.device.last_allocation() {
+            Some((size, _, _)) => Some(size),
+            None => None,
+        };
+        (self.device.asked(Question::Allocate), size)
     }
 
     /// Compares the free ranges.
-    fn compare_ranges(&self, rt: &impl Abort, ranges: &[FreeRange]) {
-        let Ok(found) = self.allocator.free_ranges() else {
-            panic!(rt; "no memory");
-        };
-        same(rt, "free ranges", &found.as_slice(), &ranges);
+    pub(super) fn compare_ranges(&self, rt: &impl Abort, ranges: &[FreeRange]) {
+        match self.allocator.free_ranges() {
+            Ok(found) => same(rt, "free ranges", &found.as_slice(), &ranges),
+            Err(_) => panic!(rt; "no memory"),
+        }
     }
 
     /// Ends the allocator, which holds nothing.
-    fn end(self, rt: &impl Abort) {
+    pub(super) fn end(self, rt: &impl Abort) {
         let Chunks {
             allocator,
             device,
             heap: _,
             remaining,
+            most,
         } = self;
         drop(device);
-        holds(rt, remaining == 4096, "objects held at the end");
+        holds(rt, remaining == most, "objects held at the end");
         allocator.close();
     }
 }
@@ -301,7 +387,7 @@ fn place_of(block: &FreeListBlock<SimMemory>) -> (u64, u64, u64) {
 /// chunk that nobody uses would be held for ever.
 #[test]
 fn two_blocks_share_a_chunk(rt: HostRuntime) -> Result<(), Fail> {
-    let mut chunks = Chunks::new(rt.alloc())?;
+    let mut chunks = Chunks::new(rt.alloc(), 4096)?;
     let first = chunks.take(&rt, 100);
     let second = chunks.take(&rt, 200);
     same(&rt, "the first block", &place_of(&first), &(1, 8092, 100));

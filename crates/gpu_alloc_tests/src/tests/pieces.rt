@@ -30,13 +30,13 @@ const FIRST: u64 = 8192;
 
 /// Numbers that look like chance, the same in each run.
 #[derive(Drop)]
-struct Chance {
-    state: u64,
+pub(super) struct Chance {
+    pub(super) state: u64,
 }
 
 impl Chance {
     /// The next number, below 2^31.
-    fn next(&mut self) -> u64 {
+    pub(super) fn next(&mut self) -> u64 {
         self.state = self
             .state
             .wrapping_mul(6364136223846793005)
@@ -45,7 +45,7 @@ impl Chance {
     }
 
     /// A size of 1 to 8192 bytes, small ones as often as large ones.
-    fn size(&mut self) -> u64
+    pub(super) fn size(&mut self) -> u64
         ensures { 0 < result }
     {
         let below = self.next() % 14;
@@ -53,7 +53,7 @@ impl Chance {
     }
 
     /// The mask of an alignment of up to 4096 bytes, and often of 1.
-    fn align_mask(&mut self) -> u64
+    pub(super) fn align_mask(&mut self) -> u64
         ensures { IsAlignMask result }
     {
         if self.next() % 4 == 0 {
@@ -211,7 +211,7 @@ impl Tally {
 }
 
 /// One more.
-fn count(number: &mut u64) {
+pub(super) fn count(number: &mut u64) {
     *number = number.saturating_add(1);
 }
 

@@ -28,7 +28,12 @@ pub(super) fn holds(rt: &impl Abort, is_so: bool, wrong: &str)
     assert!(rt; is_so, "{wrong}");
 }
 
-/// That must not come. The message tells of what it comes with.
+/// That must not come.
+pub(super) fn never<T>(rt: &impl Abort, what: &str) -> T {
+    panic!(rt; "{what}")
+}
+
+/// The same with what came, of which the message tells.
 pub(super) fn never_with<T>(rt: &impl Abort, what: &str, came: &impl Debug) -> T {
     panic!(rt; "{what} {came:?}")
 }
