@@ -12,7 +12,7 @@ ghost use Rattle.gpu_alloc_base.specs.Sizes.{up};
 ghost use Rattle.gpu_sim.specs.Question.{CanRefuse};
 
 use super::offers::HEAPS;
-use super::same::{holds, same};
+use super::same::{holds, same, same_at};
 use gpu_alloc::freelist::{FreeList, FreeListAllocator, FreeListBlock, FreeListRegion};
 use gpu_alloc::heap::Heap;
 use gpu_alloc::steps::Steps;
