@@ -101,7 +101,8 @@ fn a_block_of_another_allocator_may_come_back(rt: HostRuntime) -> Result<(), Fai
         panic!(rt; "no second allocator");
     };
     take(&rt, &mut second, 2, 200);
-    assert!(rt; !first.owns_latest_of(&rt, &second));
+    let owns = first.owns_latest_of(&rt, &second);
+    same(&rt, "whether a block of another is owned", &owns, &false);
 
     // The two blocks have the same object name and span, so each allocator takes the other's.
     first.swap_with_first_of(&rt, &mut second);

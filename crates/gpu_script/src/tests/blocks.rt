@@ -4,6 +4,7 @@ use super::bench::{
     Bench, DEVICE_LOCAL, Place, Step, TYPES, asked_for, bytes, compare_grants, grant, offering,
     one_type, place_in, play, play_on, play_refused,
 };
+use super::same::same;
 use crate::sim::{Cause, Question};
 use gpu_alloc::{
     AllocationError, AllocationFlags, Dedicated, DeviceProperties, MemoryHeap, MemoryType, Request,
@@ -279,10 +280,21 @@ fn an_allocator_owns_blocks_by_their_spans(rt: HostRuntime) -> Result<(), Fail> 
         panic!(rt; "no second allocator");
     };
     compare_grants(&rt, &mut theirs, &[(300, place_in(1, 0, 512))]);
-    assert!(rt; ours.owns_latest_of(&rt, &ours));
-    assert!(rt; theirs.owns_latest_of(&rt, &theirs));
-    assert!(rt; !ours.owns_latest_of(&rt, &theirs));
-    assert!(rt; !theirs.owns_latest_of(&rt, &ours));
+    let own = (
+        ours.owns_latest_of(&rt, &ours),
+        theirs.owns_latest_of(&rt, &theirs),
+    );
+    same(&rt, "whether each owns its own", &own, &(true, true));
+    let other = (
+        ours.owns_latest_of(&rt, &theirs),
+        theirs.owns_latest_of(&rt, &ours),
+    );
+    same(
+        &rt,
+        "whether each owns the other's",
+        &other,
+        &(false, false),
+    );
     ours.end(&rt);
     theirs.end(&rt);
     Ok(())

@@ -54,12 +54,24 @@ fn run<'a>(
         let outcome = Outcome::of(&session.run(command));
         if outcome != Outcome::Served {
             same_at(rt, "a second refusal at", &at, &refusal, &None);
-            let told = session.told(alloc)?;
-            same_at(rt, "held after", &at, &told.as_slice(), &row.as_slice());
+            compare_told(rt, alloc, session, at, row.as_slice())?;
             refusal = Some((at, outcome));
         }
     }
     Ok(refusal)
+}
+
+/// Compares what is held after a refused command with what was told before it.
+fn compare_told(
+    rt: &impl Abort,
+    alloc: Global,
+    session: &mut ScarceSession<'_>,
+    at: usize,
+    before: &[String],
+) -> Result<(), AllocError> {
+    let told = session.told(alloc)?;
+    same_at(rt, "held after", &at, &told.as_slice(), &before);
+    Ok(())
 }
 
 /// Runs a script where so many bytes are left for its commands, and tells which one was refused memory, and how many may
@@ -83,6 +95,16 @@ fn run_in(
     Ok((refusal?, memory.less_room(room)))
 }
 
+/// Marks a refusal at its command.
+fn mark(met: &mut [Refusals], refusal: Refusal) {
+    let Some((at, outcome)) = refusal else {
+        return;
+    };
+    if let Some(met) = met.get_mut(at) {
+        outcome.mark(met);
+    }
+}
+
 /// Marks which refusals each command of a script comes to: none at first, where more bytes are left than a script takes,
 /// and then each request for memory is refused, the last one first.
 fn mark_refusals(
@@ -96,11 +118,7 @@ fn mark_refusals(
     let mut room = 1 << 17;
     for _ in 0..4096 {
         let (refusal, less) = run_in(rt, alloc, text, rows, room, lost)?;
-        if let Some((at, outcome)) = refusal {
-            if let Some(met) = met.get_mut(at) {
-                outcome.mark(met);
-            }
-        }
+        mark(met, refusal);
         match less {
             Some(less) => room = less,
             None => return Ok(()),
@@ -154,23 +172,35 @@ fn each_growth_of_a_script_is_refused_in_turn(rt: HostRuntime) -> Result<(), Fai
     compare_refusals(&rt, rt.alloc(), BYTES[3].0, &both)
 }
 
+/// Opens a session over a script's device where so many bytes are left, and runs its commands. Where it was refused its
+/// memory, the device comes back, which serves with ample memory. At the end it holds nothing. It tells whether those
+/// bytes were enough, and how many may be left next.
+fn open_in(
+    rt: &impl Abort,
+    alloc: Global,
+    text: &str,
+    room: usize,
+) -> Result<(bool, Option<usize>), Fail> {
+    let memory = ScarceMemory::new(alloc)?;
+    let script = good_script(memory.host(), text)?;
+    let (mut session, enough) = ScarceSession::in_room(rt, &memory, &script, room)?;
+    let ran = session.run(script.commands.as_slice()).is_ok();
+    session.end(rt);
+    same_at(rt, "the commands run after", &room, &ran, &true);
+    Ok((enough, memory.less_room(room)))
+}
+
 /// How often a session over a script's device was refused its memory: never at first, where more bytes are left than it
-/// takes, and then at each request, the last one first. Then the device comes back, which serves with ample memory. At
-/// the end it holds nothing.
+/// takes, and then at each request, the last one first.
 fn refused_openings(rt: &impl Abort, alloc: Global, text: &str) -> Result<u32, Fail> {
     let mut refused = 0u32;
     let mut room = 1 << 17;
     for _ in 0..4096 {
-        let memory = ScarceMemory::new(alloc)?;
-        let script = good_script(memory.host(), text)?;
-        let (mut session, enough) = ScarceSession::in_room(rt, &memory, &script, room)?;
-        let ran = session.run(script.commands.as_slice()).is_ok();
-        session.end(rt);
-        same_at(rt, "the commands run after", &room, &ran, &true);
+        let (enough, less) = open_in(rt, alloc, text, room)?;
         if !enough {
             refused = refused.saturating_add(1);
         }
-        match memory.less_room(room) {
+        match less {
             Some(less) => room = less,
             None => return Ok(refused),
         }

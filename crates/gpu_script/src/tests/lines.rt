@@ -159,19 +159,27 @@ const FIELDS: [&str; 9] = [
     " x x x x x x x x",
 ];
 
+/// Compares what a line of this word prints with each number of fields that is not wanted.
+fn compare_fields(
+    rt: &impl Abort,
+    alloc: Global,
+    word: &str,
+    wanted: &[usize],
+) -> Result<(), AllocError> {
+    for (count, fields) in FIELDS.iter().enumerate() {
+        if !wanted.contains(&count) {
+            let line = format!(in alloc; "{word}{fields}")?;
+            let printed = "line 1: wrong number of fields\n";
+            compare(rt, alloc, &[(line.as_str(), printed, 2)]);
+        }
+    }
+    Ok(())
+}
+
 #[test]
 fn fields_are_counted_before_they_are_read(rt: HostRuntime) -> Result<(), Fail> {
     for (word, wanted) in WANTED {
-        for (count, fields) in FIELDS.iter().enumerate() {
-            if !wanted.contains(&count) {
-                let line = format!(in rt.alloc(); "{word}{fields}")?;
-                compare(
-                    &rt,
-                    rt.alloc(),
-                    &[(line.as_str(), "line 1: wrong number of fields\n", 2)],
-                );
-            }
-        }
+        compare_fields(&rt, rt.alloc(), word, wanted)?;
     }
     Ok(())
 }
@@ -213,19 +221,30 @@ fn compare_last_bytes(
     other: &str,
 ) -> Result<(), AllocError> {
     for byte in 0u8..=255 {
+        let printed = printed_for(&*known, other, byte);
+        let status = if printed.starts_with("line") { 2 } else { 0 };
         let mut script = Vec::from_slice(alloc, start.as_bytes())?;
         script.push(byte)?;
-        let mut printed = other;
-        for (bytes, line) in known {
-            if bytes.contains(&byte) {
-                printed = line;
-            }
-        }
-        let status = if printed.starts_with("line") { 2 } else { 0 };
-        let at = (start, byte);
-        compare_bytes(rt, alloc, &at, script.as_slice(), printed, status);
+        compare_bytes(
+            rt,
+            alloc,
+            &(start, byte),
+            script.as_slice(),
+            printed,
+            status,
+        );
     }
     Ok(())
+}
+
+/// What is printed where that is the last byte.
+fn printed_for<'a>(known: &[(&[u8], &'a str)], other: &'a str, byte: u8) -> &'a str {
+    for (bytes, line) in known {
+        if bytes.contains(&byte) {
+            return line;
+        }
+    }
+    other
 }
 
 /// A line of one word and 100000 digits, the last of which is another than 0.
@@ -239,19 +258,24 @@ fn long_number(alloc: Global, first: char) -> Result<String, AllocError> {
     Ok(line)
 }
 
+/// Compares what a script prints that is such a line.
+fn compare_long(
+    rt: &impl Abort,
+    alloc: Global,
+    first: char,
+    printed: &str,
+    status: u8,
+) -> Result<(), AllocError> {
+    let line = long_number(alloc, first)?;
+    compare(rt, alloc, &[(line.as_str(), printed, status)]);
+    Ok(())
+}
+
 #[test]
 fn any_bytes_are_a_script_or_have_a_bad_line(rt: HostRuntime) -> Result<(), Fail> {
-    let fits = long_number(rt.alloc(), '0')?;
-    let passes = long_number(rt.alloc(), '1')?;
     compare(&rt, rt.alloc(), &ANY_TEXT);
-    compare(
-        &rt,
-        rt.alloc(),
-        &[
-            (fits.as_str(), EMPTY, 0),
-            (passes.as_str(), "line 1: bad number\n", 2),
-        ],
-    );
+    compare_long(&rt, rt.alloc(), '0', EMPTY, 0)?;
+    compare_long(&rt, rt.alloc(), '1', "line 1: bad number\n", 2)?;
     for (start, known, other) in LAST_BYTES {
         compare_last_bytes(&rt, rt.alloc(), start, known, other)?;
     }

@@ -4,7 +4,7 @@
 mod printed;
 mod tally;
 
-use super::same::{same, same_at};
+use super::same::{holds, same, same_at};
 use super::scripts;
 use crate::sim::{Question, Sim};
 use gpu_alloc::{Dedicated, MapError, Request, UsageFlags};
@@ -497,7 +497,7 @@ fn check_replies(
     let mut written = Written::new(alloc)?;
     for (index, (line, reply)) in lines.iter().zip(replies).enumerate() {
         let has_memory = !matches!(reply, Reply::Fault(Fault::NoMemory));
-        assert!(rt; has_memory);
+        same(rt, "whether there is memory", &has_memory, &true);
         tally.count(line, reply, &mut written);
         let fits = written.after(line, reply);
         same(rt, "a read gives what was written", &fits, &true);
@@ -546,7 +546,11 @@ pub(super) fn session_of(
     script: &str,
 ) -> Result<SimSession<Global>, Fail> {
     let script = scripts::good_script(alloc, script)?;
-    assert!(rt; script.setup.properties().is_usable());
+    holds(
+        rt,
+        script.setup.properties().is_usable(),
+        "properties of no use",
+    );
     Ok(open(alloc, &script.setup)?)
 }
 

@@ -128,11 +128,52 @@ fn ample_script(alloc: Global) -> (u8, Vec<u8>) {
 }
 
 /// How many lines are printed. There are none where it is no text.
-fn lines_of(printed: &Vec<u8>) -> usize {
-    match str::from_utf8(printed.as_slice()) {
+fn lines_of(printed: &[u8]) -> usize {
+    match str::from_utf8(printed) {
         Ok(text) => text.lines().count(),
         Err(_) => 0,
     }
+}
+
+/// How a script ends for which few bytes are left.
+#[derive(Clone, Copy)]
+enum Ended {
+    /// The program had no memory of its own.
+    Wanting,
+
+    /// A command was refused memory.
+    Refused,
+
+    /// It printed the whole.
+    Whole,
+}
+
+/// How a script ends where so many bytes are left. What is printed then is compared.
+fn ended_in(rt: &impl Abort, alloc: Global, whole: &[u8], room: usize) -> Result<Ended, Fail> {
+    let (status, printed) = script_in(alloc, room)?;
+    let printed = printed.as_slice();
+    if printed == whole {
+        return Ok(Ended::Whole);
+    }
+    if status == 3 {
+        same_at(
+            rt,
+            "printed in",
+            &room,
+            &printed,
+            &"out of memory\n".as_bytes(),
+        );
+        return Ok(Ended::Wanting);
+    }
+    let ended = (status, lines_of(printed));
+    same_at(
+        rt,
+        "status and lines in",
+        &room,
+        &ended,
+        &(0, lines_of(whole)),
+    );
+    Ok(Ended::Refused)
 }
 
 /// Each request of the program's own for memory is refused in turn. Then it says so alone, by its status too. Those that
@@ -144,28 +185,16 @@ fn a_program_without_memory_says_so_alone(rt: HostRuntime) -> Result<(), Fail> {
     let mut wanting = 0u32;
     let mut refused = 0u32;
     for room in 0..8192 {
-        let (status, printed) = script_in(rt.alloc(), room << 3)?;
-        if printed.as_slice() == whole.as_slice() {
-            let both = wanting > 0 && refused > 0;
-            let counts = (wanting, refused);
-            let what = "how often it had no memory and how often a command had none:";
-            same_at(&rt, what, &counts, &both, &true);
-            return Ok(());
-        }
-        if status == 3 {
-            let alone = "out of memory\n".as_bytes();
-            same_at(&rt, "printed in", &room, &printed.as_slice(), &alone);
-            wanting = wanting.saturating_add(1);
-        } else {
-            let ended = (status, lines_of(&printed));
-            same_at(
-                &rt,
-                "status and lines in",
-                &room,
-                &ended,
-                &(0, lines_of(&whole)),
-            );
-            refused = refused.saturating_add(1);
+        match ended_in(&rt, rt.alloc(), whole.as_slice(), room << 3)? {
+            Ended::Wanting => wanting = wanting.saturating_add(1),
+            Ended::Refused => refused = refused.saturating_add(1),
+            Ended::Whole => {
+                let both = wanting > 0 && refused > 0;
+                let counts = (wanting, refused);
+                let what = "how often it had no memory and how often a command had none:";
+                same_at(&rt, what, &counts, &both, &true);
+                return Ok(());
+            }
         }
     }
     Err(Fail::from("never printed whole"))

@@ -81,11 +81,20 @@ pub(super) fn told<A: Allocator + Copy>(
     let replies = session.run(commands.as_slice())?;
     let mut told = Vec::new(alloc);
     for reply in &replies {
-        let mut line = String::new(host);
-        print_reply(&mut line, reply)?;
-        told.push(String::from_str(alloc, line.as_str())?)?;
+        told.push(printed_in(alloc, host, reply)?)?;
     }
     Ok(told)
+}
+
+/// What is printed of a reply with the session's own memory.
+fn printed_in<A: Allocator + Copy>(
+    alloc: Global,
+    host: A,
+    reply: &Reply<A>,
+) -> Result<String, AllocError> {
+    let mut line = String::new(host);
+    print_reply(&mut line, reply)?;
+    String::from_str(alloc, line.as_str())
 }
 
 /// The ledger of a type's heap and its free ranges, by what is told.
@@ -97,6 +106,25 @@ fn of_type(told: &[String], memory_type: usize) -> Option<(&str, &str)> {
     Some((ledger, ranges.get(memory_type)?.as_str()))
 }
 
+/// Compares what is told of a type before and after a command that changes nothing of it.
+fn compare_type(rt: &impl Abort, memory_type: usize, before: &[String], after: &[String]) {
+    let held = of_type(before, memory_type);
+    same_at(
+        rt,
+        "a type is told of:",
+        &memory_type,
+        &held.is_some(),
+        &true,
+    );
+    same_at(
+        rt,
+        "what is held of type",
+        &memory_type,
+        &of_type(after, memory_type),
+        &held,
+    );
+}
+
 /// Compares what is told before and after a command that is answered so: a grant changes no type but its own, and what
 /// is neither granted nor done changes nothing.
 fn compare_told(rt: &impl Abort, reply: &Reply, before: &[String], after: &[String]) {
@@ -104,16 +132,7 @@ fn compare_told(rt: &impl Abort, reply: &Reply, before: &[String], after: &[Stri
         Reply::Granted { memory_type, .. } => {
             for other in 0..2 {
                 if other != *memory_type {
-                    let other = other as usize;
-                    let held = of_type(before, other);
-                    same_at(rt, "a type is told of:", &other, &held.is_some(), &true);
-                    same_at(
-                        rt,
-                        "what is held of type",
-                        &other,
-                        &of_type(after, other),
-                        &held,
-                    );
+                    compare_type(rt, other as usize, before, after);
                 }
             }
         }
@@ -141,12 +160,17 @@ fn run_apart(
         let after = told(alloc, alloc, session)?;
         for reply in &replies {
             compare_told(rt, reply, before.as_slice(), after.as_slice());
-            print_reply(printed, reply)?;
-            printed.push('\n')?;
+            add_reply(printed, reply)?;
         }
         before = after;
     }
     Ok(())
+}
+
+/// Adds the line of a reply.
+fn add_reply(printed: &mut String, reply: &Reply) -> Result<(), AllocError> {
+    print_reply(printed, reply)?;
+    printed.push('\n')
 }
 
 /// What a script prints whose commands are run so.
@@ -156,12 +180,18 @@ fn printed_apart(rt: &impl Abort, alloc: Global, text: &str) -> Result<String, F
     let mut printed = String::new(alloc);
     let commands = script.commands.as_slice();
     let ran = run_apart(rt, alloc, &mut session, commands, &mut printed);
+    let (objects, allocations) = ended(session);
+    ran?;
+    writeln!(printed, "end objects {objects} allocations {allocations}")?;
+    Ok(printed)
+}
+
+/// How many objects the device holds at a session's end, and how many allocations it was asked for.
+fn ended(session: SimSession<Global>) -> (usize, u64) {
     let device = session.finish();
     let counts = (device.objects(), device.asked(Question::Allocate));
     drop(device);
-    ran?;
-    writeln!(printed, "end objects {} allocations {}", counts.0, counts.1)?;
-    Ok(printed)
+    counts
 }
 
 /// Compares what the script prints with a refused question, by one list a command and by the program, with what the
@@ -185,10 +215,23 @@ fn compare_refused(
         &answered,
         &Some(answer),
     );
+    compare_end(rt, alloc, question, printed.as_str(), allocations)?;
+    compare(rt, alloc, &[(text.as_str(), printed.as_str(), 0)]);
+    Ok(())
+}
+
+/// Compares how a script ends after which nothing is held.
+fn compare_end(
+    rt: &impl Abort,
+    alloc: Global,
+    question: &str,
+    printed: &str,
+    allocations: u64,
+) -> Result<(), AllocError> {
     let end = format!(in alloc;
         "counts remaining 4096 held 0 used 0 0\nend objects 0 allocations {allocations}\n"
     )?;
-    let ends = printed.as_str().ends_with(end.as_str());
+    let ends = printed.ends_with(end.as_str());
     same_at(
         rt,
         "it ends as wanted with a refused",
@@ -196,7 +239,6 @@ fn compare_refused(
         &ends,
         &true,
     );
-    compare(rt, alloc, &[(text.as_str(), printed.as_str(), 0)]);
     Ok(())
 }
 

@@ -140,7 +140,7 @@ fn a_lack_of_objects_is_not_passed(rt: HostRuntime) -> Result<(), Fail> {
 }
 
 /// How far a request came where few bytes were left.
-#[derive(Clone, Copy, Debug, PartialEq, Eq)]
+#[derive(Clone, Copy)]
 enum Reached {
     /// The device was not asked.
     Nothing,

@@ -1,5 +1,7 @@
 //! Comparisons that tell what they compare. They stand here once, since the words of a failed one are dear to prove.
 
+ghost use Rattle.std.specs.Prelude.{◌≡◌, IsTrue};
+
 use std::fmt::Debug;
 use std::process::Abort;
 
@@ -17,4 +19,11 @@ pub(super) fn same_at<T: PartialEq + Debug>(
     wanted: &T,
 ) {
     assert_eq!(rt; *came, *wanted, "{what} {at:?}");
+}
+
+/// That has to hold, which the proof of what comes after may rest on. If not, the message says what is wrong.
+pub(super) fn holds(rt: &impl Abort, is_so: bool, wrong: &str)
+    ensures { IsTrue is_so }
+{
+    assert!(rt; is_so, "{wrong}");
 }

@@ -1,7 +1,7 @@
 //! A session over host memory that runs out, and what a command comes to there.
 
 use super::questions::told;
-use super::same::{same, same_at};
+use super::same::{holds, same, same_at};
 use gpu_alloc::AllocationError;
 use gpu_script_language::{Script, SimSession, open};
 use gpu_session::{Command, Fault, Reply, Session, SessionOpenError};
@@ -78,7 +78,11 @@ impl<'a> ScarceSession<'a> {
         memory: &'a ScarceMemory,
         script: &Script<HostMemory<'a>>,
     ) -> Result<ScarceSession<'a>, Fail> {
-        assert!(rt; script.setup.properties().is_usable());
+        holds(
+            rt,
+            script.setup.properties().is_usable(),
+            "properties of no use",
+        );
         let session = open(memory.host(), &script.setup)?;
         Ok(ScarceSession { memory, session })
     }
@@ -91,7 +95,11 @@ impl<'a> ScarceSession<'a> {
         script: &Script<HostMemory<'a>>,
         room: usize,
     ) -> Result<(ScarceSession<'a>, bool), Fail> {
-        assert!(rt; script.setup.properties().is_usable());
+        holds(
+            rt,
+            script.setup.properties().is_usable(),
+            "properties of no use",
+        );
         let device = Sim::new(memory.host(), script.setup.properties())?;
         same_at(rt, "left are", &room, &memory.leave(room).is_ok(), &true);
         let config = script.setup.config;
@@ -100,13 +108,8 @@ impl<'a> ScarceSession<'a> {
         match opened {
             Ok(session) => Ok((ScarceSession { memory, session }, true)),
             Err(SessionOpenError { device }) => {
-                match Session::new(memory.host(), config, script.setup.properties(), device) {
-                    Ok(session) => Ok((ScarceSession { memory, session }, false)),
-                    Err(SessionOpenError { device }) => {
-                        drop(device);
-                        Err(Fail::from("refused with ample memory"))
-                    }
-                }
+                let session = open_again(memory, script, device)?;
+                Ok((ScarceSession { memory, session }, false))
             }
         }
     }
@@ -151,5 +154,21 @@ impl<'a> ScarceSession<'a> {
         let objects = device.objects();
         drop(device);
         same(rt, "objects at the end", &objects, &0);
+    }
+}
+
+/// A session over the device that came back, with ample memory.
+fn open_again<'a>(
+    memory: &'a ScarceMemory,
+    script: &Script<HostMemory<'a>>,
+    device: Sim<HostMemory<'a>>,
+) -> Result<SimSession<HostMemory<'a>>, Fail> {
+    let config = script.setup.config;
+    match Session::new(memory.host(), config, script.setup.properties(), device) {
+        Ok(session) => Ok(session),
+        Err(SessionOpenError { device }) => {
+            drop(device);
+            Err(Fail::from("refused with ample memory"))
+        }
     }
 }

@@ -1,7 +1,7 @@
 //! The callers of `gpu_uses`, over the simulated device.
 
 use super::bench::{again, one_type};
-use super::same::same;
+use super::same::{holds, same};
 use super::transient::transient;
 use crate::sim::{Question, Sim, SimMemory};
 use gpu_alloc::DeviceProperties;
@@ -17,12 +17,12 @@ fn an_allocator_is_opened_used_and_closed(rt: HostRuntime) -> Result<(), Fail> {
         max_memory_allocation_size: 1 << 20,
         ..one_type()
     };
-    assert!(&rt; props.is_usable());
+    holds(&rt, props.is_usable(), "properties of no use");
     let mut device: Sim = Sim::new(rt.alloc(), again(&props))?;
     let done = open_and_close::<SimMemory, Sim>(rt.alloc(), props, &mut device, transient(100));
     let counts = (device.asked(Question::Allocate), device.objects());
     drop(device);
-    assert!(&rt; done.is_ok());
+    same(&rt, "whether it is served", &done.is_ok(), &true);
     same(&rt, "allocations and objects", &counts, &(1, 0));
     Ok(())
 }
