@@ -108,8 +108,13 @@ impl<'a> ScarceSession<'a> {
         match opened {
             Ok(session) => Ok((ScarceSession { memory, session }, true)),
             Err(SessionOpenError { device }) => {
-                let session = open_again(memory, script, device)?;
-                Ok((ScarceSession { memory, session }, false))
+                match Session::new(memory.host(), config, script.setup.properties(), device) {
+                    Ok(session) => Ok((ScarceSession { memory, session }, false)),
+                    Err(SessionOpenError { device }) => {
+                        drop(device);
+                        Err(Fail::from("refused with ample memory"))
+                    }
+                }
             }
         }
     }
@@ -154,21 +159,5 @@ impl<'a> ScarceSession<'a> {
         let objects = device.objects();
         drop(device);
         same(rt, "objects at the end", &objects, &0);
-    }
-}
-
-/// A session over the device that came back, with ample memory.
-fn open_again<'a>(
-    memory: &'a ScarceMemory,
-    script: &Script<HostMemory<'a>>,
-    device: Sim<HostMemory<'a>>,
-) -> Result<SimSession<HostMemory<'a>>, Fail> {
-    let config = script.setup.config;
-    match Session::new(memory.host(), config, script.setup.properties(), device) {
-        Ok(session) => Ok(session),
-        Err(SessionOpenError { device }) => {
-            drop(device);
-            Err(Fail::from("refused with ample memory"))
-        }
     }
 }
