@@ -201,7 +201,10 @@ fn has_room(region: FreeListRegion, size: u64, align_mask: u64) -> bool
     ensures yes { result ≡ true → HasRoom size (align_mask + 1) region.start region.end }
     ensures no { result ≡ false → HasRoom size (align_mask + 1) region.start region.end → ⊥ }
 {
-    size <= region.end && region.start <= tail_start(region.end, size, align_mask)
+    // (most runs are too short, and so no division is made for them)
+    size <= region.end
+        && region.start <= region.end - size
+        && region.start <= tail_start(region.end, size, align_mask)
 }
 
 /// Where a block of this size starts that ends where a run does: the last aligned byte that leaves the size.
