@@ -117,7 +117,7 @@ class Gate:
 
     def __init__(self, root, log, jobs):
         self.log, self.block, self.is_reason = log, None, False
-        self.proved, self.tests, self.refused, self.ran, self.last = [], 0, 0, 0, ""
+        self.proved, self.tests, self.refused, self.bad, self.ran, self.last = [], 0, 0, 0, 0, ""
         self.edits = bodies(root)
         begun = time.monotonic()
         with tempfile.TemporaryDirectory(prefix="wallthyme-gate-") as room:
@@ -162,6 +162,10 @@ class Gate:
             self.block.append(line)
         elif line.startswith("rt: must-fail ") and ": refused, as it must be" in line:
             self.refused, self.is_reason = self.refused + 1, False
+        elif line.startswith("rt: must-fail ") and "BAD EDIT" in line:
+            # (rt ci tells of an edit that it cannot apply, and passes all the same)
+            self.bad, self.is_reason = self.bad + 1, True
+            tell(line[len("rt: "):])
         elif re.match(r"test .* \.\.\. ", line):
             self.is_reason = not (line.endswith(" ok") or " ok - " in line)
             took = self.watch.took.get(("test", line.split(" ... ")[0][len("test "):]), 0)
