@@ -94,7 +94,7 @@ module _ {B S : Type 0} {chunks : S → HeldChunks} {key : B → ℕ} {c : Case 
   answers_total es (Ok b) new (inr gives) =
       let entered = books.in_new b gives.place in
       let more = len_more before (key b) (new_chunk_of c b) entered.was_free in
-      rw (gives.state, entered.chunks_are) (omega (arith, more, entered.remaining, gives.asks.remains.objects, books.count))
+      rw (gives.state, entered.chunks_are) (omega (arith, more, entered.remaining, gives.asks.has.remains.objects, books.count))
   answers_total es (Err e) new refused = ap (λ (x : Account S). chunks_and_remaining (chunks x.allocator) x.remaining) (refused_keeps c es e new refused)
 
   -- the ledger counts each held chunk still

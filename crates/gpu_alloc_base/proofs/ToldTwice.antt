@@ -1,12 +1,12 @@
 -- A request that is told twice, of an allocator's own chunks and of what a larger one holds: what the first refuses, the second does.
-use Rattle.std.proofs.Common.{◌≡◌, inl, inr, ◌<◌, List, [], Some, None, Err, refl, subst, IsTrue}
+use Rattle.std.proofs.Common.{◌≡◌, inl, inr, ◌+◌, ◌<◌, ◌≤◌, List, [], Some, None, Err, refl, ap, subst, arith, IsTrue}
 use Rattle.gpu_alloc_types.specs.Device.{Event}
-use Rattle.gpu_alloc_base.specs.Case.{Case, MayAsk, Asks, IsOpen, IsShut, IsPassed, LacksHost, Answers, RefusesFirst}
-use Rattle.gpu_alloc_base.specs.NewChunk.{LacksDeviceMemory, LacksHostMemory, IsGivenBack}
+use Rattle.gpu_alloc_base.specs.Case.{Case, MayAsk, HasQuestion, Asks, IsWithinBudget, IsOverBudget, IsOpen, IsShut, IsPassedUnasked, IsPassed, LacksHost, Answers, RefusesFirst}
+use Rattle.gpu_alloc_base.specs.NewChunk.{ChunkQuestion, LacksDeviceMemory, LacksHostMemory, IsGivenBack}
 use Rattle.gpu_alloc_base.specs.declared.error.AllocationError.{AllocationError}
 use Rattle.gpu_alloc_base.specs.declared.error.AllocationError.TheVariants.{OutOfDeviceMemory, OutOfHostMemory, NoCompatibleMemoryTypes, TooManyObjects}
 
--- both tell the same of room, of what remains and of the question
+-- both tell the same of room, of what remains, of the question and of the budget
 pub record IsToldAs {B S B' S' : Type 0} (c : Case B S) (d : Case B' S') : Type 0 where
   pub fits : c.Fits → d.Fits
   pub fitted : d.Fits → c.Fits
@@ -16,17 +16,31 @@ pub record IsToldAs {B S B' S' : Type 0} (c : Case B S) (d : Case B' S') : Type 
   pub numbered : d.HasNumber → c.HasNumber
   pub remaining : c.remaining ≡ d.remaining
   pub question : c.question ≡ d.question
+  pub ledger : c.ledger ≡ d.ledger
+  pub heap_size : c.heap_size ≡ d.heap_size
   pub handles : c.two_handles ≡ d.two_handles
 
 module _ {B S B' S' : Type 0} {c : Case B S} {d : Case B' S'} (told : IsToldAs c d) where
   may_ask : MayAsk c → MayAsk d
   may_ask may = record { objects = subst (λ n. 0 < n) told.remaining may.objects; number = told.number may.number }
 
+  question_is : HasQuestion c → HasQuestion d
+  question_is has = record { fits = told.fits has.fits; no_place = λ place. has.no_place (told.placed place); remains = may_ask has.remains }
+
+  asked_size : c.question.size ≡ d.question.size
+  asked_size = ap (λ (q : ChunkQuestion). q.size) told.question
+
+  within_is : IsWithinBudget c → IsWithinBudget d
+  within_is within = omega (arith, within, asked_size, told.ledger, told.heap_size)
+
+  over_is : IsOverBudget c → IsOverBudget d
+  over_is over = omega (arith, over, asked_size, told.ledger, told.heap_size)
+
   pub asks_is : Asks c → Asks d
-  asks_is asks = record { fits = told.fits asks.fits; no_place = λ place. asks.no_place (told.placed place); remains = may_ask asks.remains }
+  asks_is asks = record { has = question_is asks.has; within = within_is asks.within }
 
   open_is : IsOpen c → IsOpen d
-  open_is is = record { fits = told.fits is.fits; ways = elim (is.ways) [ inl place ↦ inl (told.place place) | inr may ↦ inr (may_ask may) ] }
+  open_is is = record { fits = told.fits is.fits; ways = elim (is.ways) [ inl place ↦ inl (told.place place) | inr may ↦ inr (may_ask may.0, within_is may.1) ] }
 
   shut_is : IsShut c → IsShut d
   shut_is is = record {
@@ -35,8 +49,12 @@ module _ {B S B' S' : Type 0} {c : Case B S} {d : Case B' S'} (told : IsToldAs c
     barred = elim (is.barred) [ inl spent ↦ inl (subst (λ n. n ≡ 0) told.remaining spent) | inr none ↦ inr (λ has. none (told.numbered has)) ];
   }
 
+  unasked_is : IsPassedUnasked c → IsPassedUnasked d
+  unasked_is (inl unfit) = inl (λ fits. unfit (told.fitted fits))
+  unasked_is (inr (has, over)) = inr (question_is has, over_is over)
+
   pub passed_is : (es : List Event) → IsPassed c es → IsPassed d es
-  passed_is es (inl unfit) = inl (λ fits. unfit.0 (told.fitted fits), unfit.1)
+  passed_is es (inl (unasked, none)) = inl (unasked_is unasked, none)
   passed_is es (inr (asks, lacks)) = inr (asks_is asks, subst (λ q. LacksDeviceMemory q es) told.question lacks)
 
   lacks_is : (es : List Event) → LacksHost c es → LacksHost d es
@@ -53,7 +71,7 @@ module _ {B S B' S' : Type 0} {c : Case B S} {d : Case B' S'} (told : IsToldAs c
 
   -- before anything is asked
   pub first_is : (e : AllocationError) → RefusesFirst c (Some e) → Answers d [] (Err e) d.before
-  first_is OutOfDeviceMemory unfit = (refl, inl (λ fits. unfit (told.fitted fits), refl))
+  first_is OutOfDeviceMemory unasked = (refl, inl (unasked_is unasked, refl))
   first_is TooManyObjects shut = (refl, refl, shut_is shut)
   first_is OutOfHostMemory never = absurd never
   first_is NoCompatibleMemoryTypes never = absurd never

@@ -1,6 +1,6 @@
 -- How an allocator decides a request: one vocabulary, for a buddy allocator and a free list among their own chunks, and
 -- for each way in which the whole allocator serves a candidate.
-use Rattle.std.specs.Prelude.{◌≡◌, ◌⊎◌, ℕ, ◌<◌, Bool, List, [], Option, Some, None, Result, Ok, Err, IsTrue}
+use Rattle.std.specs.Prelude.{◌≡◌, ◌⊎◌, ℕ, ◌+◌, ◌<◌, ◌≤◌, Bool, List, [], Option, Some, None, Result, Ok, Err, IsTrue}
 use Rattle.gpu_alloc_types.specs.Device.{Event}
 use Rattle.gpu_alloc_base.specs.NewChunk.{ChunkQuestion, made, LacksDeviceMemory, LacksHostMemory, IsGivenBack}
 use Rattle.gpu_alloc_base.specs.declared.error.AllocationError.{AllocationError}
@@ -21,6 +21,9 @@ pub record Case (B S : Type 0) : Type 1 where
   pub HasNumber : Type 0
   -- what is asked for where there is no place
   pub question : ChunkQuestion
+  -- how many bytes the heap's ledger counts, of how many that the heap has
+  pub ledger : ℕ
+  pub heap_size : ℕ
   -- a new object gets a second handle, for which there may be no host memory
   pub two_handles : Bool
   -- the name of a block's object
@@ -42,16 +45,28 @@ module _ {B S : Type 0} (c : Case B S) where
     pub objects : 0 < c.remaining
     pub number : c.HasNumber
 
-  -- the question is asked: it fits, there is no place, and something remains
-  pub record Asks : Type 0 where
+  -- there is a question: it fits, there is no place, and something remains
+  pub record HasQuestion : Type 0 where
     pub fits : c.Fits
     pub no_place : c.HasPlace → ⊥
     pub remains : MayAsk
 
-  -- nothing is certain yet: it fits, and there is a place or something remains
+  -- the heap has as many bytes left as the question is for, or fewer
+  abbrev pub IsWithinBudget : Type 0
+  IsWithinBudget = c.ledger + c.question.size ≤ c.heap_size
+
+  abbrev pub IsOverBudget : Type 0
+  IsOverBudget = c.heap_size < c.ledger + c.question.size
+
+  -- the question is asked: there is one, within the budget
+  pub record Asks : Type 0 where
+    pub has : HasQuestion
+    pub within : IsWithinBudget
+
+  -- nothing is certain yet: it fits, and there is a place, or something remains and the question is within the budget
   pub record IsOpen : Type 0 where
     pub fits : c.Fits
-    pub ways : c.HasPlace ⊎ MayAsk
+    pub ways : c.HasPlace ⊎ (MayAsk × IsWithinBudget)
 
   -- it is refused before anything is asked: no place, and nothing remains
   pub record IsShut : Type 0 where
@@ -59,10 +74,13 @@ module _ {B S : Type 0} (c : Case B S) where
     pub no_place : c.HasPlace → ⊥
     pub barred : IsBarred
 
-  -- The request is passed: what would be asked for is too large for any device, or the device, asked exactly for it,
-  -- had no memory.
+  -- it is passed before anything is asked: what would be asked for is too large for any device, or over the budget
+  abbrev pub IsPassedUnasked : Type 0
+  IsPassedUnasked = (c.Fits → ⊥) ⊎ (HasQuestion × IsOverBudget)
+
+  -- The request is passed: unasked, or the device, asked exactly for what would be asked for, had no memory.
   abbrev pub IsPassed : List Event → Type 0
-  IsPassed es = ((c.Fits → ⊥) × (es ≡ [])) ⊎ (Asks × LacksDeviceMemory c.question es)
+  IsPassed es = (IsPassedUnasked × (es ≡ [])) ⊎ (Asks × LacksDeviceMemory c.question es)
 
   -- the block lies in a place, and nothing is asked
   pub record GivesInPlace (es : List Event) (b : B) (new : S) : Type 0 where
@@ -110,7 +128,7 @@ module _ {B S : Type 0} (c : Case B S) where
 
   -- the refusal that is certain before any memory is taken and anything is asked
   abbrev pub RefusesFirst : Option AllocationError → Type 0
-  RefusesFirst (Some OutOfDeviceMemory) = c.Fits → ⊥
+  RefusesFirst (Some OutOfDeviceMemory) = IsPassedUnasked
   RefusesFirst (Some TooManyObjects) = IsShut
   RefusesFirst (Some OutOfHostMemory) = ⊥
   RefusesFirst (Some NoCompatibleMemoryTypes) = ⊥

@@ -1,6 +1,6 @@
 //! A heap's size, and the running ledger of what is held of it.
 
-ghost use Rattle.std.specs.Prelude.{◌≡◌, ◌+◌, ◌-◌, ◌≤◌, ◌<◌, ◌^◌};
+ghost use Rattle.std.specs.Prelude.{◌≡◌, ◌+◌, ◌-◌, ◌≤◌, ◌<◌, ◌↔◌, ◌^◌, IsTrue};
 ghost use Rattle.gpu_alloc_base.specs.Heap.{unused};
 
 /// A heap of a device: its size, and how much of it is held.
@@ -26,7 +26,7 @@ impl Heap {
         self.size
     }
 
-    /// How many bytes are held of it. They may be more than its size: the device decides what it gives.
+    /// How many bytes are held of it. They may be more than its size: imports are counted and never refused.
     #[inline(always)]
     pub fn used(&self) -> u128
         ensures { result ≡ self.now.used }
@@ -34,7 +34,24 @@ impl Heap {
         self.used
     }
 
-    /// Counts `size` bytes more as held. They may be more than the heap's size, and have to stay below 2^128 in all.
+    /// How many bytes are left of it: its size less what is held, 0 where as much is held or more.
+    #[inline(always)]
+    pub fn budget(&self) -> u64
+        ensures { result ≡ self.now.size - self.now.used }
+    {
+        u128::from(self.size).saturating_sub(self.used) as u64
+    }
+
+    /// Whether `size` bytes more would leave no more held than the heap has: exactly as many as it has is allowed.
+    #[inline(always)]
+    pub fn fits(&self, size: u64) -> bool
+        ensures { IsTrue result ↔ self.now.used + size ≤ self.now.size }
+    {
+        size <= self.budget() && self.used <= u128::from(self.size)
+    }
+
+    /// Counts `size` bytes more as held. They may be more than the heap's size ([`fits`](Heap::fits) tells), and have to
+    /// stay below 2^128 in all.
     #[inline(always)]
     pub fn alloc(&mut self, size: u64)
         requires { self.old.used + size < 2 ^ 128 }
