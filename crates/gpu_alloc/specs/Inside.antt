@@ -1,5 +1,5 @@
 -- What an allocator's fields stand for, and what they keep.
-use Rattle.std.specs.Prelude.{◌≡◌, ℕ, ◌+◌, ◌<◌, ◌^◌, false, List, [], ◌∷◌, map, length, slice_get, sum_by, Some}
+use Rattle.std.specs.Prelude.{◌≡◌, ℕ, ◌+◌, ◌<◌, ◌≤◌, ◌^◌, false, List, [], ◌∷◌, map, length, slice_get, sum_by, Some}
 use Rattle.std.specs.Prelude.{is_some, IfSome, IsTrue, cond}
 use Rattle.std.specs.FinMap as map_of
 use Rattle.std.specs.FinSet as set
@@ -18,6 +18,7 @@ use Rattle.gpu_alloc_base.specs.Chunks.{Chunk}
 use Rattle.gpu_alloc_freelist.specs.FreeListSound as list
 use Rattle.gpu_alloc_freelist.specs.FreeListState.{Listing, IsLiveSlot}
 use Rattle.gpu_alloc_base.specs.Sizes.{minimal_size, final_size}
+use Rattle.gpu_alloc.specs.Budget.{asked_share}
 use Rattle.gpu_alloc.specs.FirstTypes.{first_types}
 use Rattle.gpu_alloc.specs.Sound.{LiesIn}
 use Rattle.gpu_alloc.specs.Spans.{Place, Table}
@@ -89,9 +90,14 @@ abbrev pub AreSmall : List (ℕ × HeldObject) → Type 0
 AreSmall [] = Unit {0}
 AreSmall (entry ∷ entries) = (entry.1.counted < 2 ^ 64) × AreSmall entries
 
--- each heap's running ledger is the sum that it stands for
+-- a heap's running ledger is the sum that it stands for, of which no more was asked than the heap has
+pub record IsLedger (p : Properties) (heap : ℕ) (entries : List (ℕ × HeldObject)) (h : Heap) : Type 0 where
+  pub used : h.used ≡ sum_by (share p heap) entries
+  pub within : sum_by (asked_share p heap) entries ≤ h.size
+
+-- each heap's is
 abbrev pub AreLedgers : Properties → List Heap → List (ℕ × HeldObject) → Type 0
-AreLedgers p heaps entries = (heap : ℕ) → IfSome (slice_get heaps heap) (λ h. h.used ≡ sum_by (share p heap) entries)
+AreLedgers p heaps entries = (heap : ℕ) → IfSome (slice_get heaps heap) (IsLedger p heap entries)
 
 -- The table and a buddy allocator.
 

@@ -1,5 +1,6 @@
 pub mod Allocation
 pub mod Atoms
+pub mod Budget
 pub mod BuddySharing
 pub mod Candidates
 pub mod Codes

@@ -3,6 +3,7 @@ use Rattle.std.specs.Prelude.{◌≡◌, ◌≢◌, ℕ, ◌+◌, ◌<◌, ◌�
 use Rattle.std.specs.FinMap as map
 use Rattle.gpu_alloc_block.specs.declared.block.Kind.{Kind}
 use Rattle.gpu_alloc_block.specs.declared.block.Kind.TheVariants.{Dedicated, Imported, BuddyChunk, FreeListChunk}
+use Rattle.gpu_alloc.specs.Budget.{IsWithinHeaps}
 use Rattle.gpu_alloc.specs.FreeListSharing.{IsListChunk, latest_number}
 use Rattle.gpu_alloc_block.specs.State.{HeldObject, Span, State, IsLive, AreApart, is_shared}
 
@@ -41,3 +42,5 @@ pub record IsSound (s : State) : Type 0 where
   -- the chunks of a memory type's free list have numbers of their own, from 1 to the latest
   pub numbers : (t number a b : ℕ) → IsListChunk s t number a → IsListChunk s t number b → a ≡ b
   pub numbered : (t number object : ℕ) → IsListChunk s t number object → (0 < number) × (number ≤ latest_number s t)
+  -- of no heap is more held beside imports than it has
+  pub within : IsWithinHeaps s

@@ -12,6 +12,7 @@ ghost use Rattle.gpu_alloc.specs.Allocation.{passing, strategy, unhinted, fits_a
 ghost use Rattle.gpu_alloc_usage.specs.Ranking.{implied, named, ranking};
 ghost use Rattle.gpu_alloc.specs.Allocation.{Allocates, ObjectsAfter, ObjectsTried, IsGranted, candidates_of};
 ghost use Rattle.gpu_alloc.specs.Atoms.{KeepsAtoms};
+ghost use Rattle.gpu_alloc.specs.Budget.{heap_budget};
 ghost use Rattle.gpu_alloc.specs.declared.allocator.Strategy.TheVariants.{OwnObject, InBuddyChunk, InFreeList};
 ghost use Rattle.gpu_alloc.specs.Opening.{opened};
 ghost use Rattle.gpu_alloc.specs.Owned.{HoldsNothing, Leaves, Adds, Removes, LeavesNoRest, StaysAgreed};
@@ -176,7 +177,8 @@ impl<M: MemoryObject, A: Allocator> GpuAllocator<M, A> {
     /// they are tested (the original crate's): `OutOfDeviceMemory` where the size is over the limit given to `new`;
     /// `NoCompatibleMemoryTypes` where no memory type among the request's serves its usage. Then the memory types are
     /// tried in rank. One is passed where its heap is smaller than the request, where a chunk for it would have 2^64
-    /// bytes or more, or where the device answers `OutOfDeviceMemory`. The first that is not passed gives the block, or
+    /// bytes or more, where an object is wanted that is larger than the heap's budget (`heap_budget`; the device is not
+    /// asked then), or where the device answers `OutOfDeviceMemory`. The first that is not passed gives the block, or
     /// `TooManyObjects` where an object is wanted and no more may be held (or the numbers of free-list chunks are
     /// spent, after 2^64 - 1 of them), or `OutOfHostMemory` where the host's memory was refused to the allocator or to
     /// the device, or a new chunk could not be mapped. Where all are passed it is `OutOfDeviceMemory`. After a refusal
@@ -421,6 +423,10 @@ impl<M: MemoryObject, A: Allocator> GpuAllocator<M, A> {
         if self.allocations_remains == 0 {
             return Err(AllocationError::TooManyObjects);
         }
+        let heap = self.limits.heap_index(memory_type);
+        if !self.heaps[heap].fits(request.size) {
+            return Ok(None);
+        }
         if self.spans.reserve().is_err() {
             return Err(AllocationError::OutOfHostMemory);
         }
@@ -441,7 +447,6 @@ impl<M: MemoryObject, A: Allocator> GpuAllocator<M, A> {
                     index: 0,
                 };
                 let key = self.spans.insert(span, Some(object));
-                let heap = self.limits.heap_index(memory_type);
                 self.heaps[heap].alloc(object.counted);
                 self.allocations_remains -= 1;
                 let props = self.limits.props(memory_type);
@@ -665,7 +670,8 @@ impl<M: MemoryObject, A: Allocator> GpuAllocator<M, A> {
     ///
     /// Its contract also tells what holds of every allocator between calls (`sound`): live spans are not empty and
     /// share no byte, each lies in its object as the object's kind says, an object of one block has no other, no object
-    /// but a chunk of a free list is held without one, and the chunks of a free list have numbers of their own.
+    /// but a chunk of a free list is held without one, the chunks of a free list have numbers of their own, and of no
+    /// heap is more held beside imports than it has.
     pub fn owns(&self, block: &MemoryBlock<M>) -> bool
         ensures owned { IsTrue result ↔ IsOwned self.now block.now }
         ensures sound { Sound.IsSound self.now }
@@ -724,13 +730,24 @@ impl<M: MemoryObject, A: Allocator> GpuAllocator<M, A> {
         self.spans.held(object).is_some()
     }
 
-    /// A heap's ledger: how many bytes the held objects of its memory types count. It may be more than the heap's size,
-    /// which does not limit it. The heap has to be there.
+    /// A heap's ledger: how many bytes the held objects of its memory types count. Only imports bring it past the heap's
+    /// size: what is held beside them is never more than that. The heap has to be there.
     pub fn heap_used(&self, heap: u32) -> u128
         requires { heap < length (self.now.properties).memory_heaps }
         ensures { result ≡ ledger self.now heap }
     {
         self.heaps[heap as usize].used()
+    }
+
+    /// A heap's budget: how many bytes may still be asked of it, its size less its ledger, 0 where the ledger is at or past
+    /// it. A request that would ask for more passes the heap's memory types. (The original crate names the budget in its
+    /// README, and does not keep it. Vulkan's VK_EXT_memory_budget, by which a driver tells its own, is not asked.) The
+    /// heap has to be there.
+    pub fn heap_budget(&self, heap: u32) -> u64
+        requires { heap < length (self.now.properties).memory_heaps }
+        ensures { result ≡ heap_budget self.now heap }
+    {
+        self.heaps[heap as usize].budget()
     }
 
     /// Ends the allocator, which may hold no object: `held_objects` tells. After all returns

@@ -1,10 +1,11 @@
 //! Laws of the definitions that contracts cite, and those definitions computed on samples. The functions do nothing.
 
-ghost use Rattle.std.specs.Prelude.{◌≡◌, ◌≢◌, ℕ, List, [], ◌∷◌, Some, None, true, false};
+ghost use Rattle.std.specs.Prelude.{◌≡◌, ◌≢◌, ℕ, ◌+◌, ◌<◌, List, [], ◌∷◌, length, Some, None, true, false};
 ghost use Rattle.std.specs.FinSet as set;
 ghost use Rattle.gpu_alloc_block.specs.Agreement.{Agrees, KeptBlocksAgree};
 ghost use Rattle.gpu_alloc_block.specs.ByteCalls.{BytesMoved};
 ghost use Rattle.gpu_alloc.specs.Allocation.{strategy, CandidatesServe};
+ghost use Rattle.gpu_alloc.specs.Budget.{heap_budget, heap_bytes, HoldsNoImportOf, IsAskedWithinBudget, IsWithinHeaps};
 ghost use Rattle.gpu_alloc.specs.Exactness.{AreCanonical, AreFreePieces, AreLongEnough, ArePiecesApart};
 ghost use Rattle.gpu_alloc.specs.Exactness.{AreSpaced, AreFreeRuns, TellPlaces};
 ghost use Rattle.gpu_alloc.specs.declared.allocator.Strategy.TheVariants.{OwnObject, InBuddyChunk, InFreeList};
@@ -27,7 +28,7 @@ ghost use Rattle.gpu_alloc_base.specs.Sizes.{minimal_size, final_size, grown_chu
 ghost use Rattle.gpu_alloc.specs.FirstTypes.{first_types};
 ghost use Rattle.gpu_alloc.specs.Owned.{AreTwo, CancelOut, HoldsNothing};
 ghost use Rattle.gpu_alloc.specs.Sound.{IsSound};
-ghost use Rattle.gpu_alloc_block.specs.State.{State, Block, Span, span_of, span_cmp, IsOwned};
+ghost use Rattle.gpu_alloc_block.specs.State.{State, Block, Span, span_of, span_cmp, IsOwned, ledger};
 ghost use Rattle.gpu_alloc_block.specs.declared.block.Kind.{Kind};
 ghost use Rattle.gpu_alloc_base.specs.declared.piece.Piece.{Piece};
 ghost use Rattle.gpu_alloc.specs.declared.request.Dedicated.TheVariants.{Required, Preferred};
@@ -174,6 +175,20 @@ pub fn agrees_at_first<M: MemoryObject, D: MemoryDevice<M>, A: Allocator>(
     let _ = allocator;
     let _ = device;
 }
+
+/// Of no heap is more held beside imports than it has. So where no import of its memory types is held, its ledger is at
+/// most its size: what is held of it and its budget are the whole heap.
+pub fn heaps_are_not_overdrawn()
+    ensures asked { (s : State) → IsSound s → IsWithinHeaps s }
+    ensures whole { (s : State) (heap : ℕ) → IsSound s → heap < length s.properties.memory_heaps → HoldsNoImportOf s heap
+        → ledger s heap + heap_budget s heap ≡ heap_bytes s.properties heap }
+{}
+
+/// A memory type that would have to be asked for an object which its heap has room for is not passed for the budget: the
+/// device is asked, and only its own answer passes the type.
+pub fn questions_within_the_budget_are_asked()
+    ensures { IsAskedWithinBudget }
+{}
 
 /// Each candidate of a request, which a granted block's memory type is, is a memory type that the request permits and
 /// that may serve what its usage means.

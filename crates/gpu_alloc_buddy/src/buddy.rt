@@ -8,7 +8,7 @@ ghost use Rattle.gpu_alloc_types.specs.Device.{Asked};
 ghost use Rattle.gpu_alloc_types.specs.declared.types.FreeRange.{FreeRange as Range};
 ghost use Rattle.std.specs.Int.{is_power_of_two};
 ghost use Rattle.gpu_alloc_buddy.specs.Buddy.{Agrees, BeginsChunk, buddy_case, CallAllocates, CallAnswers, case_of};
-ghost use Rattle.gpu_alloc_buddy.specs.Buddy.{Frees, HasPlace, IsGranted, IsUnusedChunk, ObjectsAfter, ObjectsFreed};
+ghost use Rattle.gpu_alloc_buddy.specs.Buddy.{chunk_size, Frees, HasPlace, IsGranted, IsUnusedChunk, ObjectsAfter, ObjectsFreed};
 ghost use Rattle.gpu_alloc_buddy.specs.Buddy.{opened, rounded, TakesPlace, without_leaf};
 ghost use Rattle.gpu_alloc_buddy.specs.Buddy.{Adds, HoldsNothing, IsPieceOf, Leaves, LeavesNoRest, Removes};
 ghost use Rattle.gpu_alloc_base.specs.Accounts.{account, IsCounted, chunks_and_remaining};
@@ -141,10 +141,11 @@ impl<M: MemoryObject, A: Allocator> BuddyAllocator<M, A> {
     /// the device has the feature, and the device the one that this allocator has served: it has the memory type with
     /// the properties given to `new`, and each held chunk.
     ///
-    /// Refusals, after which all is as before: `OutOfDeviceMemory` where a chunk would be of 2^64 bytes or more, and
-    /// where the device answers so; `TooManyObjects` where a chunk is wanted and no more objects may be held;
-    /// `OutOfHostMemory` where the host's memory is refused to the allocator or to the device, and where a chunk cannot
-    /// be mapped for another reason. A chunk that was made is given back then.
+    /// Refusals, after which all is as before: `OutOfDeviceMemory` where a chunk would be of 2^64 bytes or more, where
+    /// one is wanted that `heap` has no room for (`Heap::fits`), of which the device is not asked, and where the device
+    /// answers so; `TooManyObjects` where a chunk is wanted and no more objects may be held; `OutOfHostMemory` where the
+    /// host's memory is refused to the allocator or to the device, and where a chunk cannot be mapped for another
+    /// reason. A chunk that was made is given back then. A block in a held chunk is given whatever `heap` counts.
     ///
     /// `heap` has to count no less than the sum of the held chunks, and at most 2^127 bytes; what remains and the
     /// number of held chunks have to fit 32 bits together. All but the bound of 2^127 bytes is so again after the call,
@@ -216,10 +217,11 @@ impl<M: MemoryObject, A: Allocator> BuddyAllocator<M, A> {
 
     /// The refusal that `alloc` gives such a request before it takes any memory or asks anything: `OutOfDeviceMemory`
     /// where a chunk for it would be of 2^64 bytes or more, `TooManyObjects` where a chunk is wanted and no more
-    /// objects may be held. None where it goes further. It takes no memory.
+    /// objects may be held, and else `OutOfDeviceMemory` where a chunk is wanted that `heap` has no room for
+    /// (`Heap::fits`). None where it goes further. It takes no memory.
     ///
-    /// The size has to be at least 1, and `align_mask + 1` a power of two of at most 2^63, as of `alloc`. What `heap`
-    /// counts decides nothing. `looks` counts as it does there (`looked`).
+    /// The size has to be at least 1, and `align_mask + 1` a power of two of at most 2^63, as of `alloc`. `looks` counts
+    /// as it does there (`looked`).
     pub fn refuses<L: Ledger>(
         &self,
         size: u64,
@@ -239,13 +241,16 @@ impl<M: MemoryObject, A: Allocator> BuddyAllocator<M, A> {
         if order > 62 {
             return Some(AllocationError::OutOfDeviceMemory);
         }
-        if allocations_remains > 0 {
+        if allocations_remains > 0 && heap.fits(bytes(self.chunk_order(order))) {
             return None;
         }
         if self.pairs.has_place(order, looks) {
             return None;
         }
-        Some(AllocationError::TooManyObjects)
+        if allocations_remains == 0 {
+            return Some(AllocationError::TooManyObjects);
+        }
+        Some(AllocationError::OutOfDeviceMemory)
     }
 
     /// Takes a block back. Free halves are joined, and a chunk in which no other block is live goes back to the device
@@ -378,6 +383,16 @@ impl<M: MemoryObject, A: Allocator> BuddyAllocator<M, A> {
         next_order(aligned.max(least))
     }
 
+    /// The size of a chunk for a block of 2^order bytes, as the exponent of a power of two.
+    fn chunk_order(&self, order: u32) -> u32
+        requires { order ≤ 62 }
+        ensures is { chunk_size self.now (2 ^ order) ≡ 2 ^ result }
+        ensures longer { order < result }
+        ensures bound { result ≤ 63 }
+    {
+        self.next_order.max(order + 1)
+    }
+
     /// Allocates a block of 2^order bytes.
     fn alloc_rounded<D: MemoryDevice<M>, L: Ledger, K: Ledger>(
         &mut self,
@@ -413,6 +428,9 @@ impl<M: MemoryObject, A: Allocator> BuddyAllocator<M, A> {
         }
         if *allocations_remains == 0 {
             return Err(AllocationError::TooManyObjects);
+        }
+        if !heap.fits(bytes(self.chunk_order(order))) {
+            return Err(AllocationError::OutOfDeviceMemory);
         }
         self.take_chunk(device, order, flags, heap, allocations_remains, splits)
     }
@@ -460,7 +478,7 @@ impl<M: MemoryObject, A: Allocator> BuddyAllocator<M, A> {
         ensures split { CountsSplits splits.old splits.new }
         ensures begins { IfOk result (BeginsChunk self.old (2 ^ order)) }
     {
-        let chunk_order = self.next_order.max(order + 1);
+        let chunk_order = self.chunk_order(order);
         if self.pairs.reserve(order, chunk_order).is_err() {
             return Err(AllocationError::OutOfHostMemory);
         }

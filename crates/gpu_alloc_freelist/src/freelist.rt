@@ -161,9 +161,10 @@ impl<M: MemoryObject, A: Allocator> FreeListAllocator<M, A> {
     /// allocator has served: it has the memory type with the properties given to `new`, and each held chunk.
     ///
     /// Refusals, after which all is as before: `TooManyObjects` where a chunk is wanted and no more objects may be
-    /// held, or 2^64 - 1 chunks were made; `OutOfDeviceMemory` where the device answers so; `OutOfHostMemory` where the
+    /// held, or 2^64 - 1 chunks were made; `OutOfDeviceMemory` where a chunk is wanted that `heap` has no room for
+    /// (`Heap::fits`), of which the device is not asked, and where the device answers so; `OutOfHostMemory` where the
     /// host's memory is refused to the allocator or to the device, and where a chunk cannot be mapped for another
-    /// reason. A chunk that was made is given back then.
+    /// reason. A chunk that was made is given back then. A block in a held chunk is given whatever `heap` counts.
     ///
     /// `heap` has to count no less than the sum of the held chunks, and at most 2^127 bytes; what remains and the
     /// number of held chunks have to fit 32 bits together. All but the bound of 2^127 bytes is so again after the call,
@@ -216,11 +217,12 @@ impl<M: MemoryObject, A: Allocator> FreeListAllocator<M, A> {
     }
 
     /// The refusal that `alloc` gives such a request before it takes any memory or asks anything: `TooManyObjects`
-    /// where a chunk is wanted and no more objects may be held, or no number is left for it. None where it goes
+    /// where a chunk is wanted and no more objects may be held, or no number is left for it, and else
+    /// `OutOfDeviceMemory` where a chunk is wanted that `heap` has no room for (`Heap::fits`). None where it goes
     /// further. It takes no memory.
     ///
     /// The size has to be at least 1, and at most the final size when it is rounded; `align_mask + 1` a power of two of
-    /// at most 2^63, as of `alloc`. What `heap` counts decides nothing.
+    /// at most 2^63, as of `alloc`.
     pub fn refuses(
         &self,
         size: u64,
@@ -235,15 +237,20 @@ impl<M: MemoryObject, A: Allocator> FreeListAllocator<M, A> {
             → RefusesFirst (case_of (account self.now heap.now allocations_remains) (wanted size align_mask flags))
             result }
     {
-        if allocations_remains > 0 && self.freelist.has_number() {
+        let size = self.rounded_size(size);
+        let may_ask = allocations_remains > 0 && self.freelist.has_number();
+        if may_ask && heap.fits(self.chunk_size_for(size)) {
             return None;
         }
-        let size = self.rounded_size(size);
         let used_mask = align_mask.max(self.atom_mask);
         if self.freelist.has_place(used_mask, size) {
             return None;
         }
-        Some(AllocationError::TooManyObjects)
+        if may_ask {
+            Some(AllocationError::OutOfDeviceMemory)
+        } else {
+            Some(AllocationError::TooManyObjects)
+        }
     }
 
     /// Takes a block back, and joins it with the free runs beside it. Then each chunk in which no block is live goes
@@ -426,6 +433,9 @@ impl<M: MemoryObject, A: Allocator> FreeListAllocator<M, A> {
         }
         if *allocations_remains == 0 || !self.freelist.has_number() {
             return Err(AllocationError::TooManyObjects);
+        }
+        if !heap.fits(self.chunk_size_for(size)) {
+            return Err(AllocationError::OutOfDeviceMemory);
         }
         self.take_chunk(device, size, align_mask, flags, heap, allocations_remains)
     }
