@@ -21,3 +21,4 @@ pub mod SlabViews
 pub mod Slots
 pub mod Sums
 pub mod ToldTwice
+pub mod Unasked

@@ -1,5 +1,5 @@
 -- A request that is told twice, of an allocator's own chunks and of what a larger one holds: what the first refuses, the second does.
-use Rattle.std.proofs.Common.{◌≡◌, inl, inr, ◌+◌, ◌<◌, ◌≤◌, List, [], Some, None, Err, refl, ap, subst, arith, IsTrue}
+use Rattle.std.proofs.Common.{◌≡◌, inl, inr, ◌<◌, List, [], Some, None, Err, refl, ap, subst, arith, IsTrue}
 use Rattle.gpu_alloc_types.specs.Device.{Event}
 use Rattle.gpu_alloc_base.specs.Case.{Case, MayAsk, HasQuestion, Asks, IsWithinBudget, IsOverBudget, IsOpen, IsShut, IsPassedUnasked, IsPassed, LacksHost, Answers, RefusesFirst}
 use Rattle.gpu_alloc_base.specs.NewChunk.{ChunkQuestion, LacksDeviceMemory, LacksHostMemory, IsGivenBack}

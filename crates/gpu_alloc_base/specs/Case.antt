@@ -68,6 +68,14 @@ module _ {B S : Type 0} (c : Case B S) where
     pub fits : c.Fits
     pub ways : c.HasPlace ⊎ (MayAsk × IsWithinBudget)
 
+  -- why the device may not be asked, if it may not: nothing remains, or the question is over the budget
+  abbrev pub RefusesQuestion : Option AllocationError → Type 0
+  RefusesQuestion None = MayAsk × IsWithinBudget
+  RefusesQuestion (Some TooManyObjects) = IsBarred
+  RefusesQuestion (Some OutOfDeviceMemory) = MayAsk × IsOverBudget
+  RefusesQuestion (Some OutOfHostMemory) = ⊥
+  RefusesQuestion (Some NoCompatibleMemoryTypes) = ⊥
+
   -- it is refused before anything is asked: no place, and nothing remains
   pub record IsShut : Type 0 where
     pub fits : c.Fits

@@ -1,30 +1,29 @@
 -- What follows from a buddy allocator's answer to a request: agreement with the device, the totals, and what is known of the block.
-use Rattle.std.proofs.Common.{◌≡◌, ◌⊎◌, inl, inr, ℕ, ◌+◌, ◌*◌, ◌-◌, ◌%◌, ◌^◌, ◌<◌, ◌≤◌, List, [], Option, Some, None, Result, Ok, Err, refl, sym, ◌∙◌, ap, subst, arith}
+use Rattle.std.proofs.Common.{◌≡◌, inl, inr, ℕ, ◌+◌, ◌%◌, ◌^◌, ◌<◌, ◌≤◌, List, [], Option, Some, None, Result, Ok, Err, refl, sym, ◌∙◌, ap, subst, arith}
 use Rattle.std.specs.Prelude.{IfOk, max}
 use Rattle.std.specs.FinMap as map
 use Rattle.gpu_alloc_types.specs.Device.{Object, Event}
 use Rattle.gpu_alloc_types.specs.Properties.{Properties}
-use Rattle.gpu_alloc_base.specs.FreeSpace.{IsMultipleOf, IsPowerOfTwo, IsPowerUpTo}
+use Rattle.gpu_alloc_base.specs.FreeSpace.{IsMultipleOf, IsPowerOfTwo}
 use Rattle.gpu_alloc_base.specs.Accounts.{Account, account}
-use Rattle.gpu_alloc_base.specs.Case.{Case, Answers, RefusesFirst}
+use Rattle.gpu_alloc_base.specs.Case.{Case, Answers, RefusesFirst, RefusesQuestion}
 use Rattle.gpu_alloc_base.specs.NewObject.{HasOneMore}
-use Rattle.gpu_alloc_buddy.specs.Buddy.{Agrees, ObjectsAfter, Fits, HasPlace, IsFront, IsGranted, buddy_case, case_of, chunk_size, sees_chunks, with_leaf, with_chunk, rounded}
+use Rattle.gpu_alloc_buddy.specs.Buddy.{Agrees, ObjectsAfter, Fits, HasPlace, IsGranted, buddy_case, case_of, chunk_size, sees_chunks, with_leaf, with_chunk, rounded}
 use Rattle.gpu_alloc_base.proofs.Books.{KeepsBooks, refused_keeps, made_new, answers_agree as chunks_agree}
 use Rattle.gpu_alloc_base.specs.Wanted.{Wanted}
-use Rattle.gpu_alloc_base.specs.Chunks.{Chunk, IsNew}
+use Rattle.gpu_alloc_base.specs.Chunks.{IsNew}
 use Rattle.gpu_alloc_buddy.specs.BuddyState.{Buddy, IsLiveLeaf}
 use Rattle.gpu_alloc_buddy.specs.BuddySound.{IsSound, LiesInChunk}
 use Rattle.gpu_alloc_base.specs.declared.buddy_block.Leaf.{Leaf}
 use Rattle.gpu_alloc_base.specs.declared.error.AllocationError.{AllocationError}
-use Rattle.gpu_alloc_base.specs.declared.error.AllocationError.TheVariants.{OutOfDeviceMemory, OutOfHostMemory, TooManyObjects}
-use Rattle.std.proofs.lemmas.Nat.{pow_pos}
+use Rattle.gpu_alloc_base.specs.declared.error.AllocationError.TheVariants.{OutOfDeviceMemory, OutOfHostMemory}
 use Rattle.std.proofs.Math.Nat.{zero-mul, one-mul}
 use Rattle.gpu_alloc_base.specs.AlignMasks.{IsAlignMask}
-use Rattle.gpu_alloc_base.proofs.AlignedPowers.{doubled, pow-le, power_up_to}
-use Rattle.gpu_alloc_base.proofs.PowersOfTwo.{is_next_power_of_two, power_of_bit, greater_power}
-use Rattle.gpu_alloc_base.proofs.Maps.{one_value}
+use Rattle.gpu_alloc_base.proofs.AlignedPowers.{pow-le}
+use Rattle.gpu_alloc_base.proofs.PowersOfTwo.{is_next_power_of_two, power_of_bit}
 use Rattle.gpu_alloc_buddy.proofs.BuddyGrants.{other_objects}
 use Rattle.gpu_alloc_base.proofs.Leaves.{now_live}
+use Rattle.gpu_alloc_base.proofs.Unasked.{refuses_unasked}
 use Rattle.gpu_alloc_base.proofs.Multiples.{multiple_of_lower, mod_from_multiple}
 
 -- Sizes whose chunk fits.
@@ -159,15 +158,15 @@ answers_all_granted a new w size flags es (Err e) p f g s now agrees r answers o
 
 module _ (a : Account Buddy) (w : Wanted) (order : ℕ) (is : rounded a.allocator w ≡ 2 ^ order) where
   pub refuses_size : 62 < order → RefusesFirst (case_of a w) (Some OutOfDeviceMemory)
-  refuses_size long fits_it = fits_not order long (subst Fits is fits_it)
+  refuses_size long = inl (λ fits_it. fits_not order long (subst Fits is fits_it))
 
-  pub refuses_count : order ≤ 62 → (HasPlace a.allocator (2 ^ order) → ⊥) → a.remaining ≡ 0 → RefusesFirst (case_of a w) (Some TooManyObjects)
-  refuses_count short none nothing = record {
-    fits = subst Fits (sym is) (fits order short);
-    no_place = λ place. none (subst (HasPlace a.allocator) is place);
-    barred = inl nothing;
-  }
+  module _ (short : order ≤ 62) where
+    -- told of the request's own size
+    pub refuses_chunk : (e : AllocationError) → (HasPlace a.allocator (2 ^ order) → ⊥) → RefusesQuestion (buddy_case a (2 ^ order) w.flags) (Some e) → RefusesFirst (case_of a w) (Some e)
+    refuses_chunk e none refused = subst (λ n. RefusesFirst (buddy_case a n w.flags) (Some e)) (sym is) (refuses_unasked (buddy_case a (2 ^ order) w.flags) (fits order short) none e refused)
 
-  pub refuses_nothing : order ≤ 62 → HasPlace a.allocator (2 ^ order) ⊎ (0 < a.remaining) → RefusesFirst (case_of a w) None
-  refuses_nothing short (inl place) = record { fits = subst Fits (sym is) (fits order short); ways = inl (subst (HasPlace a.allocator) (sym is) place) }
-  refuses_nothing short (inr some) = record { fits = subst Fits (sym is) (fits order short); ways = inr (record { objects = some; number = tt }) }
+    pub may_ask : RefusesQuestion (buddy_case a (2 ^ order) w.flags) None → RefusesFirst (case_of a w) None
+    may_ask may = subst (λ n. RefusesFirst (buddy_case a n w.flags) None) (sym is) (record { fits = fits order short; ways = inr may })
+
+    pub has_place : HasPlace a.allocator (2 ^ order) → RefusesFirst (case_of a w) None
+    has_place place = subst (λ n. RefusesFirst (buddy_case a n w.flags) None) (sym is) (record { fits = fits order short; ways = inl place })

@@ -1,9 +1,8 @@
 -- What a buddy allocator asks for a new chunk, and what it keeps.
-use Rattle.std.proofs.Common.{◌≡◌, inl, inr, ℕ, ◌+◌, ◌*◌, ◌-◌, ◌^◌, ◌<◌, ◌≤◌, Bool, Option, Some, None, refl, sym, ◌∙◌, ap, subst, arith}
+use Rattle.std.proofs.Common.{◌≡◌, inl, inr, ℕ, ◌+◌, ◌-◌, ◌^◌, ◌<◌, ◌≤◌, Bool, Option, Some, None, refl, ◌∙◌, ap, subst, arith}
 use Rattle.std.proofs.lemmas.Bool.{cases_lt}
 use Rattle.std.specs.Prelude.{max}
 use Rattle.std.specs.FinMap as map
-use Rattle.std.specs.FinSet as set
 use Rattle.gpu_alloc_types.specs.Device.{Object, HeldWith}
 use Rattle.gpu_alloc_types.specs.Properties.{Properties}
 use Rattle.gpu_alloc_base.specs.Accounts.{Account, account}
@@ -55,11 +54,8 @@ other_objects b p objects name agrees none k c is same =
     cc
 
 -- what is asked for a chunk
-pub question_is : (b : Buddy) (next order size flags : ℕ) (visible : Bool) → b.next_chunk ≡ 2 ^ next → size ≡ 2 ^ max next (order + 1) → visible ≡ sees_chunks b
-    → chunk_question size b.memory_type flags visible ≡ question b (2 ^ order) flags
-question_is b next order size flags visible is size_is sees =
-    let e : size ≡ chunk_size b (2 ^ order) = size_is ∙ sym (chunk_size_is b next order is) in
-    λ i. record { size = e i; memory_type = b.memory_type; flags = flags; mapped = sees i }
+pub question_is : (b : Buddy) (order size flags : ℕ) (visible : Bool) → size ≡ chunk_size b (2 ^ order) → visible ≡ sees_chunks b → chunk_question size b.memory_type flags visible ≡ question b (2 ^ order) flags
+question_is b order size flags visible size_is sees = λ i. record { size = size_is i; memory_type = b.memory_type; flags = flags; mapped = sees i }
 
 -- what a call with a new chunk leaves
 pub in_new_chunk_is : (a : Account Buddy) (leaf : Leaf) (size n m : ℕ) (b : Buddy) (heap : Heap) → b ≡ with_leaf (with_chunk a.allocator leaf n) leaf → heap ≡ record a.heap { used = a.heap.used + m } → n ≡ size → m ≡ size

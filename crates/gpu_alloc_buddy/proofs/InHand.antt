@@ -42,7 +42,7 @@ answers_add a new w size flags es (Err e) refused granted = tt
 
 -- a chunk is of less than 2^64 bytes
 pub asks_below : (a : Account Buddy) (size flags : ℕ) → IsSound a.allocator → Asks (buddy_case a size flags) → chunk_size a.allocator size ≤ 2 ^ 64
-asks_below a size flags sound asks = let next = pow-le sound.next_chunk.0 63 sound.next_chunk.1.0 in omega (arith, asks.fits, sound.next_chunk.1.1, next)
+asks_below a size flags sound asks = let next = pow-le sound.next_chunk.0 63 sound.next_chunk.1.0 in omega (arith, asks.has.fits, sound.next_chunk.1.1, next)
 
 -- A return.
 

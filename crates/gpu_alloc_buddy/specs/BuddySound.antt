@@ -1,5 +1,4 @@
 -- What holds of a buddy allocator between calls.
-use Rattle.std.specs.Prelude.{ℕ}
 use Rattle.gpu_alloc_base.specs.FreeSpace.{IsPowerUpTo}
 use Rattle.gpu_alloc_base.specs.declared.buddy_block.Leaf.{Leaf}
 use Rattle.gpu_alloc_buddy.specs.BuddyState.{Buddy, space_of}

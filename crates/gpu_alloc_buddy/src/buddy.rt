@@ -12,7 +12,7 @@ ghost use Rattle.gpu_alloc_buddy.specs.Buddy.{chunk_size, Frees, HasPlace, IsGra
 ghost use Rattle.gpu_alloc_buddy.specs.Buddy.{opened, rounded, TakesPlace, without_leaf};
 ghost use Rattle.gpu_alloc_buddy.specs.Buddy.{Adds, HoldsNothing, IsPieceOf, Leaves, LeavesNoRest, Removes};
 ghost use Rattle.gpu_alloc_base.specs.Accounts.{account, IsCounted, chunks_and_remaining};
-ghost use Rattle.gpu_alloc_base.specs.Case.{Asks, RefusesFirst};
+ghost use Rattle.gpu_alloc_base.specs.Case.{Asks, RefusesFirst, RefusesQuestion};
 ghost use Rattle.gpu_alloc_base.specs.RangeOrder.{AreInOrder};
 ghost use Rattle.gpu_alloc_base.specs.Wanted.{requested, wanted};
 ghost use Rattle.gpu_alloc_buddy.specs.BuddySound.{IsSound};
@@ -241,16 +241,11 @@ impl<M: MemoryObject, A: Allocator> BuddyAllocator<M, A> {
         if order > 62 {
             return Some(AllocationError::OutOfDeviceMemory);
         }
-        if allocations_remains > 0 && heap.fits(bytes(self.chunk_order(order))) {
-            return None;
-        }
+        let refusal = self.refuses_chunk(order, heap, allocations_remains)?;
         if self.pairs.has_place(order, looks) {
             return None;
         }
-        if allocations_remains == 0 {
-            return Some(AllocationError::TooManyObjects);
-        }
-        Some(AllocationError::OutOfDeviceMemory)
+        Some(refusal)
     }
 
     /// Takes a block back. Free halves are joined, and a chunk in which no other block is live goes back to the device
@@ -393,6 +388,27 @@ impl<M: MemoryObject, A: Allocator> BuddyAllocator<M, A> {
         self.next_order.max(order + 1)
     }
 
+    /// Why the device may not be asked for a chunk for a block of 2^order bytes: nothing remains, or the heap has no room
+    /// for it. None where it may.
+    fn refuses_chunk(
+        &self,
+        order: u32,
+        heap: &Heap,
+        allocations_remains: u32,
+    ) -> Option<AllocationError>
+        requires { order ≤ 62 }
+        ensures { (flags : ℕ)
+            → RefusesQuestion (buddy_case (account self.now heap.now allocations_remains) (2 ^ order) flags) result }
+    {
+        if allocations_remains == 0 {
+            return Some(AllocationError::TooManyObjects);
+        }
+        if !heap.fits(bytes(self.chunk_order(order))) {
+            return Some(AllocationError::OutOfDeviceMemory);
+        }
+        None
+    }
+
     /// Allocates a block of 2^order bytes.
     fn alloc_rounded<D: MemoryDevice<M>, L: Ledger, K: Ledger>(
         &mut self,
@@ -426,13 +442,10 @@ impl<M: MemoryObject, A: Allocator> BuddyAllocator<M, A> {
             Ok(None) => {}
             Err(_) => return Err(AllocationError::OutOfHostMemory),
         }
-        if *allocations_remains == 0 {
-            return Err(AllocationError::TooManyObjects);
+        match self.refuses_chunk(order, heap, *allocations_remains) {
+            Some(refusal) => Err(refusal),
+            None => self.take_chunk(device, order, flags, heap, allocations_remains, splits),
         }
-        if !heap.fits(bytes(self.chunk_order(order))) {
-            return Err(AllocationError::OutOfDeviceMemory);
-        }
-        self.take_chunk(device, order, flags, heap, allocations_remains, splits)
     }
 
     /// Takes the front of a shortest free piece that is long enough: none where there is none. It fails only for want

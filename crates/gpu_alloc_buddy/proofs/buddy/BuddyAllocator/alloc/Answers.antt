@@ -1,4 +1,4 @@
-use Rattle.std.proofs.Common.{◌^◌, refl, sym, subst, arith}
+use Rattle.std.proofs.Common.{◌^◌, sym, subst, arith}
 use Rattle.gpu_alloc_types.specs.Flags.{allocation_bits}
 use Rattle.gpu_alloc_base.specs.Accounts.{account}
 use Rattle.gpu_alloc_base.specs.Case.{Answers}

@@ -1,14 +1,15 @@
-use Rattle.std.proofs.Common.{◌≡◌, ◌^◌, [], inl, inr, Some, None, IfOk, refl, sym, ap, subst, arith}
+use Rattle.std.proofs.Common.{◌^◌, [], inl, Err, IfOk, refl, ap, subst, arith}
 use Rattle.gpu_alloc_types.specs.Flags.{allocation_bits}
 use Rattle.gpu_alloc_base.specs.Accounts.{account}
 use Rattle.gpu_alloc_base.specs.Case.{Answers}
 use Rattle.gpu_alloc_buddy.specs.Buddy.{BeginsChunk, HasPlace, buddy_case}
+use Rattle.gpu_alloc_base.proofs.Unasked.{answers_unasked, asks_unrefused}
 use Rattle.gpu_alloc_buddy.proofs.BuddyAnswers.{fits, fits_not, place_refused}
 use Rattle.gpu_alloc_buddy.proofs.BuddySteps.{front_counts, granted_counts}
 use Rattle.gpu_alloc_buddy.proofs.buddy.BuddyAllocator.alloc_rounded.Goals as goal
 
 pub returns-then-order-gt62-clause-answers : goal.returns-then-order-gt62-clause-answers
-returns-then-order-gt62-clause-answers g c = ([], refl, (refl, inl (fits_not c.args.order (omega (arith, c.if-order-gt62.true)), refl)))
+returns-then-order-gt62-clause-answers g c = ([], refl, (refl, inl (inl (fits_not c.args.order (omega (arith, c.if-order-gt62.true))), refl)))
 
 pub returns-in-Ok-Some-clause-answers : goal.returns-in-Ok-Some-clause-answers
 returns-in-Ok-Some-clause-answers g c =
@@ -38,29 +39,26 @@ returns-in-Err-clause-answers g c =
           (fits c.args.order (omega (arith, c.if-order-gt62.false))) refused.0 refused.1,
     )
 
-pub returns-then-allocations_remains-eq0-clause-answers : goal.returns-then-allocations_remains-eq0-clause-answers
-returns-then-allocations_remains-eq0-clause-answers g c =
-    let none = rw (c.in-Ok-None.field-0-is) at c.in-Ok-None.ensures.takes in (
+pub returns-in-Some-clause-answers : goal.returns-in-Some-clause-answers
+returns-in-Some-clause-answers g c =
+    let none = rw (c.in-Ok-None.field-0-is) at c.in-Ok-None.ensures.takes in
+    let flags = allocation_bits c.args.flags in
+    let now = account c.take_place.new.self c.args.heap.now c.args.allocations_remains.now in
+    let refused = answers_unasked (buddy_case now (2 ^ c.args.order) flags) (fits c.args.order (omega (arith, c.if-order-gt62.false))) (λ place. none.0 (subst (λ b. HasPlace b (2 ^ c.args.order)) none.1 place))
+    c.in-Some.refusal (c.in-Some.ensures flags) in (
       [],
       refl,
-      (
-        ap (λ b. account b c.args.heap.now c.args.allocations_remains.now) none.1,
-        refl,
-        record { fits = fits c.args.order (omega (arith, c.if-order-gt62.false)); no_place = none.0; barred = inl (omega (arith, c.if-allocations_remains-eq0.true)) },
-      ),
+      subst (λ b. Answers (buddy_case (account b c.args.heap.now c.args.allocations_remains.now) (2 ^ c.args.order) flags) [] (Err c.in-Some.refusal) now) none.1 refused,
     )
 
 pub take_chunk-requires-clause-asks : goal.take_chunk-requires-clause-asks
 take_chunk-requires-clause-asks g c =
     let none = rw (c.in-Ok-None.field-0-is) at c.in-Ok-None.ensures.takes in
-    record {
-      fits = fits c.args.order (omega (arith, c.if-order-gt62.false));
-      no_place = λ place. none.0 (subst (λ b. HasPlace b (2 ^ c.args.order)) none.1 place);
-      remains = record { objects = omega (arith, c.if-allocations_remains-eq0.false); number = tt };
-    }
+    asks_unrefused (buddy_case (account c.take_place.new.self c.args.heap.now c.args.allocations_remains.now) (2 ^ c.args.order) (allocation_bits c.args.flags)) (fits c.args.order (omega (arith, c.if-order-gt62.false)))
+    (λ place. none.0 (subst (λ b. HasPlace b (2 ^ c.args.order)) none.1 place)) (c.in-None.ensures (allocation_bits c.args.flags))
 
-pub returns-clause-answers : goal.returns-clause-answers
-returns-clause-answers g c =
+pub returns-in-None-clause-answers : goal.returns-in-None-clause-answers
+returns-in-None-clause-answers g c =
     let none = rw (c.in-Ok-None.field-0-is) at c.in-Ok-None.ensures.takes in
     let told = c.take_chunk.ensures.answers in
     let new = account c.take_chunk.new.self c.take_chunk.new.heap c.take_chunk.new.allocations_remains in (
@@ -69,8 +67,8 @@ returns-clause-answers g c =
       subst (λ b. Answers (buddy_case (account b c.args.heap.now c.args.allocations_remains.now) (2 ^ c.args.order) (allocation_bits c.args.flags)) told.0 c.take_chunk.result new) none.1 told.2,
     )
 
-pub returns-clause-steps : goal.returns-clause-steps
-returns-clause-steps g c =
+pub returns-in-None-clause-steps : goal.returns-in-None-clause-steps
+returns-in-None-clause-steps g c =
     let none = rw (c.in-Ok-None.field-0-is) at c.in-Ok-None.ensures.takes in
     let begins = subst (λ b. IfOk c.take_chunk.result (BeginsChunk b (2 ^ c.args.order))) none.1 c.take_chunk.ensures.begins in
     granted_counts c.args.self.now c.args.order c.take_chunk.result c.args.looks.now c.take_place.new.looks c.args.splits.now c.take_chunk.new.splits begins

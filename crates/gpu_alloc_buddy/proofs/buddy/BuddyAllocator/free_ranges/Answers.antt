@@ -1,4 +1,4 @@
-use Rattle.std.proofs.Common.{◌≡◌, ◌∙◌, ◌^◌, ◌+◌, ◌≤◌, ◌==◌, Contains, List, count_by, map, sym, ap, subst, arith}
+use Rattle.std.proofs.Common.{◌≡◌, ◌∙◌, ◌^◌, ◌+◌, ◌==◌, Contains, count_by, sym, ap, subst, arith}
 use Rattle.std.specs.List.{IsDistinct}
 use Rattle.gpu_alloc_base.specs.RangeOrder.{same_start}
 use Rattle.gpu_alloc_types.specs.Flags.{property_bits}

@@ -1,15 +1,14 @@
-use Rattle.std.proofs.Common.{◌≡◌, ◌+◌, ◌-◌, ◌^◌, ◌<◌, ◌≤◌, [], ◌∷◌, Some, inl, inr, refl, sym, ◌∙◌, ap, subst, arith}
+use Rattle.std.proofs.Common.{◌≡◌, ◌+◌, ◌-◌, [], ◌∷◌, Some, refl, sym, arith}
 use Rattle.std.specs.FinMap as map
 use Rattle.gpu_alloc_types.specs.Device.Event.{Deallocated}
 use Rattle.gpu_alloc_types.specs.Flags.{property_bits}
 use Rattle.gpu_alloc_base.specs.Accounts.{account, IsCounted}
 use Rattle.gpu_alloc_base.specs.Chunks.{Chunk}
-use Rattle.gpu_alloc_base.specs.declared.buddy_block.Leaf.{Leaf}
 use Rattle.gpu_alloc_base.specs.declared.heap.Heap.{Heap}
-use Rattle.gpu_alloc_buddy.specs.Buddy.{Agrees, Frees}
+use Rattle.gpu_alloc_buddy.specs.Buddy.{Frees}
 use Rattle.gpu_alloc_buddy.specs.BuddyInside.{buddy_in}
 use Rattle.gpu_alloc_buddy.specs.BuddyState.{Buddy, IsLiveLeaf}
-use Rattle.gpu_alloc_buddy.proofs.BuddyReturns.{agrees_without, frees_counted, frees_goes, frees_stays, frees_total, is_counted, object_is, one_more_fits, without_chunk}
+use Rattle.gpu_alloc_buddy.proofs.BuddyReturns.{agrees_without, frees_counted, frees_goes, frees_stays, frees_total, is_counted, object_is, one_more_fits}
 use Rattle.gpu_alloc_buddy.proofs.BuddySteps.{few_at_most}
 use Rattle.gpu_alloc_buddy.proofs.buddy.BuddyAllocator.give_back.Given.{Over}
 use Rattle.gpu_alloc_buddy.proofs.buddy.BuddyAllocator.give_back.Goals.{In-Some}
