@@ -1,5 +1,5 @@
 -- What the table, the heaps and the count keep, as objects and spans come and go.
-use Rattle.std.proofs.Common.{◌≡◌, ◌≢◌, ◌⊎◌, ℕ, ◌+◌, ◌-◌, ◌^◌, ◌<◌, Bool, true, false, cond, ◌==◌, List, length, get_or, map, Option, Some, None, IfSome, IsTrue, refl, sym, ◌∙◌, ap, subst, arith, inl, inr}
+use Rattle.std.proofs.Common.{◌≡◌, ◌≢◌, ◌⊎◌, ℕ, ◌+◌, ◌-◌, ◌^◌, ◌<◌, ◌≤◌, Bool, true, false, cond, ◌==◌, List, length, get_or, map, Option, Some, None, IfSome, IsTrue, refl, sym, ◌∙◌, ap, subst, arith, inl, inr}
 use Rattle.std.proofs.Math.ListN.{set}
 use Rattle.std.proofs.lemmas.Bool.Decides.{nat_tests}
 use Rattle.std.proofs.lemmas.List.{length-map}
@@ -10,17 +10,18 @@ use Rattle.std.specs.FinSet as set_of
 use Rattle.gpu_alloc_types.specs.Properties.{Properties, heap_at}
 use Rattle.gpu_alloc_block.specs.State.{HeldObject, Span, share, is_shared}
 use Rattle.gpu_alloc.specs.Spans.{Table}
-use Rattle.gpu_alloc.specs.Inside.{IsBooked, IsKnown, IsOfObject, IsLiveIn, AreSmall, AreLedgers, offer_of}
+use Rattle.gpu_alloc.specs.Budget.{asked_share, is_import}
+use Rattle.gpu_alloc.specs.Inside.{IsBooked, IsKnown, IsLedger, IsOfObject, IsLiveIn, AreSmall, AreLedgers, offer_of}
 use Rattle.gpu_alloc.specs.Sound.{LiesIn}
 use Rattle.gpu_alloc_block.specs.declared.block.Kind.{Kind}
 use Rattle.gpu_alloc_block.specs.declared.block.Kind.TheVariants.{Dedicated, Imported, BuddyChunk, FreeListChunk}
 use Rattle.gpu_alloc_base.specs.declared.heap.Heap.{Heap}
-use Rattle.gpu_alloc.proofs.Ledgers.{ledger-bound, Held, small-insert, small-remove}
+use Rattle.gpu_alloc.proofs.Ledgers.{asked-part, ledger-bound, Held, part-none, small-insert, small-remove}
 use Rattle.gpu_alloc_base.proofs.Sums.{sum_by-insert, sum_by-remove, len_more, len_less}
 use Rattle.gpu_alloc_base.proofs.Maps.{name_test, eq-true, eq-false, one_value}
 use Rattle.gpu_alloc_block.proofs.LiveSpans.{live_new, live_before, live_other}
 use Rattle.gpu_alloc.proofs.Tables.LiveSpans.{HasSameSpans, spans_same, spans_more, spans_fewer}
-use Rattle.gpu_alloc.proofs.HeapLists.{heap_inside, ledger_at, ledgers_set}
+use Rattle.gpu_alloc.proofs.HeapLists.{heap_inside, ledger_at, ledger_is, ledgers_set}
 
 test-same : (a b n : ℕ) → a ≡ b → cond (a == b) n 0 ≡ n
 test-same a b n e = grind (arith, nat_tests)
@@ -128,24 +129,41 @@ module _ (p : Properties) (heaps : List Heap) (t : Table) (remaining : ℕ) (is 
       | inr was ↦ of_object_still t now other (get_more other.object ∙ ap (λ b. cond b (Some h) (finite.get t.held other.object)) (eq-false other.object span.object was.1)) was.0
     ]
 
-    ledgers_more : (heap changed : Heap) (i : ℕ) → i ≡ heap_at p h.memory_type → heap ≡ get_or heaps i heap → changed.used ≡ heap.used + h.counted → AreLedgers p (set heaps i changed) (finite.entries now.held)
-    ledgers_more heap changed i here at more =
-        let inside : i < length heaps = omega (arith, heap_there h.memory_type m.with.known) in
-        let all : (q : ℕ) → sum_by (share p q) (finite.entries now.held) ≡ share p q (span.object, h) + sum_by (share p q) (finite.entries t.held) =
-        λ q. ap (λ (x : Held). sum_by (share p q) (finite.entries x)) m.held ∙ sum_by-insert (share p q) t.held span.object h m.free in
-        ledgers_set p heaps i changed (finite.entries t.held) (finite.entries now.held) is.ledgers
-        (omega (arith, ledger_at p heaps i heap (finite.entries t.held) is.ledgers inside at, all i, test-same (heap_at p h.memory_type) i h.counted (sym here)))
-        (λ q other. omega (arith, all q, test-other (heap_at p h.memory_type) q h.counted (λ e. other (sym (here ∙ e)))))
+    -- what is held of a heap, and what was asked for of it, as one object more counts
+    sums_more : (f : ℕ × HeldObject → ℕ) → sum_by f (finite.entries now.held) ≡ f (span.object, h) + sum_by f (finite.entries t.held)
+    sums_more f = ap (λ (x : Held). sum_by f (finite.entries x)) m.held ∙ sum_by-insert f t.held span.object h m.free
 
-    pub booked-held : (heap changed : Heap) (i : ℕ) → 0 < remaining → i ≡ heap_at p h.memory_type → heap ≡ get_or heaps i heap → changed.used ≡ heap.used + h.counted
+    module _ (heap changed : Heap) (i : ℕ) (here : i ≡ heap_at p h.memory_type) (at : heap ≡ get_or heaps i heap) (counts : changed ≡ record heap { used = heap.used + h.counted }) where
+      ledger_before : IsLedger p i (finite.entries t.held) heap
+      ledger_before = ledger_is p heaps i heap (finite.entries t.held) is.ledgers (omega (arith, heap_there h.memory_type m.with.known)) at
+
+      used_more : changed.used ≡ sum_by (share p i) (finite.entries now.held)
+      used_more = omega (arith, ap (λ (x : Heap). x.used) counts, ledger_before.used, sums_more (share p i), test-same (heap_at p h.memory_type) i h.counted (sym here))
+
+      -- an import was not asked for, and anything else fits
+      within_more : (import : Bool) → is_import h.kind ≡ import → (import ≡ false → heap.used + h.counted ≤ heap.size) → sum_by (asked_share p i) (finite.entries now.held) ≤ changed.size
+      within_more true imported fits =
+          let none : asked_share p i (span.object, h) ≡ 0 = ap (λ b. cond b 0 (share p i (span.object, h))) imported in
+          omega (arith, none, sums_more (asked_share p i), ledger_before.within, ap (λ (x : Heap). x.size) counts)
+      within_more false asked fits = omega (arith, asked-part p i (finite.entries now.held), used_more, ap (λ (x : Heap). x.used) counts, ap (λ (x : Heap). x.size) counts, fits refl)
+
+      others_more : (q : ℕ) → q ≢ i → (sum_by (share p q) (finite.entries now.held) ≡ sum_by (share p q) (finite.entries t.held)) × (sum_by (asked_share p q) (finite.entries now.held) ≡ sum_by (asked_share p q) (finite.entries t.held))
+      others_more q other =
+          let none : share p q (span.object, h) ≡ 0 = test-other (heap_at p h.memory_type) q h.counted (λ e. other (sym (here ∙ e))) in
+          (omega (arith, sums_more (share p q), none), omega (arith, sums_more (asked_share p q), part-none (is_import h.kind) (share p q (span.object, h)) none))
+
+      ledgers_more : (is_import h.kind ≡ false → heap.used + h.counted ≤ heap.size) → AreLedgers p (set heaps i changed) (finite.entries now.held)
+      ledgers_more fits = ledgers_set p heaps i changed (finite.entries t.held) (finite.entries now.held) is.ledgers (record { used = used_more; within = within_more (is_import h.kind) refl fits }) others_more
+
+    pub booked-held : (heap changed : Heap) (i : ℕ) → 0 < remaining → i ≡ heap_at p h.memory_type → heap ≡ get_or heaps i heap → changed ≡ record heap { used = heap.used + h.counted } → (is_import h.kind ≡ false → heap.used + h.counted ≤ heap.size)
         → IsBooked p (set heaps i changed) now (remaining - 1)
-    booked-held heap changed i some here at more = record {
+    booked-held heap changed i some here at more fits = record {
       usable = is.usable;
       count = omega (arith, is.count, ap (λ (x : Held). finite.len x) m.held, len_more t.held span.object h m.free);
       known = known_more;
       spans = of_object_more;
       small = subst (λ (x : Held). AreSmall (finite.entries x)) (sym m.held) (small-insert t.held span.object h m.free m.with.small is.small);
-      ledgers = ledgers_more heap changed i here at more;
+      ledgers = ledgers_more heap changed i here at more fits;
     }
 
   -- One object fewer is held, of which no span is live any more.
@@ -187,16 +205,19 @@ module _ (p : Properties) (heaps : List Heap) (t : Table) (remaining : ℕ) (is 
         let other = l.unused span is_now in
         of_object_still t now span (get_less span.object ∙ ap (λ b. cond b None (finite.get t.held span.object)) (eq-false span.object name other)) (is.spans span ((l.others span.object other).was span refl is_now))
 
-    ledgers_fewer : (heap changed : Heap) (i : ℕ) → i ≡ heap_at p h.memory_type → heap ≡ get_or heaps i heap → changed.used ≡ heap.used - h.counted → AreLedgers p (set heaps i changed) (finite.entries now.held)
-    ledgers_fewer heap changed i here at less =
-        let inside : i < length heaps = omega (arith, heap_there h.memory_type (known_object name h l.found).of_type) in
-        let all : (q : ℕ) → share p q (name, h) + sum_by (share p q) (finite.entries now.held) ≡ sum_by (share p q) (finite.entries t.held) =
-        λ q. ap (λ (x : Held). share p q (name, h) + sum_by (share p q) (finite.entries x)) l.held ∙ sum_by-remove (share p q) t.held name h l.found in
-        ledgers_set p heaps i changed (finite.entries t.held) (finite.entries now.held) is.ledgers
-        (omega (arith, ledger_at p heaps i heap (finite.entries t.held) is.ledgers inside at, all i, test-same (heap_at p h.memory_type) i h.counted (sym here)))
-        (λ q other. omega (arith, all q, test-other (heap_at p h.memory_type) q h.counted (λ e. other (sym (here ∙ e)))))
+    sums_fewer : (f : ℕ × HeldObject → ℕ) → f (name, h) + sum_by f (finite.entries now.held) ≡ sum_by f (finite.entries t.held)
+    sums_fewer f = ap (λ (x : Held). f (name, h) + sum_by f (finite.entries x)) l.held ∙ sum_by-remove f t.held name h l.found
 
-    booked-less : (heap changed : Heap) (i : ℕ) → i ≡ heap_at p h.memory_type → heap ≡ get_or heaps i heap → changed.used ≡ heap.used - h.counted → IsBooked p (set heaps i changed) now (remaining + 1)
+    ledgers_fewer : (heap changed : Heap) (i : ℕ) → i ≡ heap_at p h.memory_type → heap ≡ get_or heaps i heap → changed ≡ record heap { used = heap.used - h.counted } → AreLedgers p (set heaps i changed) (finite.entries now.held)
+    ledgers_fewer heap changed i here at less =
+        let before = ledger_is p heaps i heap (finite.entries t.held) is.ledgers (omega (arith, heap_there h.memory_type (known_object name h l.found).of_type)) at in
+        let fewer : changed.used ≡ sum_by (share p i) (finite.entries now.held) = omega (arith, ap (λ (x : Heap). x.used) less, before.used, sums_fewer (share p i), test-same (heap_at p h.memory_type) i h.counted (sym here)) in
+        ledgers_set p heaps i changed (finite.entries t.held) (finite.entries now.held) is.ledgers (record { used = fewer; within = omega (arith, before.within, sums_fewer (asked_share p i), ap (λ (x : Heap). x.size) less) })
+        (λ q other.
+        let none : share p q (name, h) ≡ 0 = test-other (heap_at p h.memory_type) q h.counted (λ e. other (sym (here ∙ e))) in
+        (omega (arith, sums_fewer (share p q), none), omega (arith, sums_fewer (asked_share p q), part-none (is_import h.kind) (share p q (name, h)) none)))
+
+    booked-less : (heap changed : Heap) (i : ℕ) → i ≡ heap_at p h.memory_type → heap ≡ get_or heaps i heap → changed ≡ record heap { used = heap.used - h.counted } → IsBooked p (set heaps i changed) now (remaining + 1)
     booked-less heap changed i here at less = record {
       usable = is.usable;
       count = omega (arith, is.count, ap (λ (x : Held). finite.len x) l.held, len_less t.held name h l.found);
@@ -214,7 +235,7 @@ module _ (p : Properties) (heaps : List Heap) (t : Table) (remaining : ℕ) (is 
     pub live : now.live ≡ set_of.remove t.live span
 
   pub booked-gone : (now : Table) (h : HeldObject) (span : Span) → HoldsFewer now h span
-      → (heap changed : Heap) (i : ℕ) → i ≡ heap_at p h.memory_type → heap ≡ get_or heaps i heap → changed.used ≡ heap.used - h.counted → IsBooked p (set heaps i changed) now (remaining + 1)
+      → (heap changed : Heap) (i : ℕ) → i ≡ heap_at p h.memory_type → heap ≡ get_or heaps i heap → changed ≡ record heap { used = heap.used - h.counted } → IsBooked p (set heaps i changed) now (remaining + 1)
   booked-gone now h span l = booked-less now h span.object (record {
     found = l.found;
     held = l.held;
@@ -232,7 +253,7 @@ module _ (p : Properties) (heaps : List Heap) (t : Table) (remaining : ℕ) (is 
     pub live : now.live ≡ t.live
 
   pub booked-let_go : (now : Table) (h : HeldObject) (name : ℕ) → HoldsFewerUnused now h name
-      → (heap changed : Heap) (i : ℕ) → i ≡ heap_at p h.memory_type → heap ≡ get_or heaps i heap → changed.used ≡ heap.used - h.counted → IsBooked p (set heaps i changed) now (remaining + 1)
+      → (heap changed : Heap) (i : ℕ) → i ≡ heap_at p h.memory_type → heap ≡ get_or heaps i heap → changed ≡ record heap { used = heap.used - h.counted } → IsBooked p (set heaps i changed) now (remaining + 1)
   booked-let_go now h name l = booked-less now h name (record {
     found = l.found;
     held = l.held;

@@ -1,16 +1,19 @@
 -- The list of heaps: what is read of it, and what stays as one heap's ledger changes.
-use Rattle.std.proofs.Common.{◌≡◌, ◌≢◌, ℕ, zero, suc, ◌<◌, List, [], ◌∷◌, length, get_or, map, Option, Some, IfSome, refl, sym, ◌∙◌, ap, subst, arith, inl, inr}
+use Rattle.std.proofs.Common.{◌≡◌, ◌≢◌, ℕ, zero, suc, ◌<◌, ◌≤◌, List, [], ◌∷◌, length, get_or, map, Option, Some, None, IfSome, refl, sym, ◌∙◌, ap, subst, arith, inl, inr}
 use Rattle.std.proofs.Math.ListN.{set}
 use Rattle.std.proofs.Math.Seq.{map-set_same}
 use Rattle.std.proofs.lemmas.Option.{slice_get_read, slice_get_cases}
+use Rattle.std.proofs.lemmas.List.{length-map}
 use Rattle.std.specs.List.{sum_by, slice_get}
-use Rattle.gpu_alloc_types.specs.Properties.{Properties, IsUsable, heap_at, heap_of}
+use Rattle.std.specs.FinMap as finite
+use Rattle.gpu_alloc_types.specs.Properties.{Properties, IsUsable, heap_at, heap_of, size_of}
 use Rattle.gpu_alloc_types.specs.declared.types.MemoryType.{MemoryType}
-use Rattle.gpu_alloc_block.specs.State.{share}
+use Rattle.gpu_alloc_block.specs.State.{State, ledger, share}
+use Rattle.gpu_alloc.specs.Budget.{asked_bytes, asked_share, heap_bytes}
 use Rattle.gpu_alloc.specs.Spans.{Table}
 use Rattle.gpu_alloc_buddy.specs.BuddyState.{Buddy}
 use Rattle.gpu_alloc_freelist.specs.FreeListState.{Listing}
-use Rattle.gpu_alloc.specs.Inside.{properties_in, state_in, types_in, lists_in, AreLedgers, offer_of}
+use Rattle.gpu_alloc.specs.Inside.{properties_in, state_in, types_in, lists_in, AreLedgers, IsBooked, IsLedger, offer_of}
 use Rattle.gpu_alloc_base.specs.Heap.{unused}
 use Rattle.gpu_alloc.specs.FirstTypes.{first_types}
 use Rattle.gpu_alloc.specs.declared.limits.Limits.{Limits}
@@ -44,15 +47,51 @@ heap_inside p t usable known = elim (slice_get_cases p.memory_types t).1 [
 
 -- What a ledger says.
 
+pub ledger_is : (p : Properties) (heaps : List Heap) (i : ℕ) (h : Heap) (entries : Entries) → AreLedgers p heaps entries → i < length heaps → h ≡ get_or heaps i h → IsLedger p i entries h
+ledger_is p heaps i h entries are lt at = subst (λ (o : Option Heap). IfSome o (IsLedger p i entries)) (slice_get_read heaps (length heaps) i h refl lt at) (are i)
+
 pub ledger_at : (p : Properties) (heaps : List Heap) (i : ℕ) (h : Heap) (entries : Entries) → AreLedgers p heaps entries → i < length heaps → h ≡ get_or heaps i h → h.used ≡ sum_by (share p i) entries
-ledger_at p heaps i h entries are lt at = subst (λ (o : Option Heap). IfSome o (λ x. x.used ≡ sum_by (share p i) entries)) (slice_get_read heaps (length heaps) i h refl lt at) (are i)
+ledger_at p heaps i h entries are lt at = (ledger_is p heaps i h entries are lt at).used
+
+-- of a heap that these objects are not of, or of which as many bytes are held as before
+kept_ledger : (p : Properties) (q : ℕ) (old new : Entries) → sum_by (share p q) new ≡ sum_by (share p q) old → sum_by (asked_share p q) new ≡ sum_by (asked_share p q) old → (o : Option Heap) → IfSome o (IsLedger p q old) → IfSome o (IsLedger p q new)
+kept_ledger p q old new same asked None is = tt
+kept_ledger p q old new same asked (Some h) is = record { used = is.used ∙ sym same; within = omega (arith, is.within, asked) }
 
 -- one heap's ledger is changed, and no share of another heap is
-pub ledgers_set : (p : Properties) (heaps : List Heap) (i : ℕ) (h : Heap) (old new : Entries) → AreLedgers p heaps old → h.used ≡ sum_by (share p i) new
-    → ((q : ℕ) → q ≢ i → sum_by (share p q) new ≡ sum_by (share p q) old) → AreLedgers p (set heaps i h) new
+pub ledgers_set : (p : Properties) (heaps : List Heap) (i : ℕ) (h : Heap) (old new : Entries) → AreLedgers p heaps old → IsLedger p i new h
+    → ((q : ℕ) → q ≢ i → (sum_by (share p q) new ≡ sum_by (share p q) old) × (sum_by (asked_share p q) new ≡ sum_by (asked_share p q) old)) → AreLedgers p (set heaps i h) new
 ledgers_set p heaps i h old new are is others =
-    each_set (λ q x. x.used ≡ sum_by (share p q) new) heaps i h is
-    (λ q other. subst (λ n. IfSome (slice_get heaps q) (λ x. x.used ≡ n)) (sym (others q other)) (are q))
+    each_set (λ q x. IsLedger p q new x) heaps i h is
+    (λ q other. let same = others q other in kept_ledger p q old new same.0 same.1 (slice_get heaps q) (are q))
+
+-- A memory type's heap.
+
+-- its size is what is offered
+size_offered : (heaps : List Heap) (i : ℕ) (h : Heap) → i < length heaps → h ≡ get_or heaps i h → size_of (slice_get (map offer_of heaps) i) ≡ h.size
+size_offered [] i h inside at = absurd (omega (arith, inside))
+size_offered (x ∷ heaps) zero h inside at = ap (λ (y : Heap). y.size) (sym at)
+size_offered (x ∷ heaps) (suc i) h inside at = size_offered heaps i h (omega (arith, inside)) at
+
+-- a heap as the state tells of it
+pub record IsHeap (s : State) (i : ℕ) (heap : Heap) : Type 0 where
+  pub used : heap.used ≡ ledger s i
+  pub size : heap.size ≡ heap_bytes s.properties i
+  pub asked : asked_bytes s i ≤ heap.size
+
+pub heap_is : {A : Type 0} (l : Limits A) (heaps : List Heap) (buddies : List Buddy) (lists : List Listing) (t : Table) (remaining : ℕ) → AreLedgers (properties_in l heaps) heaps (finite.entries t.held)
+    → (i : ℕ) (heap : Heap) → i < length heaps → heap ≡ get_or heaps i heap → IsHeap (state_in l heaps buddies lists t remaining) i heap
+heap_is l heaps buddies lists t remaining ledgers i heap inside at =
+    let is = ledger_is (properties_in l heaps) heaps i heap (finite.entries t.held) ledgers inside at in
+    record { used = is.used; size = sym (size_offered heaps i heap inside at); asked = is.within }
+
+-- the heap of a memory type
+pub type_heap_is : {A : Type 0} (l : Limits A) (heaps : List Heap) (buddies : List Buddy) (lists : List Listing) (t : Table) (remaining : ℕ) → IsBooked (properties_in l heaps) heaps t remaining
+    → (index i : ℕ) (heap : Heap) → index < length (properties_in l heaps).memory_types → i ≡ heap_at (properties_in l heaps) index → heap ≡ get_or heaps i heap
+    → IsHeap (state_in l heaps buddies lists t remaining) (heap_at (properties_in l heaps) index) heap
+type_heap_is l heaps buddies lists t remaining books index i heap known here at =
+    let inside = heap_inside (properties_in l heaps) index books.usable known in
+    heap_is l heaps buddies lists t remaining books.ledgers (heap_at (properties_in l heaps) index) heap (omega (arith, inside, length-map heaps offer_of)) (at ∙ ap (λ n. get_or heaps n heap) here)
 
 -- The properties and the state, as one heap's ledger changes.
 

@@ -1,5 +1,5 @@
 -- Ledgers: the counted sizes of held objects, as one is added or taken off, and how large their sum may be.
-use Rattle.std.proofs.Common.{◌≡◌, ℕ, ◌+◌, ◌*◌, ◌^◌, ◌<◌, ◌≤◌, Bool, true, false, cond, ◌==◌, List, [], ◌∷◌, length, Some, None, sym, subst, arith, Less, Equal, Greater}
+use Rattle.std.proofs.Common.{◌≡◌, ℕ, ◌+◌, ◌*◌, ◌^◌, ◌<◌, ◌≤◌, Bool, true, false, cond, ◌==◌, List, [], ◌∷◌, length, Some, None, refl, sym, subst, arith, Less, Equal, Greater}
 use Rattle.std.proofs.lemmas.List.Sums.{sum_by-cons}
 use Rattle.std.specs.List.{sum_by}
 use Rattle.std.specs.Cmp.{nat_cmp_total}
@@ -8,6 +8,7 @@ use Rattle.std.specs.FinMap as finite
 use Rattle.std.specs.FinMap.Entries.{by_order}
 use Rattle.gpu_alloc_types.specs.Properties.{Properties, heap_at}
 use Rattle.gpu_alloc_block.specs.State.{HeldObject, share}
+use Rattle.gpu_alloc.specs.Budget.{asked_share, is_import}
 use Rattle.gpu_alloc.specs.Inside.{AreSmall}
 use Rattle.gpu_alloc_base.proofs.Maps.{gone}
 use Rattle.gpu_alloc_base.proofs.Sums.{back, not_found}
@@ -57,3 +58,18 @@ sum_by-small p heap (e ∷ es) all = omega (arith, sum_by-cons (share p heap) e 
 -- a number of bytes more is still far below the largest number
 pub ledger-bound : (p : Properties) (heap : ℕ) (m : Held) (n : ℕ) → AreSmall (finite.entries m) → finite.len m < 2 ^ 32 → n < 2 ^ 64 → sum_by (share p heap) (finite.entries m) + n < 2 ^ 128
 ledger-bound p heap m n all few small = omega (arith, sum_by-small p heap (finite.entries m) all, finite.len-entries m)
+
+-- What was asked for of a heap is a part of its ledger.
+
+part-le : (import : Bool) (n : ℕ) → cond import 0 n ≤ n
+part-le true n = omega arith
+part-le false n = omega arith
+
+pub asked-part : (p : Properties) (heap : ℕ) (es : Entries) → sum_by (asked_share p heap) es ≤ sum_by (share p heap) es
+asked-part p heap [] = omega arith
+asked-part p heap (e ∷ es) = omega (arith, sum_by-cons (asked_share p heap) e es, sum_by-cons (share p heap) e es, part-le (is_import e.1.kind) (share p heap e), asked-part p heap es)
+
+-- no part of nothing
+pub part-none : (import : Bool) (n : ℕ) → n ≡ 0 → cond import 0 n ≡ 0
+part-none true n none = refl
+part-none false n none = none

@@ -133,7 +133,7 @@ module _ (t : Table) (unheld : t.held ≡ finite.empty) (unused_spans : t.live �
     known = λ object. subst (λ (o : Option HeldObject). IfSome o (IsKnown t p object)) (sym (no_object object)) tt;
     spans = λ span now. absurd (no_span span now);
     small = nothing_large (finite.entries t.held) empty;
-    ledgers = λ q. subst (λ (o : Option Heap). IfSome o (λ h. h.used ≡ sum_by (share p q) (finite.entries t.held)))
+    ledgers = λ q. subst (λ (o : Option Heap). IfSome o (IsLedger p q (finite.entries t.held)))
         (sym (ap (λ (hs : List Heap). slice_get hs q) unused_heaps ∙ slice_get-map (λ h. unused h.size) p.memory_heaps q)) (at q (slice_get p.memory_heaps q));
   }
     where
@@ -143,9 +143,9 @@ module _ (t : Table) (unheld : t.held ≡ finite.empty) (unused_spans : t.live �
       empty : length (finite.entries t.held) ≡ 0
       empty = sym (finite.len-entries t.held) ∙ none
 
-      at : (q : ℕ) (o : Option MemoryHeap) → IfSome (option_map (λ h. unused h.size) o) (λ h. h.used ≡ sum_by (share p q) (finite.entries t.held))
+      at : (q : ℕ) (o : Option MemoryHeap) → IfSome (option_map (λ h. unused h.size) o) (IsLedger p q (finite.entries t.held))
       at q None = tt
-      at q (Some h) = sym (nothing (share p q) (finite.entries t.held) empty)
+      at q (Some h) = record { used = sym (nothing (share p q) (finite.entries t.held) empty); within = omega (arith, nothing (asked_share p q) (finite.entries t.held) empty) }
 
   -- a buddy allocator with no chunk
   linked-opened : (b : Buddy) → b.chunks ≡ finite.empty → b.live ≡ set_of.empty → IsLinked t b

@@ -1,5 +1,5 @@
 -- What an allocator's fields keep, as room is made in its table, and as an object of one block comes or goes.
-use Rattle.std.proofs.Common.{◌≡◌, ◌≢◌, ℕ, ◌+◌, ◌-◌, ◌<◌, cond, List, get_or, map, Option, Some, None, IfSome, false, refl, sym, ◌∙◌, ap, subst}
+use Rattle.std.proofs.Common.{◌≡◌, ◌≢◌, ℕ, ◌+◌, ◌-◌, ◌<◌, ◌≤◌, cond, List, get_or, map, Option, Some, None, IfSome, false, refl, sym, ◌∙◌, ap, subst}
 use Rattle.std.proofs.Math.ListN.{set}
 use Rattle.std.specs.Cmp.{nat_cmp_total}
 use Rattle.std.specs.FinMap as finite
@@ -7,6 +7,7 @@ use Rattle.gpu_alloc_types.specs.Properties.{Properties, heap_at}
 use Rattle.gpu_alloc_buddy.specs.BuddyState.{Buddy}
 use Rattle.gpu_alloc_freelist.specs.FreeListState.{Listing}
 use Rattle.gpu_alloc.specs.Inside.{IsKnown, IsOfObject, IsChunkOf, IsLinked, IsBuddyOf, IsNumberedChunk, IsListLinked, IsListOf, IsConsistent, offer_of}
+use Rattle.gpu_alloc.specs.Budget.{is_import}
 use Rattle.gpu_alloc.specs.Sound.{is_list_chunk}
 use Rattle.gpu_alloc.specs.Spans.{Place, Table}
 use Rattle.gpu_alloc_block.specs.State.{HeldObject, Span, is_shared}
@@ -118,10 +119,10 @@ module _ (c : Config) (p : Properties) (heaps : List Heap) (buddies : List Buddy
   )
 
   pub consistent-held : HoldsMore p heaps t remaining is.books offers now h span → (place : Place) → now.places ≡ finite.insert t.places span place
-      → (heap changed : Heap) (i : ℕ) → 0 < remaining → i ≡ heap_at p h.memory_type → heap ≡ get_or heaps i heap → changed.used ≡ heap.used + h.counted
+      → (heap changed : Heap) (i : ℕ) → 0 < remaining → i ≡ heap_at p h.memory_type → heap ≡ get_or heaps i heap → changed ≡ record heap { used = heap.used + h.counted } → (is_import h.kind ≡ false → heap.used + h.counted ≤ heap.size)
       → IsConsistent c p (set heaps i changed) buddies lists now (remaining - 1)
-  consistent-held m place places heap changed i some here at more = record {
-    books = booked-held p heaps t remaining is.books offers now h span m heap changed i some here at more;
+  consistent-held m place places heap changed i some here at more fits = record {
+    books = booked-held p heaps t remaining is.books offers now h span m heap changed i some here at more fits;
     shared = buddies_beside c p t now buddies span.object beside is.shared (no_object t m.free).0 (own_object now found).0;
     listed = lists_beside c p t now lists span.object beside is.listed (no_object t m.free).1 (own_object now found).1;
   }
@@ -135,7 +136,7 @@ module _ (c : Config) (p : Properties) (heaps : List Heap) (buddies : List Buddy
           ∙ ap (λ b. cond b (Some h) (finite.get t.held span.object)) (name_test span.object span.object ∙ eq-true span.object span.object refl)
 
   pub consistent-gone : HoldsFewer p heaps t remaining is.books offers now h span → now.places ≡ finite.remove t.places span
-      → (heap changed : Heap) (i : ℕ) → i ≡ heap_at p h.memory_type → heap ≡ get_or heaps i heap → changed.used ≡ heap.used - h.counted
+      → (heap changed : Heap) (i : ℕ) → i ≡ heap_at p h.memory_type → heap ≡ get_or heaps i heap → changed ≡ record heap { used = heap.used - h.counted }
       → IsConsistent c p (set heaps i changed) buddies lists now (remaining + 1)
   consistent-gone l places heap changed i here at less = record {
     books = booked-gone p heaps t remaining is.books offers now h span l heap changed i here at less;

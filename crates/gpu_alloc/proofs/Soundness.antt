@@ -1,5 +1,5 @@
 -- What the allocator's fields keep, as its state tells it.
-use Rattle.std.proofs.Common.{◌≡◌, ◌≢◌, ◌⊎◌, inl, inr, ℕ, zero, suc, ◌+◌, ◌<◌, ◌≤◌, true, false, List, [], ◌∷◌, length, Option, Some, None, IfSome, slice_get, refl, sym, ◌∙◌, ap, subst, arith}
+use Rattle.std.proofs.Common.{◌≡◌, ◌≢◌, ◌⊎◌, inl, inr, ℕ, zero, suc, ◌+◌, ◌<◌, ◌≤◌, true, false, List, [], ◌∷◌, length, get_or, Option, Some, None, IfSome, slice_get, refl, sym, ◌∙◌, ap, subst, arith}
 use Rattle.std.proofs.lemmas.Bool.{cases_eq, cases_lt, cases_Bool}
 use Rattle.std.proofs.lemmas.Nat.{pow_pos}
 use Rattle.std.specs.FinMap as map
@@ -11,7 +11,7 @@ use Rattle.gpu_alloc_base.specs.FreeSpace.{IsIn, IsMultipleOf}
 use Rattle.gpu_alloc.specs.Atoms.{KeepsAtoms, IsNextListChunk}
 use Rattle.gpu_alloc.specs.FreeListSharing.{IsListChunk, latest_number, next_list_chunk}
 use Rattle.gpu_alloc.specs.FirstTypes.{first_types, first_type_state}
-use Rattle.gpu_alloc.specs.Inside.{state_in, properties_in, types_in, span_of_leaf, leaf_at, span_of_slot, slot_at, IsLiveIn, IsChunkOf, IsNumberedChunk, IsKnown, IsBuddyOf, IsListOf, IsConsistent}
+use Rattle.gpu_alloc.specs.Inside.{state_in, properties_in, types_in, span_of_leaf, leaf_at, span_of_slot, slot_at, IsLiveIn, IsChunkOf, IsNumberedChunk, IsKnown, IsBuddyOf, IsListOf, IsConsistent, offer_of}
 use Rattle.gpu_alloc.specs.Sound.{IsSound, LiesIn, is_list_chunk}
 use Rattle.gpu_alloc.specs.Spans.{Place, Table}
 use Rattle.gpu_alloc_block.specs.State.{HeldObject, Span, State, TypeState, AreApart, is_shared}
@@ -20,6 +20,7 @@ use Rattle.gpu_alloc_base.specs.declared.config.Config.{Config}
 use Rattle.gpu_alloc_base.specs.declared.heap.Heap.{Heap}
 use Rattle.gpu_alloc.specs.declared.limits.Limits.{Limits}
 use Rattle.gpu_alloc.proofs.Consistency.{chunk_kinds}
+use Rattle.gpu_alloc.proofs.HeapLists.{heap_is}
 use Rattle.std.proofs.lemmas.List.{length-map}
 use Rattle.gpu_alloc.proofs.FreeLists.States.{list_latest_at, list_next_at, types_within}
 use Rattle.gpu_alloc.proofs.Atoms.{atom_power}
@@ -194,11 +195,16 @@ module _ {c : Config} {p : Properties} {t : Table} {buddies : List Buddy} {lists
 
 -- The whole state.
 
--- a listing that stands at a place
-there_is : (lists : List Listing) (i : ℕ) → i < length lists → (l : Listing) × (slice_get lists i ≡ Some l)
+-- what stands at a place
+there_is : {X : Type 0} (xs : List X) (i : ℕ) → i < length xs → (x : X) × (slice_get xs i ≡ Some x)
 there_is [] i inside = absurd (omega (arith, inside))
-there_is (l ∷ lists) zero inside = (l, refl)
-there_is (l ∷ lists) (suc i) inside = there_is lists i (omega (arith, inside))
+there_is (x ∷ xs) zero inside = (x, refl)
+there_is (x ∷ xs) (suc i) inside = there_is xs i (omega (arith, inside))
+
+read_is : {X : Type 0} (xs : List X) (i : ℕ) (x : X) → slice_get xs i ≡ Some x → x ≡ get_or xs i x
+read_is [] i x is = absurd (cc)
+read_is (y ∷ xs) zero x is = sym (Some-inj is)
+read_is (y ∷ xs) (suc i) x is = read_is xs i x is
 
 module _ {A : Type 0} (l : Limits A) (heaps : List Heap) (buddies : List Buddy) (lists : List Listing) (t : Table) (remaining : ℕ)
     (is : IsConsistent l.config (properties_in l heaps) heaps buddies lists t remaining) (index number : ℕ) where
@@ -287,6 +293,11 @@ sound_is l heaps buddies lists t remaining is = record {
   used = λ object. each_used is object (map.get t.held object) refl;
   numbers = λ index number a b. one_object l heaps buddies lists t remaining is index number a b;
   numbered = λ index number object. within l heaps buddies lists t remaining is index number object;
+  within = λ heap inside.
+      let there : heap < length heaps = omega (arith, inside, length-map heaps offer_of) in
+      let own = there_is heaps heap there in
+      let of = heap_is l heaps buddies lists t remaining is.books.ledgers heap own.0 there (read_is heaps heap own.0 own.1) in
+      omega (arith, of.asked, of.size);
 }
 
 pub atoms_kept : {A : Type 0} (l : Limits A) (heaps : List Heap) (buddies : List Buddy) (lists : List Listing) (t : Table) (remaining : ℕ) → IsConsistent l.config (properties_in l heaps) heaps buddies lists t remaining

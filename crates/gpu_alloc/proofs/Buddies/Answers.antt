@@ -36,6 +36,7 @@ use Rattle.gpu_alloc_base.proofs.ToldTwice.{asks_is}
 use Rattle.gpu_alloc.proofs.HandedOn.{Given}
 use Rattle.gpu_alloc_types.specs.Flags.{has_bit}
 use Rattle.gpu_alloc.proofs.NewObjects.{counted_new}
+use Rattle.gpu_alloc.proofs.HeapLists.{type_heap_is}
 use Rattle.gpu_alloc.proofs.Buddies.Serving.{Serves, front_is, told_with}
 use Rattle.gpu_alloc.proofs.Buddies.Grants.{serves, buddy_of, consistent_with_leaf, state_with_leaf, consistent_with_chunk, state_with_chunk, asked_size}
 
@@ -107,12 +108,12 @@ module _ {A : Type 0} {l : Limits A} {heaps : List Heap} {buddies : List Buddy} 
         })
 
     -- in a new chunk
-    in_new_chunk : BeginsChunk b size leaf → finite.get t.held leaf.object ≡ None → 0 < remaining
+    in_new_chunk : BeginsChunk b size leaf → finite.get t.held leaf.object ≡ None → 0 < remaining → heap.used + chunk_size b size ≤ heap.size
         → after ≡ account (with_leaf (with_chunk b leaf (chunk_size b size)) leaf) (record heap { used = heap.used + chunk_size b size }) (remaining - 1)
         → HasOneMore (IsNew b.memory_type (sees_chunks b)) (finite.get after.allocator.chunks leaf.chunk) leaf.object old new
         → GivesInNewObject (buddy_candidate before size index) es block (with_span (with_buddy_chunk before index leaf.object (buddy_question before index size).size) (span_of_leaf leaf))
         → IsServed after
-    in_new_chunk begins free some after_is one_more gives =
+    in_new_chunk begins free some within after_is one_more gives =
         let for_type = serving.of.for_type in
         let n = chunk_size b size in
         let chunk : Chunk = record { object = leaf.object; size = n } in
@@ -125,12 +126,12 @@ module _ {A : Type 0} {l : Limits A} {heaps : List Heap} {buddies : List Buddy} 
         let power = sound.space.powers leaf.chunk chunk chunk_now in
         let small : n < 2 ^ 64 = omega (arith, power.1.1, pow-le power.0 63 power.1.0) in
         let changed : Heap = record heap { used = heap.used + n } in
-        let state = state_with_chunk l heaps buddies lists t remaining index b given.is given.known given.at i heap given.here given.at_heap leaf n now changed begins.free_key free some small sound_now held_now more refl in
+        let state = state_with_chunk l heaps buddies lists t remaining index b given.is given.known given.at i heap given.here given.at_heap leaf n now changed begins.free_key free some small sound_now held_now more refl within in
         let asked = asked_size l heaps buddies lists t remaining index b given.is given.known given.at i heap given.here given.at_heap size in
         let state_asked = state ∙ ap (λ m. with_span (with_buddy_chunk before index leaf.object m) (span_of_leaf leaf)) asked in
         let found_now = ap (λ (x : Held). finite.get x leaf.object) held_now ∙ own_inserted t.held leaf.object (record { memory_type = index; counted = n; kind = BuddyChunk }) in
         subst IsServed (sym after_is) (record {
-          consistent = consistent_with_chunk l heaps buddies lists t remaining index b given.is given.known given.at i heap given.here given.at_heap leaf n now changed begins.free_key free some small sound_now held_now more refl;
+          consistent = consistent_with_chunk l heaps buddies lists t remaining index b given.is given.known given.at i heap given.here given.at_heap leaf n now changed begins.free_key free some small sound_now held_now more refl within;
           gives = inr (subst (GivesInNewObject (buddy_candidate before size index) es block) (sym state_asked) gives);
           objects_are = rw free (counted_new before.properties b.memory_type (sees_chunks b) chunk (record { memory_type = index; counted = n; kind = BuddyChunk }) leaf.object _ _ old new chunk_now found_now for_type.memory_type refl (ap (λ bits. has_bit bits 2) for_type.props) one_more);
         })
@@ -144,10 +145,10 @@ module _ {A : Type 0} {l : Limits A} {heaps : List Heap} {buddies : List Buddy} 
       | inr gives ↦
           let begins = gives.place in
           let more = more_in begins.free_key in
-          let told = told_with before t.places t.room index b serving heap size flags given.flags_are in
+          let told = told_with before t.places t.room index b serving heap size flags (type_heap_is l heaps buddies lists t remaining given.is.books index i heap given.known given.here given.at_heap) given.flags_are in
           let asked : question b size flags ≡ buddy_question before index size = told.question in
           let free = not_held_yet more.was_free in
-          in_new_chunk begins free gives.asks.remains.objects gives.state more (record {
+          in_new_chunk begins free gives.asks.has.remains.objects gives.asks.within gives.state more (record {
             asks = asks_is told gives.asks;
             place = record { is = λ k. buddy_block before index (record { object = leaf.object; offset = begins.start k; size = begins.of_size k }); was_free = free };
             asked = gives.asked ∙ ap (λ x. made x leaf.object) asked;

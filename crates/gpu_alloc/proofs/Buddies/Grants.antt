@@ -133,7 +133,7 @@ module _ {A : Type 0} (l : Limits A) (heaps : List Heap) (buddies : List Buddy) 
 
     module _ (leaf : Leaf) (size : ℕ) (now : Table) (changed : Heap) (none : finite.get b.chunks leaf.chunk ≡ None) (free : finite.get t.held leaf.object ≡ None) (some : 0 < remaining) (small : size < 2 ^ 64)
         (sound : IsSound (with_leaf (with_chunk b leaf size) leaf)) (held : now.held ≡ finite.insert t.held leaf.object (record { memory_type = index; counted = size; kind = BuddyChunk })) (more : HasLeafMore t now leaf)
-        (counts : changed ≡ record heap { used = heap.used + size }) where
+        (counts : changed ≡ record heap { used = heap.used + size }) (within : heap.used + size ≤ heap.size) where
       abbrev object_of : HeldObject
       object_of = record { memory_type = index; counted = size; kind = BuddyChunk }
 
@@ -161,7 +161,7 @@ module _ {A : Type 0} (l : Limits A) (heaps : List Heap) (buddies : List Buddy) 
           (sym (properties_kept l heaps i changed heap at_heap (ap (λ (h : Heap). h.size) counts))) (record {
             books = booked-held p heaps t remaining is.books refl now object_of (span_of_leaf leaf)
                 (record { with = record { nonempty = some_bytes (with_leaf (with_chunk b leaf size) leaf) leaf sound (now_live b.live leaf); small = small; known = known; lies = λ own. absurd (cc) }; free = free; held = held; live = more.live })
-                heap changed i some here at_heap (ap (λ (h : Heap). h.used) counts);
+                heap changed i some here at_heap counts (λ asked. within);
             shared = buddies_set l.config p t now buddies leaf.object chunk_beside is.shared index (with_leaf (with_chunk b leaf size) leaf)
                 (subst (λ (o : Option HeldObject). IfSome o (λ h. h.memory_type ≡ index)) (sym free) tt)
                 (subst (λ (o : Option HeldObject). IfSome o (λ h. h.memory_type ≡ index)) (sym found_now) refl)

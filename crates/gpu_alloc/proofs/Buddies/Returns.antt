@@ -216,7 +216,7 @@ module _ {A : Type 0} {l : Limits A} {heaps : List Heap} {buddies : List Buddy} 
           subst (λ (q : Properties). IsConsistent l.config q (set heaps i changed) (set buddies index buddy_after) lists now (remaining + 1))
           (sym (properties_kept l heaps i changed heap given.at_heap (ap (λ (h : Heap). h.size) counts))) (record {
             books = booked-gone p heaps t remaining given.is.books refl now chunk_row (span_of_leaf leaf) fewer
-                heap changed i (given.here ∙ ap (heap_at p) (sym own.for_type.memory_type)) given.at_heap (ap (λ (h : Heap). h.used) counts);
+                heap changed i (given.here ∙ ap (heap_at p) (sym own.for_type.memory_type)) given.at_heap counts;
             shared = buddies_set l.config p t now buddies leaf.object goes_beside given.is.shared index buddy_after
                 of_type (subst (λ (o : Option HeldObject). IfSome o (λ h. h.memory_type ≡ index)) (sym none_left) tt) buddy_goes;
             listed = lists_beside l.config p t now lists leaf.object goes_beside given.is.listed

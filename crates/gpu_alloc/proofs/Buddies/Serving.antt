@@ -4,7 +4,7 @@ use Rattle.std.proofs.lemmas.Nat.{pow_pos}
 use Rattle.std.specs.Prelude.{max}
 use Rattle.std.specs.FinMap as map
 use Rattle.gpu_alloc_types.specs.Flags.{has_bit}
-use Rattle.gpu_alloc_types.specs.Properties.{props_at}
+use Rattle.gpu_alloc_types.specs.Properties.{heap_at, props_at}
 use Rattle.gpu_alloc_base.specs.Accounts.{account}
 use Rattle.gpu_alloc_buddy.specs.Buddy.{rounded, question, HasPlace, IsFront, buddy_case, case_of}
 use Rattle.gpu_alloc_base.specs.Wanted.{wanted}
@@ -18,6 +18,7 @@ use Rattle.gpu_alloc.specs.BuddySharing.{buddy_size, buddy_question, next_chunk_
 use Rattle.gpu_alloc.specs.Candidates.{buddy_candidate, candidate}
 use Rattle.gpu_alloc.specs.declared.allocator.Strategy.TheVariants.{InBuddyChunk}
 use Rattle.gpu_alloc_base.proofs.ToldTwice.{IsToldAs}
+use Rattle.gpu_alloc.proofs.HeapLists.{IsHeap}
 use Rattle.gpu_alloc.specs.Spans.{Place, Table}
 use Rattle.gpu_alloc_block.specs.State.{HeldObject, span_cmp, State}
 use Rattle.gpu_alloc_block.specs.declared.block.Kind.TheVariants.{BuddyChunk}
@@ -151,8 +152,8 @@ module _ (s : State) (places : map.FinMap span_cmp Place) (room index : ℕ) (b 
 
   -- A request, which both tell.
 
-  told_as : (heap : Heap) (size : ℕ) → IsToldAs (buddy_case (account b heap s.remaining) size (flags_of s.properties)) (buddy_candidate s size index)
-  told_as heap size = record {
+  told_as : (heap : Heap) (size : ℕ) → IsHeap s (heap_at s.properties index) heap → IsToldAs (buddy_case (account b heap s.remaining) size (flags_of s.properties)) (buddy_candidate s size index)
+  told_as heap size of = record {
     fits = λ fits. fits;
     fitted = λ fits. fits;
     place = place_is size;
@@ -161,14 +162,16 @@ module _ (s : State) (places : map.FinMap span_cmp Place) (room index : ℕ) (b 
     numbered = λ has. has;
     remaining = refl;
     question = question_is size;
+    ledger = of.used;
+    heap_size = of.size;
     handles = refl;
   }
 
   -- of this size, with these flags
-  pub told_with : (heap : Heap) (size flags : ℕ) → flags ≡ flags_of s.properties → IsToldAs (buddy_case (account b heap s.remaining) size flags) (buddy_candidate s size index)
-  told_with heap size flags is = subst (λ f. IsToldAs (buddy_case (account b heap s.remaining) size f) (buddy_candidate s size index)) (sym is) (told_as heap size)
+  pub told_with : (heap : Heap) (size flags : ℕ) → IsHeap s (heap_at s.properties index) heap → flags ≡ flags_of s.properties → IsToldAs (buddy_case (account b heap s.remaining) size flags) (buddy_candidate s size index)
+  told_with heap size flags of is = subst (λ f. IsToldAs (buddy_case (account b heap s.remaining) size f) (buddy_candidate s size index)) (sym is) (told_as heap size of)
 
   -- of what is wanted
-  pub told_of : (heap : Heap) (r : Request) (flags : ℕ) → flags ≡ flags_of s.properties → IsToldAs (case_of (account b heap s.remaining) (wanted r.size r.align_mask flags)) (candidate InBuddyChunk s r index)
-  told_of heap r flags is =
-      subst (λ n. IsToldAs (buddy_case (account b heap s.remaining) n flags) (candidate InBuddyChunk s r index)) (sym (rounded_is r flags)) (told_with heap (buddy_size s r index) flags is)
+  pub told_of : (heap : Heap) (r : Request) (flags : ℕ) → IsHeap s (heap_at s.properties index) heap → flags ≡ flags_of s.properties → IsToldAs (case_of (account b heap s.remaining) (wanted r.size r.align_mask flags)) (candidate InBuddyChunk s r index)
+  told_of heap r flags of is =
+      subst (λ n. IsToldAs (buddy_case (account b heap s.remaining) n flags) (candidate InBuddyChunk s r index)) (sym (rounded_is r flags)) (told_with heap (buddy_size s r index) flags of is)

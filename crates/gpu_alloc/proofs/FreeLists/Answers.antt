@@ -39,6 +39,7 @@ use Rattle.gpu_alloc.proofs.Ledgers.{Held}
 use Rattle.gpu_alloc.proofs.FreeLists.Grants.{consistent_with_slot, state_with_slot, consistent_with_list_chunk, state_with_list_chunk, asked_size}
 use Rattle.gpu_alloc.proofs.FreeLists.Links.{HasSlotMore}
 use Rattle.gpu_alloc.proofs.FreeLists.Served.{span_is_slot}
+use Rattle.gpu_alloc.proofs.HeapLists.{type_heap_is}
 use Rattle.gpu_alloc.proofs.FreeLists.Serving.{ServesList, tail_is, question_is, told_with}
 use Rattle.gpu_alloc_base.proofs.Maps.{own_inserted}
 use Rattle.gpu_alloc.proofs.FreeLists.Types.{own_listing, serves_own}
@@ -118,12 +119,12 @@ module _ {A : Type 0} {limits : Limits A} {heaps : List Heap} {buddies : List Bu
         })
 
     -- in a new chunk
-    in_new_run : slot.chunk ≡ l.space.latest + 1 → finite.get t.held slot.object ≡ None → 0 < remaining
+    in_new_run : slot.chunk ≡ l.space.latest + 1 → finite.get t.held slot.object ≡ None → 0 < remaining → heap.used + chunk_size l size ≤ heap.size
         → after ≡ account (record l { space = with_slot (with_chunk l.space slot.object (chunk_size l size)) slot; next_chunk = next_size l (chunk_size l size) }) (record heap { used = heap.used + chunk_size l size }) (remaining - 1)
         → HasOneMore (IsNew l.memory_type (sees_chunks l)) (finite.get after.allocator.space.chunks slot.chunk) slot.object old new
         → GivesInNewObject (list_candidate before size alignment index) es block (with_span (with_list_chunk before index slot.object (list_question before index size).size) (span_of_slot slot))
         → IsServed after
-    in_new_run number free some after_is one_more gives =
+    in_new_run number free some within after_is one_more gives =
         let for_type = serving.of.for_type in
         let n : ℕ = chunk_size l size in
         let chunk : Chunk = record { object = slot.object; size = n } in
@@ -139,12 +140,12 @@ module _ {A : Type 0} {limits : Limits A} {heaps : List Heap} {buddies : List Bu
         let held_now = held ∙ ap (λ (o : Option HeldObject). cond (is_some o) t.held (finite.insert t.held slot.object chunk_row)) free ∙ ap (finite.insert t.held slot.object) row_is in
         let small : n < 2 ^ 64 = (sound.space.sizes slot.chunk chunk chunk_now).1 in
         let sound_now = subst IsSound after_list sound in
-        let state = state_with_list_chunk limits heaps buddies lists t remaining index l given.is given.known given.at i heap given.here given.at_heap slot n now changed number free some small sound_now held_now more refl in
+        let state = state_with_list_chunk limits heaps buddies lists t remaining index l given.is given.known given.at i heap given.here given.at_heap slot n now changed number free some small sound_now held_now more refl within in
         let asked = asked_size limits heaps buddies lists t remaining index l given.is given.known given.at size in
         let state_asked = state ∙ ap (λ m. with_span (with_list_chunk before index slot.object m) (span_of_slot slot)) asked in
         let found_now = ap (λ (x : Held). finite.get x slot.object) held_now ∙ own_inserted t.held slot.object row in
         subst IsServed (sym after_is) (record {
-          consistent = consistent_with_list_chunk limits heaps buddies lists t remaining index l given.is given.known given.at i heap given.here given.at_heap slot n now changed number free some small sound_now held_now more refl;
+          consistent = consistent_with_list_chunk limits heaps buddies lists t remaining index l given.is given.known given.at i heap given.here given.at_heap slot n now changed number free some small sound_now held_now more refl within;
           gives = inr (subst (GivesInNewObject (list_candidate before size alignment index) es block) (sym state_asked) gives);
           objects_are = rw free (counted_new before.properties l.memory_type (sees_chunks l) chunk row slot.object _ _ old new chunk_now found_now for_type.memory_type refl (ap (λ bits. has_bit bits 2) for_type.props) one_more);
         })
@@ -181,8 +182,8 @@ module _ {A : Type 0} {limits : Limits A} {heaps : List Heap} {buddies : List Bu
           let more = more_in first in
           let free = not_held_yet more.was_free in
           let after_is = gives.state ∙ account_is first in
-          in_new_run chunk_number free gives.asks.remains.objects after_is more (record {
-            asks = asks_is (told_with before t.places t.room index l serving heap size alignment flags given.flags_are) gives.asks;
+          in_new_run chunk_number free gives.asks.has.remains.objects gives.asks.within after_is more (record {
+            asks = asks_is (told_with before t.places t.room index l serving heap size alignment flags (type_heap_is limits heaps buddies lists t remaining given.is.books index i heap given.known given.here given.at_heap) given.flags_are) gives.asks;
             place = record { is = (λ k. list_block before index (number k) (span_is k)); was_free = free };
             asked = gives.asked ∙ ap (λ x. made x slot.object) asked_is;
             state = refl;

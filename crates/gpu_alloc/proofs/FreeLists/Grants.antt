@@ -136,7 +136,7 @@ module _ {A : Type 0} (limits : Limits A) (heaps : List Heap) (buddies : List Bu
     module _ (slot : Slot) (size : ℕ) (now : Table) (changed : Heap) (number : slot.chunk ≡ l.space.latest + 1) (free : finite.get t.held slot.object ≡ None) (some : 0 < remaining) (small : size < 2 ^ 64)
         (sound : IsSound (record l { space = with_slot (with_chunk l.space slot.object size) slot; next_chunk = next_size l size }))
         (held : now.held ≡ finite.insert t.held slot.object (record { memory_type = index; counted = size; kind = FreeListChunk slot.chunk })) (more : HasSlotMore t now slot)
-        (counts : changed ≡ record heap { used = heap.used + size }) where
+        (counts : changed ≡ record heap { used = heap.used + size }) (within : heap.used + size ≤ heap.size) where
       abbrev object_of : HeldObject
       object_of = record { memory_type = index; counted = size; kind = FreeListChunk slot.chunk }
 
@@ -165,7 +165,7 @@ module _ {A : Type 0} (limits : Limits A) (heaps : List Heap) (buddies : List Bu
           (sym (properties_kept limits heaps i changed heap at_heap (ap (λ (h : Heap). h.size) counts))) (record {
             books = booked-held p heaps t remaining is.books refl now object_of (span_of_slot slot)
                 (record { with = record { nonempty = (sound.space.inside slot ((slot_inserted l.space.live slot slot).1 (inl refl))).nonempty; small = small; known = known; lies = λ own. absurd (cc) }; free = free; held = held; live = more.live })
-                heap changed i some here at_heap (ap (λ (h : Heap). h.used) counts);
+                heap changed i some here at_heap counts (λ asked. within);
             shared = buddies_beside limits.config p t now buddies slot.object chunk_beside is.shared
                 (none_at t slot.object (λ h. h.kind ≢ BuddyChunk) free)
                 (no_buddy_at now slot.chunk slot.object object_of found_now refl);

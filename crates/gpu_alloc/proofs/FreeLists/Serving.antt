@@ -3,7 +3,7 @@ use Rattle.std.proofs.Common.{◌≡◌, ℕ, ◌+◌, Some, refl, sym, ◌∙�
 use Rattle.std.specs.Prelude.{max}
 use Rattle.std.specs.FinMap as map
 use Rattle.gpu_alloc_types.specs.Flags.{has_bit}
-use Rattle.gpu_alloc_types.specs.Properties.{props_at}
+use Rattle.gpu_alloc_types.specs.Properties.{heap_at, props_at}
 use Rattle.gpu_alloc_base.specs.Wanted.{wanted}
 use Rattle.gpu_alloc_base.specs.Chunks.{Chunk}
 use Rattle.gpu_alloc_freelist.specs.FreeList.{HasPlace, HasNumber, IsTail}
@@ -15,6 +15,7 @@ use Rattle.gpu_alloc.specs.FreeListSharing.{list_size, list_alignment, list_ques
 use Rattle.gpu_alloc.specs.Candidates.{list_candidate, candidate}
 use Rattle.gpu_alloc.specs.declared.allocator.Strategy.TheVariants.{InFreeList}
 use Rattle.gpu_alloc_base.proofs.ToldTwice.{IsToldAs}
+use Rattle.gpu_alloc.proofs.HeapLists.{IsHeap}
 use Rattle.gpu_alloc_base.specs.NewChunk.{flags_of}
 use Rattle.gpu_alloc_base.specs.Sizes.{up, grown_chunk}
 use Rattle.gpu_alloc.specs.Spans.{Place}
@@ -128,8 +129,8 @@ module _ (s : State) (places : map.FinMap span_cmp Place) (room index : ℕ) (l 
 
   -- A request, which both tell.
 
-  told_as : (heap : Heap) (size alignment : ℕ) → IsToldAs (list_case (account l heap s.remaining) size alignment (flags_of s.properties)) (list_candidate s size alignment index)
-  told_as heap size alignment = record {
+  told_as : (heap : Heap) (size alignment : ℕ) → IsHeap s (heap_at s.properties index) heap → IsToldAs (list_case (account l heap s.remaining) size alignment (flags_of s.properties)) (list_candidate s size alignment index)
+  told_as heap size alignment of = record {
     fits = λ fits. fits;
     fitted = λ fits. fits;
     place = place_is size alignment;
@@ -138,17 +139,19 @@ module _ (s : State) (places : map.FinMap span_cmp Place) (room index : ℕ) (l 
     numbered = number_was;
     remaining = refl;
     question = question_is size;
+    ledger = of.used;
+    heap_size = of.size;
     handles = refl;
   }
 
   -- of this size and alignment, with these flags
-  pub told_with : (heap : Heap) (size alignment flags : ℕ) → flags ≡ flags_of s.properties → IsToldAs (list_case (account l heap s.remaining) size alignment flags) (list_candidate s size alignment index)
-  told_with heap size alignment flags is = subst (λ f. IsToldAs (list_case (account l heap s.remaining) size alignment f) (list_candidate s size alignment index)) (sym is) (told_as heap size alignment)
+  pub told_with : (heap : Heap) (size alignment flags : ℕ) → IsHeap s (heap_at s.properties index) heap → flags ≡ flags_of s.properties → IsToldAs (list_case (account l heap s.remaining) size alignment flags) (list_candidate s size alignment index)
+  told_with heap size alignment flags of is = subst (λ f. IsToldAs (list_case (account l heap s.remaining) size alignment f) (list_candidate s size alignment index)) (sym is) (told_as heap size alignment of)
 
   -- of what is wanted
-  pub told_of : (heap : Heap) (r : Request) (flags : ℕ) → flags ≡ flags_of s.properties → IsToldAs (case_of (account l heap s.remaining) (wanted r.size r.align_mask flags)) (candidate InFreeList s r index)
-  told_of heap r flags is =
+  pub told_of : (heap : Heap) (r : Request) (flags : ℕ) → IsHeap s (heap_at s.properties index) heap → flags ≡ flags_of s.properties → IsToldAs (case_of (account l heap s.remaining) (wanted r.size r.align_mask flags)) (candidate InFreeList s r index)
+  told_of heap r flags of is =
       let a = account l heap s.remaining in
       let d = candidate InFreeList s r index in
       subst (λ n. IsToldAs (list_case a n (alignment l (wanted r.size r.align_mask flags)) flags) d) (sym (rounded_is r flags))
-      (subst (λ n. IsToldAs (list_case a (list_size s r index) n flags) d) (sym (alignment_is r flags)) (told_with heap (list_size s r index) (list_alignment s r index) flags is))
+      (subst (λ n. IsToldAs (list_case a (list_size s r index) n flags) d) (sym (alignment_is r flags)) (told_with heap (list_size s r index) (list_alignment s r index) flags of is))

@@ -39,7 +39,7 @@ invariant_of-self g c =
     c.offset-offset.ensures c.size-size.ensures found c.remove-removed.ensures.held c.remove-removed.ensures.live in
     rw (properties_kept c.self.inside.limits c.self.inside.heaps.items c.heap_index-heap.result c.dealloc.new.self c.index_mut.result.now at (ap (λ (h : Heap). h.size) c.dealloc.ensures))
     (consistent-gone _ _ _ _ _ c.self.inside.spans _ c.self.invariant refl c.remove-removed.new.self (held_of c.unwrap-object.result) (span_of c.args.block) fewer.0 fewer.1
-    (c.remove-removed.ensures.places ∙ ap (finite.remove c.self.inside.spans.places) span) c.index_mut.result.now _ _ c.heap_index-heap.ensures at (ap (λ (h : Heap). h.used) c.dealloc.ensures))
+    (c.remove-removed.ensures.places ∙ ap (finite.remove c.self.inside.spans.places) span) c.index_mut.result.now _ _ c.heap_index-heap.ensures at c.dealloc.ensures)
 
 -- What is known at the end: the state before, and the state that is left.
 

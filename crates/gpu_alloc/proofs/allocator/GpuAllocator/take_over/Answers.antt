@@ -81,7 +81,7 @@ invariant_of-self-2 g c =
     rw (properties_kept c.self.inside.limits c.self.inside.heaps.items c.heap_index-heap.result c.alloc.new.self c.index_mut.result.now c.index_mut.ensures.value (ap (λ (h : Heap). h.size) c.alloc.ensures))
     (consistent-held _ _ _ _ _ c.self.inside.spans _ c.self.invariant refl c.insert-key.new.self (object g c) (span_of (block g c)) refl (more g c) _
     (c.insert-key.ensures.places ∙ (λ k. finite.insert (c.reserve.ensures.kept k).places (record (span_of (block g c)) { object = name g c k }) (record { chunk = 0; index = 0 }))) c.index_mut.result.now _ _ (some g c)
-    c.heap_index-heap.ensures c.index_mut.ensures.value (ap (λ (h : Heap). h.used) c.alloc.ensures))
+    c.heap_index-heap.ensures c.index_mut.ensures.value c.alloc.ensures (λ asked. absurd (cc)))
 
 pub returns-clause-imported : goal.returns-clause-imported
 returns-clause-imported g c = rw (← c.self.view_is) (imports (before g c) _ _ _ _ _ c.new.result (block_is g c) (state_is g c))

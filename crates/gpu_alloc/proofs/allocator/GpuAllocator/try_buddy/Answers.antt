@@ -19,6 +19,7 @@ use Rattle.gpu_alloc_block.specs.State.{State, HeldObject, Block}
 use Rattle.gpu_alloc_block.specs.declared.block.Kind.TheVariants.{BuddyChunk}
 use Rattle.gpu_alloc_base.proofs.Outcomes.{when_ok}
 use Rattle.gpu_alloc.proofs.Consistency.{heap_there}
+use Rattle.gpu_alloc.proofs.HeapLists.{type_heap_is}
 use Rattle.gpu_alloc.proofs.OwnObjects.{consistent-room}
 use Rattle.gpu_alloc.proofs.Buddies.Served.{buddy_agrees}
 use Rattle.gpu_alloc.proofs.Buddies.Serving.{Serves, told_of, rounded_is}
@@ -42,7 +43,7 @@ returns-in-Some g c =
     let serving = serves c.self.inside.limits _ _ _ _ _ c.args.memory_type c.index.result.now c.self.invariant known c.index.ensures in
     let flags = flags_of (properties_in c.self.inside.limits c.self.inside.heaps.items) in
     let first = rw c.in-Some.is at (c.refuses-first.ensures flags) in
-    let told = told_of _ _ _ c.args.memory_type _ serving c.index-2.result.now c.args.request flags refl in
+    let told = told_of _ _ _ c.args.memory_type _ serving c.index-2.result.now c.args.request flags (type_heap_is c.self.inside.limits _ _ _ _ _ c.self.invariant.books c.args.memory_type _ c.index-2.result.now known c.heap_index-heap.ensures c.index-2.ensures) refl in
     let s : State = state_in c.self.inside.limits c.self.inside.heaps.items c.self.inside.buddies.items c.self.inside.free_lists.items c.self.inside.spans c.self.inside.allocations_remains in
     rw (c.passing.ensures, ← c.self.view_is) (record {
       tries = ([], refl, refused_tries _ [] c.in-Some.refusal _ (first_is told c.in-Some.refusal first));
@@ -57,7 +58,7 @@ returns-then-is_err-clause-tries g c =
     let known = rw (← c.self.view_is) at c.requires.known in
     let serving = serves c.self.inside.limits _ _ _ _ _ c.args.memory_type c.index.result.now c.self.invariant known c.index.ensures in
     let flags = flags_of (properties_in c.self.inside.limits c.self.inside.heaps.items) in
-    let refused = wants_is (told_of _ _ _ c.args.memory_type _ serving c.index-2.result.now c.args.request flags refl) (c.in_default.ensures flags) in
+    let refused = wants_is (told_of _ _ _ c.args.memory_type _ serving c.index-2.result.now c.args.request flags (type_heap_is c.self.inside.limits _ _ _ _ _ c.self.invariant.books c.args.memory_type _ c.index-2.result.now known c.heap_index-heap.ensures c.index-2.ensures) refl) (c.in_default.ensures flags) in
     let same = ap (λ t. state_in c.self.inside.limits c.self.inside.heaps.items c.self.inside.buddies.items c.self.inside.free_lists.items t c.self.inside.allocations_remains) c.reserve.ensures.kept in
     rw (← c.self.view_is) ([], refl, (same, refused.1))
 
@@ -193,7 +194,7 @@ returns-in-Err g c =
       tries = (
         told.0,
         told.1,
-        refused_tries _ told.0 c.in-Err.refusal _ (refused_is (told_of _ _ _ c.args.memory_type _ serving c.index_mut-2.result.now c.args.request _ c.flags-flags.ensures) told.0 c.in-Err.refusal _ told.2),
+        refused_tries _ told.0 c.in-Err.refusal _ (refused_is (told_of _ _ _ c.args.memory_type _ serving c.index_mut-2.result.now c.args.request _ (type_heap_is c.self.inside.limits _ _ _ _ _ c.self.invariant.books c.args.memory_type _ c.index_mut-2.result.now known c.heap_index-heap.ensures c.index_mut-2.ensures.value) c.flags-flags.ensures) told.0 c.in-Err.refusal _ told.2),
       );
       objects = nothing_made s c.in-Err.refusal s _ _ c.in-Err.ensures.objects;
     })

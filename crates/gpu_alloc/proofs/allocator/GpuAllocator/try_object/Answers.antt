@@ -34,8 +34,8 @@ positive : (n : ℕ) → n ≢ 0 → 0 < n
 positive n not_zero = omega arith
 
 -- an object of its own is asked for where one more may be held
-asks_own : {s : State} {size memory_type : ℕ} → 0 < s.remaining → Asks (own_candidate s size memory_type)
-asks_own some = record { fits = tt; no_place = λ never. never; remains = record { objects = some; number = tt } }
+has_own : {s : State} {size memory_type : ℕ} → 0 < s.remaining → HasQuestion (own_candidate s size memory_type)
+has_own some = record { fits = tt; no_place = λ never. never; remains = record { objects = some; number = tt } }
 
 -- Room is made, and nothing else changes.
 
