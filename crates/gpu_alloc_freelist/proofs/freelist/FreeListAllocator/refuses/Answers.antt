@@ -7,7 +7,6 @@ use Rattle.gpu_alloc_freelist.specs.FreeListInside.{listing_in}
 use Rattle.gpu_alloc_freelist.specs.FreeListState.{Listing}
 use Rattle.gpu_alloc_freelist.proofs.FreeListAnswers.{refuses_nothing, refuses_count}
 use Rattle.gpu_alloc_base.proofs.ChunkSizes.{greater_mask}
-use Rattle.gpu_alloc_freelist.proofs.freelist.FreeListAllocator.refuses.Goals.{else-allocations_remains-gt0-via-then-allocations_remains-gt0+else-has_number, else-allocations_remains-gt0-via-else-allocations_remains-gt0}
 use Rattle.gpu_alloc_freelist.proofs.freelist.FreeListAllocator.refuses.Goals as goal
 
 pub has_place-requires-clause-alignment : goal.has_place-requires-clause-alignment
@@ -21,14 +20,3 @@ returns-then-has_place g c =
     refuses_nothing (account l c.args.heap.now c.args.allocations_remains) (wanted c.args.size c.args.align_mask flags) c.rounded_size-size.result (c.max-used_mask.result + 1) size (omega (arith, c.max-used_mask.ensures))
     (c.has_place.ensures.0 c.if-has_place.true))
 
-pub returns : goal.returns
-returns g c =
-    let l : Listing = listing_in c.self.inside.freelist.space c.self.inside.chunk_size c.self.inside.final_chunk_size c.self.inside.memory_type (property_bits c.self.inside.props) (c.self.inside.atom_mask + 1) in
-    let size = rw (← c.self.view_is) at c.rounded_size-size.ensures.is in
-    let barred : (c.args.allocations_remains ≡ 0) ⊎ (HasNumber l.space → ⊥) = elim c.else-allocations_remains-gt0.branch [
-      | else-allocations_remains-gt0-via-then-allocations_remains-gt0+else-has_number w ↦ inr (λ number. let yes = w.has_number.ensures.1 number in let no = w.if-has_number.false in cc)
-      | else-allocations_remains-gt0-via-else-allocations_remains-gt0 w ↦ inl (omega (arith, w.if-allocations_remains-gt0.false))
-    ] in
-    rw (← c.self.view_is) (λ flags.
-    refuses_count (account l c.args.heap.now c.args.allocations_remains) (wanted c.args.size c.args.align_mask flags) c.rounded_size-size.result (c.max-used_mask.result + 1) size (omega (arith, c.max-used_mask.ensures))
-    (λ place. let yes = c.has_place.ensures.1 place in let no = c.if-has_place.false in cc) barred)
