@@ -1,4 +1,5 @@
 use Rattle.std.proofs.Common.{◌≡◌, ◌⊎◌, ◌+◌, ◌<◌, ◌≤◌, [], inl, inr, Ok, Err, refl, sym, ◌∙◌, ap, subst, arith}
+use Rattle.std.proofs.lemmas.Bool.{iff_false}
 use Rattle.gpu_alloc_types.specs.Flags.{allocation_bits, property_bits}
 use Rattle.gpu_alloc_freelist.specs.FreeList.{HasNumber}
 use Rattle.gpu_alloc_base.specs.Accounts.{IsCounted, account}
@@ -101,8 +102,7 @@ returns-then-not-fits-clause-answers g c =
     let old : Listing = over g c.self.inside c.self.inside.freelist.space in
     let new : Listing = over g c.self.inside c.get_block.new.self.space in
     let case = list_case (account old c.args.heap.now c.args.allocations_remains.now) c.args.size (c.args.align_mask + 1) (allocation_bits c.args.flags) in
-    let full : (c.args.heap.now.used + c.chunk_size_for.result ≤ c.args.heap.now.size) → ⊥ = λ within. let yes = c.fits.ensures.1 within in let no = c.if-not-fits.true in cc in
-    let over_budget : IsOverBudget case = subst (λ n. c.args.heap.now.size < c.args.heap.now.used + n) c.chunk_size_for.ensures.is (omega (arith, full)) in
+    let over_budget : IsOverBudget case = subst (λ n. c.args.heap.now.size < c.args.heap.now.used + n) c.chunk_size_for.ensures.is (omega (arith, iff_false c.fits.ensures c.if-not-fits.true)) in
     let has : HasQuestion case = record {
       fits = tt;
       no_place = took.0;
