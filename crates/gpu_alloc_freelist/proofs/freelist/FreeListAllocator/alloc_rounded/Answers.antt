@@ -1,13 +1,14 @@
-use Rattle.std.proofs.Common.{◌≡◌, ◌⊎◌, ◌+◌, [], inl, inr, Ok, Err, refl, sym, ◌∙◌, ap, subst, arith}
+use Rattle.std.proofs.Common.{◌≡◌, ◌⊎◌, ◌+◌, ◌<◌, ◌≤◌, [], inl, inr, Ok, Err, refl, sym, ◌∙◌, ap, subst, arith}
+use Rattle.std.proofs.lemmas.Bool.{iff_false}
 use Rattle.gpu_alloc_types.specs.Flags.{allocation_bits, property_bits}
 use Rattle.gpu_alloc_freelist.specs.FreeList.{HasNumber}
 use Rattle.gpu_alloc_base.specs.Accounts.{IsCounted, account}
-use Rattle.gpu_alloc_base.specs.Case.{Answers}
+use Rattle.gpu_alloc_base.specs.Case.{Answers, HasQuestion, IsOverBudget}
 use Rattle.gpu_alloc_freelist.specs.FreeListAllocator.{Agrees, ObjectsAfter, list_case}
 use Rattle.gpu_alloc_freelist.specs.FreeListInside.{listing_in}
 use Rattle.gpu_alloc_freelist.specs.FreeListSound.{IsSound}
 use Rattle.gpu_alloc_freelist.specs.FreeListState.{Listing, Space}
-use Rattle.gpu_alloc_base.specs.declared.error.AllocationError.TheVariants.{OutOfHostMemory, TooManyObjects}
+use Rattle.gpu_alloc_base.specs.declared.error.AllocationError.TheVariants.{OutOfDeviceMemory, OutOfHostMemory, TooManyObjects}
 use Rattle.gpu_alloc_freelist.specs.declared.freelist.FreeListAllocator.TheInside.{Inside}
 use Rattle.gpu_alloc_freelist.proofs.FreeListAnswers.{askable, sound_with_tail}
 use Rattle.gpu_alloc_freelist.proofs.freelist.FreeListAllocator.alloc_rounded.Given.{Over}
@@ -93,6 +94,27 @@ returns-then-allocations_remains-eq0-clause-answers g c =
 pub returns-then-allocations_remains-eq0-clause-sound : goal.returns-then-allocations_remains-eq0-clause-sound
 returns-then-allocations_remains-eq0-clause-sound g c = subst IsSound c.self.view_is c.self.invariant
 
+-- There is none, and the heap has no room for a chunk.
+
+pub returns-then-not-fits-clause-answers : goal.returns-then-not-fits-clause-answers
+returns-then-not-fits-clause-answers g c =
+    let took = rw (c.in-Ok-None.field-0-is) at c.in-Ok-None.ensures.takes in
+    let old : Listing = over g c.self.inside c.self.inside.freelist.space in
+    let new : Listing = over g c.self.inside c.get_block.new.self.space in
+    let case = list_case (account old c.args.heap.now c.args.allocations_remains.now) c.args.size (c.args.align_mask + 1) (allocation_bits c.args.flags) in
+    let over_budget : IsOverBudget case = subst (λ n. c.args.heap.now.size < c.args.heap.now.used + n) c.chunk_size_for.ensures.is (omega (arith, iff_false c.fits.ensures c.if-not-fits.true)) in
+    let has : HasQuestion case = record {
+      fits = tt;
+      no_place = took.0;
+      remains = record { objects = omega (arith, c.if-allocations_remains-eq0.false); number = subst HasNumber took.1 (c.has_number.ensures.0 c.if-not-has_number.false) };
+    } in (
+      [],
+      refl,
+      subst (λ x. Answers (list_case (account x c.args.heap.now c.args.allocations_remains.now) c.args.size (c.args.align_mask + 1) (allocation_bits c.args.flags)) [] (Err OutOfDeviceMemory) (account new c.args.heap.now c.args.allocations_remains.now))
+          c.self.view_is
+          (ap (λ s. account (over g c.self.inside s) c.args.heap.now c.args.allocations_remains.now) took.1, inl (inr (has, over_budget), refl)),
+    )
+
 -- A chunk is asked for.
 
 pub invariant_of-self-2 : goal.invariant_of-self-2
@@ -110,9 +132,12 @@ pub take_chunk-requires-clause-asks : goal.take_chunk-requires-clause-asks
 take_chunk-requires-clause-asks g c =
     let took = rw (c.in-Ok-None.field-0-is) at c.in-Ok-None.ensures.takes in
     record {
-      fits = tt;
-      no_place = rw (took.1) took.0;
-      remains = record { objects = omega (arith, c.if-allocations_remains-eq0.false); number = c.has_number.ensures.0 c.if-not-has_number.false };
+      has = record {
+        fits = tt;
+        no_place = rw (took.1) took.0;
+        remains = record { objects = omega (arith, c.if-allocations_remains-eq0.false); number = c.has_number.ensures.0 c.if-not-has_number.false };
+      };
+      within = subst (λ n. c.args.heap.now.used + n ≤ c.args.heap.now.size) c.chunk_size_for.ensures.is (c.fits.ensures.0 c.if-not-fits.false);
     }
 
 pub take_chunk-requires-clause-counted : goal.take_chunk-requires-clause-counted

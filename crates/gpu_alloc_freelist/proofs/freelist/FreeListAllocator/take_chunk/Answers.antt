@@ -23,7 +23,7 @@ use Rattle.gpu_alloc_freelist.proofs.freelist.FreeListAllocator.take_chunk.Goals
 pub returns-then-is_err-clause-answers : goal.returns-then-is_err-clause-answers
 returns-then-is_err-clause-answers g c =
     let asks = rw (← c.self.view_is) at c.requires.asks in
-    rw (← c.self.view_is) ([], refl, (rw (c.reserve.ensures.kept) refl, inl (refl, record { fits = tt; ways = inr asks.remains })))
+    rw (← c.self.view_is) ([], refl, (rw (c.reserve.ensures.kept) refl, inl (refl, record { fits = tt; ways = inr (asks.has.remains, asks.within) })))
 
 pub returns-in_err-block-clause-answers : goal.returns-in_err-block-clause-answers
 returns-in_err-block-clause-answers g c =
@@ -74,7 +74,7 @@ get_block_from_new_chunk-requires-clause-visible g c =
 pub get_block_from_new_chunk-requires-clause-number : goal.get_block_from_new_chunk-requires-clause-number
 get_block_from_new_chunk-requires-clause-number g c =
     let asks = rw (← c.self.view_is) at c.requires.asks in
-    rw (c.reserve.ensures.kept) asks.remains.number
+    rw (c.reserve.ensures.kept) asks.has.remains.number
 
 pub get_block_from_new_chunk-requires-clause-inside : goal.get_block_from_new_chunk-requires-clause-inside
 get_block_from_new_chunk-requires-clause-inside g c = c.chunk_size_for-chunk_size.ensures.enough
@@ -88,7 +88,7 @@ alloc-requires g c = omega (arith, c.requires.bound, c.chunk_size_for-chunk_size
 pub overflow_sub-allocations_remains : goal.overflow_sub-allocations_remains
 overflow_sub-allocations_remains g c =
     let asks = rw (← c.self.view_is) at c.requires.asks in
-    asks.remains.objects
+    asks.has.remains.objects
 
 -- the answer where a block was cut from the new chunk
 grown_answers : (l : Listing) (heap now : Heap) (remaining size alignment flags object whole next : ℕ) (s grown : Space) (slot : Slot) (es : List Event) (q : ChunkQuestion) → s ≡ l.space → slot ≡ first_tail s object whole size alignment
