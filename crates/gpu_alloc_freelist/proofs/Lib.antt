@@ -15,6 +15,7 @@ pub mod LiveBlocks
 pub mod NewWholes
 pub mod NumberSearch
 pub mod NumberedRows
+pub mod RunInserts
 pub mod RunLists
 pub mod RunSearch
 pub mod RunsKept

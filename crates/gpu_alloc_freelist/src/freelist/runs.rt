@@ -312,11 +312,24 @@ fn splice<A: Allocator>(regions: &mut Vec<FreeListRegion, A>, joint: Joint)
     ensures capacity { vec_capacity regions.new ≡ vec_capacity regions.old }
 {
     if joint.from == joint.to {
-        regions.insert(joint.from, joint.region).unwrap();
+        insert(regions, joint.from, joint.region);
         return;
     }
     regions[joint.from] = joint.region;
     if joint.from + 1 < joint.to {
         let _ = regions.remove(joint.from + 1);
     }
+}
+
+/// Inserts a run at this index, where there is room. Those behind it move up as one piece of memory.
+fn insert<A: Allocator>(regions: &mut Vec<FreeListRegion, A>, index: usize, region: FreeListRegion)
+    requires within { index ≤ vec_len regions.old }
+    requires room { vec_len regions.old < vec_capacity regions.old }
+    ensures items { regions.new.items ≡ take index regions.old.items ++ region ∷ drop index regions.old.items }
+    ensures capacity { vec_capacity regions.new ≡ vec_capacity regions.old }
+{
+    let last = regions.len();
+    regions.push_reserved(region);
+    regions.copy_within(index..last, index + 1);
+    regions[index] = region;
 }
