@@ -46,11 +46,11 @@ one_more s object h remaining some free is = omega (arith, is, some, len_more s.
 
 grant_total : (w : Strategy) (s : State) (r : Request) (t : ℕ) (es : List Event) (b : Block) (new : State) → case.Decides (candidate w s r t) es (Ok b) new → total new ≡ total s
 grant_total OwnObject s r t es b new (inl gives) = absurd gives.place
-grant_total OwnObject s r t es b new (inr gives) = ap total gives.state ∙ one_more s b.object _ _ gives.asks.remains.objects gives.place.was_free refl
+grant_total OwnObject s r t es b new (inr gives) = ap total gives.state ∙ one_more s b.object _ _ gives.asks.has.remains.objects gives.place.was_free refl
 grant_total InBuddyChunk s r t es b new (inl gives) = ap total gives.state
-grant_total InBuddyChunk s r t es b new (inr gives) = ap total gives.state ∙ one_more s b.object _ _ gives.asks.remains.objects gives.place.was_free refl
+grant_total InBuddyChunk s r t es b new (inr gives) = ap total gives.state ∙ one_more s b.object _ _ gives.asks.has.remains.objects gives.place.was_free refl
 grant_total InFreeList s r t es b new (inl gives) = ap total gives.state
-grant_total InFreeList s r t es b new (inr gives) = ap total gives.state ∙ one_more s b.object _ _ gives.asks.remains.objects gives.place.was_free refl
+grant_total InFreeList s r t es b new (inr gives) = ap total gives.state ∙ one_more s b.object _ _ gives.asks.has.remains.objects gives.place.was_free refl
 
 decides_total : (s : State) (r : Request) (hint : Option Dedicated) (t : ℕ) (es : List Event) (answer : Result Block AllocationError) (new : State) → Decides s r hint t es answer new → total new ≡ total s
 decides_total s r hint t es (Ok b) new decides = grant_total (strategy s r hint t) s r t es b new decides.1

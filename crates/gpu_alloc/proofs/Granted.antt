@@ -228,7 +228,7 @@ module _ (s : State) (r : Request) (sound : IsSound s) where
         let span = front_of b.object size in
         let c = candidate InBuddyChunk s r t in
         rw gives.state (subst (λ x. IsGranted s r (c.with_object x) x) (sym gives.place.is) (in_new_object t BuddyChunk span (c.with_object (granted_block s t BuddyChunk span)) (buddy_question s t size).size
-        (buddy_sized gives.asks.fits span refl (0, sym (zero-mul size))) (omega arith) gives.place.was_free refl refl))
+        (buddy_sized gives.asks.has.fits span refl (0, sym (zero-mul size))) (omega arith) gives.place.was_free refl refl))
     granted_by InFreeList es b new known fits (inl gives) = rw gives.state (subst (IsGranted s r (with_span s (span_of b))) (sym gives.place.is) (tail_granted gives.place.number (span_of b) gives.place.tail))
     granted_by InFreeList es b new known fits (inr gives) =
         let whole = (list_question s t size).size in

@@ -1,11 +1,13 @@
 -- What a granted object of its own leaves.
-use Rattle.std.proofs.Common.{◌≡◌, ℕ, ◌-◌, ◌<◌, List, get_or, Some, None, Ok, refl, sym, ◌∙◌, subst, inr}
+use Rattle.std.proofs.Common.{◌≡◌, ℕ, ◌+◌, ◌-◌, ◌<◌, ◌≤◌, List, [], get_or, Some, None, Ok, refl, sym, ◌∙◌, subst, arith, inl, inr}
 use Rattle.std.proofs.Math.ListN.{set}
 use Rattle.std.specs.FinMap as finite
 use Rattle.std.specs.FinSet as set_of
+use Rattle.gpu_alloc_types.specs.Properties.{heap_at}
+use Rattle.gpu_alloc_base.specs.Case.{Asks, HasQuestion, IsPassed}
 use Rattle.gpu_alloc_base.specs.NewChunk.{made}
 use Rattle.gpu_alloc.specs.Allocation.{TriesBy}
-use Rattle.gpu_alloc.specs.Candidates.{own_question, holding, whole_block}
+use Rattle.gpu_alloc.specs.Candidates.{own_candidate, own_question, holding, whole_block}
 use Rattle.gpu_alloc.specs.declared.allocator.Strategy.TheVariants.{OwnObject}
 use Rattle.gpu_alloc_buddy.specs.BuddyState.{Buddy}
 use Rattle.gpu_alloc_freelist.specs.FreeListState.{Listing}
@@ -16,7 +18,7 @@ use Rattle.gpu_alloc.specs.declared.limits.Limits.{Limits}
 use Rattle.gpu_alloc_block.specs.declared.block.Kind.TheVariants.{Dedicated as DedicatedObject}
 use Rattle.gpu_alloc_base.specs.declared.heap.Heap.{Heap}
 use Rattle.gpu_alloc.specs.declared.request.Request.{Request}
-use Rattle.gpu_alloc.proofs.HeapLists.{state_kept}
+use Rattle.gpu_alloc.proofs.HeapLists.{IsHeap, state_kept}
 
 -- the object of a block that is an object of its own
 abbrev pub own_object : ℕ → ℕ → HeldObject
@@ -30,12 +32,24 @@ state_held l heaps buddies lists i h old t now remaining object b at same held l
     state_kept l heaps buddies lists i h old now (remaining - 1) at same
     ∙ (λ k. record (state_in l heaps buddies lists t remaining) { held = held k; live = live k; remaining = remaining - 1 })
 
+-- it has a question where one more may be held
+pub has_own : {s : State} {size memory_type : ℕ} → 0 < s.remaining → HasQuestion (own_candidate s size memory_type)
+has_own some = record { fits = tt; no_place = λ never. never; remains = record { objects = some; number = tt } }
+
+-- which is asked where the heap has room for it, and else it is passed
+module _ {s : State} {size memory_type : ℕ} {heap : Heap} (of : IsHeap s (heap_at s.properties memory_type) heap) (some : 0 < s.remaining) where
+  pub asks_own : heap.used + size ≤ heap.size → Asks (own_candidate s size memory_type)
+  asks_own fits = record { has = has_own some; within = omega (arith, fits, of.used, of.size) }
+
+  pub passes_own : (heap.used + size ≤ heap.size → ⊥) → IsPassed (own_candidate s size memory_type) []
+  passes_own over = inl (inr (has_own some, omega (arith, over, of.used, of.size)), refl)
+
 -- the candidate decides
-pub decides_granted : (s now : State) (r : Request) (memory_type object : ℕ) (b : Block) → b ≡ whole_block s object r.size memory_type → 0 < s.remaining → finite.get s.held object ≡ None
+pub decides_granted : (s now : State) (r : Request) (memory_type object : ℕ) (b : Block) → b ≡ whole_block s object r.size memory_type → Asks (own_candidate s r.size memory_type) → finite.get s.held object ≡ None
     → now ≡ holding s (own_object r.size memory_type) (whole_block s object r.size memory_type) → TriesBy OwnObject s r memory_type (made (own_question s r.size memory_type) object) (Ok (Some b)) now
-decides_granted s now r memory_type object b is some free held =
+decides_granted s now r memory_type object b is asks free held =
     subst (λ x. TriesBy OwnObject s r memory_type (made (own_question s r.size memory_type) object) (Ok (Some x)) now) (sym is) (inr (record {
-      asks = record { fits = tt; no_place = λ never. never; remains = record { objects = some; number = tt } };
+      asks = asks;
       place = record { is = refl; was_free = free };
       asked = refl;
       state = held;

@@ -2,6 +2,7 @@ pub mod Agreed
 pub mod Agreeing
 pub mod Atoms
 pub mod BlocksAgreed
+pub mod Budgets
 pub mod Buddies
 pub mod Changes
 pub mod Closing

@@ -20,11 +20,12 @@ use Rattle.gpu_alloc_freelist.specs.FreeListSound.{IsSound as IsSoundListing}
 use Rattle.gpu_alloc_freelist.specs.FreeListState.{Listing}
 use Rattle.gpu_alloc_base.specs.Slots.{slot_cmp}
 use Rattle.gpu_alloc_base.specs.Heap.{unused}
-use Rattle.gpu_alloc.specs.Inside.{IsConsistent, IsBooked, IsBuddyOf, IsListOf, IsKnown, IsLinked, IsListLinked, IsLiveIn, AreSmall, types_in, lists_in}
+use Rattle.gpu_alloc.specs.Inside.{IsConsistent, IsBooked, IsBuddyOf, IsListOf, IsKnown, IsLinked, IsListLinked, IsLedger, IsLiveIn, AreSmall, types_in, lists_in}
 use Rattle.gpu_alloc.specs.Opening.{first_buddy, AreFirstBuddies, first_listing, AreFirstListings}
 use Rattle.gpu_alloc_base.specs.Sizes.{minimal_size, initial_size, starting_size, final_size}
 use Rattle.gpu_alloc.specs.FirstTypes.{first_type_state, first_types}
 use Rattle.gpu_alloc.specs.Spans.{Table}
+use Rattle.gpu_alloc.specs.Budget.{asked_share}
 use Rattle.gpu_alloc_block.specs.State.{HeldObject, Span, TypeState, span_cmp, share}
 use Rattle.gpu_alloc_base.specs.declared.config.Config.{Config}
 use Rattle.gpu_alloc_base.specs.declared.heap.Heap.{Heap}

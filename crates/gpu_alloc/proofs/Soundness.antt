@@ -203,7 +203,7 @@ there_is (x ∷ xs) (suc i) inside = there_is xs i (omega (arith, inside))
 
 read_is : {X : Type 0} (xs : List X) (i : ℕ) (x : X) → slice_get xs i ≡ Some x → x ≡ get_or xs i x
 read_is [] i x is = absurd (cc)
-read_is (y ∷ xs) zero x is = sym (Some-inj is)
+read_is (y ∷ xs) zero x is = let same : y ≡ x = cc is in sym same
 read_is (y ∷ xs) (suc i) x is = read_is xs i x is
 
 module _ {A : Type 0} (l : Limits A) (heaps : List Heap) (buddies : List Buddy) (lists : List Listing) (t : Table) (remaining : ℕ)

@@ -59,7 +59,7 @@ HoldsNoImportOf s heap =
 -- the device is asked, and the answer is its own; or the host had no memory, for the allocator or for the device
 abbrev pub IsDevicesAnswer : (c : Case Block State) → List Event → Result (Option Block) AllocationError → Type 0
 IsDevicesAnswer c es (Ok None) = LacksDeviceMemory c.question es
-IsDevicesAnswer c es (Ok (Some b)) = es ≡ made c.question b.object
+IsDevicesAnswer c es (Ok (Some b)) = es ≡ made c.question (c.object b)
 IsDevicesAnswer c es (Err OutOfHostMemory) = (es ≡ []) ⊎ HostRefuses c es
 IsDevicesAnswer c es (Err OutOfDeviceMemory) = ⊥
 IsDevicesAnswer c es (Err NoCompatibleMemoryTypes) = ⊥

@@ -49,11 +49,43 @@ module _ {X : Type 0} where
   pub len_less : (m : finite.FinMap nat_cmp X) (k : ℕ) (v : X) → finite.get m k ≡ Some v → finite.len (finite.remove m k) + 1 ≡ finite.len m
   len_less m k v is = sym (len_more (finite.remove m k) k v (gone m k)) ∙ ap (λ (n : finite.FinMap nat_cmp X). finite.len n) (back m k v is)
 
--- A sum over one map against a sum over another, where each key of the first has a name of its own in the second.
-
 -- the first entry is found by its key
 first_found : {X : Type 0} (e : ℕ × X) (es : List (ℕ × X)) → finite.find nat_cmp e.0 (e ∷ es) ≡ Some e.1
 first_found e es = rw (name_test e.0 e.0, eq-true e.0 e.0 refl) refl
+
+no_entry : {X : Type 0} (m : finite.FinMap nat_cmp X) → finite.len m ≡ 0 → finite.entries m ≡ []
+no_entry {X} m len = empty (finite.entries m) (sym (finite.len-entries m) ∙ len)
+  where
+    empty : (es : List (ℕ × X)) → length es ≡ 0 → es ≡ []
+    empty [] none = refl
+    empty (e ∷ es) none = absurd (omega (arith, none))
+
+first_entry : {X : Type 0} (m : finite.FinMap nat_cmp X) (n : ℕ) → finite.len m ≡ suc n → (e : ℕ × X) × (finite.get m e.0 ≡ Some e.1)
+first_entry {X} m n len =
+    let e = first (finite.entries m) (sym (finite.len-entries m) ∙ len) in
+    (e.0, finite.get-entries m e.0.0 ∙ e.1)
+  where
+    first : (es : List (ℕ × X)) → length es ≡ suc n → (e : ℕ × X) × (finite.find nat_cmp e.0 es ≡ Some e.1)
+    first [] none = absurd (omega (arith, none))
+    first (e ∷ es) some = (e, first_found e es)
+
+-- Two sums over one map, in which each entry weighs the same.
+
+module _ {X : Type 0} (f g : ℕ × X → ℕ) where
+  abbrev pub WeighsSame : finite.FinMap nat_cmp X → Type 0
+  WeighsSame m = (k : ℕ) (c : X) → finite.get m k ≡ Some c → f (k, c) ≡ g (k, c)
+
+  sum_by-same_counted : (n : ℕ) (m : finite.FinMap nat_cmp X) → finite.len m ≡ n → WeighsSame m → sum_by f (finite.entries m) ≡ sum_by g (finite.entries m)
+  sum_by-same_counted zero m len same = rw (no_entry m len) refl
+  sum_by-same_counted (suc n) m len same =
+      let e = first_entry m n len in
+      let less = sum_by-same_counted n (finite.remove m e.0.0) (omega (arith, len, len_less m e.0.0 e.0.1 e.1)) (λ k c at. same k c (kept_key m e.0.0 k c at).1) in
+      omega (arith, less, same e.0.0 e.0.1 e.1, sum_by-remove f m e.0.0 e.0.1 e.1, sum_by-remove g m e.0.0 e.0.1 e.1)
+
+  pub sum_by-same : (m : finite.FinMap nat_cmp X) → WeighsSame m → sum_by f (finite.entries m) ≡ sum_by g (finite.entries m)
+  sum_by-same m same = sum_by-same_counted (finite.len m) m refl same
+
+-- A sum over one map against a sum over another, where each key of the first has a name of its own in the second.
 
 module _ {X Y : Type 0} (name : X → ℕ) (f : ℕ × X → ℕ) (g : ℕ × Y → ℕ) where
   -- each key weighs no more than what is named by it
@@ -77,22 +109,14 @@ module _ {X Y : Type 0} (name : X → ℕ) (f : ℕ × X → ℕ) (g : ℕ × Y 
   -- by the number of keys
   sum_by-counted : (n : ℕ) (m : finite.FinMap nat_cmp X) (held : finite.FinMap nat_cmp Y) → finite.len m ≡ n → WeighsWithin m held → AreNamedOnce m
       → sum_by f (finite.entries m) ≤ sum_by g (finite.entries held)
-  sum_by-counted zero m held len within once = rw (empty (finite.entries m) (sym (finite.len-entries m) ∙ len)) (omega arith)
-    where
-      empty : (es : List (ℕ × X)) → length es ≡ zero → sum_by f es ≡ 0
-      empty [] none = refl
-      empty (e ∷ es) none = absurd (omega (arith, none))
+  sum_by-counted zero m held len within once = rw (no_entry m len) (omega arith)
   sum_by-counted (suc n) m held len within once =
-      let e = first (finite.entries m) (sym (finite.len-entries m) ∙ len) in
-      let is : finite.get m e.0.0 ≡ Some e.0.1 = finite.get-entries m e.0.0 ∙ e.1 in
+      let e = first_entry m n len in
+      let is = e.1 in
       let w = within e.0.0 e.0.1 is in
       let less = sum_by-counted n (finite.remove m e.0.0) (finite.remove held (name e.0.1)) (omega (arith, len, len_less m e.0.0 e.0.1 is))
       (left_within m held e.0.0 e.0.1 is within once) (left_once m held e.0.0 e.0.1 is once) in
       omega (arith, less, w.2, sum_by-remove f m e.0.0 e.0.1 is, sum_by-remove g held (name e.0.1) w.0 w.1)
-    where
-      first : (es : List (ℕ × X)) → length es ≡ suc n → (e : ℕ × X) × (finite.find nat_cmp e.0 es ≡ Some e.1)
-      first [] none = absurd (omega (arith, none))
-      first (e ∷ es) some = (e, first_found e es)
 
   pub sum_by-within : (m : finite.FinMap nat_cmp X) (held : finite.FinMap nat_cmp Y) → WeighsWithin m held → AreNamedOnce m → sum_by f (finite.entries m) ≤ sum_by g (finite.entries held)
   sum_by-within m held within once = sum_by-counted (finite.len m) m held refl within once

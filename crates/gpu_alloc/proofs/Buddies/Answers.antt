@@ -1,5 +1,5 @@
 -- What a block that a memory type's buddy allocator gives comes to for the whole allocator.
-use Rattle.std.proofs.Common.{◌≡◌, ◌⊎◌, inl, inr, ℕ, ◌+◌, ◌-◌, ◌^◌, ◌<◌, false, cond, List, Option, Some, None, Ok, is_some, IfSome, refl, sym, ◌∙◌, ap, subst, arith}
+use Rattle.std.proofs.Common.{◌≡◌, ◌⊎◌, inl, inr, ℕ, ◌+◌, ◌-◌, ◌^◌, ◌<◌, ◌≤◌, false, cond, List, Option, Some, None, Ok, is_some, IfSome, refl, sym, ◌∙◌, ap, subst, arith}
 use Rattle.std.proofs.Math.ListN.{set}
 use Rattle.gpu_alloc_base.proofs.AlignedPowers.{pow-le}
 use Rattle.std.specs.FinMap as finite
