@@ -1,20 +1,17 @@
 -- What callers learn of a heap's budget: a question within it is asked, and where no import is held, what was asked for is all that is held.
-use Rattle.std.proofs.Common.{◌≡◌, ℕ, ◌+◌, ◌-◌, ◌<◌, ◌≤◌, ◌==◌, Bool, true, false, cond, List, [], ◌∷◌, length, Option, Some, None, IfSome, Result, Ok, Err, inl, inr, refl, sym, ap, subst, arith}
+use Rattle.std.proofs.Common.{◌≡◌, ℕ, ◌+◌, ◌-◌, ◌<◌, ◌≤◌, ◌==◌, Bool, true, false, cond, List, length, Option, Some, None, IfSome, Result, Ok, Err, inl, inr, refl, subst, arith}
 use Rattle.std.proofs.lemmas.Bool.Decides.{nat_tests}
-use Rattle.std.proofs.lemmas.List.Sums.{sum_by-cons}
-use Rattle.std.specs.List.{sum_by}
 use Rattle.std.specs.FinMap as map
 use Rattle.gpu_alloc_types.specs.Device.{Event}
-use Rattle.gpu_alloc_types.specs.Properties.{Properties, heap_at, heap_size}
-use Rattle.gpu_alloc_base.specs.Case as case
-use Rattle.gpu_alloc_base.specs.Case.{Case, HasQuestion, IsWithinBudget}
+use Rattle.gpu_alloc_types.specs.Properties.{heap_at, heap_size}
+use Rattle.gpu_alloc_base.specs.Case.{HasQuestion, IsWithinBudget}
 use Rattle.gpu_alloc_base.specs.FreeRuns.{tail_start}
 use Rattle.gpu_alloc_base.specs.declared.error.AllocationError.{AllocationError}
 use Rattle.gpu_alloc_base.specs.declared.error.AllocationError.TheVariants.{OutOfDeviceMemory, OutOfHostMemory, NoCompatibleMemoryTypes, TooManyObjects}
 use Rattle.gpu_alloc_block.specs.State.{HeldObject, Block, State, ledger, share}
 use Rattle.gpu_alloc.specs.Allocation.{Tries, strategy}
 use Rattle.gpu_alloc.specs.BuddySharing.{buddy_size}
-use Rattle.gpu_alloc.specs.Budget.{asked_bytes, asked_share, heap_budget, heap_bytes, is_import, HoldsNoImportOf, IsDevicesAnswer}
+use Rattle.gpu_alloc.specs.Budget.{asked_share, heap_budget, heap_bytes, is_import, HoldsNoImportOf, IsDevicesAnswer}
 use Rattle.gpu_alloc.specs.Candidates.{candidate}
 use Rattle.gpu_alloc.specs.FreeListSharing.{list_alignment, list_size}
 use Rattle.gpu_alloc.specs.Sound.{IsSound}
