@@ -14,6 +14,15 @@ pub record AreSorted (regions : List FreeListRegion) : Type 0 where
   pub nonempty : All (λ r. r.start < r.end) regions
   pub rising : AreRising regions
 
+-- it has fewer bytes than a block of this size
+abbrev pub IsShorter : ℕ → FreeListRegion → Type 0
+IsShorter size r = r.end < r.start + size
+
+-- so are all from one index on to before another
+abbrev pub AreShorter : List FreeListRegion → ℕ → ℕ → ℕ → Type 0
+AreShorter regions size from to =
+    (k : ℕ) (d : FreeListRegion) → from ≤ k → k < to → IsShorter size (get_or regions k d)
+
 -- the last one that has room stands here
 pub record IsLastFit (regions : List FreeListRegion) (size alignment i : ℕ) (d : FreeListRegion) : Type 0 where
   pub room : HasRoom size alignment (get_or regions i d).start (get_or regions i d).end

@@ -9,8 +9,8 @@ ghost use Rattle.gpu_alloc_base.specs.AlignMasks.{IsAlignMask};
 ghost use Rattle.gpu_alloc_base.specs.FreeRuns.{HasRoom, IsBefore, tail_start};
 ghost use Rattle.gpu_alloc_base.specs.Slots.{region_cmp, region_of};
 ghost use Rattle.gpu_alloc_base.specs.declared.region.FreeListRegion.{FreeListRegion as Region};
-ghost use Rattle.gpu_alloc_freelist.specs.Runs.{AreFewComparisons, AreSorted, Cuts, IsApart, IsJoint, IsLastFit};
-ghost use Rattle.gpu_alloc_freelist.specs.Runs.{IsPlaceOf, PutsBack};
+ghost use Rattle.gpu_alloc_freelist.specs.Runs.{AreFewComparisons, AreShorter, AreSorted, Cuts, IsApart};
+ghost use Rattle.gpu_alloc_freelist.specs.Runs.{IsJoint, IsLastFit, IsPlaceOf, IsShorter, PutsBack};
 
 use gpu_alloc_base::free_list_block::{Slot, slot_of};
 use gpu_alloc_base::steps::Steps;
@@ -106,9 +106,15 @@ impl<A: Allocator> Runs<A> {
             × ((d : Region) → IsLastFit self.now.regions size (align_mask + 1) i d)) }
         ensures none { IfNone result (All (λ r. HasRoom size (align_mask + 1) r.start r.end → ⊥) self.now.regions) }
     {
-        self.regions
-            .iter()
-            .rposition(|region| has_room(*region, size, align_mask))
+        let regions = self.regions.as_slice();
+        let mut end = skip_shorter(regions, regions.len(), size);
+        while end > 0 {
+            if has_room(regions[end - 1], size, align_mask) {
+                return Some(end - 1);
+            }
+            end = skip_shorter(regions, end - 1, size);
+        }
+        None
     }
 
     /// Takes the bytes from `start` on out of the run at this index, in place. Where none is left of it, the run goes.
@@ -195,13 +201,49 @@ pub(super) fn tail_of(region: FreeListRegion, object: u64, size: u64, align_mask
     }
 }
 
+/// How many of the first `end` runs are left when those at their end are passed over that are shorter than a block of
+/// this size. They are passed four at a time, so up to three of them may be left.
+fn skip_shorter(regions: &[FreeListRegion], end: usize, size: u64) -> usize
+    requires sorted { AreSorted regions.now }
+    requires within { end ≤ length regions.now }
+    ensures within { result ≤ end }
+    ensures passed { AreShorter regions.now size result end }
+    ensures left { 4 ≤ result → AreShorter regions.now size (result - 4) result → ⊥ }
+{
+    let mut left = end;
+    while left >= 4 && are_four_shorter(regions, left - 4, size) {
+        left -= 4;
+    }
+    left
+}
+
+/// Whether four runs, from this index on, are each shorter than a block of this size.
+fn are_four_shorter(regions: &[FreeListRegion], from: usize, size: u64) -> bool
+    requires sorted { AreSorted regions.now }
+    requires within { from + 4 ≤ length regions.now }
+    ensures { IsTrue result ↔ AreShorter regions.now size from (from + 4) }
+{
+    is_shorter(regions[from + 3], size)
+        && is_shorter(regions[from + 2], size)
+        && is_shorter(regions[from + 1], size)
+        && is_shorter(regions[from], size)
+}
+
+/// Whether a run is shorter than a block of this size.
+fn is_shorter(region: FreeListRegion, size: u64) -> bool
+    requires { region.start ≤ region.end }
+    ensures { IsTrue result ↔ IsShorter size region }
+{
+    region.end - region.start < size
+}
+
 /// Whether a run has room for a block of this size.
 fn has_room(region: FreeListRegion, size: u64, align_mask: u64) -> bool
     requires { IsAlignMask align_mask }
     ensures yes { result ≡ true → HasRoom size (align_mask + 1) region.start region.end }
     ensures no { result ≡ false → HasRoom size (align_mask + 1) region.start region.end → ⊥ }
 {
-    // (most runs are too short, and so no division is made for them)
+    // (no division is made for a run that is too short)
     size <= region.end
         && region.start <= region.end - size
         && region.start <= tail_start(region.end, size, align_mask)
