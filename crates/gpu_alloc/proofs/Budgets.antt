@@ -6,6 +6,7 @@ use Rattle.gpu_alloc_types.specs.Device.{Event}
 use Rattle.gpu_alloc_types.specs.Properties.{heap_at, heap_size}
 use Rattle.gpu_alloc_base.specs.Case.{HasQuestion, IsWithinBudget}
 use Rattle.gpu_alloc_base.specs.FreeRuns.{tail_start}
+use Rattle.gpu_alloc_base.specs.FreeSpace.{IsPowerOfTwo}
 use Rattle.gpu_alloc_base.specs.declared.error.AllocationError.{AllocationError}
 use Rattle.gpu_alloc_base.specs.declared.error.AllocationError.TheVariants.{OutOfDeviceMemory, OutOfHostMemory, NoCompatibleMemoryTypes, TooManyObjects}
 use Rattle.gpu_alloc_block.specs.State.{HeldObject, Block, State, ledger, share}
@@ -33,7 +34,7 @@ place_of InBuddyChunk s r t b fits is =
     let size = buddy_size s r t in
     let front = is.front in
     let place = front.piece.place in
-    let power = (next_is_enough _ (omega (arith, fits))).0 in (
+    let power : IsPowerOfTwo size = (next_is_enough _ (omega (arith, fits))).0 in (
       b.object,
       b.offset,
       record {

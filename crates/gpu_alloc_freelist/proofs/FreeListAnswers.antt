@@ -11,7 +11,7 @@ use Rattle.gpu_alloc_base.specs.Wanted.{Wanted}
 use Rattle.gpu_alloc_base.specs.Chunks.{Chunk, IsNew, IsThere}
 use Rattle.gpu_alloc_freelist.specs.FreeList.{HasPlace, IsTail, with_slot, with_chunk, first_tail}
 use Rattle.gpu_alloc_base.specs.Accounts.{Account}
-use Rattle.gpu_alloc_base.specs.Case.{Answers, IsBarred, MayAsk, RefusesFirst}
+use Rattle.gpu_alloc_base.specs.Case.{Answers, RefusesFirst, RefusesQuestion}
 use Rattle.gpu_alloc_base.specs.NewObject.{HasOneMore}
 use Rattle.gpu_alloc_freelist.specs.FreeListAllocator.{Agrees, ObjectsAfter, IsGranted, case_of, chunk_size, list_case, next_size, question, sees_chunks, listing_with_slot, rounded, alignment as alignment_of}
 use Rattle.gpu_alloc_base.proofs.Books.{KeepsBooks, refused_keeps, made_new, answers_agree as chunks_agree}
@@ -23,9 +23,9 @@ use Rattle.gpu_alloc_base.specs.NewChunk.{chunk_question}
 use Rattle.gpu_alloc_freelist.specs.FreeListInside.{FitsAChunk}
 use Rattle.gpu_alloc_base.specs.AlignMasks.{IsAlignMask}
 use Rattle.gpu_alloc_base.specs.declared.error.AllocationError.{AllocationError}
-use Rattle.gpu_alloc_base.specs.declared.error.AllocationError.TheVariants.{OutOfDeviceMemory, TooManyObjects}
 use Rattle.gpu_alloc_base.specs.declared.free_list_block.Slot.{Slot}
 use Rattle.gpu_alloc_base.proofs.Outcomes.{if_some}
+use Rattle.gpu_alloc_base.proofs.Unasked.{refuses_unasked}
 use Rattle.gpu_alloc_freelist.proofs.FreeListSizes.{chunk_size_atoms, chunk_size_bound, chunk_size_enough, next_size_sound}
 use Rattle.gpu_alloc_base.proofs.ChunkSizes.{up_enough}
 use Rattle.gpu_alloc_base.proofs.Maps.{one_value, own_inserted, inserted_cases}
@@ -361,21 +361,18 @@ rounds l w size alignment size_is alignment_is s some fits mask =
 -- Refusals before anything is done.
 
 module _ (a : Account Listing) (w : Wanted) (size alignment : ℕ) (size_is : size ≡ rounded a.allocator w) (alignment_is : alignment ≡ alignment_of a.allocator w) where
-  pub refuses_nothing : HasPlace a.allocator.space size alignment → RefusesFirst (case_of a w) None
-  refuses_nothing place = record {
-    fits = tt;
-    ways = inl (subst (HasPlace a.allocator.space (rounded a.allocator w)) alignment_is (subst (λ n. HasPlace a.allocator.space n alignment) size_is place));
-  }
+  -- what is told of the size and the alignment that are looked for is told of what is wanted
+  told_first : (first : Option AllocationError) → RefusesFirst (list_case a size alignment w.flags) first → RefusesFirst (case_of a w) first
+  told_first first is = subst (λ n. RefusesFirst (list_case a n (alignment_of a.allocator w) w.flags) first) size_is (subst (λ n. RefusesFirst (list_case a size n w.flags) first) alignment_is is)
 
-  no_place : (HasPlace a.allocator.space size alignment → ⊥) → HasPlace a.allocator.space (rounded a.allocator w) (alignment_of a.allocator w) → ⊥
-  no_place none place = none (subst (λ n. HasPlace a.allocator.space n alignment) (sym size_is) (subst (HasPlace a.allocator.space (rounded a.allocator w)) (sym alignment_is) place))
+  pub refuses_chunk : (e : AllocationError) → (HasPlace a.allocator.space size alignment → ⊥) → RefusesQuestion (list_case a size alignment w.flags) (Some e) → RefusesFirst (case_of a w) (Some e)
+  refuses_chunk e none refused = told_first (Some e) (refuses_unasked (list_case a size alignment w.flags) tt none e refused)
 
-  pub refuses_count : (HasPlace a.allocator.space size alignment → ⊥) → IsBarred (case_of a w) → RefusesFirst (case_of a w) (Some TooManyObjects)
-  refuses_count none barred = record { fits = tt; no_place = no_place none; barred = barred }
+  pub may_ask : RefusesQuestion (list_case a size alignment w.flags) None → RefusesFirst (case_of a w) None
+  may_ask may = told_first None (record { fits = tt; ways = inr may })
 
-  pub refuses_budget : (whole : ℕ) → whole ≡ chunk_size a.allocator size → (HasPlace a.allocator.space size alignment → ⊥) → MayAsk (case_of a w) → (a.heap.used + whole ≤ a.heap.size → ⊥) → RefusesFirst (case_of a w) (Some OutOfDeviceMemory)
-  refuses_budget whole whole_is none may full =
-      inr (record { fits = tt; no_place = no_place none; remains = may }, subst (λ n. a.heap.size < a.heap.used + n) (whole_is ∙ ap (chunk_size a.allocator) size_is) (omega (arith, full)))
+  pub has_place : HasPlace a.allocator.space size alignment → RefusesFirst (case_of a w) None
+  has_place place = told_first None (record { fits = tt; ways = inl place })
 
 -- A new chunk, step by step.
 

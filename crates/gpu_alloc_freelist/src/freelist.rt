@@ -17,7 +17,7 @@ ghost use Rattle.gpu_alloc_freelist.specs.FreeListAllocator.{ObjectsAfter, Objec
 ghost use Rattle.gpu_alloc_freelist.specs.FreeListAllocator.{Adds, HoldsNothing, KeepsSettings, Leaves, LeavesNoRest};
 ghost use Rattle.gpu_alloc_freelist.specs.FreeListAllocator.{Removes};
 ghost use Rattle.gpu_alloc_base.specs.Accounts.{account, IsCounted, chunks_and_remaining};
-ghost use Rattle.gpu_alloc_base.specs.Case.{Asks, RefusesFirst};
+ghost use Rattle.gpu_alloc_base.specs.Case.{Asks, RefusesFirst, RefusesQuestion};
 ghost use Rattle.gpu_alloc_freelist.specs.FreeListInside.{FitsAChunk};
 ghost use Rattle.gpu_alloc_freelist.specs.FreeListSound.{IsSound, IsSoundSpace};
 ghost use Rattle.gpu_alloc_freelist.specs.FreeListState.{Listing, IsLiveSlot};
@@ -238,19 +238,12 @@ impl<M: MemoryObject, A: Allocator> FreeListAllocator<M, A> {
             result }
     {
         let size = self.rounded_size(size);
-        let may_ask = allocations_remains > 0 && self.freelist.has_number();
-        if may_ask && heap.fits(self.chunk_size_for(size)) {
-            return None;
-        }
+        let refusal = self.refuses_chunk(size, heap, allocations_remains)?;
         let used_mask = align_mask.max(self.atom_mask);
         if self.freelist.has_place(used_mask, size) {
             return None;
         }
-        if may_ask {
-            Some(AllocationError::OutOfDeviceMemory)
-        } else {
-            Some(AllocationError::TooManyObjects)
-        }
+        Some(refusal)
     }
 
     /// Takes a block back, and joins it with the free runs beside it. Then each chunk in which no block is live goes
@@ -431,13 +424,32 @@ impl<M: MemoryObject, A: Allocator> FreeListAllocator<M, A> {
             Ok(None) => {}
             Err(_) => return Err(AllocationError::OutOfHostMemory),
         }
-        if *allocations_remains == 0 || !self.freelist.has_number() {
-            return Err(AllocationError::TooManyObjects);
+        match self.refuses_chunk(size, heap, *allocations_remains) {
+            Some(refusal) => Err(refusal),
+            None => self.take_chunk(device, size, align_mask, flags, heap, allocations_remains),
+        }
+    }
+
+    /// Why the device may not be asked for a chunk with a block of this size: nothing remains, no number is left for it,
+    /// or the heap has no room for it. None where it may.
+    fn refuses_chunk(
+        &self,
+        size: u64,
+        heap: &Heap,
+        allocations_remains: u32,
+    ) -> Option<AllocationError>
+        requires nonempty { 0 < size }
+        requires fits { size ≤ (self.now).final_chunk }
+        ensures { (alignment flags : ℕ)
+            → RefusesQuestion (list_case (account self.now heap.now allocations_remains) size alignment flags) result }
+    {
+        if allocations_remains == 0 || !self.freelist.has_number() {
+            return Some(AllocationError::TooManyObjects);
         }
         if !heap.fits(self.chunk_size_for(size)) {
-            return Err(AllocationError::OutOfDeviceMemory);
+            return Some(AllocationError::OutOfDeviceMemory);
         }
-        self.take_chunk(device, size, align_mask, flags, heap, allocations_remains)
+        None
     }
 
     /// Takes the tail of a new chunk, where there is no place. Room is made before the device is asked.

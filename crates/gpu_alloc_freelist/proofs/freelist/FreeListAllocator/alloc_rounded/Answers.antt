@@ -1,18 +1,16 @@
-use Rattle.std.proofs.Common.{◌≡◌, ◌⊎◌, ◌+◌, ◌<◌, ◌≤◌, [], inl, inr, Ok, Err, refl, sym, ◌∙◌, ap, subst, arith}
-use Rattle.std.proofs.lemmas.Bool.{iff_false}
+use Rattle.std.proofs.Common.{◌≡◌, ◌+◌, [], inl, Ok, Err, refl, sym, ◌∙◌, ap, subst}
 use Rattle.gpu_alloc_types.specs.Flags.{allocation_bits, property_bits}
-use Rattle.gpu_alloc_freelist.specs.FreeList.{HasNumber}
 use Rattle.gpu_alloc_base.specs.Accounts.{IsCounted, account}
-use Rattle.gpu_alloc_base.specs.Case.{Answers, HasQuestion, IsOverBudget}
+use Rattle.gpu_alloc_base.specs.Case.{Answers}
 use Rattle.gpu_alloc_freelist.specs.FreeListAllocator.{Agrees, ObjectsAfter, list_case}
 use Rattle.gpu_alloc_freelist.specs.FreeListInside.{listing_in}
 use Rattle.gpu_alloc_freelist.specs.FreeListSound.{IsSound}
 use Rattle.gpu_alloc_freelist.specs.FreeListState.{Listing, Space}
-use Rattle.gpu_alloc_base.specs.declared.error.AllocationError.TheVariants.{OutOfDeviceMemory, OutOfHostMemory, TooManyObjects}
+use Rattle.gpu_alloc_base.specs.declared.error.AllocationError.TheVariants.{OutOfHostMemory}
 use Rattle.gpu_alloc_freelist.specs.declared.freelist.FreeListAllocator.TheInside.{Inside}
+use Rattle.gpu_alloc_base.proofs.Unasked.{answers_unasked, asks_unrefused}
 use Rattle.gpu_alloc_freelist.proofs.FreeListAnswers.{askable, sound_with_tail}
 use Rattle.gpu_alloc_freelist.proofs.freelist.FreeListAllocator.alloc_rounded.Given.{Over}
-use Rattle.gpu_alloc_freelist.proofs.freelist.FreeListAllocator.alloc_rounded.Goals.{then-allocations_remains-eq0-via-then-allocations_remains-eq0, then-allocations_remains-eq0-via-else-allocations_remains-eq0+then-not-has_number}
 use Rattle.gpu_alloc_freelist.proofs.freelist.FreeListAllocator.alloc_rounded.Goals as goal
 
 -- the listing, its space being this
@@ -70,50 +68,21 @@ returns-in-Err-clause-sound g c = subst IsSound c.self.view_is c.self.invariant
 
 -- There is none, and no chunk may be asked for.
 
-pub invariant_of-self-then-allocations_remains-eq0 : goal.invariant_of-self-then-allocations_remains-eq0
-invariant_of-self-then-allocations_remains-eq0 g c =
+pub returns-in-Some-clause-answers : goal.returns-in-Some-clause-answers
+returns-in-Some-clause-answers g c =
     let took = rw (c.in-Ok-None.field-0-is) at c.in-Ok-None.ensures.takes in
-    rw (took.1) c.self.invariant
-
-pub returns-then-allocations_remains-eq0-clause-answers : goal.returns-then-allocations_remains-eq0-clause-answers
-returns-then-allocations_remains-eq0-clause-answers g c =
-    let took = rw (c.in-Ok-None.field-0-is) at c.in-Ok-None.ensures.takes in
-    let old : Listing = over g c.self.inside c.self.inside.freelist.space in
     let new : Listing = over g c.self.inside c.get_block.new.self.space in
-    let barred : (c.args.allocations_remains.now ≡ 0) ⊎ (HasNumber old.space → ⊥) = elim c.then-allocations_remains-eq0.branch [
-      | then-allocations_remains-eq0-via-then-allocations_remains-eq0 w ↦ inl w.if-allocations_remains-eq0.true
-      | then-allocations_remains-eq0-via-else-allocations_remains-eq0+then-not-has_number w ↦ inr (λ number. absurd (cc (w.if-not-has_number.ensures.1 (subst HasNumber (sym took.1) number))))
-    ] in (
+    let flags = allocation_bits c.args.flags in
+    let now = account new c.args.heap.now c.args.allocations_remains.now in
+    let refused = answers_unasked (list_case now c.args.size (c.args.align_mask + 1) flags) tt (rw (took.1) took.0) c.in-Some.refusal (c.in-Some.ensures (c.args.align_mask + 1) flags) in
+    let same : new ≡ c.args.self.now = ap (over g c.self.inside) took.1 ∙ c.self.view_is in (
       [],
       refl,
-      subst (λ x. Answers (list_case (account x c.args.heap.now c.args.allocations_remains.now) c.args.size (c.args.align_mask + 1) (allocation_bits c.args.flags)) [] (Err TooManyObjects) (account new c.args.heap.now c.args.allocations_remains.now))
-          c.self.view_is
-          (ap (λ s. account (over g c.self.inside s) c.args.heap.now c.args.allocations_remains.now) took.1, refl, record { fits = tt; no_place = took.0; barred = barred }),
+      subst (λ x. Answers (list_case (account x c.args.heap.now c.args.allocations_remains.now) c.args.size (c.args.align_mask + 1) flags) [] (Err c.in-Some.refusal) now) same refused,
     )
 
-pub returns-then-allocations_remains-eq0-clause-sound : goal.returns-then-allocations_remains-eq0-clause-sound
-returns-then-allocations_remains-eq0-clause-sound g c = subst IsSound c.self.view_is c.self.invariant
-
--- There is none, and the heap has no room for a chunk.
-
-pub returns-then-not-fits-clause-answers : goal.returns-then-not-fits-clause-answers
-returns-then-not-fits-clause-answers g c =
-    let took = rw (c.in-Ok-None.field-0-is) at c.in-Ok-None.ensures.takes in
-    let old : Listing = over g c.self.inside c.self.inside.freelist.space in
-    let new : Listing = over g c.self.inside c.get_block.new.self.space in
-    let case = list_case (account old c.args.heap.now c.args.allocations_remains.now) c.args.size (c.args.align_mask + 1) (allocation_bits c.args.flags) in
-    let over_budget : IsOverBudget case = subst (λ n. c.args.heap.now.size < c.args.heap.now.used + n) c.chunk_size_for.ensures.is (omega (arith, iff_false c.fits.ensures c.if-not-fits.true)) in
-    let has : HasQuestion case = record {
-      fits = tt;
-      no_place = took.0;
-      remains = record { objects = omega (arith, c.if-allocations_remains-eq0.false); number = subst HasNumber took.1 (c.has_number.ensures.0 c.if-not-has_number.false) };
-    } in (
-      [],
-      refl,
-      subst (λ x. Answers (list_case (account x c.args.heap.now c.args.allocations_remains.now) c.args.size (c.args.align_mask + 1) (allocation_bits c.args.flags)) [] (Err OutOfDeviceMemory) (account new c.args.heap.now c.args.allocations_remains.now))
-          c.self.view_is
-          (ap (λ s. account (over g c.self.inside s) c.args.heap.now c.args.allocations_remains.now) took.1, inl (inr (has, over_budget), refl)),
-    )
+pub returns-in-Some-clause-sound : goal.returns-in-Some-clause-sound
+returns-in-Some-clause-sound g c = subst IsSound c.self.view_is c.self.invariant
 
 -- A chunk is asked for.
 
@@ -131,14 +100,8 @@ take_chunk-requires-clause-agrees g c =
 pub take_chunk-requires-clause-asks : goal.take_chunk-requires-clause-asks
 take_chunk-requires-clause-asks g c =
     let took = rw (c.in-Ok-None.field-0-is) at c.in-Ok-None.ensures.takes in
-    record {
-      has = record {
-        fits = tt;
-        no_place = rw (took.1) took.0;
-        remains = record { objects = omega (arith, c.if-allocations_remains-eq0.false); number = c.has_number.ensures.0 c.if-not-has_number.false };
-      };
-      within = subst (λ n. c.args.heap.now.used + n ≤ c.args.heap.now.size) c.chunk_size_for.ensures.is (c.fits.ensures.0 c.if-not-fits.false);
-    }
+    let now = account (over g c.self.inside c.get_block.new.self.space) c.args.heap.now c.args.allocations_remains.now in
+    asks_unrefused (list_case now c.args.size (c.args.align_mask + 1) (allocation_bits c.args.flags)) tt (rw (took.1) took.0) (c.in-None.ensures (c.args.align_mask + 1) (allocation_bits c.args.flags))
 
 pub take_chunk-requires-clause-counted : goal.take_chunk-requires-clause-counted
 take_chunk-requires-clause-counted g c =
@@ -151,8 +114,8 @@ take_chunk-requires-clause-fits g c =
     let rounded = rw (← c.self.view_is) at c.requires.fits in
     record { nonempty = rounded.nonempty; fits = rounded.fits; alignment = rounded.alignment; aligned = rounded.aligned }
 
-pub returns-clause-answers : goal.returns-clause-answers
-returns-clause-answers g c =
+pub returns-in-None-clause-answers : goal.returns-in-None-clause-answers
+returns-in-None-clause-answers g c =
     let took = rw (c.in-Ok-None.field-0-is) at c.in-Ok-None.ensures.takes in
     let same : over g c.self.inside c.get_block.new.self.space ≡ c.args.self.now = ap (over g c.self.inside) took.1 ∙ c.self.view_is in
     let told = c.take_chunk.ensures.answers in
@@ -162,11 +125,11 @@ returns-clause-answers g c =
       subst (λ x. Answers (list_case (account x c.args.heap.now c.args.allocations_remains.now) c.args.size (c.args.align_mask + 1) (allocation_bits c.args.flags)) told.0 c.take_chunk.result new) same told.2,
     )
 
-pub returns-clause-objects : goal.returns-clause-objects
-returns-clause-objects g c =
+pub returns-in-None-clause-objects : goal.returns-in-None-clause-objects
+returns-in-None-clause-objects g c =
     let took = rw (c.in-Ok-None.field-0-is) at c.in-Ok-None.ensures.takes in
     let same : over g c.self.inside c.get_block.new.self.space ≡ c.args.self.now = ap (over g c.self.inside) took.1 ∙ c.self.view_is in
     subst (λ x. ObjectsAfter x c.take_chunk.result c.take_chunk.new.self (g.D.MemoryDevice.objects c.args.device.now) (g.D.MemoryDevice.objects c.take_chunk.new.device)) same c.take_chunk.ensures.objects
 
-pub returns-clause-sound : goal.returns-clause-sound
-returns-clause-sound g c = subst IsSound c.self.view_is c.self.invariant
+pub returns-in-None-clause-sound : goal.returns-in-None-clause-sound
+returns-in-None-clause-sound g c = subst IsSound c.self.view_is c.self.invariant
