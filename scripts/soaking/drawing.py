@@ -15,6 +15,7 @@ ABOUT = {
     "space": {**MIXED, "alloc": 60, "free": 55, "ranges": 30},
     "bytes": {**MIXED, "map": 14, "unmap": 9, "write": 22, "read": 22, "put": 14, "get": 14},
     "extremes": MIXED,
+    "full heaps": {**MIXED, "alloc": 30, "required": 20, "import": 6, "free": 40},
 }
 OF_BYTES = ("map", "unmap", "write", "read", "put", "get")
 NO_NUMBERS = ["-1", "+1", "x", "0x10", "1.0", "1_0", str(2**32), str(2**64), "9" * 30, "\x00", "\xb2"]
@@ -60,7 +61,9 @@ class Drawer:
         lines += [f"heap {it}" for it in heaps]
         self.types = random.choice([1, 1, 2, 3, 5, 32])
         # (the first serves most requests)
-        lines += [f"type {random.randrange(len(heaps))} {self.props() if it else random.choice([2, 6, 7]) if self.is_seen else 1}" for it in range(self.types)]
+        owners = [random.randrange(len(heaps)) for _ in range(self.types)]
+        self.room = heaps[owners[0]]
+        lines += [f"type {it} {self.props() if at else random.choice([2, 6, 7]) if self.is_seen else 1}" for at, it in enumerate(owners)]
         lines += [f"atom {self.atom}"] * (self.atom > 1 or self.chance(0.1))
         limits = [f"limits {random.choice([4096] * 4 + [0, 1, 2, 5, 9, WORD])} {random.choice([LONG] * 8 + [0, 100, 2**12, 2**20])}"]
         limits *= self.chance(0.8 if self.about == "extremes" else 0.2)
@@ -77,7 +80,13 @@ class Drawer:
     def heap(self):
         if self.about == "extremes" and self.chance(0.5):
             return self.random.choice(LARGE[1:] + [0, 1, 31] + BETWEEN * (not self.is_seen))
+        if self.about == "full heaps":
+            return self.random.choice([self.usual, 5 * self.usual, 12 * self.usual + 100, 2**14])
         return self.random.choice([2**20, 2**20, 2**21, 2**21 + 1, 2**18 - 1, 2**16, self.random.choice([0, 31, 3200, 1024])])
+
+    def left(self):
+        """How many bytes the heap of the first type has left, if each block has an object of its own there."""
+        return max(0, self.room - sum(size for size, _ in self.live.values()))
 
     def props(self):
         local = self.random.choice([0, 1])
@@ -114,14 +123,15 @@ class Drawer:
     def request(self, word):
         name, usage = self.name(False), self.random.choice([0, 1, 2, 2, 4, 10] if self.is_seen else [0, 0, 1])
         usage = usage | 16 * self.chance(0.35) if self.chance(0.93) else self.random.randrange(256)
-        size = max(self.number(self.near), 0 if self.chance(0.02) else 1)
+        is_full = self.about == "full heaps"
+        size = max(self.number(self.near + [self.left()] * 5 * is_full), 0 if self.chance(0.02) else 1)
         mask, types = self.mask(), 2**self.types - 1 if self.chance(0.85) else self.random.choice([0, 1, 2, WORD, self.random.getrandbits(32)])
-        if 0 < size <= self.most and types & 1 and not mask & mask + 1 and (self.has_address or not usage & 32):
+        if 0 < size <= (self.left() if is_full else self.most) and types & 1 and not mask & mask + 1 and (self.has_address or not usage & 32):
             self.live.setdefault(name, [size, 0])
         return f"{word} {name} {size} {mask} {usage} {types}"
 
     def imported(self):
-        name, size = self.name(False), max(self.number(), 1)
+        name, size = self.name(False), max(self.number([self.room] * (self.about == "full heaps")), 1)
         offset = self.random.choice([0, 0, self.atom, min(size - 1, 7)])
         length = self.random.choice([size - offset, (size - offset) // self.atom * self.atom, self.atom, 1, size])
         self.live.setdefault(name, [max(1, length), 0])

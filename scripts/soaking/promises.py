@@ -33,6 +33,7 @@ class Promise:
     APART, INSIDE, ALIGNED, SIZE = "live blocks share no byte", "a block lies in its object", "a block is aligned", "a block is large enough"
     ATOMS, TYPE, KIND = "blocks in shared non-coherent memory are whole atoms", "the first type in rank that is not passed serves", "a request is served by its kind"
     ROOM, CHUNK, NAME = "a chunk is asked for only where none has room", "a new chunk has the size of its rule", "objects are named in the order of their grants"
+    BUDGET = "a heap is asked for no more than it has left"
     PLACE = "a block is the front of a shortest piece or the tail of the last run"
     CAUSE, DUE, NOTHING = "a refusal has its cause", "what is to be refused is refused", "what changes nothing shows nowhere"
     FAULT, DONE = "the first fault is answered", "what misses no condition is done"
@@ -128,6 +129,8 @@ class World:
         self.blocks, self.objects, self.chunks = {}, {}, collections.defaultdict(list)
         self.remaining, self.asked, self.named, self.version, self.told = setup.count, collections.Counter(), 0, 0, {}
         self.ledgers = [0] * len(setup.heaps)
+        # By memory type: what the latest request would ask of a heap that has less left.
+        self.over = {}
         # By memory type: the atom, the least block of a buddy, the size of the next chunk of each kind, the greatest of a free list.
         self.atoms, self.minimal, self.next, self.final = [], [], {}, []
         for index, (heap, props) in enumerate(setup.types):
@@ -205,11 +208,16 @@ class World:
     def heap_size(self, memory_type):
         return self.setup.heaps[self.setup.types[memory_type][0]]
 
+    def left(self, memory_type):
+        """How many bytes its heap has left, fewer than none where imports are more than it has."""
+        return self.heap_size(memory_type) - self.ledgers[self.setup.types[memory_type][0]]
+
     def is_visible(self, memory_type):
         return bool(self.setup.types[memory_type][1] & VISIBLE)
 
     def decide(self, request, reply):
         """How a request is to be served, or the refusal that is due. The device is asked as it has to be."""
+        self.over = {}
         if request.size > self.setup.limit:
             return DEVICE
         if request.hint == "required" and not self.remaining:
@@ -238,6 +246,9 @@ class World:
             return Grant(kind, memory_type, places, 0, size)
         if not self.remaining:
             return MANY
+        if asked > self.left(memory_type):
+            self.over[memory_type] = asked
+            return DEVICE
         cause = self.object_refused(memory_type, asked, kind in (BUDDY, LIST), reply)
         if cause:
             return DEVICE if cause == "device" else HOST
@@ -283,9 +294,11 @@ class World:
         if spans:
             self.is_own(spans, request)
         answer = self.decide(request, reply)
+        over = self.over.get(spans[0]) if spans else None
+        hold(Promise.BUDGET, not over, f"{over} bytes would be asked of a heap that has fewer left")
         if isinstance(answer, str):
             self.is_expected(reply, answer)
-            return answer
+            return f"{answer}, over the budget" if self.over and answer == DEVICE else answer
         hold(Promise.CAUSE, spans, f"a {answer.kind} block of type {answer.type} is due")
         self.is_due(spans, answer)
         return self.grant(name, spans, answer)

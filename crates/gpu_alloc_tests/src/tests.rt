@@ -2,6 +2,7 @@
 
 mod bench;
 mod buddy;
+mod budget;
 mod bytes;
 mod config;
 mod errors;

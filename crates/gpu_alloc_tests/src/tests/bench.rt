@@ -127,6 +127,11 @@ impl<A: Allocator + Copy> Bench<A> {
         }
     }
 
+    /// How many bytes the heap has left.
+    pub(super) fn budget(&self) -> u64 {
+        self.allocator.heap_budget(0)
+    }
+
     /// Takes a block, with that hint or none, and keeps it. For that no memory is taken.
     pub(super) fn take(
         &mut self,

@@ -4,7 +4,7 @@
 use super::scripts::compare;
 
 /// What is asked under each extreme, and all that is answered.
-const EXTREMES: [(&str, &str, u8); 9] = [
+const EXTREMES: [(&str, &str, u8); 10] = [
     // No size: nothing shares a chunk.
     (
         "\
@@ -25,7 +25,7 @@ end objects 0 allocations 3
 ",
         0,
     ),
-    // Each size is the greatest: chunks are half a 16th of the heap.
+    // Each size is the greatest: chunks are half a 16th of the heap, beside which it has no room for all of its size.
     (
         "\
 config 18446744073709551615 18446744073709551615 18446744073709551615 18446744073709551615 \
@@ -43,16 +43,39 @@ counts
 block type 0 object 1 offset 0 size 18014398509481984
 counts remaining 4095 held 1 used 576460752303423488
 block type 0 object 2 offset 576460752303423486 size 1
-block type 0 object 3 offset 0 size 18446744073709551615
-counts remaining 4093 held 3 used 19599665578316398590
-end objects 0 allocations 3
+refused: Device memory exhausted
+counts remaining 4094 held 2 used 1152921504606846975
+end objects 0 allocations 2
 ",
         0,
     ),
-    // The greatest alignment that a buddy chunk serves, and then each piece of such a chunk.
+    // The greatest alignment that a buddy chunk serves, in a heap that has no room for that chunk: the next one is not
+    // larger for it.
     (
         "\
 heap 1048576
+type 0 1
+alloc 1 1 4611686018427387903 0 1
+counts
+alloc 1 1 0 0 1
+counts
+ranges 0
+",
+        "\
+refused: Device memory exhausted
+counts remaining 4096 held 0 used 0
+block type 0 object 1 offset 0 size 1
+counts remaining 4095 held 1 used 8192
+ranges 1:1-2 1:2-4 1:4-8 1:8-16 1:16-32 1:32-64 1:64-128 1:128-256 1:256-512 1:512-1024 1:1024-2048 \
+1:2048-4096 1:4096-8192
+end objects 0 allocations 1
+",
+        0,
+    ),
+    // A heap of just such a chunk, and then each piece of it.
+    (
+        "\
+heap 9223372036854775808
 type 0 1
 alloc 1 1 4611686018427387903 0 1
 counts
@@ -107,7 +130,8 @@ end objects 0 allocations 1
 ",
         0,
     ),
-    // An atom that is greater than the heap. A flush that is refused copies half of its range: of 32 bytes 16.
+    // An atom that is greater than the heap, which has no room for a chunk then. A flush that is refused copies half of
+    // its range: of 32 bytes 16.
     (
         "\
 heap 1024
@@ -126,17 +150,17 @@ write 3 0 2222222222222222222222222222222222222222222222222222222222222222
 read 3 0 32
 ",
         "\
-block type 0 object 1 offset 0 size 4096
-counts remaining 4095 held 1 used 8192
-block type 0 object 2 offset 0 size 4096
-counts remaining 4094 held 2 used 12288
-block type 0 object 3 offset 0 size 32
-counts remaining 4093 held 3 used 12320
+refused: Device memory exhausted
+counts remaining 4096 held 0 used 0
+refused: Device memory exhausted
+counts remaining 4096 held 0 used 0
+block type 0 object 1 offset 0 size 32
+counts remaining 4095 held 1 used 32
 ok
 bytes 1111111111111111111111111111111111111111111111111111111111111111
 refused: Host memory exhausted
 bytes 2222222222222222222222222222222211111111111111111111111111111111
-end objects 0 allocations 3
+end objects 0 allocations 1
 ",
         0,
     ),

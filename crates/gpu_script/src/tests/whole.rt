@@ -354,3 +354,99 @@ end objects 0 allocations 3
 fn what_is_not_served_changes_nothing(rt: HostRuntime) {
     compare(&rt, rt.alloc(), &CONDITIONS);
 }
+
+/// Heaps that have room for some requests and for others not, beside imports that they are not asked for.
+const BUDGETS: [(&str, &str, u8); 3] = [
+    // As much as a heap has is granted, and a byte more is not. A place is used whatever is held.
+    (
+        "\
+heap 10000
+type 0 1
+required 1 6000 0 0 1
+required 2 4001 0 0 1
+required 2 4000 0 0 1
+alloc 3 1 0 0 1
+free 1
+alloc 3 1 0 0 1
+import 4 0 9000 0 9000
+alloc 5 1 0 0 1
+required 6 1 0 0 1
+counts
+",
+        "\
+block type 0 object 1 offset 0 size 6000
+refused: Device memory exhausted
+block type 0 object 2 offset 0 size 4000
+refused: Device memory exhausted
+ok
+block type 0 object 3 offset 0 size 1
+block type 0 object 4 offset 0 size 9000
+block type 0 object 3 offset 1 size 1
+refused: Device memory exhausted
+counts remaining 4093 held 3 used 13512
+end objects 0 allocations 4
+",
+        0,
+    ),
+    // The next type's heap has room, and it alone is asked.
+    (
+        "\
+heap 100
+heap 1000
+type 0 1
+type 1 1
+required 1 80 0 0 3
+required 2 30 0 0 3
+counts
+",
+        "\
+block type 0 object 1 offset 0 size 80
+block type 1 object 2 offset 0 size 30
+counts remaining 4094 held 2 used 80 30
+end objects 0 allocations 2
+",
+        0,
+    ),
+    // What is held and what is wanted are together more than 64 bits hold.
+    (
+        "\
+heap 18446744073709551615
+type 0 1
+limits 4096 18446744073709551615
+import 1 0 18446744073709551610 0 18446744073709551610
+required 2 6 0 0 1
+required 2 18446744073709551615 0 0 1
+alloc 2 1 0 0 1
+alloc 2 1 0 16 1
+required 2 5 0 0 1
+required 3 1 0 0 1
+counts
+import 3 0 18446744073709551615 0 18446744073709551615
+required 4 18446744073709551615 0 0 1
+required 4 2 0 0 1
+counts
+",
+        "\
+block type 0 object 1 offset 0 size 18446744073709551610
+refused: Device memory exhausted
+refused: Device memory exhausted
+refused: Device memory exhausted
+refused: Device memory exhausted
+block type 0 object 2 offset 0 size 5
+refused: Device memory exhausted
+counts remaining 4094 held 2 used 18446744073709551615
+block type 0 object 3 offset 0 size 18446744073709551615
+refused: Device memory exhausted
+refused: Device memory exhausted
+counts remaining 4093 held 3 used 36893488147419103230
+end objects 0 allocations 3
+",
+        0,
+    ),
+];
+
+/// If not, a device would be asked for more than its heap has, or a request would be refused for which there is room.
+#[test]
+fn a_heap_is_asked_for_no_more_than_it_has(rt: HostRuntime) {
+    compare(&rt, rt.alloc(), &BUDGETS);
+}
