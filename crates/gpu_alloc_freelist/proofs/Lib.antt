@@ -15,7 +15,6 @@ pub mod LiveBlocks
 pub mod NewWholes
 pub mod NumberSearch
 pub mod NumberedRows
-pub mod RunInserts
 pub mod RunLists
 pub mod RunSearch
 pub mod RunsKept

@@ -24,13 +24,13 @@ module _ {X : Type 0} (xs : List X) (from to : ℕ) (y : X) (low : from ≤ to) 
   pub length_spliced : length spliced + to ≡ from + 1 + length xs
   length_spliced = omega (arith, length-append (take from xs) (y ∷ drop to xs), length_front, length-drop to xs)
 
-  pub at_front : (k : ℕ) (d : X) → k < from → get_or spliced k d ≡ get_or xs k d
+  at_front : (k : ℕ) (d : X) → k < from → get_or spliced k d ≡ get_or xs k d
   at_front k d lt = get_or_append_left (take from xs) (y ∷ drop to xs) d k (omega (arith, length_front)) ∙ get_or-take from xs k d lt
 
-  pub at_new : (d : X) → get_or spliced from d ≡ y
+  at_new : (d : X) → get_or spliced from d ≡ y
   at_new d = get_or_at (take from xs) y (drop to xs) d from length_front
 
-  pub at_back : (k m : ℕ) (d : X) → k ≡ from + 1 + m → get_or spliced k d ≡ get_or xs (to + m) d
+  at_back : (k m : ℕ) (d : X) → k ≡ from + 1 + m → get_or spliced k d ≡ get_or xs (to + m) d
   at_back k m d is =
       let there : k ≡ length (take from xs) + suc m = omega (arith, is, length_front) in
       ap (λ n. get_or spliced n d) there ∙ get_or-append-add (take from xs) (y ∷ drop to xs) (suc m) d ∙ get_or-drop to xs m d

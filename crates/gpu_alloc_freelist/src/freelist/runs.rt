@@ -363,15 +363,25 @@ fn splice<A: Allocator>(regions: &mut Vec<FreeListRegion, A>, joint: Joint)
     }
 }
 
-/// Inserts a run at this index, where there is room. Those behind it move up as one piece of memory.
+/// Inserts a run at this index, where there is room. Those behind it move up by one place.
 fn insert<A: Allocator>(regions: &mut Vec<FreeListRegion, A>, index: usize, region: FreeListRegion)
     requires within { index ≤ vec_len regions.old }
     requires room { vec_len regions.old < vec_capacity regions.old }
     ensures items { regions.new.items ≡ take index regions.old.items ++ region ∷ drop index regions.old.items }
     ensures capacity { vec_capacity regions.new ≡ vec_capacity regions.old }
 {
-    let last = regions.len();
     regions.push_reserved(region);
-    regions.copy_within(index..last, index + 1);
-    regions[index] = region;
+    put_first(&mut regions[index..], region);
+}
+
+/// Puts a run before the others, which move up by one place. The last of them is lost.
+// (It is not inlined, since LLVM makes one `memmove` of the copy where the slice is all that it knows.)
+#[inline(never)]
+fn put_first(regions: &mut [FreeListRegion], region: FreeListRegion)
+    requires { 0 < length regions.old }
+    ensures { regions.new ≡ region ∷ take (length regions.old - 1) regions.old }
+{
+    let last = regions.len() - 1;
+    regions.copy_within(..last, 1);
+    regions[0] = region;
 }
