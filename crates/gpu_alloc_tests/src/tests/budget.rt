@@ -2,18 +2,13 @@
 //! and given back, what is held, asked and left is what a plain account says.
 
 use super::bench::{Bench, Held, whole};
+use super::offers::LOCAL;
 use super::same::{holds, same_at};
-use gpu_alloc::{AllocationError, Dedicated, MemoryPropertyFlags, MemoryType, Request, UsageFlags};
+use gpu_alloc::{AllocationError, Dedicated, Request, UsageFlags};
 use gpu_sim::Question;
 use std::alloc::Global;
 use std::process::Abort;
 use std::test::Fail;
-
-/// A memory type near to the device.
-const LOCAL: MemoryType = MemoryType {
-    heap: 0,
-    props: MemoryPropertyFlags::DEVICE_LOCAL,
-};
 
 /// How many bytes the heap has.
 const HEAP: u64 = 1 << 20;

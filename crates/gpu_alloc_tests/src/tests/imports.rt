@@ -1,18 +1,13 @@
 //! Imports: what is flushed, held and counted, beside blocks of each kind, and without memory.
 
 use super::bench::{Bench, Held, Imported, Part, whole};
+use super::offers::LOCAL;
 use super::same::{holds, same, same_at};
 use gpu_alloc::{Dedicated, MemoryPropertyFlags, MemoryType, Request, UsageFlags};
 use gpu_sim::ScarceMemory;
 use std::alloc::Global;
 use std::process::Abort;
 use std::test::Fail;
-
-/// A memory type near to the device.
-const LOCAL: MemoryType = MemoryType {
-    heap: 0,
-    props: MemoryPropertyFlags::DEVICE_LOCAL,
-};
 
 /// A memory type that the host sees and has to flush.
 const NON_COHERENT: MemoryType = MemoryType {

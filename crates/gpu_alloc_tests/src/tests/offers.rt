@@ -3,10 +3,16 @@
 ghost use Rattle.std.specs.Prelude.{◌≡◌};
 ghost use Rattle.gpu_alloc_types.specs.Properties.{properties_of};
 
-use gpu_alloc::{DeviceProperties, MemoryHeap, MemoryType};
+use gpu_alloc::{DeviceProperties, MemoryHeap, MemoryPropertyFlags, MemoryType};
 
 /// One heap of 1 MiB.
 pub(super) const HEAPS: [MemoryHeap; 1] = [MemoryHeap { size: 1 << 20 }];
+
+/// A memory type near to the device.
+pub(super) const LOCAL: MemoryType = MemoryType {
+    heap: 0,
+    props: MemoryPropertyFlags::DEVICE_LOCAL,
+};
 
 /// What a device offers that has these types in one heap.
 pub(super) fn offer<'a>(memory_types: &'a [MemoryType], atom: u64) -> DeviceProperties<'a> {

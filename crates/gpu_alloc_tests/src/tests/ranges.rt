@@ -1,20 +1,13 @@
 //! The free ranges of a memory type, as an allocator over the simulated device tells them.
 
 use super::bench::Bench;
+use super::offers::LOCAL;
 use super::same::{holds, never_with, same_at};
-use gpu_alloc::{
-    AllocationError, Dedicated, FreeRange, MemoryPropertyFlags, MemoryType, Request, UsageFlags,
-};
+use gpu_alloc::{AllocationError, Dedicated, FreeRange, Request, UsageFlags};
 use gpu_sim::{HostMemory, ScarceMemory};
 use std::alloc::{Allocator, Global};
 use std::process::Abort;
 use std::test::Fail;
-
-/// A type near to the device.
-const LOCAL: MemoryType = MemoryType {
-    heap: 0,
-    props: MemoryPropertyFlags::DEVICE_LOCAL,
-};
 
 /// What is done with an allocator, and what has to come of it.
 #[derive(Clone, Copy)]

@@ -356,7 +356,7 @@ fn what_is_not_served_changes_nothing(rt: HostRuntime) {
 }
 
 /// Heaps that have room for some requests and for others not, beside imports that they are not asked for.
-const BUDGETS: [(&str, &str, u8); 3] = [
+const BUDGETS: [(&str, &str, u8); 4] = [
     // As much as a heap has is granted, and a byte more is not. A place is used whatever is held.
     (
         "\
@@ -404,6 +404,36 @@ block type 0 object 1 offset 0 size 80
 block type 1 object 2 offset 0 size 30
 counts remaining 4094 held 2 used 80 30
 end objects 0 allocations 2
+",
+        0,
+    ),
+    // Where nothing remains either, that is told, of a chunk of each kind and of an object of a block's own.
+    (
+        "\
+heap 10000
+type 0 1
+limits 1 1073741824
+import 1 0 10000 0 10000
+alloc 2 1 0 0 1
+alloc 2 1 0 16 1
+alloc 2 5000 0 0 1
+remaining 1
+alloc 2 1 0 0 1
+alloc 2 1 0 16 1
+alloc 2 5000 0 0 1
+counts
+",
+        "\
+block type 0 object 1 offset 0 size 10000
+refused: Reached limit on allocated memory objects count
+refused: Reached limit on allocated memory objects count
+refused: Reached limit on allocated memory objects count
+ok
+refused: Device memory exhausted
+refused: Device memory exhausted
+refused: Device memory exhausted
+counts remaining 1 held 1 used 10000
+end objects 0 allocations 1
 ",
         0,
     ),
