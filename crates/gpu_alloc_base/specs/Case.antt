@@ -51,7 +51,7 @@ module _ {B S : Type 0} (c : Case B S) where
     pub no_place : c.HasPlace → ⊥
     pub remains : MayAsk
 
-  -- the heap has as many bytes left as the question is for, or fewer
+  -- the heap has as many bytes left as the question is for, or more; or it has not
   abbrev pub IsWithinBudget : Type 0
   IsWithinBudget = c.ledger + c.question.size ≤ c.heap_size
 

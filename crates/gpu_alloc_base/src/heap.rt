@@ -47,7 +47,7 @@ impl Heap {
     pub fn fits(&self, size: u64) -> bool
         ensures { IsTrue result ↔ self.now.used + size ≤ self.now.size }
     {
-        size <= self.budget() && self.used <= u128::from(self.size)
+        self.used <= u128::from(self.size) && size <= self.size - self.used as u64
     }
 
     /// Counts `size` bytes more as held. They may be more than the heap's size ([`fits`](Heap::fits) tells), and have to

@@ -237,13 +237,14 @@ impl<M: MemoryObject, A: Allocator> FreeListAllocator<M, A> {
             → RefusesFirst (case_of (account self.now heap.now allocations_remains) (wanted size align_mask flags))
             result }
     {
-        let size = self.rounded_size(size);
-        let refusal = self.refuses_chunk(size, heap, allocations_remains)?;
-        let used_mask = align_mask.max(self.atom_mask);
-        if self.freelist.has_place(used_mask, size) {
+        // (a heap with room for a largest chunk has room for any: most requests need no more than this test)
+        if allocations_remains > 0
+            && self.freelist.has_number()
+            && heap.fits(self.final_chunk_size)
+        {
             return None;
         }
-        Some(refusal)
+        self.refuses_exactly(size, align_mask, heap, allocations_remains)
     }
 
     /// Takes a block back, and joins it with the free runs beside it. Then each chunk in which no block is live goes
@@ -428,6 +429,31 @@ impl<M: MemoryObject, A: Allocator> FreeListAllocator<M, A> {
             Some(refusal) => Err(refusal),
             None => self.take_chunk(device, size, align_mask, flags, heap, allocations_remains),
         }
+    }
+
+    /// The refusal that `refuses` tells, by the chunk that is wanted.
+    #[inline(never)]
+    fn refuses_exactly(
+        &self,
+        size: u64,
+        align_mask: u64,
+        heap: &Heap,
+        allocations_remains: u32,
+    ) -> Option<AllocationError>
+        requires nonempty { 0 < size }
+        requires fits { up size (self.now).atom ≤ (self.now).final_chunk }
+        requires alignment { IsAlignMask align_mask }
+        ensures { (flags : ℕ)
+            → RefusesFirst (case_of (account self.now heap.now allocations_remains) (wanted size align_mask flags))
+            result }
+    {
+        let size = self.rounded_size(size);
+        let refusal = self.refuses_chunk(size, heap, allocations_remains)?;
+        let used_mask = align_mask.max(self.atom_mask);
+        if self.freelist.has_place(used_mask, size) {
+            return None;
+        }
+        Some(refusal)
     }
 
     /// Why the device may not be asked for a chunk with a block of this size: nothing remains, no number is left for it,

@@ -54,9 +54,16 @@ state_kept l heaps buddies lists new old remaining kept = ap (λ t. state_in l h
 pub returns-then-not-fits-clause-tries : goal.returns-then-not-fits-clause-tries
 returns-then-not-fits-clause-tries g c =
     let known = rw (← c.self.view_is) at c.requires.known in
-    rw (← c.self.view_is) ([], refl, (refl, passes_own (type_heap_is c.self.inside.limits c.self.inside.heaps.items c.self.inside.buddies.items c.self.inside.free_lists.items c.self.inside.spans c.self.inside.allocations_remains c.self.invariant.books c.args.memory_type _ c.index.result.now known
-    c.heap_index-heap.ensures c.index.ensures)
-    (positive c.self.inside.allocations_remains c.if-self-eq0.false) (iff_false c.fits.ensures c.if-not-fits.true)))
+    rw (← c.self.view_is) (
+      [],
+      refl,
+      (
+        refl,
+        passes_own (type_heap_is c.self.inside.limits c.self.inside.heaps.items c.self.inside.buddies.items c.self.inside.free_lists.items c.self.inside.spans c.self.inside.allocations_remains c.self.invariant.books c.args.memory_type _ c.index.result.now known
+            c.heap_index-heap.ensures c.index.ensures)
+            (positive c.self.inside.allocations_remains c.if-self-eq0.false) (iff_false c.fits.ensures c.if-not-fits.true),
+      ),
+    )
 
 pub invariant_of-self : goal.invariant_of-self
 invariant_of-self g c = consistent-room _ _ _ _ _ _ _ _ c.reserve.ensures.kept c.self.invariant
