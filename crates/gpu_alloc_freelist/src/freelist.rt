@@ -432,6 +432,7 @@ impl<M: MemoryObject, A: Allocator> FreeListAllocator<M, A> {
     }
 
     /// The refusal that `refuses` tells, by the chunk that is wanted.
+    #[cold]
     #[inline(never)]
     fn refuses_exactly(
         &self,
