@@ -1,10 +1,9 @@
 -- What a granted object of its own leaves.
-use Rattle.std.proofs.Common.{◌≡◌, ℕ, ◌+◌, ◌-◌, ◌<◌, ◌≤◌, List, [], get_or, Some, None, Ok, refl, sym, ◌∙◌, subst, arith, inl, inr}
+use Rattle.std.proofs.Common.{◌≡◌, ℕ, ◌-◌, ◌<◌, List, get_or, Some, None, Ok, refl, sym, ◌∙◌, subst, inr}
 use Rattle.std.proofs.Math.ListN.{set}
 use Rattle.std.specs.FinMap as finite
 use Rattle.std.specs.FinSet as set_of
-use Rattle.gpu_alloc_types.specs.Properties.{heap_at}
-use Rattle.gpu_alloc_base.specs.Case.{Asks, HasQuestion, IsPassed}
+use Rattle.gpu_alloc_base.specs.Case.{Asks, HasQuestion, IsWithinBudget}
 use Rattle.gpu_alloc_base.specs.NewChunk.{made}
 use Rattle.gpu_alloc.specs.Allocation.{TriesBy}
 use Rattle.gpu_alloc.specs.Candidates.{own_candidate, own_question, holding, whole_block}
@@ -18,7 +17,7 @@ use Rattle.gpu_alloc.specs.declared.limits.Limits.{Limits}
 use Rattle.gpu_alloc_block.specs.declared.block.Kind.TheVariants.{Dedicated as DedicatedObject}
 use Rattle.gpu_alloc_base.specs.declared.heap.Heap.{Heap}
 use Rattle.gpu_alloc.specs.declared.request.Request.{Request}
-use Rattle.gpu_alloc.proofs.HeapLists.{IsHeap, state_kept}
+use Rattle.gpu_alloc.proofs.HeapLists.{state_kept}
 
 -- the object of a block that is an object of its own
 abbrev pub own_object : ℕ → ℕ → HeldObject
@@ -36,13 +35,9 @@ state_held l heaps buddies lists i h old t now remaining object b at same held l
 pub has_own : {s : State} {size memory_type : ℕ} → 0 < s.remaining → HasQuestion (own_candidate s size memory_type)
 has_own some = record { fits = tt; no_place = λ never. never; remains = record { objects = some; number = tt } }
 
--- which is asked where the heap has room for it, and else it is passed
-module _ {s : State} {size memory_type : ℕ} {heap : Heap} (of : IsHeap s (heap_at s.properties memory_type) heap) (some : 0 < s.remaining) where
-  pub asks_own : heap.used + size ≤ heap.size → Asks (own_candidate s size memory_type)
-  asks_own fits = record { has = has_own some; within = omega (arith, fits, of.used, of.size) }
-
-  pub passes_own : (heap.used + size ≤ heap.size → ⊥) → IsPassed (own_candidate s size memory_type) []
-  passes_own over = inl (inr (has_own some, omega (arith, over, of.used, of.size)), refl)
+-- which is asked where the heap has room for it
+pub asks_own : {s : State} {size memory_type : ℕ} → 0 < s.remaining → (0 < s.remaining → IsWithinBudget (own_candidate s size memory_type)) → Asks (own_candidate s size memory_type)
+asks_own some room = record { has = has_own some; within = room some }
 
 -- the candidate decides
 pub decides_granted : (s now : State) (r : Request) (memory_type object : ℕ) (b : Block) → b ≡ whole_block s object r.size memory_type → Asks (own_candidate s r.size memory_type) → finite.get s.held object ≡ None

@@ -13,6 +13,8 @@ ghost use Rattle.gpu_alloc_usage.specs.Ranking.{implied, named, ranking};
 ghost use Rattle.gpu_alloc.specs.Allocation.{Allocates, ObjectsAfter, ObjectsTried, IsGranted, candidates_of};
 ghost use Rattle.gpu_alloc.specs.Atoms.{KeepsAtoms};
 ghost use Rattle.gpu_alloc.specs.Budget.{heap_budget};
+ghost use Rattle.gpu_alloc.specs.Candidates.{own_candidate};
+ghost use Rattle.gpu_alloc_base.specs.Case.{IsOverBudget, IsWithinBudget};
 ghost use Rattle.gpu_alloc.specs.declared.allocator.Strategy.TheVariants.{OwnObject, InBuddyChunk, InFreeList};
 ghost use Rattle.gpu_alloc.specs.Opening.{opened};
 ghost use Rattle.gpu_alloc.specs.Owned.{HoldsNothing, Leaves, Adds, Removes, LeavesNoRest, StaysAgreed};
@@ -348,6 +350,7 @@ impl<M: MemoryObject, A: Allocator> GpuAllocator<M, A> {
             return Ok(None);
         }
         match self.strategy(request, hint, memory_type) {
+            Strategy::OwnObject if self.is_over_budget(request.size, memory_type) => Ok(None),
             Strategy::OwnObject => self.try_object(device, request, memory_type),
             Strategy::InBuddyChunk => self.try_buddy(device, request, memory_type),
             Strategy::InFreeList => self.try_free_list(device, request, memory_type),
@@ -406,7 +409,26 @@ impl<M: MemoryObject, A: Allocator> GpuAllocator<M, A> {
         size <= self.limits.config.final_size(heap, atom)
     }
 
-    /// Tries one memory type for an object of its own: none where the type is passed.
+    /// Whether an object of so many bytes of a memory type might be asked for, but is over the heap's budget.
+    #[inline(always)]
+    fn is_over_budget(&self, size: u64, memory_type: u32) -> bool
+        requires known { memory_type < length (self.now.properties).memory_types }
+        ensures over { result ≡ true → (0 < self.now.remaining) × IsOverBudget (own_candidate self.now size memory_type) }
+        ensures within { result ≡ false → 0 < self.now.remaining → IsWithinBudget (own_candidate self.now size memory_type) }
+    {
+        !self.heaps[self.limits.heap_index(memory_type)].fits(size) && self.may_hold_more()
+    }
+
+    /// Whether one more object may be held. (It stands apart, so that requests within the budget do not pay for it.)
+    #[cold]
+    #[inline(never)]
+    fn may_hold_more(&self) -> bool
+        ensures { IsTrue result ↔ 0 < self.now.remaining }
+    {
+        self.allocations_remains > 0
+    }
+
+    /// Tries one memory type for an object of its own, which its heap has room for: none where the type is passed.
     fn try_object<D: MemoryDevice<M>>(
         &mut self,
         device: &mut D,
@@ -415,6 +437,7 @@ impl<M: MemoryObject, A: Allocator> GpuAllocator<M, A> {
     ) -> Result<Option<MemoryBlock<M>>, AllocationError>
         requires askable { IsAskable (self.old.properties).buffer_device_address request }
         requires known { memory_type < length (self.old.properties).memory_types }
+        requires room { 0 < self.old.remaining → IsWithinBudget (own_candidate self.old request.size memory_type) }
         requires agrees { Agrees self.old (D.properties device.old) (D.objects device.old) }
         ensures tries { (es : List Event) × Chain D.step device.old es device.new
             × TriesBy OwnObject self.old request memory_type es result self.new }
@@ -422,10 +445,6 @@ impl<M: MemoryObject, A: Allocator> GpuAllocator<M, A> {
     {
         if self.allocations_remains == 0 {
             return Err(AllocationError::TooManyObjects);
-        }
-        let heap = self.limits.heap_index(memory_type);
-        if !self.heaps[heap].fits(request.size) {
-            return Ok(None);
         }
         if self.spans.reserve().is_err() {
             return Err(AllocationError::OutOfHostMemory);
@@ -447,6 +466,7 @@ impl<M: MemoryObject, A: Allocator> GpuAllocator<M, A> {
                     index: 0,
                 };
                 let key = self.spans.insert(span, Some(object));
+                let heap = self.limits.heap_index(memory_type);
                 self.heaps[heap].alloc(object.counted);
                 self.allocations_remains -= 1;
                 let props = self.limits.props(memory_type);

@@ -1,6 +1,5 @@
 use Rattle.std.proofs.Common.{◌≡◌, ◌≢◌, ℕ, Bool, true, false, cond, IsTrue, List, ◌+◌, ◌-◌, ◌<◌, ◌≤◌, ◌∷◌, [], ◌^◌, None, Err, refl, sym, ap, ◌∙◌, arith, subst, inl, inr, length, vec_len}
 use Rattle.std.proofs.Math.ListN.{set}
-use Rattle.std.proofs.lemmas.Bool.{iff_false}
 use Rattle.std.proofs.lemmas.Grind.{common_steps}
 use Rattle.std.specs.FinMap as finite
 use Rattle.std.specs.FinSet as set_of
@@ -9,7 +8,7 @@ use Rattle.gpu_alloc_types.specs.Device.Event.{Allocated}
 use Rattle.gpu_alloc_types.specs.Flags.{has_bit}
 use Rattle.gpu_alloc_types.specs.Properties.{Properties}
 use Rattle.gpu_alloc.specs.Candidates.{own_question, own_candidate, whole_block, holding}
-use Rattle.gpu_alloc_base.specs.Case.{Asks, IsOpen}
+use Rattle.gpu_alloc_base.specs.Case.{Asks}
 use Rattle.gpu_alloc.specs.Inside.{state_in, properties_in}
 use Rattle.gpu_alloc_base.specs.NewChunk.{flags_of, made}
 use Rattle.gpu_alloc.specs.Spans.{Table, span_at}
@@ -23,7 +22,7 @@ use Rattle.gpu_alloc.proofs.Agreeing.{not_held}
 use Rattle.gpu_alloc_base.specs.NewObject.{HasOneMore}
 use Rattle.gpu_alloc.specs.Allocation.{IsAsCounted}
 use Rattle.gpu_alloc.proofs.Consistency.{HoldsMore, heap_there, ledger-room}
-use Rattle.gpu_alloc.proofs.Grants.{asks_own, own_object, passes_own, state_held, decides_granted}
+use Rattle.gpu_alloc.proofs.Grants.{asks_own, own_object, state_held, decides_granted}
 use Rattle.gpu_alloc.proofs.HeapLists.{properties_kept, type_heap_is}
 use Rattle.gpu_alloc.proofs.Tables.LiveSpans.{not_live_new}
 use Rattle.gpu_alloc.proofs.OwnObjects.{consistent-room, consistent-held}
@@ -48,22 +47,6 @@ places_kept new old kept = ap (λ (t : Table). t.places) kept
 state_kept : {A : Type 0} (l : Limits A) (heaps : List Heap) (buddies : List Buddy) (lists : List Listing) (new old : Table) (remaining : ℕ) → new ≡ record old { room = new.room }
     → state_in l heaps buddies lists new remaining ≡ state_in l heaps buddies lists old remaining
 state_kept l heaps buddies lists new old remaining kept = ap (λ t. state_in l heaps buddies lists t remaining) kept
-
--- The heap has no room.
-
-pub returns-then-not-fits-clause-tries : goal.returns-then-not-fits-clause-tries
-returns-then-not-fits-clause-tries g c =
-    let known = rw (← c.self.view_is) at c.requires.known in
-    rw (← c.self.view_is) (
-      [],
-      refl,
-      (
-        refl,
-        passes_own (type_heap_is c.self.inside.limits c.self.inside.heaps.items c.self.inside.buddies.items c.self.inside.free_lists.items c.self.inside.spans c.self.inside.allocations_remains c.self.invariant.books c.args.memory_type _ c.index.result.now known
-            c.heap_index-heap.ensures c.index.ensures)
-            (positive c.self.inside.allocations_remains c.if-self-eq0.false) (iff_false c.fits.ensures c.if-not-fits.true),
-      ),
-    )
 
 pub invariant_of-self : goal.invariant_of-self
 invariant_of-self g c = consistent-room _ _ _ _ _ _ _ _ c.reserve.ensures.kept c.self.invariant
@@ -116,21 +99,15 @@ more g c =
     }
 
 asks : (g : Over) (c : goal.After-new g) → Asks (own_candidate (before g c) c.args.request.size c.args.memory_type)
-asks g c =
-    let known = rw (← c.self.view_is) at c.requires.known in
-    asks_own (type_heap_is c.self.inside.limits c.self.inside.heaps.items c.self.inside.buddies.items c.self.inside.free_lists.items c.self.inside.spans c.self.inside.allocations_remains c.self.invariant.books c.args.memory_type _ c.index.result.now known
-    c.heap_index-heap.ensures c.index.ensures)
-    (positive c.self.inside.allocations_remains c.if-self-eq0.false) (c.fits.ensures.0 c.if-not-fits.false)
+asks g c = asks_own (positive c.self.inside.allocations_remains c.if-self-eq0.false) (rw (← c.self.view_is) at c.requires.room)
 
--- the heap has room for it still where it is counted
+-- the heap has room for it where it is counted
 fits : (g : Over) (c : goal.After-new g) → c.index_mut.result.now.used + c.args.request.size ≤ c.index_mut.result.now.size
 fits g c =
     let known = rw (← c.self.view_is) at c.requires.known in
-    let of = type_heap_is c.self.inside.limits c.self.inside.heaps.items c.self.inside.buddies.items c.self.inside.free_lists.items c.self.inside.spans c.self.inside.allocations_remains c.self.invariant.books c.args.memory_type _ c.index.result.now known
-    c.heap_index-heap.ensures c.index.ensures in
-    let counted = type_heap_is c.self.inside.limits c.self.inside.heaps.items c.self.inside.buddies.items c.self.inside.free_lists.items c.self.inside.spans c.self.inside.allocations_remains c.self.invariant.books c.args.memory_type _ c.index_mut.result.now known
+    let of = type_heap_is c.self.inside.limits c.self.inside.heaps.items c.self.inside.buddies.items c.self.inside.free_lists.items c.self.inside.spans c.self.inside.allocations_remains c.self.invariant.books c.args.memory_type _ c.index_mut.result.now known
     c.heap_index-heap.ensures c.index_mut.ensures.value in
-    omega (arith, c.fits.ensures.0 c.if-not-fits.false, of.used, of.size, counted.used, counted.size)
+    omega (arith, (asks g c).within, of.used, of.size)
 
 state_is : (g : Over) (c : goal.After-new g)
     → state_in c.self.inside.limits (set c.self.inside.heaps.items c.heap_index-heap.result c.alloc.new.self) c.self.inside.buddies.items c.self.inside.free_lists.items c.insert-key.new.self (c.self.inside.allocations_remains - 1)
@@ -172,15 +149,11 @@ returns-in-Ok-clause-objects g c =
 
 pub returns-in-Err-OutOfHostMemory-clause-tries : goal.returns-in-Err-OutOfHostMemory-clause-tries
 returns-in-Err-OutOfHostMemory-clause-tries g c =
-    let known = rw (← c.self.view_is) at c.requires.known in
-    let asks = asks_own (type_heap_is c.self.inside.limits c.self.inside.heaps.items c.self.inside.buddies.items c.self.inside.free_lists.items c.self.inside.spans c.self.inside.allocations_remains c.self.invariant.books c.args.memory_type _ c.index.result.now known
-    c.heap_index-heap.ensures c.index.ensures)
-    (positive c.self.inside.allocations_remains c.if-self-eq0.false) (c.fits.ensures.0 c.if-not-fits.false) in
     let same = state_kept c.self.inside.limits c.self.inside.heaps.items c.self.inside.buddies.items c.self.inside.free_lists.items c.reserve.new.self c.self.inside.spans c.self.inside.allocations_remains c.reserve.ensures.kept in
     rw (← c.self.view_is) (
       Allocated c.args.request.size c.args.memory_type (flags_of (properties_in c.self.inside.limits c.self.inside.heaps.items)) (Err c.in-Err-OutOfHostMemory.field-0) ∷ [],
       (c.allocate_memory-answer.new.self, rw (← c.flags-flags.ensures) (rw c.in-Err-OutOfHostMemory.is at c.allocate_memory-answer.ensures), refl),
-      (same, inr (asks, inl (inl (rw (rw c.in-Err-OutOfHostMemory.is at c.in-Err-OutOfHostMemory.field-0-is) refl)))),
+      (same, inr (asks_own (positive c.self.inside.allocations_remains c.if-self-eq0.false) (rw (← c.self.view_is) at c.requires.room), inl (inl (rw (rw c.in-Err-OutOfHostMemory.is at c.in-Err-OutOfHostMemory.field-0-is) refl)))),
     )
 
 -- The device grants nothing: room was made, and the state is the one before.
@@ -191,23 +164,17 @@ kept-is_err g c = state_kept c.self.inside.limits c.self.inside.heaps.items c.se
 
 pub returns-then-is_err-clause-tries : goal.returns-then-is_err-clause-tries
 returns-then-is_err-clause-tries g c =
-    let known = rw (← c.self.view_is) at c.requires.known in
-    let asks = asks_own (type_heap_is c.self.inside.limits c.self.inside.heaps.items c.self.inside.buddies.items c.self.inside.free_lists.items c.self.inside.spans c.self.inside.allocations_remains c.self.invariant.books c.args.memory_type _ c.index.result.now known
-    c.heap_index-heap.ensures c.index.ensures)
-    (positive c.self.inside.allocations_remains c.if-self-eq0.false) (c.fits.ensures.0 c.if-not-fits.false) in
-    ([], refl, (kept-is_err g c, inl (refl, subst (λ s. IsOpen (own_candidate s c.args.request.size c.args.memory_type)) c.self.view_is (record { fits = tt; ways = inr (asks.has.remains, asks.within) }))))
+    let some = subst (λ s. 0 < s.remaining) c.self.view_is (positive c.self.inside.allocations_remains c.if-self-eq0.false) in
+    let asks = asks_own some c.requires.room in
+    ([], refl, (kept-is_err g c, inl (refl, record { fits = tt; ways = inr (asks.has.remains, asks.within) })))
 
 pub returns-in-Err-OutOfDeviceMemory-clause-tries : goal.returns-in-Err-OutOfDeviceMemory-clause-tries
 returns-in-Err-OutOfDeviceMemory-clause-tries g c =
-    let known = rw (← c.self.view_is) at c.requires.known in
-    let asks = asks_own (type_heap_is c.self.inside.limits c.self.inside.heaps.items c.self.inside.buddies.items c.self.inside.free_lists.items c.self.inside.spans c.self.inside.allocations_remains c.self.invariant.books c.args.memory_type _ c.index.result.now known
-    c.heap_index-heap.ensures c.index.ensures)
-    (positive c.self.inside.allocations_remains c.if-self-eq0.false) (c.fits.ensures.0 c.if-not-fits.false) in
     let same = state_kept c.self.inside.limits c.self.inside.heaps.items c.self.inside.buddies.items c.self.inside.free_lists.items c.reserve.new.self c.self.inside.spans c.self.inside.allocations_remains c.reserve.ensures.kept in
     rw (← c.self.view_is) (
       Allocated c.args.request.size c.args.memory_type (flags_of (properties_in c.self.inside.limits c.self.inside.heaps.items)) (Err c.in-Err-OutOfDeviceMemory.field-0) ∷ [],
       (c.allocate_memory-answer.new.self, rw (← c.flags-flags.ensures) (rw c.in-Err-OutOfDeviceMemory.is at c.allocate_memory-answer.ensures), refl),
-      (same, inr (asks, inl (rw (rw c.in-Err-OutOfDeviceMemory.is at c.in-Err-OutOfDeviceMemory.field-0-is) refl))),
+      (same, inr (asks_own (positive c.self.inside.allocations_remains c.if-self-eq0.false) (rw (← c.self.view_is) at c.requires.room), inl (rw (rw c.in-Err-OutOfDeviceMemory.is at c.in-Err-OutOfDeviceMemory.field-0-is) refl))),
     )
 
 pub returns-in-Err-OutOfDeviceMemory-clause-objects : goal.returns-in-Err-OutOfDeviceMemory-clause-objects

@@ -3,13 +3,14 @@ use Rattle.gpu_alloc_types.specs.Device.{Event}
 use Rattle.gpu_alloc_types.specs.Properties.{heap_size}
 use Rattle.gpu_alloc_base.specs.Case as case
 use Rattle.gpu_alloc.specs.Allocation.{strategy, TriesBy, Tries}
-use Rattle.gpu_alloc.specs.Candidates.{candidate}
+use Rattle.gpu_alloc.specs.Candidates.{candidate, own_candidate}
 use Rattle.gpu_alloc_block.specs.State.{State, Block}
 use Rattle.gpu_alloc.specs.declared.allocator.Strategy.{Strategy}
 use Rattle.gpu_alloc.specs.declared.allocator.Strategy.TheVariants.{OwnObject, InBuddyChunk, InFreeList}
 use Rattle.gpu_alloc_base.specs.declared.error.AllocationError.{AllocationError}
 use Rattle.gpu_alloc.specs.declared.request.Dedicated.{Dedicated}
 use Rattle.gpu_alloc.specs.declared.request.Request.{Request}
+use Rattle.gpu_alloc.proofs.Grants.{has_own}
 use Rattle.gpu_alloc.proofs.Strategies.{fits_its_list}
 use Rattle.gpu_alloc.proofs.allocator.GpuAllocator.try_type.Goals as goal
 
@@ -33,6 +34,13 @@ returns-then-heap_size-request-clause-tries g c = ([], refl, (inl (small _ _ _ c
 
 pub returns-in-OwnObject-clause-tries : goal.returns-in-OwnObject-clause-tries
 returns-in-OwnObject-clause-tries g c =
+    let s = c.args.self.now in
+    let over = c.is_over_budget.ensures.over c.if-is_over_budget.true in
+    let passed : case.IsPassed (own_candidate s c.args.request.size c.args.memory_type) [] = inl (inr (has_own over.0, over.1), refl) in
+    ([], refl, tries_by OwnObject s c.args.request c.args.hint c.args.memory_type _ [] (Ok None) s c.if-heap_size-request.false c.heap_size.ensures c.in-OwnObject.ensures (refl, passed))
+
+pub returns-in-OwnObject-2-clause-tries : goal.returns-in-OwnObject-2-clause-tries
+returns-in-OwnObject-2-clause-tries g c =
     let tried = c.try_object.ensures.tries in
     (tried.0, tried.1, tries_by OwnObject c.args.self.now c.args.request c.args.hint c.args.memory_type _ tried.0 c.try_object.result c.try_object.new.self c.if-heap_size-request.false c.heap_size.ensures c.in-OwnObject.ensures tried.2)
 
