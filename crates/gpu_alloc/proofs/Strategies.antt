@@ -1,5 +1,5 @@
 -- Which way a request is served, and what a free list serves.
-use Rattle.std.proofs.Common.{◌≡◌, ℕ, ◌/◌, ◌<◌, ◌≤◌, Bool, true, false, ◌&&◌, cond, nat_le, Option, Some, None, refl, sym, ◌∙◌, arith}
+use Rattle.std.proofs.Common.{◌≡◌, ◌≢◌, ℕ, ◌/◌, ◌<◌, ◌≤◌, Bool, true, false, ◌&&◌, cond, nat_le, nat_lt, Option, Some, None, refl, sym, ◌∙◌, arith}
 use Rattle.std.proofs.lemmas.Bool.Decides.{nat_tests}
 use Rattle.std.specs.Prelude.{min}
 use Rattle.gpu_alloc_types.specs.Flags.{usage_bits, has_bit, has_all_bits}
@@ -72,3 +72,30 @@ pub fits_its_list : (s : State) (r : Request) (hint : Option Dedicated) (t : ℕ
 fits_its_list s r (Some Required) t is = absurd (cc)
 fits_its_list s r (Some Preferred) t is = of_unhinted s r t (not_preferred (nat_le (preferred_threshold s.config) r.size) (unhinted s r t) is)
 fits_its_list s r None t is = of_unhinted s r t is
+
+-- A request that is served from a shared chunk is smaller than its heap.
+
+below_heap : (size threshold heap : ℕ) → nat_lt size (min threshold (heap / 32)) ≡ true → size ≤ heap
+below_heap size threshold heap small = grind (arith, nat_tests)
+
+-- by whether it is transient, small against each threshold, and fits a largest chunk
+small_one : (size heap : ℕ) (transient small fits small_lasting : Bool) (w : Strategy) → w ≡ cond transient (cond (small && fits) InFreeList OwnObject) (cond small_lasting InBuddyChunk OwnObject) → w ≢ OwnObject
+    → (small ≡ true → size ≤ heap) → (small_lasting ≡ true → size ≤ heap) → size ≤ heap
+small_one size heap true true fits small_lasting w is shared brief lasting = brief refl
+small_one size heap true false fits small_lasting w is shared brief lasting = absurd (shared is)
+small_one size heap false small fits true w is shared brief lasting = lasting refl
+small_one size heap false small fits false w is shared brief lasting = absurd (shared is)
+
+unhinted_below : (s : State) (r : Request) (t : ℕ) (w : Strategy) → w ≡ unhinted s r t → w ≢ OwnObject → r.size ≤ heap_size s.properties t
+unhinted_below s r t w is shared =
+    small_one r.size (heap_size s.properties t) (has_bit (usage_bits r.usage) 16) (is_small s r (transient_threshold s.config) t) (fits_a_chunk s r t) (is_small s r s.config.dedicated_threshold t) w is shared
+    (below_heap r.size (transient_threshold s.config) (heap_size s.properties t)) (below_heap r.size s.config.dedicated_threshold (heap_size s.properties t))
+
+hinted_below : (large : Bool) (s : State) (r : Request) (t : ℕ) (w : Strategy) → w ≡ cond large OwnObject (unhinted s r t) → w ≢ OwnObject → r.size ≤ heap_size s.properties t
+hinted_below true s r t w is shared = absurd (shared is)
+hinted_below false s r t w is shared = unhinted_below s r t w is shared
+
+pub shared_below : (s : State) (r : Request) (hint : Option Dedicated) (t : ℕ) (w : Strategy) → w ≡ strategy s r hint t → w ≢ OwnObject → r.size ≤ heap_size s.properties t
+shared_below s r (Some Required) t w is shared = absurd (shared is)
+shared_below s r (Some Preferred) t w is shared = hinted_below (nat_le (preferred_threshold s.config) r.size) s r t w is shared
+shared_below s r None t w is shared = unhinted_below s r t w is shared

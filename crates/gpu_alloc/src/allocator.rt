@@ -1,6 +1,6 @@
 //! The allocator.
 
-ghost use Rattle.std.specs.Prelude.{◌≡◌, ◌↔◌, ℕ, ◌+◌, ◌/◌, ◌^◌, ◌<◌, true, length, List, All, IsTrue, IfOk, IfErr};
+ghost use Rattle.std.specs.Prelude.{◌≡◌, ◌⊎◌, ◌↔◌, ℕ, ◌+◌, ◌/◌, ◌^◌, ◌<◌, ◌≤◌, true, length, List, All, IsTrue, IfOk, IfErr};
 ghost use Rattle.std.specs.Prelude.{OnErr, Some, None, cond, false, is_some, not, ◌==◌};
 ghost use Rattle.std.specs.FinMap as map;
 ghost use Rattle.std.specs.FinSet as set;
@@ -273,7 +273,7 @@ impl<M: MemoryObject, A: Allocator> GpuAllocator<M, A> {
         if request.size > self.max_allocation_size() {
             return Err(AllocationError::OutOfDeviceMemory);
         }
-        if is_required(hint) && self.remaining_allocations() == 0 {
+        if self.remaining_allocations() == 0 && is_required(hint) {
             return Err(AllocationError::TooManyObjects);
         }
         let usage = meaning(request.usage);
@@ -322,9 +322,10 @@ impl<M: MemoryObject, A: Allocator> GpuAllocator<M, A> {
         for rank in 0..self.ranked(usage).len() {
             let memory_type = self.ranked(usage)[rank];
             if request.memory_types >> memory_type & 1 == 1 {
-                match self.try_type(device, request, hint, memory_type)? {
-                    Some(block) => return Ok(block),
-                    None => {}
+                match self.try_type(device, request, hint, memory_type) {
+                    Ok(Some(block)) => return Ok(block),
+                    Ok(None) => {}
+                    Err(refusal) => return Err(refusal),
                 }
             }
         }
@@ -346,11 +347,8 @@ impl<M: MemoryObject, A: Allocator> GpuAllocator<M, A> {
             × Tries self.old request hint memory_type es result self.new }
         ensures objects { ObjectsTried self.old result self.new (D.objects device.old) (D.objects device.new) }
     {
-        if self.heap_size(memory_type) < request.size {
-            return Ok(None);
-        }
         match self.strategy(request, hint, memory_type) {
-            Strategy::OwnObject if self.is_over_budget(request.size, memory_type) => Ok(None),
+            Strategy::OwnObject if self.is_passed_unasked(request.size, memory_type) => Ok(None),
             Strategy::OwnObject => self.try_object(device, request, memory_type),
             Strategy::InBuddyChunk => self.try_buddy(device, request, memory_type),
             Strategy::InFreeList => self.try_free_list(device, request, memory_type),
@@ -409,23 +407,31 @@ impl<M: MemoryObject, A: Allocator> GpuAllocator<M, A> {
         size <= self.limits.config.final_size(heap, atom)
     }
 
-    /// Whether an object of so many bytes of a memory type might be asked for, but is over the heap's budget.
+    /// Whether a memory type is passed unasked where an object of so many bytes is wanted of it: the object is larger
+    /// than the heap, or may be asked for and is over the heap's budget.
     #[inline(always)]
-    fn is_over_budget(&self, size: u64, memory_type: u32) -> bool
+    fn is_passed_unasked(&self, size: u64, memory_type: u32) -> bool
         requires known { memory_type < length (self.now.properties).memory_types }
-        ensures over { result ≡ true → (0 < self.now.remaining) × IsOverBudget (own_candidate self.now size memory_type) }
+        ensures passed { result ≡ true
+            → (heap_size self.now.properties memory_type < size)
+            ⊎ ((0 < self.now.remaining) × IsOverBudget (own_candidate self.now size memory_type)) }
+        ensures fits { result ≡ false → size ≤ heap_size self.now.properties memory_type }
         ensures within { result ≡ false → 0 < self.now.remaining → IsWithinBudget (own_candidate self.now size memory_type) }
     {
-        !self.heaps[self.limits.heap_index(memory_type)].fits(size) && self.may_hold_more()
+        !self.heaps[self.limits.heap_index(memory_type)].fits(size)
+            && self.is_larger_or_may_hold_more(size, memory_type)
     }
 
-    /// Whether one more object may be held. (It stands apart, so that requests within the budget do not pay for it.)
+    /// Whether an object of so many bytes is larger than a memory type's heap, or one more object may be held. (It
+    /// stands apart, so that requests within the budget do not pay for it.)
     #[cold]
     #[inline(never)]
-    fn may_hold_more(&self) -> bool
-        ensures { IsTrue result ↔ 0 < self.now.remaining }
+    fn is_larger_or_may_hold_more(&self, size: u64, memory_type: u32) -> bool
+        requires known { memory_type < length (self.now.properties).memory_types }
+        ensures { IsTrue result
+            ↔ ((heap_size self.now.properties memory_type < size) ⊎ (0 < self.now.remaining)) }
     {
-        self.allocations_remains > 0
+        self.heap_size(memory_type) < size || self.allocations_remains > 0
     }
 
     /// Tries one memory type for an object of its own, which its heap has room for: none where the type is passed.

@@ -44,7 +44,10 @@ pub enum Dedicated {
     Preferred,
 }
 
-/// Whether a hint demands an object of its own.
+/// Whether a hint demands an object of its own. (It stands apart, so that requests do not pay for it while more objects
+/// may be held.)
+#[cold]
+#[inline(never)]
 pub(crate) fn is_required(hint: Option<Dedicated>) -> bool
     ensures { result ≡ is_required hint }
 {

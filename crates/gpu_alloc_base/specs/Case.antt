@@ -51,10 +51,11 @@ module _ {B S : Type 0} (c : Case B S) where
     pub no_place : c.HasPlace → ⊥
     pub remains : MayAsk
 
-  -- the heap has as many bytes left as the question is for, or more; or it has not
+  -- the heap has as many bytes left as the question is for, or more
   abbrev pub IsWithinBudget : Type 0
   IsWithinBudget = c.ledger + c.question.size ≤ c.heap_size
 
+  -- the heap has fewer bytes left than the question is for
   abbrev pub IsOverBudget : Type 0
   IsOverBudget = c.heap_size < c.ledger + c.question.size
 

@@ -9,7 +9,7 @@ use Rattle.gpu_alloc_types.specs.Device.{Object, Event, HeldWith}
 use Rattle.gpu_alloc_types.specs.Properties.{Properties}
 use Rattle.gpu_alloc_base.specs.Wanted.{Wanted}
 use Rattle.gpu_alloc_base.specs.Chunks.{Chunk, IsNew, IsThere}
-use Rattle.gpu_alloc_freelist.specs.FreeList.{HasPlace, IsTail, with_slot, with_chunk, first_tail}
+use Rattle.gpu_alloc_freelist.specs.FreeList.{IsTail, with_slot, with_chunk, first_tail}
 use Rattle.gpu_alloc_base.specs.Accounts.{Account}
 use Rattle.gpu_alloc_base.specs.Case.{Answers, RefusesFirst, RefusesQuestion}
 use Rattle.gpu_alloc_base.specs.NewObject.{HasOneMore}
@@ -25,7 +25,6 @@ use Rattle.gpu_alloc_base.specs.AlignMasks.{IsAlignMask}
 use Rattle.gpu_alloc_base.specs.declared.error.AllocationError.{AllocationError}
 use Rattle.gpu_alloc_base.specs.declared.free_list_block.Slot.{Slot}
 use Rattle.gpu_alloc_base.proofs.Outcomes.{if_some}
-use Rattle.gpu_alloc_base.proofs.Unasked.{refuses_unasked}
 use Rattle.gpu_alloc_freelist.proofs.FreeListSizes.{chunk_size_atoms, chunk_size_bound, chunk_size_enough, next_size_sound}
 use Rattle.gpu_alloc_base.proofs.ChunkSizes.{up_enough}
 use Rattle.gpu_alloc_base.proofs.Maps.{one_value, own_inserted, inserted_cases}
@@ -358,21 +357,10 @@ rounds l w size alignment size_is alignment_is s some fits mask =
       };
     }
 
--- Refusals before anything is done.
-
-module _ (a : Account Listing) (w : Wanted) (size alignment : ℕ) (size_is : size ≡ rounded a.allocator w) (alignment_is : alignment ≡ alignment_of a.allocator w) where
-  -- what is told of the size and the alignment that are looked for is told of what is wanted
-  told_first : (first : Option AllocationError) → RefusesFirst (list_case a size alignment w.flags) first → RefusesFirst (case_of a w) first
-  told_first first is = subst (λ n. RefusesFirst (list_case a n (alignment_of a.allocator w) w.flags) first) size_is (subst (λ n. RefusesFirst (list_case a size n w.flags) first) alignment_is is)
-
-  pub refuses_chunk : (e : AllocationError) → (HasPlace a.allocator.space size alignment → ⊥) → RefusesQuestion (list_case a size alignment w.flags) (Some e) → RefusesFirst (case_of a w) (Some e)
-  refuses_chunk e none refused = told_first (Some e) (refuses_unasked (list_case a size alignment w.flags) tt none e refused)
-
-  pub may_ask : RefusesQuestion (list_case a size alignment w.flags) None → RefusesFirst (case_of a w) None
-  may_ask may = told_first None (record { fits = tt; ways = inr may })
-
-  pub has_place : HasPlace a.allocator.space size alignment → RefusesFirst (case_of a w) None
-  has_place place = told_first None (record { fits = tt; ways = inl place })
+-- What is told of the size and the alignment that are looked for is told of what is wanted.
+pub told_first : (a : Account Listing) (w : Wanted) (size alignment : ℕ) → size ≡ rounded a.allocator w → alignment ≡ alignment_of a.allocator w → (first : Option AllocationError)
+    → RefusesFirst (list_case a size alignment w.flags) first → RefusesFirst (case_of a w) first
+told_first a w size alignment size_is alignment_is first is = subst (λ n. RefusesFirst (list_case a n (alignment_of a.allocator w) w.flags) first) size_is (subst (λ n. RefusesFirst (list_case a size n w.flags) first) alignment_is is)
 
 -- A new chunk, step by step.
 

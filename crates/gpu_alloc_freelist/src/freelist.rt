@@ -244,7 +244,9 @@ impl<M: MemoryObject, A: Allocator> FreeListAllocator<M, A> {
         {
             return None;
         }
-        self.refuses_exactly(size, align_mask, heap, allocations_remains)
+        let size = self.rounded_size(size);
+        let used_mask = align_mask.max(self.atom_mask);
+        self.refuses_rounded(size, used_mask, heap, allocations_remains)
     }
 
     /// Takes a block back, and joins it with the free runs beside it. Then each chunk in which no block is live goes
@@ -337,6 +339,7 @@ impl<M: MemoryObject, A: Allocator> FreeListAllocator<M, A> {
     /// Gives the oldest chunk in which no block is live back to the device, but not the one in which the last run lies
     /// where this one is kept: the name of its object. None where there is no such chunk. It is public for `gpu_alloc`,
     /// which takes that object off its books.
+    #[inline(always)]
     pub fn give_back_first<D: MemoryDevice<M>>(
         &mut self,
         device: &mut D,
@@ -431,10 +434,11 @@ impl<M: MemoryObject, A: Allocator> FreeListAllocator<M, A> {
         }
     }
 
-    /// The refusal that `refuses` tells, by the chunk that is wanted.
+    /// The refusal that `alloc_rounded` gives first. (It stands apart, since most requests need no more than the test of
+    /// a largest chunk.)
     #[cold]
     #[inline(never)]
-    fn refuses_exactly(
+    fn refuses_rounded(
         &self,
         size: u64,
         align_mask: u64,
@@ -442,16 +446,13 @@ impl<M: MemoryObject, A: Allocator> FreeListAllocator<M, A> {
         allocations_remains: u32,
     ) -> Option<AllocationError>
         requires nonempty { 0 < size }
-        requires fits { up size (self.now).atom ≤ (self.now).final_chunk }
+        requires fits { size ≤ (self.now).final_chunk }
         requires alignment { IsAlignMask align_mask }
-        ensures { (flags : ℕ)
-            → RefusesFirst (case_of (account self.now heap.now allocations_remains) (wanted size align_mask flags))
-            result }
+        ensures { (flags : ℕ) → RefusesFirst
+            (list_case (account self.now heap.now allocations_remains) size (align_mask + 1) flags) result }
     {
-        let size = self.rounded_size(size);
         let refusal = self.refuses_chunk(size, heap, allocations_remains)?;
-        let used_mask = align_mask.max(self.atom_mask);
-        if self.freelist.has_place(used_mask, size) {
+        if self.freelist.has_place(align_mask, size) {
             return None;
         }
         Some(refusal)

@@ -128,6 +128,7 @@ impl<M: MemoryObject, A: Allocator> GpuAllocator<M, A> {
 
     /// Gives a memory type's free-list chunks in which no block is live back to the device, the oldest first, but not
     /// the one in which the last run lies where this one is kept.
+    #[inline(always)]
     pub(super) fn give_back<D: MemoryDevice<M>>(
         &mut self,
         device: &mut D,

@@ -279,6 +279,7 @@ impl<M: MemoryObject, A: Allocator> FreeList<M, A> {
     /// Takes the wholly free chunk of the least number out of the list: its memory, its size in bytes and its number.
     /// Where `keep_last` says so, the chunk in which the last run lies is passed over. None where there is no such
     /// chunk. It takes no memory, and room that was made stays.
+    #[inline(always)]
     pub fn take_whole(&mut self, keep_last: bool) -> Option<(M, u64, u64)>
         ensures none { IfNone result
             (((number : ℕ) → MayGo self.old.space keep_last number → ⊥) × (self.new.space ≡ self.old.space)) }

@@ -1,5 +1,4 @@
 use Rattle.std.proofs.Common.{◌≡◌, ◌<◌, ◌≤◌, ◌∙◌, length, get_or, add-one, ap, subst, true, Err, arith}
-use Rattle.std.proofs.lemmas.Result.{err_from_is_err_and}
 use Rattle.gpu_alloc_types.specs.Chains.{chain_append}
 use Rattle.gpu_alloc_types.specs.Flags.{usage_bits}
 use Rattle.gpu_alloc_usage.specs.Ranking.{is_allowed, named, ranking}
@@ -9,7 +8,7 @@ use Rattle.gpu_alloc.proofs.Agreed.{chain_keeps}
 use Rattle.gpu_alloc.proofs.Agreeing.{agrees_kept}
 use Rattle.gpu_alloc.proofs.Trials.{continues_past, continues_next, continues_decided, continues_end, allowed_by_shift, not_by_shift, tries_as_meant}
 use Rattle.gpu_alloc.proofs.allocator.GpuAllocator.try_all.Goals as goal
-use Rattle.gpu_alloc.proofs.allocator.GpuAllocator.try_all.Goals.{then-request-memory_type-eq1+in_ok-block+in-None, else-request-memory_type-eq1}
+use Rattle.gpu_alloc.proofs.allocator.GpuAllocator.try_all.Goals.{then-request-memory_type-eq1+in-Ok-None, else-request-memory_type-eq1}
 
 pub try_type-requires-clause-known : goal.try_type-requires-clause-known
 try_type-requires-clause-known g c =
@@ -33,17 +32,17 @@ returns-clause-tries g c =
 
 pub loop-rank-preserved : goal.loop-rank-preserved
 loop-rank-preserved g c = elim c.if-request-memory_type-eq1.branch [
-  | then-request-memory_type-eq1+in_ok-block+in-None w ↦
+  | then-request-memory_type-eq1+in-Ok-None w ↦
       let before = c.loop-rank.invariant.passed in
       let row = ranking (named (usage_bits c.args.usage)) c.args.self.now.properties.memory_types in
       let at_rank = c.ranked.ensures.ranked ∙ ap (λ s. ranking (named (usage_bits c.args.usage)) s.properties.memory_types) c.loop-rank.invariant.same in
       let inside : c.loop-rank.rank < length row = rw (← c.ranked-rank-end.ensures.ranked) c.loop-rank-test.true in
       let allowed : is_allowed c.args.request.memory_types (get_or row c.loop-rank.rank 0) ≡ true = allowed_by_shift c.args.request.memory_types (get_or row c.loop-rank.rank 0) (rw at_rank at w.if-request-memory_type-eq1.true) in
-      let tried = rw (w.in-None.is, c.loop-rank.invariant.same, at_rank) at w.in_ok-block.ensures.tries in
+      let tried = rw (w.in-Ok-None.field-0-is, c.loop-rank.invariant.same, at_rank) at w.in-Ok-None.ensures.tries in
       record {
         same = w.self-is ∙ tried.2.1;
         passed = rw (w.device-is, add-one) (_, chain_append g.D.MemoryDevice.step _ _ _ _ _ before.1 tried.1, continues_next c.args.self.now c.args.request c.args.hint (is_allowed c.args.request.memory_types) row c.loop-rank.rank _ _ inside allowed before.2 tried.2.0);
-        objects = rw w.device-is (rw w.in-None.is at w.in_ok-block.ensures.objects ∙ c.loop-rank.invariant.objects);
+        objects = rw w.device-is (rw w.in-Ok-None.field-0-is at w.in-Ok-None.ensures.objects ∙ c.loop-rank.invariant.objects);
       }
   | else-request-memory_type-eq1 w ↦
       let before = c.loop-rank.invariant.passed in
@@ -58,31 +57,29 @@ loop-rank-preserved g c = elim c.if-request-memory_type-eq1.branch [
       }
 ]
 
-pub returns-in-Some-clause-tries : goal.returns-in-Some-clause-tries
-returns-in-Some-clause-tries g c =
+pub returns-in-Ok-Some-clause-tries : goal.returns-in-Ok-Some-clause-tries
+returns-in-Ok-Some-clause-tries g c =
     let before = c.loop-rank.invariant.passed in
     let row = ranking (named (usage_bits c.args.usage)) c.args.self.now.properties.memory_types in
     let at_rank = c.ranked.ensures.ranked ∙ ap (λ s. ranking (named (usage_bits c.args.usage)) s.properties.memory_types) c.loop-rank.invariant.same in
     let inside : c.loop-rank.rank < length row = rw (← c.ranked-rank-end.ensures.ranked) c.loop-rank-test.true in
     let allowed : is_allowed c.args.request.memory_types (get_or row c.loop-rank.rank 0) ≡ true = allowed_by_shift c.args.request.memory_types (get_or row c.loop-rank.rank 0) (rw at_rank at c.if-request-memory_type-eq1.true) in
-    let tried = rw (c.in-Some.is, at_rank) at c.in_ok-block.ensures.tries in
+    let tried = rw (c.in-Ok-Some.field-0-is, at_rank) at c.in-Ok-Some.ensures.tries in
     let decided = continues_decided c.args.self.now c.args.request c.args.hint (is_allowed c.args.request.memory_types) row c.loop-rank.self c.loop-rank.rank before.0 tried.0 _ _ c.loop-rank.invariant.same inside allowed before.2 tried.2 in
     (_, chain_append g.D.MemoryDevice.step _ _ _ _ _ before.1 tried.1, tries_as_meant c.args.self.now c.args.request c.args.hint (usage_bits c.args.usage) _ _ _ c.requires.meant decided)
 
-pub returns-in_err-block-clause-tries : goal.returns-in_err-block-clause-tries
-returns-in_err-block-clause-tries g c =
+pub returns-in-Err-clause-tries : goal.returns-in-Err-clause-tries
+returns-in-Err-clause-tries g c =
     let before = c.loop-rank.invariant.passed in
     let row = ranking (named (usage_bits c.args.usage)) c.args.self.now.properties.memory_types in
     let at_rank = c.ranked.ensures.ranked ∙ ap (λ s. ranking (named (usage_bits c.args.usage)) s.properties.memory_types) c.loop-rank.invariant.same in
     let inside : c.loop-rank.rank < length row = rw (← c.ranked-rank-end.ensures.ranked) c.loop-rank-test.true in
     let allowed : is_allowed c.args.request.memory_types (get_or row c.loop-rank.rank 0) ≡ true = allowed_by_shift c.args.request.memory_types (get_or row c.loop-rank.rank 0) (rw at_rank at c.if-request-memory_type-eq1.true) in
-    let p = err_from_is_err_and c.from_residual.result c.from_residual.ensures.1 in
-    let tried = c.in_err-block.ensures.tries in
-    let here = subst (λ ts. Decides c.loop-rank.self c.args.request c.args.hint (get_or ts c.loop-rank.rank 0) tried.0 (Err c.in_err-block.field-0.0) c.try_type.new.self) at_rank tried.2 in
+    let tried = c.in-Err.ensures.tries in
+    let here = subst (λ ts. Decides c.loop-rank.self c.args.request c.args.hint (get_or ts c.loop-rank.rank 0) tried.0 (Err c.in-Err.refusal) c.try_type.new.self) at_rank tried.2 in
     let decided = continues_decided c.args.self.now c.args.request c.args.hint (is_allowed c.args.request.memory_types) row c.loop-rank.self c.loop-rank.rank before.0 tried.0 _ _ c.loop-rank.invariant.same inside allowed before.2 here in
-    rw (p.1, p.2) (_, chain_append g.D.MemoryDevice.step _ _ _ _ _ before.1 tried.1, tries_as_meant c.args.self.now c.args.request c.args.hint (usage_bits c.args.usage) _ _ _ c.requires.meant decided)
+    (_, chain_append g.D.MemoryDevice.step _ _ _ _ _ before.1 tried.1, tries_as_meant c.args.self.now c.args.request c.args.hint (usage_bits c.args.usage) _ _ _ c.requires.meant decided)
 
-pub returns-in_err-block-clause-objects : goal.returns-in_err-block-clause-objects
-returns-in_err-block-clause-objects g c =
-    let p = err_from_is_err_and c.from_residual.result c.from_residual.ensures.1 in
-    rw p.1 (c.in_err-block.ensures.objects ∙ c.loop-rank.invariant.objects)
+pub returns-in-Err-clause-objects : goal.returns-in-Err-clause-objects
+returns-in-Err-clause-objects g c =
+    c.in-Err.ensures.objects ∙ c.loop-rank.invariant.objects
