@@ -156,22 +156,26 @@ impl<A: Allocator + Copy> Bench<A> {
     }
 
     /// Has the device make an object of 64 bytes, and imports it. Where either is refused memory, what is held is as
-    /// before, and it is served with ample memory.
-    pub(super) fn import_or_again(&mut self, rt: &impl Abort, memory: &ScarceMemory) -> Imported {
+    /// before, and it is served with ample memory. It tells what was refused, if anything was: an object or an import.
+    pub(super) fn import_or_again(
+        &mut self,
+        rt: &impl Abort,
+        memory: &ScarceMemory,
+    ) -> Option<&'static str> {
         let before = self.held();
         if let Some(object) = make(&self.allocator, &mut self.device, whole(64)) {
             let device = &self.device;
             let allocator = &mut self.allocator;
-            let (imported, block) = import_or_again(
+            let (refused, block) = import_or_again(
                 rt, memory, allocator, device, object, self.props,
             );
             keep(rt, &mut self.blocks, block);
-            return imported;
+            return refused;
         }
         same(rt, "what is held", &self.held(), &before);
         memory.lift();
         self.import(rt, whole(64));
-        Imported::OnceMade
+        Some("an object")
     }
 
     /// An object of the device's own, of which this part may be imported.
@@ -366,19 +370,6 @@ fn give_back<M: MemoryObject, D: MemoryDevice<M>, A: Allocator>(
     allocator.dealloc(device, block);
 }
 
-/// How an import of a new object was served in the end.
-#[derive(Clone, Copy)]
-pub(super) enum Imported {
-    /// Without a refusal.
-    AtOnce,
-
-    /// Once the device had the memory for the object.
-    OnceMade,
-
-    /// Once the allocator had the memory for the import.
-    InTheEnd,
-}
-
 /// From now on no memory is left.
 pub(super) fn leave_nothing(rt: &impl Abort, memory: &ScarceMemory) {
     holds(rt, memory.leave(0).is_ok(), "the host lacks memory");
@@ -457,7 +448,7 @@ fn write_and_read<M: MemoryObject, D: MemoryDevice<M>, A: Allocator>(
 }
 
 /// Imports an object of 64 bytes, and once more with ample memory where that was refused: then the object came back, and
-/// what is held is as before.
+/// what is held is as before. It tells what was refused, if it was.
 fn import_or_again<M: MemoryObject, D: MemoryDevice<M>, A: Allocator>(
     rt: &impl Abort,
     memory: &ScarceMemory,
@@ -465,7 +456,7 @@ fn import_or_again<M: MemoryObject, D: MemoryDevice<M>, A: Allocator>(
     device: &D,
     object: M,
     props: MemoryPropertyFlags,
-) -> (Imported, MemoryBlock<M>)
+) -> (Option<&'static str>, MemoryBlock<M>)
     requires offered { HasTwoTypes allocator.old.properties (property_bits props) }
     requires unheld { map.get allocator.old.held (M.object object) ≡ None }
     requires agrees { Agrees allocator.old (D.properties device.now) (D.objects device.now) }
@@ -476,7 +467,7 @@ fn import_or_again<M: MemoryObject, D: MemoryDevice<M>, A: Allocator>(
     let name = object.object();
     let before = counts(allocator);
     match import(rt, allocator, device, object, props, whole(64)) {
-        Ok(block) => (Imported::AtOnce, block),
+        Ok(block) => (None, block),
         Err(handed) => {
             let came = (handed.object(), allocator.holds(name), counts(allocator));
             same(
@@ -487,7 +478,7 @@ fn import_or_again<M: MemoryObject, D: MemoryDevice<M>, A: Allocator>(
             );
             memory.lift();
             match import(rt, allocator, device, handed, props, whole(64)) {
-                Ok(block) => (Imported::InTheEnd, block),
+                Ok(block) => (Some("an import"), block),
                 Err(_) => panic!(rt; "refused with ample memory"),
             }
         }

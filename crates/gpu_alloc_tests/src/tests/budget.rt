@@ -78,7 +78,12 @@ struct Account {
 impl Account {
     /// Whether the block of that kind is live.
     fn has(&self, kind: Kind) -> bool {
-        self.live.iter().any(|it| *it == kind)
+        for it in self.live.iter() {
+            if *it == kind {
+                return true;
+            }
+        }
+        false
     }
 
     /// Whether a buddy chunk is held.

@@ -1,7 +1,7 @@
 //! Each request for host memory of a whole run refused in turn, by calls of the allocator alone: what is held is as
 //! before then. The calls of blocks, the returns, the cleanup and the end take no memory.
 
-use super::bench::{Bench, Imported, leave_nothing};
+use super::bench::{Bench, leave_nothing};
 use super::offers::offer;
 use super::same::{holds, same};
 use gpu_alloc::{
@@ -22,18 +22,15 @@ const NON_COHERENT: MemoryType = MemoryType {
 /// An allocator over memory that runs out.
 type ScarceAllocator<'a> = GpuAllocator<SimMemory<HostMemory<'a>>, HostMemory<'a>>;
 
-/// What was refused memory first.
-#[derive(Clone, Copy, Debug, PartialEq, Eq)]
-enum Refused {
-    /// The device, for an object that is imported.
-    Object,
-
-    /// An import.
-    Import,
-
-    /// A block with an object of its own, one of a buddy chunk, one of a free list's chunk.
-    Block(usize),
-}
+/// What is refused in turn, the last one first: blocks, an import, and the device's object for it.
+const REFUSED: [Option<&str>; 6] = [
+    None,
+    Some("a block of a free list's chunk"),
+    Some("a block of a buddy chunk"),
+    Some("a block with an object of its own"),
+    Some("an import"),
+    Some("an object"),
+];
 
 /// A request for 100 bytes of the first type.
 fn request(usage: UsageFlags) -> Request {
@@ -45,12 +42,24 @@ fn request(usage: UsageFlags) -> Request {
     }
 }
 
-/// A block with an object of its own, one of a buddy chunk, one of a free list's chunk.
-fn kinds() -> [(Request, Dedicated); 3] {
+/// A block of each kind, and how it is asked for.
+fn kinds() -> [(&'static str, Request, Dedicated); 3] {
     [
-        (request(UsageFlags::HOST_ACCESS), Dedicated::Required),
-        (request(UsageFlags::HOST_ACCESS), Dedicated::Preferred),
-        (request(UsageFlags::TRANSIENT), Dedicated::Preferred),
+        (
+            "a block with an object of its own",
+            request(UsageFlags::HOST_ACCESS),
+            Dedicated::Required,
+        ),
+        (
+            "a block of a buddy chunk",
+            request(UsageFlags::HOST_ACCESS),
+            Dedicated::Preferred,
+        ),
+        (
+            "a block of a free list's chunk",
+            request(UsageFlags::TRANSIENT),
+            Dedicated::Preferred,
+        ),
     ]
 }
 
@@ -81,21 +90,18 @@ fn take_or_again(
     }
 }
 
-/// Takes a block of each kind, an import first. What was refused memory first, and is served with ample memory then.
+/// Takes a block of each kind, an import first. It tells what was refused memory first, and is served with ample memory
+/// then.
 fn take_each(
     rt: &impl Abort,
     memory: &ScarceMemory,
     bench: &mut Bench<HostMemory<'_>>,
-) -> Option<Refused> {
-    let mut refused = match bench.import_or_again(rt, memory) {
-        Imported::AtOnce => None,
-        Imported::OnceMade => Some(Refused::Object),
-        Imported::InTheEnd => Some(Refused::Import),
-    };
-    for (at, (request, hint)) in kinds().into_iter().enumerate() {
+) -> Option<&'static str> {
+    let mut refused = bench.import_or_again(rt, memory);
+    for (kind, request, hint) in kinds() {
         if !take_or_again(rt, memory, bench, request, hint) {
             same(rt, "what was refused before", &refused, &None);
-            refused = Some(Refused::Block(at));
+            refused = Some(kind);
         }
     }
     refused
@@ -103,7 +109,7 @@ fn take_each(
 
 /// Takes a further block of each kind beside those, and calls it where no memory is left.
 fn call_each(rt: &impl Abort, memory: &ScarceMemory, bench: &mut Bench<HostMemory<'_>>) {
-    for (request, hint) in kinds() {
+    for (_, request, hint) in kinds() {
         bench.take_and_call(rt, memory, request, hint);
     }
     bench.import_and_call(rt, memory);
@@ -115,7 +121,7 @@ fn run_in(
     rt: &impl Abort,
     alloc: Global,
     room: usize,
-) -> Result<(Option<Refused>, Option<usize>), Fail> {
+) -> Result<(Option<&'static str>, Option<usize>), Fail> {
     let memory = ScarceMemory::new(alloc)?;
     let mut bench = Bench::new(rt, memory.host(), NON_COHERENT, 64)?;
     holds(rt, memory.leave(room).is_ok(), "the host lacks memory");
@@ -145,19 +151,11 @@ fn each_growth_of_an_allocator_is_refused_in_turn(rt: HostRuntime) -> Result<(),
             None => break,
         }
     }
-    let wanted = [
-        None,
-        Some(Refused::Block(2)),
-        Some(Refused::Block(1)),
-        Some(Refused::Block(0)),
-        Some(Refused::Import),
-        Some(Refused::Object),
-    ];
     same(
         &rt,
         "what was refused in turn",
         &met.as_slice(),
-        &wanted.as_slice(),
+        &REFUSED.as_slice(),
     );
     Ok(())
 }

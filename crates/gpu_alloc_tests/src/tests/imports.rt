@@ -1,6 +1,6 @@
 //! Imports: what is flushed, held and counted, beside blocks of each kind, and without memory.
 
-use super::bench::{Bench, Held, Imported, Part, whole};
+use super::bench::{Bench, Held, Part, whole};
 use super::offers::LOCAL;
 use super::same::{holds, same, same_at};
 use gpu_alloc::{Dedicated, MemoryPropertyFlags, MemoryType, Request, UsageFlags};
@@ -234,35 +234,4 @@ fn imports_stand_beside_blocks_of_each_kind(rt: HostRuntime) -> Result<(), Fail>
         compare_returns(&rt, rt.alloc(), *order)?;
     }
     Ok(())
-}
-
-/// How an import of a new object is served where so many bytes are left. What was imported is given back.
-fn imported_in(rt: &impl Abort, alloc: Global, room: usize) -> Result<Imported, Fail> {
-    let memory = ScarceMemory::new(alloc)?;
-    let mut bench = Bench::new(rt, memory.host(), LOCAL, 1)?;
-    holds(rt, memory.leave(room).is_ok(), "the host lacks memory");
-    let imported = bench.import_or_again(rt, &memory);
-    bench.give_all_back(rt);
-    bench.end(rt, 4096);
-    Ok(imported)
-}
-
-/// Each request of an import for memory is refused in turn, those of the device that makes the object first.
-#[test]
-fn an_import_without_room_comes_back(rt: HostRuntime) -> Result<(), Fail> {
-    let mut made = 0u32;
-    let mut imported = 0u32;
-    for room in 0..4096 {
-        match imported_in(&rt, rt.alloc(), room << 3)? {
-            Imported::OnceMade => made = made.saturating_add(1),
-            Imported::InTheEnd => imported = imported.saturating_add(1),
-            Imported::AtOnce => {
-                let counts = (made, imported);
-                let both = made > 0 && imported > 0;
-                same_at(&rt, "how often each was refused:", &counts, &both, &true);
-                return Ok(());
-            }
-        }
-    }
-    Err(Fail::from("never served"))
 }

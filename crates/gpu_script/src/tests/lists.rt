@@ -381,12 +381,20 @@ impl Written {
 
     /// The values of a byte, none where it is not kept.
     fn bits(&mut self, name: u64, byte: u64) -> u64 {
-        self.at(name, byte).map_or(0, |bits| *bits)
+        match self.at(name, byte) {
+            Some(bits) => *bits,
+            None => 0,
+        }
     }
 
     /// Whether one of these bytes, from an offset on, has values.
     fn goes_over_values(&mut self, name: u64, offset: u64, bytes: &[u8]) -> bool {
-        (0..bytes.len() as u64).any(|place| self.bits(name, offset.wrapping_add(place)) != 0)
+        for place in 0..bytes.len() as u64 {
+            if self.bits(name, offset.wrapping_add(place)) != 0 {
+                return true;
+            }
+        }
+        false
     }
 
     /// No byte of the block has values.
@@ -512,9 +520,11 @@ fn check_replies(
 
 /// The values as bits.
 fn bits_of(values: &[u8]) -> u64 {
-    values
-        .iter()
-        .fold(0, |bits, value| bits | 1u64 << (*value % 64))
+    let mut bits = 0;
+    for value in values {
+        bits |= 1u64 << (*value % 64);
+    }
+    bits
 }
 
 /// Compares what is told of each byte by the commands and their replies with what was written, and counts the bytes
