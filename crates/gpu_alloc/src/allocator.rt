@@ -40,7 +40,7 @@ use gpu_alloc_base::{AllocationError, Config, buddy_block, free_list_block};
 use gpu_alloc_block::Kind;
 use gpu_alloc_buddy::BuddyAllocator;
 use gpu_alloc_freelist::FreeListAllocator;
-use gpu_alloc_types::{DeviceProperties, MemoryDevice, MemoryObject, OutOfMemory, UsageFlags};
+use gpu_alloc_types::{DeviceProperties, MemoryObject, ObjectDevice, OutOfMemory, UsageFlags};
 use gpu_alloc_usage::meaning;
 use rows::{add_leaf, add_slot};
 use std::alloc::{AllocError, Allocator, Global};
@@ -185,7 +185,7 @@ impl<M: MemoryObject, A: Allocator> GpuAllocator<M, A> {
     /// spent, after 2^64 - 1 of them), or `OutOfHostMemory` where the host's memory was refused to the allocator or to
     /// the device, or a new chunk could not be mapped. Where all are passed it is `OutOfDeviceMemory`. After a refusal
     /// the allocator and the device's objects are as before: a chunk that was made is given back.
-    pub fn alloc<D: MemoryDevice<M>>(
+    pub fn alloc<D: ObjectDevice<M>>(
         &mut self,
         device: &mut D,
         request: Request,
@@ -223,7 +223,7 @@ impl<M: MemoryObject, A: Allocator> GpuAllocator<M, A> {
     /// configuration's `preferred_dedicated_threshold` or `dedicated_threshold`, and else what `alloc` gives.
     ///
     /// The conditions and the refusals are those of `alloc`.
-    pub fn alloc_with_dedicated<D: MemoryDevice<M>>(
+    pub fn alloc_with_dedicated<D: ObjectDevice<M>>(
         &mut self,
         device: &mut D,
         request: Request,
@@ -258,7 +258,7 @@ impl<M: MemoryObject, A: Allocator> GpuAllocator<M, A> {
 
     /// Allocates a block with a hint or none.
     #[tactic(auto, unfolding(crate::specs::Allocation::Allocates))]
-    fn allocate<D: MemoryDevice<M>>(
+    fn allocate<D: ObjectDevice<M>>(
         &mut self,
         device: &mut D,
         request: Request,
@@ -305,7 +305,7 @@ impl<M: MemoryObject, A: Allocator> GpuAllocator<M, A> {
 
     /// Tries the candidates in rank: the memory types that serve a request, which has this meaning, where it allows
     /// them.
-    fn try_all<D: MemoryDevice<M>>(
+    fn try_all<D: ObjectDevice<M>>(
         &mut self,
         device: &mut D,
         request: Request,
@@ -333,7 +333,7 @@ impl<M: MemoryObject, A: Allocator> GpuAllocator<M, A> {
     }
 
     /// Tries one memory type: none where it is passed.
-    fn try_type<D: MemoryDevice<M>>(
+    fn try_type<D: ObjectDevice<M>>(
         &mut self,
         device: &mut D,
         request: Request,
@@ -435,7 +435,7 @@ impl<M: MemoryObject, A: Allocator> GpuAllocator<M, A> {
     }
 
     /// Tries one memory type for an object of its own, which its heap has room for: none where the type is passed.
-    fn try_object<D: MemoryDevice<M>>(
+    fn try_object<D: ObjectDevice<M>>(
         &mut self,
         device: &mut D,
         request: Request,
@@ -494,7 +494,7 @@ impl<M: MemoryObject, A: Allocator> GpuAllocator<M, A> {
     }
 
     /// Tries one memory type for a block of a buddy chunk: none where the type is passed.
-    fn try_buddy<D: MemoryDevice<M>>(
+    fn try_buddy<D: ObjectDevice<M>>(
         &mut self,
         device: &mut D,
         request: Request,
@@ -558,7 +558,7 @@ impl<M: MemoryObject, A: Allocator> GpuAllocator<M, A> {
     }
 
     /// Tries one memory type for a block of its free list: none where the type is passed.
-    fn try_free_list<D: MemoryDevice<M>>(
+    fn try_free_list<D: ObjectDevice<M>>(
         &mut self,
         device: &mut D,
         request: Request,
@@ -636,7 +636,7 @@ impl<M: MemoryObject, A: Allocator> GpuAllocator<M, A> {
     /// The block has to be live here (`owns` tells), and the device has to be the one that this allocator has served,
     /// so that the two agree. The block may be mapped. It takes no memory and cannot fail. Each other block that stays
     /// owned agrees with the device afterwards where it did before.
-    pub fn dealloc<D: MemoryDevice<M>>(&mut self, device: &mut D, block: MemoryBlock<M>)
+    pub fn dealloc<D: ObjectDevice<M>>(&mut self, device: &mut D, block: MemoryBlock<M>)
         requires owned { IsOwned self.old block }
         requires agrees { Agrees self.old (D.properties device.old) (D.objects device.old) }
 
@@ -659,7 +659,7 @@ impl<M: MemoryObject, A: Allocator> GpuAllocator<M, A> {
     /// Where no block is live, nothing is held afterwards, and every ledger is 0. Each block that is owned agrees with
     /// the device afterwards where it did before. The device has to be the one that this allocator has served, so that
     /// the two agree. It takes no memory and cannot fail.
-    pub fn cleanup<D: MemoryDevice<M>>(&mut self, device: &mut D)
+    pub fn cleanup<D: ObjectDevice<M>>(&mut self, device: &mut D)
         requires agrees { Agrees self.old (D.properties device.old) (D.objects device.old) }
 
         ensures cleaned { (es : List Event) × Chain D.step device.old es device.new × Cleans self.old es self.new }

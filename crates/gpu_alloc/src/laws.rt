@@ -41,7 +41,7 @@ use gpu_alloc_block::laws::byte_calls_keep_each_agreement;
 pub use gpu_alloc_block::laws::{
     bytes_of_a_mapping_may_be_moved, rounded_ranges_lie_in_their_block, these_bytes_may_be_moved,
 };
-use gpu_alloc_types::{MemoryDevice, MemoryObject, OutOfMemory};
+use gpu_alloc_types::{MemoryObject, ObjectDevice, OutOfMemory};
 pub use gpu_alloc_usage::laws::{
     candidates_are_exact_and_sorted, ranking_is_exact_and_sorted, rankings_of_samples,
 };
@@ -165,7 +165,7 @@ pub fn strategy_of_samples()
 
 /// An allocator that holds nothing agrees with every device that has its properties: a caller that opened one over its
 /// device's properties learns it by this call.
-pub fn agrees_at_first<M: MemoryObject, D: MemoryDevice<M>, A: Allocator>(
+pub fn agrees_at_first<M: MemoryObject, D: ObjectDevice<M>, A: Allocator>(
     allocator: &GpuAllocator<M, A>,
     device: &D,
 )
@@ -219,7 +219,7 @@ pub fn which_objects_may_be_imported()
 /// A device that was asked for an object by its caller (`allocate_memory`), whatever its answer was, leaves an
 /// allocator and each block in agreement; the name of what it made is new to the allocator, and the whole of it may be
 /// imported. By this call it becomes known of the device's latest call.
-pub fn made_objects_may_be_imported<M: MemoryObject, D: MemoryDevice<M>, A: Allocator>(
+pub fn made_objects_may_be_imported<M: MemoryObject, D: ObjectDevice<M>, A: Allocator>(
     allocator: &GpuAllocator<M, A>,
     device: &D,
     answer: &Result<M, OutOfMemory>,
@@ -233,7 +233,7 @@ pub fn made_objects_may_be_imported<M: MemoryObject, D: MemoryDevice<M>, A: Allo
 
 /// A device that takes an object back which an allocator does not hold (`deallocate_memory`) leaves that allocator and
 /// its blocks in agreement: by this call it becomes known of the device's latest call.
-pub fn objects_of_others_may_go<M: MemoryObject, D: MemoryDevice<M>, A: Allocator>(
+pub fn objects_of_others_may_go<M: MemoryObject, D: ObjectDevice<M>, A: Allocator>(
     allocator: &GpuAllocator<M, A>,
     device: &D,
 )
@@ -245,7 +245,7 @@ pub fn objects_of_others_may_go<M: MemoryObject, D: MemoryDevice<M>, A: Allocato
 
 /// A device that puts or gets bytes, flushes or invalidates for its caller, whatever its answer was, leaves an allocator
 /// and each block in agreement: by this call it becomes known of the device's latest call.
-pub fn byte_calls_keep_agreement<M: MemoryObject, D: MemoryDevice<M>, A: Allocator>(
+pub fn byte_calls_keep_agreement<M: MemoryObject, D: ObjectDevice<M>, A: Allocator>(
     allocator: &GpuAllocator<M, A>,
     device: &D,
 )

@@ -16,7 +16,8 @@ pub use gpu_alloc_base::{AllocationError, Config, MapError};
 pub use gpu_alloc_block::{Kind, Mapping, MemoryBlock};
 pub use gpu_alloc_types::{
     AllocationFlags, DeviceMapError, DeviceProperties, FreeRange, MappedMemoryRange, MemoryDevice,
-    MemoryHeap, MemoryObject, MemoryPropertyFlags, MemoryType, OutOfMemory, UsageFlags,
+    MemoryHeap, MemoryObject, MemoryPropertyFlags, MemoryType, ObjectDevice, OutOfMemory,
+    UsageFlags,
 };
 pub use gpu_alloc_usage::MemoryForUsage;
 pub use request::{Dedicated, Request};

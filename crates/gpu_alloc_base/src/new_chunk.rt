@@ -9,7 +9,7 @@ ghost use Rattle.gpu_alloc_base.specs.NewChunk.{AsksChunk, ChunkAfter, AsksChunk
 ghost use Rattle.gpu_alloc_base.specs.NewChunk.{new_chunk_refusal, told_object, told_handles};
 
 use crate::AllocationError;
-use gpu_alloc_types::{AllocationFlags, DeviceMapError, MemoryDevice, MemoryObject, OutOfMemory};
+use gpu_alloc_types::{AllocationFlags, DeviceMapError, MemoryObject, ObjectDevice, OutOfMemory};
 
 /// A refused mapping of a new chunk, as a refusal of the chunk.
 fn refusal_of(cause: DeviceMapError) -> AllocationError
@@ -26,7 +26,7 @@ fn refusal_of(cause: DeviceMapError) -> AllocationError
 /// A new object, mapped whole where `visible` says that the host sees its memory type. An object whose mapping is
 /// refused is given back, so that after a refusal the device holds what it held: `OutOfDeviceMemory` where the device
 /// answered so to the question or to the mapping, and else `OutOfHostMemory`.
-pub fn new_chunk<M: MemoryObject, D: MemoryDevice<M>>(
+pub fn new_chunk<M: MemoryObject, D: ObjectDevice<M>>(
     device: &mut D,
     size: u64,
     memory_type: u32,
@@ -61,7 +61,7 @@ pub fn new_chunk<M: MemoryObject, D: MemoryDevice<M>>(
 
 /// A new object as [`new_chunk`] makes it, with a second handle of it. Where there is no host memory for that handle
 /// the object is given back, and it is `OutOfHostMemory`.
-pub fn new_chunk_with_handle<M: MemoryObject, D: MemoryDevice<M>>(
+pub fn new_chunk_with_handle<M: MemoryObject, D: ObjectDevice<M>>(
     device: &mut D,
     size: u64,
     memory_type: u32,

@@ -20,7 +20,8 @@ ghost use Rattle.gpu_alloc_block.specs.State.{is_shared};
 
 use gpu_alloc_base::MapError;
 use gpu_alloc_types::{
-    DeviceMapError, MappedMemoryRange, MemoryDevice, MemoryObject, MemoryPropertyFlags, OutOfMemory,
+    DeviceMapError, MappedMemoryRange, MemoryDevice, MemoryObject, MemoryPropertyFlags,
+    ObjectDevice, OutOfMemory,
 };
 use std::marker::Model;
 
@@ -213,7 +214,7 @@ impl<M: MemoryObject> MemoryBlock<M> {
     /// see the block's memory, then `AlreadyMapped` where the block is mapped; the device is asked nothing then.
     /// `OutOfDeviceMemory`, `OutOfHostMemory` and `MapFailed` are the device's. After a refusal the block and the
     /// device's objects are as before.
-    pub fn map<D: MemoryDevice<M>>(
+    pub fn map<D: ObjectDevice<M>>(
         &mut self,
         device: &mut D,
         offset: u64,
@@ -256,7 +257,7 @@ impl<M: MemoryObject> MemoryBlock<M> {
     ///
     /// The device has to hold the block's object as the allocator and the block's calls left it (`BlockAgrees`).
     #[tactic(auto, unfolding(crate::specs::Agreement::BlockAgrees))]
-    pub fn unmap<D: MemoryDevice<M>>(&mut self, device: &mut D) -> bool
+    pub fn unmap<D: ObjectDevice<M>>(&mut self, device: &mut D) -> bool
         requires { BlockAgrees self.old (D.properties device.old) (D.objects device.old) }
 
         ensures answer { result ≡ is_some self.old.mapping }
@@ -454,7 +455,7 @@ impl<M: MemoryObject> MemoryBlock<M> {
 
     /// Maps some bytes in whole atoms where the object is the block's own. A shared one is mapped already.
     #[tactic(auto, unfolding(crate::specs::Agreement::BlockAgrees))]
-    fn open<D: MemoryDevice<M>>(
+    fn open<D: ObjectDevice<M>>(
         &self,
         device: &mut D,
         offset: u64,
@@ -481,7 +482,7 @@ impl<M: MemoryObject> MemoryBlock<M> {
     }
 
     /// Ends the mapping of the object where it is the block's own.
-    fn close<D: MemoryDevice<M>>(&self, device: &mut D)
+    fn close<D: ObjectDevice<M>>(&self, device: &mut D)
         requires { is_shared self.now.kind ≡ false → HeldWith (D.objects device.old) self.now.object IsMapped }
         ensures asked { Asked D.step device.old device.new (λ es. es ≡ of_own self.now (Unmapped self.now.object ∷ [])) }
         ensures objects { IsClosed (is_shared self.now.kind) self.now.object (D.objects device.old)
@@ -494,7 +495,7 @@ impl<M: MemoryObject> MemoryBlock<M> {
     }
 
     /// Makes some bytes of the host's, in whole atoms, the device's too: by a flush where the memory is non-coherent.
-    fn flush<D: MemoryDevice<M>>(
+    fn flush<D: ObjectDevice<M>>(
         &self,
         device: &mut D,
         offset: u64,
@@ -519,7 +520,7 @@ impl<M: MemoryObject> MemoryBlock<M> {
 
     /// Makes some bytes of the device's, in whole atoms, the host's too: by an invalidate where the memory is
     /// non-coherent.
-    fn invalidate<D: MemoryDevice<M>>(
+    fn invalidate<D: ObjectDevice<M>>(
         &self,
         device: &mut D,
         offset: u64,

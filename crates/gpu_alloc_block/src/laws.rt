@@ -9,7 +9,7 @@ ghost use Rattle.gpu_alloc_block.specs.Ranges.{rounded};
 ghost use Rattle.gpu_alloc_block.specs.State.{State};
 
 use crate::{Mapping, MemoryBlock};
-use gpu_alloc_types::{MemoryDevice, MemoryObject};
+use gpu_alloc_types::{MemoryObject, ObjectDevice};
 
 /// What is flushed or invalidated of a block lies inside it; an import's alone may begin before it, by less than one
 /// atom. So a call of a block changes no byte of another, as its clause `within` tells.
@@ -30,7 +30,7 @@ pub fn bytes_of_a_mapping_may_be_moved<M: MemoryObject>(block: &MemoryBlock<M>)
 
 /// The same of `len` bytes from `place` on, in bytes from the start of the block's object: by this call a caller may
 /// put or get them.
-pub fn these_bytes_may_be_moved<M: MemoryObject, D: MemoryDevice<M>>(
+pub fn these_bytes_may_be_moved<M: MemoryObject, D: ObjectDevice<M>>(
     block: &MemoryBlock<M>,
     device: &D,
     mapping: Mapping,
@@ -49,7 +49,7 @@ pub fn these_bytes_may_be_moved<M: MemoryObject, D: MemoryDevice<M>>(
 
 /// A device that puts or gets bytes, flushes or invalidates for its caller, whatever its answer was, leaves every
 /// allocator and every block in agreement. `gpu_alloc::laws::byte_calls_keep_agreement` is that of one allocator.
-pub fn byte_calls_keep_each_agreement<M: MemoryObject, D: MemoryDevice<M>>(device: &D)
+pub fn byte_calls_keep_each_agreement<M: MemoryObject, D: ObjectDevice<M>>(device: &D)
     ensures { (s : State) → BytesMoved s D.step D.properties D.objects device.now }
 {
     let _ = device;

@@ -30,7 +30,7 @@ use gpu_alloc_base::steps::Steps;
 use gpu_alloc_base::{AllocationError, BuddyBlock};
 use gpu_alloc_pairs::{Pairs, bytes};
 use gpu_alloc_types::{
-    AllocationFlags, FreeRange, MemoryDevice, MemoryObject, MemoryPropertyFlags,
+    AllocationFlags, FreeRange, MemoryObject, MemoryPropertyFlags, ObjectDevice,
 };
 use std::alloc::{AllocError, Allocator, Global};
 use std::marker::Model;
@@ -157,7 +157,7 @@ impl<M: MemoryObject, A: Allocator> BuddyAllocator<M, A> {
     /// `looks` counts the lengths at which a free piece was looked for, at most 63 (`looked`), and `splits` how often a
     /// piece was halved, at most 62 (`split`): whatever is live, a piece of 2^k times the block's size takes k + 1 looks
     /// and k splits (`steps`).
-    pub fn alloc<D: MemoryDevice<M>, L: Ledger, K: Ledger>(
+    pub fn alloc<D: ObjectDevice<M>, L: Ledger, K: Ledger>(
         &mut self,
         device: &mut D,
         size: u64,
@@ -262,7 +262,7 @@ impl<M: MemoryObject, A: Allocator> BuddyAllocator<M, A> {
     ///
     /// `releases` counts the halves that are given back: the block, and each half that two joined ones become. They are
     /// at most 63 (`at_most`), whatever is live, and in a chunk of 2^k times the block's size at most k (`few`).
-    pub fn dealloc<D: MemoryDevice<M>, L: Ledger>(
+    pub fn dealloc<D: ObjectDevice<M>, L: Ledger>(
         &mut self,
         device: &mut D,
         block: BuddyBlock<M>,
@@ -296,7 +296,7 @@ impl<M: MemoryObject, A: Allocator> BuddyAllocator<M, A> {
 
     /// Takes a block back as [`dealloc`](BuddyAllocator::dealloc) does, and tells whether its chunk went back to the
     /// device. It is public for `gpu_alloc`, which takes that object off its books then.
-    pub fn give_back<D: MemoryDevice<M>, L: Ledger>(
+    pub fn give_back<D: ObjectDevice<M>, L: Ledger>(
         &mut self,
         device: &mut D,
         block: BuddyBlock<M>,
@@ -410,7 +410,7 @@ impl<M: MemoryObject, A: Allocator> BuddyAllocator<M, A> {
     }
 
     /// Allocates a block of 2^order bytes.
-    fn alloc_rounded<D: MemoryDevice<M>, L: Ledger, K: Ledger>(
+    fn alloc_rounded<D: ObjectDevice<M>, L: Ledger, K: Ledger>(
         &mut self,
         device: &mut D,
         order: u32,
@@ -466,7 +466,7 @@ impl<M: MemoryObject, A: Allocator> BuddyAllocator<M, A> {
     }
 
     /// Takes the front of a new chunk, where there is no place. Room is made before the device is asked.
-    fn take_chunk<D: MemoryDevice<M>, K: Ledger>(
+    fn take_chunk<D: ObjectDevice<M>, K: Ledger>(
         &mut self,
         device: &mut D,
         order: u32,

@@ -7,12 +7,12 @@ ghost use Rattle.gpu_alloc_buddy.specs.Buddy.{Agrees, HoldsNothing};
 
 use crate::BuddyAllocator;
 use gpu_alloc_base::heap::Heap;
-use gpu_alloc_types::{MemoryDevice, MemoryObject, MemoryPropertyFlags};
+use gpu_alloc_types::{MemoryObject, MemoryPropertyFlags, ObjectDevice};
 use std::alloc::Allocator;
 
 /// An allocator that holds nothing agrees with every device that offers its memory type with these properties, and
 /// every ledger counts what it holds: a caller that made one learns it by this call.
-pub fn agrees_at_first<M: MemoryObject, D: MemoryDevice<M>, A: Allocator>(
+pub fn agrees_at_first<M: MemoryObject, D: ObjectDevice<M>, A: Allocator>(
     allocator: &BuddyAllocator<M, A>,
     device: &D,
     memory_type: u32,

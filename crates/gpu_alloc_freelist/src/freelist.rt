@@ -38,7 +38,7 @@ use gpu_alloc_base::sizes::next_power_of_two;
 use gpu_alloc_base::steps::Steps;
 use gpu_alloc_base::{AllocationError, FreeListBlock};
 use gpu_alloc_types::{
-    AllocationFlags, FreeRange, MemoryDevice, MemoryObject, MemoryPropertyFlags,
+    AllocationFlags, FreeRange, MemoryObject, MemoryPropertyFlags, ObjectDevice,
 };
 pub use list::FreeList;
 use std::alloc::{AllocError, Allocator, Global};
@@ -172,7 +172,7 @@ impl<M: MemoryObject, A: Allocator> FreeListAllocator<M, A> {
     ///
     /// Each block that a caller had in hand is live still (`leaves`). The new one is live too, and shares no byte with
     /// any of them (`added`). What may be asked next is what might be asked before (`settings`).
-    pub fn alloc<D: MemoryDevice<M>>(
+    pub fn alloc<D: ObjectDevice<M>>(
         &mut self,
         device: &mut D,
         size: u64,
@@ -260,7 +260,7 @@ impl<M: MemoryObject, A: Allocator> FreeListAllocator<M, A> {
     ///
     /// Each other block that a caller has in hand is live still, and may be returned next (`removed`). The settings
     /// stay (`settings`), and the ledger does not grow (`ledger`).
-    pub fn dealloc<D: MemoryDevice<M>>(
+    pub fn dealloc<D: ObjectDevice<M>>(
         &mut self,
         device: &mut D,
         block: FreeListBlock<M>,
@@ -299,7 +299,7 @@ impl<M: MemoryObject, A: Allocator> FreeListAllocator<M, A> {
     /// Each block that a caller has in hand is live still (`leaves`). Where no block is live, no chunk is held
     /// afterwards (`rest`), and [`close`](FreeListAllocator::close) may be called without a test. The settings stay
     /// (`settings`), and the ledger does not grow (`ledger`).
-    pub fn cleanup<D: MemoryDevice<M>>(
+    pub fn cleanup<D: ObjectDevice<M>>(
         &mut self,
         device: &mut D,
         heap: &mut Heap,
@@ -340,7 +340,7 @@ impl<M: MemoryObject, A: Allocator> FreeListAllocator<M, A> {
     /// where this one is kept: the name of its object. None where there is no such chunk. It is public for `gpu_alloc`,
     /// which takes that object off its books.
     #[inline(always)]
-    pub fn give_back_first<D: MemoryDevice<M>>(
+    pub fn give_back_first<D: ObjectDevice<M>>(
         &mut self,
         device: &mut D,
         keep_last: bool,
@@ -401,7 +401,7 @@ impl<M: MemoryObject, A: Allocator> FreeListAllocator<M, A> {
     }
 
     /// Allocates a block of whole atoms at a multiple of the atom.
-    fn alloc_rounded<D: MemoryDevice<M>>(
+    fn alloc_rounded<D: ObjectDevice<M>>(
         &mut self,
         device: &mut D,
         size: u64,
@@ -481,7 +481,7 @@ impl<M: MemoryObject, A: Allocator> FreeListAllocator<M, A> {
     }
 
     /// Takes the tail of a new chunk, where there is no place. Room is made before the device is asked.
-    fn take_chunk<D: MemoryDevice<M>>(
+    fn take_chunk<D: ObjectDevice<M>>(
         &mut self,
         device: &mut D,
         size: u64,
@@ -542,7 +542,7 @@ impl<M: MemoryObject, A: Allocator> FreeListAllocator<M, A> {
     }
 
     /// Gives wholly free chunks back to the device, but not that of the last run where this one is kept.
-    fn give_back<D: MemoryDevice<M>>(
+    fn give_back<D: ObjectDevice<M>>(
         &mut self,
         device: &mut D,
         keep_last: bool,

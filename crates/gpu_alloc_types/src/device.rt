@@ -133,3 +133,123 @@ pub trait MemoryDevice<M: MemoryObject> {
     /// mapped range lies inside it.
     ghost well_formed: { (device : Self) (name : ℕ) → IfSome (objects device name) (IsWellFormed (properties device)) };
 }
+
+/// What a [`MemoryDevice`] is asked of its objects and not of their bytes: its calls but `put_bytes` and `get_bytes`, with
+/// the same contracts and laws.
+///
+/// Whatever moves no byte asks for this alone. Every `MemoryDevice` is one, and a device that keeps no byte of its
+/// objects can be one too.
+pub trait ObjectDevice<M: MemoryObject> {
+    /// What the device offers.
+    ghost properties: { Self → Properties };
+
+    /// The objects that it holds, by name.
+    ghost objects: { Self → ℕ → Option Object };
+
+    /// Whether a call with these arguments and this answer may lead from the first state to the second.
+    ghost step: { Self → Event → Self → Type 0 };
+
+    /// Makes an object; see [`MemoryDevice::allocate_memory`].
+    fn allocate_memory(
+        &mut self,
+        size: u64,
+        memory_type: u32,
+        flags: AllocationFlags,
+    ) -> Result<M, OutOfMemory>
+        requires { IsAskable (properties self.old) size memory_type (allocation_bits flags) }
+        ensures { step self.old
+            (Allocated size memory_type (allocation_bits flags) (result_map_both M.object (λ e. e) result)) self.new };
+
+    /// Takes an object back; see [`MemoryDevice::deallocate_memory`].
+    fn deallocate_memory(&mut self, memory: &M)
+        requires { IsHeld (objects self.old) (M.object memory.now) }
+        ensures { step self.old (Deallocated (M.object memory.now)) self.new };
+
+    /// Maps a range of an object; see [`MemoryDevice::map_memory`].
+    fn map_memory(&mut self, memory: &M, offset: u64, size: u64) -> Result<(), DeviceMapError>
+        requires { HeldWith (objects self.old) (M.object memory.now) (IsMappable (properties self.old) offset size) }
+        ensures { step self.old (Mapped (record { object = M.object memory.now; offset = offset; size = size }) result)
+            self.new };
+
+    /// Ends the mapping of an object; see [`MemoryDevice::unmap_memory`].
+    fn unmap_memory(&mut self, memory: &M)
+        requires { HeldWith (objects self.old) (M.object memory.now) IsMapped }
+        ensures { step self.old (Unmapped (M.object memory.now)) self.new };
+
+    /// Makes what the host wrote visible to the device; see [`MemoryDevice::flush_memory_ranges`].
+    fn flush_memory_ranges(
+        &mut self,
+        ranges: &[MappedMemoryRange<'_, M>],
+    ) -> Result<(), OutOfMemory>
+        requires { AreFlushable (properties self.old) (objects self.old) (map (range_of M.object) ranges.now) }
+        ensures { step self.old (Flushed (map (range_of M.object) ranges.now) result) self.new };
+
+    /// Makes what the device wrote visible to the host; see [`MemoryDevice::invalidate_memory_ranges`].
+    fn invalidate_memory_ranges(
+        &mut self,
+        ranges: &[MappedMemoryRange<'_, M>],
+    ) -> Result<(), OutOfMemory>
+        requires { AreFlushable (properties self.old) (objects self.old) (map (range_of M.object) ranges.now) }
+        ensures { step self.old (Invalidated (map (range_of M.object) ranges.now) result) self.new };
+
+    /// A step does what its row says, and leaves all else as it was.
+    ghost row: { (old : Self) (e : Event) (new : Self) → step old e new → Row (properties old) (objects old) e
+        (objects new) };
+
+    /// No call changes what the device offers.
+    ghost keeps_properties: { (old : Self) (e : Event) (new : Self) → step old e new
+        → properties new ≡ properties old };
+
+    /// Each object has the bytes that its type and size ask for, equal lists of them where it is coherent, and its
+    /// mapped range lies inside it.
+    ghost well_formed: { (device : Self) (name : ℕ) → IfSome (objects device name) (IsWellFormed (properties device)) };
+}
+
+impl<M: MemoryObject, D: MemoryDevice<M>> ObjectDevice<M> for D {
+    ghost properties = { D.properties };
+
+    ghost objects = { D.objects };
+
+    ghost step = { D.step };
+
+    ghost row = { D.MemoryDevice.row };
+
+    ghost keeps_properties = { D.keeps_properties };
+
+    ghost well_formed = { D.well_formed };
+
+    fn allocate_memory(
+        &mut self,
+        size: u64,
+        memory_type: u32,
+        flags: AllocationFlags,
+    ) -> Result<M, OutOfMemory> {
+        MemoryDevice::allocate_memory(self, size, memory_type, flags)
+    }
+
+    fn deallocate_memory(&mut self, memory: &M) {
+        MemoryDevice::deallocate_memory(self, memory)
+    }
+
+    fn map_memory(&mut self, memory: &M, offset: u64, size: u64) -> Result<(), DeviceMapError> {
+        MemoryDevice::map_memory(self, memory, offset, size)
+    }
+
+    fn unmap_memory(&mut self, memory: &M) {
+        MemoryDevice::unmap_memory(self, memory)
+    }
+
+    fn flush_memory_ranges(
+        &mut self,
+        ranges: &[MappedMemoryRange<'_, M>],
+    ) -> Result<(), OutOfMemory> {
+        MemoryDevice::flush_memory_ranges(self, ranges)
+    }
+
+    fn invalidate_memory_ranges(
+        &mut self,
+        ranges: &[MappedMemoryRange<'_, M>],
+    ) -> Result<(), OutOfMemory> {
+        MemoryDevice::invalidate_memory_ranges(self, ranges)
+    }
+}

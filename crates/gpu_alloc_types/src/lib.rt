@@ -9,7 +9,7 @@ mod types;
 mod usage_flags;
 
 pub use allocation_flags::AllocationFlags;
-pub use device::{MemoryDevice, MemoryObject};
+pub use device::{MemoryDevice, MemoryObject, ObjectDevice};
 pub use memory_property_flags::MemoryPropertyFlags;
 pub use types::{
     DeviceMapError, DeviceProperties, FreeRange, MappedMemoryRange, MemoryHeap, MemoryType,

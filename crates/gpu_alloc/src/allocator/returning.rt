@@ -14,14 +14,14 @@ use gpu_alloc_base::free_list_block::Slot;
 use gpu_alloc_base::{BuddyBlock, FreeListBlock};
 use gpu_alloc_block::Kind;
 use gpu_alloc_block::block::into_memory;
-use gpu_alloc_types::{MemoryDevice, MemoryObject};
+use gpu_alloc_types::{MemoryObject, ObjectDevice};
 use std::alloc::Allocator;
 use std::marker::Brand;
 use std::sync::ledger::Blank;
 
 impl<M: MemoryObject, A: Allocator> GpuAllocator<M, A> {
     /// Takes a block back, by what its object is held for.
-    pub(super) fn take_back<D: MemoryDevice<M>>(&mut self, device: &mut D, block: MemoryBlock<M>)
+    pub(super) fn take_back<D: ObjectDevice<M>>(&mut self, device: &mut D, block: MemoryBlock<M>)
         requires owned { IsOwned self.old block }
         requires agrees { Agrees self.old (D.properties device.old) (D.objects device.old) }
         ensures freed { (es : List Event) × Chain D.step device.old es device.new × Frees self.old block es self.new }
@@ -37,7 +37,7 @@ impl<M: MemoryObject, A: Allocator> GpuAllocator<M, A> {
     }
 
     /// Takes back the one block of an object.
-    fn dealloc_object<D: MemoryDevice<M>>(&mut self, device: &mut D, block: MemoryBlock<M>)
+    fn dealloc_object<D: ObjectDevice<M>>(&mut self, device: &mut D, block: MemoryBlock<M>)
         requires own { is_shared block.kind ≡ false }
         requires owned { IsOwned self.old block }
         requires agrees { Agrees self.old (D.properties device.old) (D.objects device.old) }
@@ -58,7 +58,7 @@ impl<M: MemoryObject, A: Allocator> GpuAllocator<M, A> {
     }
 
     /// Takes back a block of a buddy chunk. Where it stands there is what the table of spans says.
-    fn dealloc_in_chunk<D: MemoryDevice<M>>(&mut self, device: &mut D, block: MemoryBlock<M>)
+    fn dealloc_in_chunk<D: ObjectDevice<M>>(&mut self, device: &mut D, block: MemoryBlock<M>)
         requires shared { block.kind ≡ Kind.BuddyChunk }
         requires owned { IsOwned self.old block }
         requires agrees { Agrees self.old (D.properties device.old) (D.objects device.old) }
@@ -85,7 +85,7 @@ impl<M: MemoryObject, A: Allocator> GpuAllocator<M, A> {
     }
 
     /// Takes back a block of a free list's chunk of this number.
-    fn dealloc_in_list<D: MemoryDevice<M>>(
+    fn dealloc_in_list<D: ObjectDevice<M>>(
         &mut self,
         device: &mut D,
         block: MemoryBlock<M>,
@@ -129,7 +129,7 @@ impl<M: MemoryObject, A: Allocator> GpuAllocator<M, A> {
     /// Gives a memory type's free-list chunks in which no block is live back to the device, the oldest first, but not
     /// the one in which the last run lies where this one is kept.
     #[inline(always)]
-    pub(super) fn give_back<D: MemoryDevice<M>>(
+    pub(super) fn give_back<D: ObjectDevice<M>>(
         &mut self,
         device: &mut D,
         memory_type: u32,

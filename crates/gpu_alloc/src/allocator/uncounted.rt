@@ -17,7 +17,7 @@ use gpu_alloc_base::heap::Heap;
 use gpu_alloc_base::steps::Steps;
 use gpu_alloc_base::{AllocationError, BuddyBlock};
 use gpu_alloc_buddy::BuddyAllocator;
-use gpu_alloc_types::{AllocationFlags, MemoryDevice, MemoryObject};
+use gpu_alloc_types::{AllocationFlags, MemoryObject, ObjectDevice};
 use std::alloc::Allocator;
 use std::sync::ledger::{Blank, Ledger};
 
@@ -42,7 +42,7 @@ pub(super) fn refuses<M: MemoryObject, A: Allocator, L: Ledger>(
 }
 
 /// Allocates a block, as `BuddyAllocator::alloc` does.
-pub(super) fn alloc<M: MemoryObject, A: Allocator, D: MemoryDevice<M>, L: Ledger, K: Ledger>(
+pub(super) fn alloc<M: MemoryObject, A: Allocator, D: ObjectDevice<M>, L: Ledger, K: Ledger>(
     buddy: &mut BuddyAllocator<M, A>,
     device: &mut D,
     size: u64,
@@ -84,7 +84,7 @@ pub(super) fn alloc<M: MemoryObject, A: Allocator, D: MemoryDevice<M>, L: Ledger
 }
 
 /// Takes a block back, as `BuddyAllocator::give_back` does, and tells whether its chunk went.
-pub(super) fn give_back<M: MemoryObject, A: Allocator, D: MemoryDevice<M>, L: Ledger>(
+pub(super) fn give_back<M: MemoryObject, A: Allocator, D: ObjectDevice<M>, L: Ledger>(
     buddy: &mut BuddyAllocator<M, A>,
     device: &mut D,
     block: BuddyBlock<M>,

@@ -28,7 +28,7 @@ use gpu_alloc_base::free_list_block::{into_parts, key_of, slot_of};
 use gpu_alloc_base::new_chunk::new_chunk;
 use gpu_alloc_base::steps::Steps;
 use gpu_alloc_base::{AllocationError, FreeListBlock, FreeListRegion};
-use gpu_alloc_types::{AllocationFlags, MemoryDevice, MemoryObject};
+use gpu_alloc_types::{AllocationFlags, MemoryObject, ObjectDevice};
 use std::alloc::{AllocError, Allocator, Global};
 use std::marker::Model;
 use std::sync::ledger::Ledger;
@@ -154,7 +154,7 @@ impl<M: MemoryObject, A: Allocator> FreeList<M, A> {
     /// A block as [`get_block_from_new_memory`](FreeList::get_block_from_new_memory) gives it, in a chunk that the
     /// device is asked for. Room is made before, so that after the question only the device refuses, or the host a
     /// second handle of the chunk: then the chunk is given back, and nothing has changed.
-    pub(crate) fn get_block_from_new_chunk<D: MemoryDevice<M>>(
+    pub(crate) fn get_block_from_new_chunk<D: ObjectDevice<M>>(
         &mut self,
         device: &mut D,
         chunk_size: u64,

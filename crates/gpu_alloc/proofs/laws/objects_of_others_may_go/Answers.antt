@@ -5,6 +5,6 @@ pub returns : goal.returns
 returns g c =
     let s = c.args.allocator.now in
     record {
-      allocator = λ old name gone. (others_left _ _ _ _ name (g.met.D.MemoryDevice.keeps_properties _ _ _ gone) (g.met.D.MemoryDevice.row _ _ _ gone)).allocators s;
-      blocks = λ old name b gone. (others_left _ _ _ _ name (g.met.D.MemoryDevice.keeps_properties _ _ _ gone) (g.met.D.MemoryDevice.row _ _ _ gone)).blocks s b;
+      allocator = λ old name gone. (others_left _ _ _ _ name (g.met.D.ObjectDevice.keeps_properties _ _ _ gone) (g.met.D.ObjectDevice.row _ _ _ gone)).allocators s;
+      blocks = λ old name b gone. (others_left _ _ _ _ name (g.met.D.ObjectDevice.keeps_properties _ _ _ gone) (g.met.D.ObjectDevice.row _ _ _ gone)).blocks s b;
     }

@@ -16,25 +16,25 @@ returns-in-Err-clause-asks g c =
 pub map_memory-requires : goal.map_memory-requires
 map_memory-requires g c =
     let q : ChunkQuestion = chunk_question c.args.size c.args.memory_type (allocation_bits c.args.flags) c.args.visible in
-    let row = g.met.D.MemoryDevice.row _ _ _ c.in-Ok.ensures in
-    let same = g.met.D.MemoryDevice.keeps_properties _ _ _ c.in-Ok.ensures in
-    may_map q (g.D.MemoryDevice.objects c.args.device.now) (g.D.MemoryDevice.objects c.allocate_memory.new.self) (allocation_bits c.args.flags) (g.M.MemoryObject.object c.in-Ok.memory) (g.D.MemoryDevice.properties c.args.device.now) (g.D.MemoryDevice.properties c.allocate_memory.new.self)
+    let row = g.met.D.ObjectDevice.row _ _ _ c.in-Ok.ensures in
+    let same = g.met.D.ObjectDevice.keeps_properties _ _ _ c.in-Ok.ensures in
+    may_map q (g.D.ObjectDevice.objects c.args.device.now) (g.D.ObjectDevice.objects c.allocate_memory.new.self) (allocation_bits c.args.flags) (g.M.MemoryObject.object c.in-Ok.memory) (g.D.ObjectDevice.properties c.args.device.now) (g.D.ObjectDevice.properties c.allocate_memory.new.self)
     row same (c.requires.visible ∙ c.if-not-visible.false) c.requires.askable.nonempty
 
 pub deallocate_memory-requires : goal.deallocate_memory-requires
 deallocate_memory-requires g c =
     let q : ChunkQuestion = chunk_question c.args.size c.args.memory_type (allocation_bits c.args.flags) c.args.visible in
-    let row = g.met.D.MemoryDevice.row _ _ _ c.in-Ok.ensures in
-    let kept = g.met.D.MemoryDevice.row _ _ _ c.in-Err-map_memory.ensures in
-    still_there q (g.D.MemoryDevice.objects c.args.device.now) (g.D.MemoryDevice.objects c.allocate_memory.new.self) (allocation_bits c.args.flags) (g.M.MemoryObject.object c.in-Ok.memory) (g.D.MemoryDevice.properties c.args.device.now) (g.D.MemoryDevice.objects c.map_memory.new.self) row kept
+    let row = g.met.D.ObjectDevice.row _ _ _ c.in-Ok.ensures in
+    let kept = g.met.D.ObjectDevice.row _ _ _ c.in-Err-map_memory.ensures in
+    still_there q (g.D.ObjectDevice.objects c.args.device.now) (g.D.ObjectDevice.objects c.allocate_memory.new.self) (allocation_bits c.args.flags) (g.M.MemoryObject.object c.in-Ok.memory) (g.D.ObjectDevice.properties c.args.device.now) (g.D.ObjectDevice.objects c.map_memory.new.self) row kept
 
 pub returns-in-Ok-map_memory-clause-objects : goal.returns-in-Ok-map_memory-clause-objects
 returns-in-Ok-map_memory-clause-objects g c =
     let q : ChunkQuestion = chunk_question c.args.size c.args.memory_type (allocation_bits c.args.flags) c.args.visible in
-    let row = g.met.D.MemoryDevice.row _ _ _ c.in-Ok.ensures in
-    let maps = g.met.D.MemoryDevice.row _ _ _ c.in-Ok-map_memory.ensures in
-    mapped_after q (g.D.MemoryDevice.objects c.args.device.now) (g.D.MemoryDevice.objects c.allocate_memory.new.self) (allocation_bits c.args.flags) (g.M.MemoryObject.object c.in-Ok.memory) (g.D.MemoryDevice.properties c.args.device.now) (g.D.MemoryDevice.properties c.allocate_memory.new.self)
-    (g.D.MemoryDevice.objects c.map_memory.new.self) c.if-not-visible.false row maps
+    let row = g.met.D.ObjectDevice.row _ _ _ c.in-Ok.ensures in
+    let maps = g.met.D.ObjectDevice.row _ _ _ c.in-Ok-map_memory.ensures in
+    mapped_after q (g.D.ObjectDevice.objects c.args.device.now) (g.D.ObjectDevice.objects c.allocate_memory.new.self) (allocation_bits c.args.flags) (g.M.MemoryObject.object c.in-Ok.memory) (g.D.ObjectDevice.properties c.args.device.now) (g.D.ObjectDevice.properties c.allocate_memory.new.self)
+    (g.D.ObjectDevice.objects c.map_memory.new.self) c.if-not-visible.false row maps
 
 pub returns-in-Err-map_memory-clause-asks : goal.returns-in-Err-map_memory-clause-asks
 returns-in-Err-map_memory-clause-asks g c =
@@ -47,8 +47,8 @@ returns-in-Err-map_memory-clause-asks g c =
 pub returns-in-Err-map_memory-clause-objects : goal.returns-in-Err-map_memory-clause-objects
 returns-in-Err-map_memory-clause-objects g c =
     let q : ChunkQuestion = chunk_question c.args.size c.args.memory_type (allocation_bits c.args.flags) c.args.visible in
-    let row = g.met.D.MemoryDevice.row _ _ _ c.in-Ok.ensures in
-    let kept = g.met.D.MemoryDevice.row _ _ _ c.in-Err-map_memory.ensures in
-    let gone = g.met.D.MemoryDevice.row _ _ _ c.deallocate_memory.ensures in
-    given_back q (g.D.MemoryDevice.objects c.args.device.now) (g.D.MemoryDevice.objects c.allocate_memory.new.self) (allocation_bits c.args.flags) (g.M.MemoryObject.object c.in-Ok.memory) (g.D.MemoryDevice.properties c.args.device.now)
-    (g.D.MemoryDevice.objects c.map_memory.new.self) (g.D.MemoryDevice.objects c.deallocate_memory.new.self) row kept gone
+    let row = g.met.D.ObjectDevice.row _ _ _ c.in-Ok.ensures in
+    let kept = g.met.D.ObjectDevice.row _ _ _ c.in-Err-map_memory.ensures in
+    let gone = g.met.D.ObjectDevice.row _ _ _ c.deallocate_memory.ensures in
+    given_back q (g.D.ObjectDevice.objects c.args.device.now) (g.D.ObjectDevice.objects c.allocate_memory.new.self) (allocation_bits c.args.flags) (g.M.MemoryObject.object c.in-Ok.memory) (g.D.ObjectDevice.properties c.args.device.now)
+    (g.D.ObjectDevice.objects c.map_memory.new.self) (g.D.ObjectDevice.objects c.deallocate_memory.new.self) row kept gone

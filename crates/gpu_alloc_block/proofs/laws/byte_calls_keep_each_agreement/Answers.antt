@@ -3,6 +3,6 @@ use Rattle.gpu_alloc_block.proofs.laws.byte_calls_keep_each_agreement.Goals as g
 
 pub returns : goal.returns
 returns g c = λ s. record {
-  allocator = λ old e made moves. allocator_moved _ _ _ _ e moves (g.met.D.MemoryDevice.keeps_properties _ _ _ made) (g.met.D.MemoryDevice.row _ _ _ made) s;
-  blocks = λ b old e made moves. block_moved _ _ _ _ e moves (g.met.D.MemoryDevice.keeps_properties _ _ _ made) (g.met.D.MemoryDevice.row _ _ _ made) b;
+  allocator = λ old e made moves. allocator_moved _ _ _ _ e moves (g.met.D.ObjectDevice.keeps_properties _ _ _ made) (g.met.D.ObjectDevice.row _ _ _ made) s;
+  blocks = λ b old e made moves. block_moved _ _ _ _ e moves (g.met.D.ObjectDevice.keeps_properties _ _ _ made) (g.met.D.ObjectDevice.row _ _ _ made) b;
 }

@@ -18,7 +18,7 @@ returns-clause-granted g c = allocates_granted c.args.self.now c.args.request c.
 pub returns-clause-agrees : goal.returns-clause-agrees
 returns-clause-agrees g c =
     let decided = c.allocate-answer.ensures.decided in
-    let properties = chain_keeps g.D.MemoryDevice.step g.D.MemoryDevice.properties g.met.D.MemoryDevice.keeps_properties _ _ _ decided.1 in
+    let properties = chain_keeps g.D.ObjectDevice.step g.D.ObjectDevice.properties g.met.D.ObjectDevice.keeps_properties _ _ _ decided.1 in
     allocates_agrees c.args.self.now _ _ _ c.requires.agrees _ c.args.request (Some c.args.dedicated) _ _ _ properties decided.2 c.allocate-answer.ensures.objects
 
 pub returns-clause-leaves : goal.returns-clause-leaves
@@ -32,7 +32,7 @@ returns-clause-ready g c = allocates_agrees_block c.args.self.now c.args.request
 
 pub returns-clause-keeps : goal.returns-clause-keeps
 returns-clause-keeps g c =
-    let properties = chain_keeps g.D.MemoryDevice.step g.D.MemoryDevice.properties g.met.D.MemoryDevice.keeps_properties _ _ _ c.allocate-answer.ensures.decided.1 in
+    let properties = chain_keeps g.D.ObjectDevice.step g.D.ObjectDevice.properties g.met.D.ObjectDevice.keeps_properties _ _ _ c.allocate-answer.ensures.decided.1 in
     allocation_keeps_blocks c.args.self.now _ _ _ _ properties _ _ c.allocate-answer.ensures.objects
 
 pub returns-clause-own : goal.returns-clause-own

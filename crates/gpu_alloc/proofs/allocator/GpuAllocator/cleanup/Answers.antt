@@ -18,7 +18,7 @@ loop-memory_type-preserved g c =
     let gives = c.give_back.ensures.gives in (
       way.0 ++ gives.0,
       way.1 ++ gives.1,
-      chain_append g.D.MemoryDevice.step way.1 gives.1 _ _ _ way.2 gives.2,
+      chain_append g.D.ObjectDevice.step way.1 gives.1 _ _ _ way.2 gives.2,
       cleaning_goes_on _ _ _ _ _ _ _ _ c.loop-memory_type.memory_type way.0 gives.0 way.1 gives.1 way.3 gives.3.chunks gives.3.lets gives.3.objects c.give_back.ensures.agrees c.give_back.ensures.total,
     )
 
@@ -75,10 +75,10 @@ returns-clause-rest g c = record {
 pub returns-clause-keeps : goal.returns-clause-keeps
 returns-clause-keeps g c =
     let cleaned = returns-clause-cleaned g c in
-    let properties = chain_keeps g.D.MemoryDevice.step g.D.MemoryDevice.properties g.met.D.MemoryDevice.keeps_properties _ _ _ cleaned.1 in
+    let properties = chain_keeps g.D.ObjectDevice.step g.D.ObjectDevice.properties g.met.D.ObjectDevice.keeps_properties _ _ _ cleaned.1 in
     cleanup_keeps_blocks c.args.self.now _ _ _ _ properties cleaned.0 _ cleaned.2 (returns-clause-objects g c)
 
 pub returns-clause-gone : goal.returns-clause-gone
 returns-clause-gone g c =
     let cleaned = returns-clause-cleaned g c in
-    cleanup_goes_back g.D.MemoryDevice.step g.D.MemoryDevice.objects c.args.self.now _ _ _ (returns-clause-total g c) cleaned.0 cleaned.1 cleaned.2 (returns-clause-objects g c)
+    cleanup_goes_back g.D.ObjectDevice.step g.D.ObjectDevice.objects c.args.self.now _ _ _ (returns-clause-total g c) cleaned.0 cleaned.1 cleaned.2 (returns-clause-objects g c)

@@ -6,5 +6,5 @@ use Rattle.gpu_alloc.proofs.allocator.GpuAllocator.cleanup.Given as goal
 -- what may go of the memory types before this one went
 abbrev pub invariant-loop-memory_type : goal.invariant-loop-memory_type
 invariant-loop-memory_type g l =
-    (gone : List ℕ) × (es : List Event) × Chain g.D.MemoryDevice.step l.fn.device es l.device
-    × IsCleaning l.fn.self (g.D.MemoryDevice.objects l.fn.device) l.memory_type gone es l.self (g.D.MemoryDevice.properties l.device) (g.D.MemoryDevice.objects l.device)
+    (gone : List ℕ) × (es : List Event) × Chain g.D.ObjectDevice.step l.fn.device es l.device
+    × IsCleaning l.fn.self (g.D.ObjectDevice.objects l.fn.device) l.memory_type gone es l.self (g.D.ObjectDevice.properties l.device) (g.D.ObjectDevice.objects l.device)

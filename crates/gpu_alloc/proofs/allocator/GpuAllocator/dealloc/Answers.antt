@@ -14,10 +14,10 @@ returns-clause-total g c = frees_total c.args.self.now c.args.block _ _ c.requir
 pub returns-clause-keeps : goal.returns-clause-keeps
 returns-clause-keeps g c =
     let freed = c.take_back.ensures.freed in
-    let properties = chain_keeps g.D.MemoryDevice.step g.D.MemoryDevice.properties g.met.D.MemoryDevice.keeps_properties _ _ _ freed.1 in
+    let properties = chain_keeps g.D.ObjectDevice.step g.D.ObjectDevice.properties g.met.D.ObjectDevice.keeps_properties _ _ _ freed.1 in
     return_keeps_blocks c.args.self.now _ _ _ _ properties c.args.block freed.0 _ freed.2 c.take_back.ensures.objects
 
 pub returns-clause-gone : goal.returns-clause-gone
 returns-clause-gone g c =
     let freed = c.take_back.ensures.freed in
-    return_goes_back g.D.MemoryDevice.step g.D.MemoryDevice.objects c.args.self.now _ _ _ (returns-clause-total g c) freed.0 freed.1 c.args.block c.requires.owned freed.2 c.take_back.ensures.objects
+    return_goes_back g.D.ObjectDevice.step g.D.ObjectDevice.objects c.args.self.now _ _ _ (returns-clause-total g c) freed.0 freed.1 c.args.block c.requires.owned freed.2 c.take_back.ensures.objects

@@ -54,7 +54,7 @@ given_after g c =
     c.heap_index-heap.ensures c.index_mut-2.ensures.value (span ∙ removed_span g c) place (c.new.ensures ∙ c.leaf_in.ensures)
 
 returned_by : (g : Over) (c : goal.After-remove g) → IsReturned (given_after g c) (account c.give_back-gone.new.buddy c.give_back-gone.new.heap c.give_back-gone.new.allocations_remains) c.remove.new.self
-    (g.D.MemoryDevice.properties c.args.device.now) (g.D.MemoryDevice.properties c.give_back-gone.new.device) (g.D.MemoryDevice.objects c.args.device.now) (g.D.MemoryDevice.objects c.give_back-gone.new.device)
+    (g.D.ObjectDevice.properties c.args.device.now) (g.D.ObjectDevice.properties c.give_back-gone.new.device) (g.D.ObjectDevice.objects c.args.device.now) (g.D.ObjectDevice.objects c.give_back-gone.new.device)
     c.give_back-gone.ensures.frees.0 c.give_back-gone.result (account c.give_back-gone.new.buddy c.give_back-gone.new.heap c.give_back-gone.new.allocations_remains)
 returned_by g c =
     let name = c.object-object.ensures ∙ c.into_memory-memory.ensures in

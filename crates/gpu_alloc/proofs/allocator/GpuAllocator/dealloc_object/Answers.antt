@@ -66,13 +66,13 @@ returns-clause-freed g c =
 
 pub returns-clause-objects : goal.returns-clause-objects
 returns-clause-objects g c =
-    let gone = rw c.into_memory-memory.ensures at (g.met.D.MemoryDevice.row _ _ _ c.deallocate_memory.ensures) in
+    let gone = rw c.into_memory-memory.ensures at (g.met.D.ObjectDevice.row _ _ _ c.deallocate_memory.ensures) in
     rw (← c.self.view_is) (c.args.block.object ∷ [], goes_with _ _ _ c.requires.own, gone)
 
 pub returns-clause-agrees : goal.returns-clause-agrees
 returns-clause-agrees g c =
     let agreed = rw (← c.self.view_is) at c.requires.agrees in
-    let gone = rw c.into_memory-memory.ensures at (g.met.D.MemoryDevice.row _ _ _ c.deallocate_memory.ensures) in
-    let same = g.met.D.MemoryDevice.keeps_properties _ _ _ c.deallocate_memory.ensures in
-    subst (λ s. Agrees s (g.D.MemoryDevice.properties c.deallocate_memory.new.self) (g.D.MemoryDevice.objects c.deallocate_memory.new.self)) (sym (left g c))
+    let gone = rw c.into_memory-memory.ensures at (g.met.D.ObjectDevice.row _ _ _ c.deallocate_memory.ensures) in
+    let same = g.met.D.ObjectDevice.keeps_properties _ _ _ c.deallocate_memory.ensures in
+    subst (λ s. Agrees s (g.D.ObjectDevice.properties c.deallocate_memory.new.self) (g.D.ObjectDevice.objects c.deallocate_memory.new.self)) (sym (left g c))
     (agrees_returned _ _ _ _ _ _ c.args.block agreed same gone refl refl (λ span live. (live_other _ _ span live).1))

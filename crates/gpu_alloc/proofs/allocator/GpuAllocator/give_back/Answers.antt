@@ -24,7 +24,7 @@ index_mut-requires-in-loop-object g c = omega (arith, heap_in c.loop-object.inva
 
 pub give_back_first-requires-clause-agrees : goal.give_back_first-requires-clause-agrees
 give_back_first-requires-clause-agrees g c =
-    subst (λ q. list.Agrees c.index_mut.result.now q (g.D.MemoryDevice.objects c.loop-object.device)) (sym c.loop-object.invariant.properties)
+    subst (λ q. list.Agrees c.index_mut.result.now q (g.D.ObjectDevice.objects c.loop-object.device)) (sym c.loop-object.invariant.properties)
     (list_agreed c.loop-object.invariant.way.2 c.index_mut.result.now c.index_mut-in-loop-object.result.now c.index_mut.ensures.value c.index_mut-in-loop-object.ensures.value)
 
 pub give_back_first-requires-clause-counted : goal.give_back_first-requires-clause-counted
@@ -44,7 +44,7 @@ loop-object-preserved g c =
     record {
       way = (
         way.0 ++ gives.0,
-        chain_append g.D.MemoryDevice.step way.0 gives.0 _ _ _ way.1 gives.1,
+        chain_append g.D.ObjectDevice.step way.0 gives.0 _ _ _ way.1 gives.1,
         goes way.2 c.index_mut.result.now c.index_mut-in-loop-object.result.now c.index_mut.ensures.value c.index_mut-in-loop-object.ensures.value gives.0 c.in-Some.object
             (account c.give_back_first.new.self c.give_back_first.new.heap c.give_back_first.new.allocations_remains) _ gives.2 c.let_go.new.self c.let_go.ensures.held c.let_go.ensures.live c.let_go.ensures.places
             c.in-Some.ensures.sound,
@@ -60,8 +60,8 @@ left g c =
     (set c.loop-object.self-inside.free_lists.items c.args.memory_type c.give_back_first.new.self) c.loop-object.self-inside.spans c.give_back_first.new.allocations_remains
 
 given : (g : Over) (c : goal.In_default g)
-    → IsGivenBack c.args.keep_last c.args.memory_type c.args.self.now (g.D.MemoryDevice.properties c.args.device.now) (g.D.MemoryDevice.objects c.args.device.now) (left g c)
-    (c.loop-object.invariant.way.0 ++ c.in_default.ensures.gives.0) (g.D.MemoryDevice.objects c.give_back_first.new.device)
+    → IsGivenBack c.args.keep_last c.args.memory_type c.args.self.now (g.D.ObjectDevice.properties c.args.device.now) (g.D.ObjectDevice.objects c.args.device.now) (left g c)
+    (c.loop-object.invariant.way.0 ++ c.in_default.ensures.gives.0) (g.D.ObjectDevice.objects c.give_back_first.new.device)
 given g c =
     stops c.loop-object.invariant.way.2 c.index_mut.result.now c.index_mut-in-loop-object.result.now c.index_mut.ensures.value c.index_mut-in-loop-object.ensures.value c.in_default.ensures.gives.0
     (account c.give_back_first.new.self c.give_back_first.new.heap c.give_back_first.new.allocations_remains) _ c.in_default.ensures.gives.2
@@ -76,11 +76,11 @@ returns-clause-gives g c =
     let way = c.loop-object.invariant.way in
     let last = c.in_default.ensures.gives in
     let back = given g c in
-    (back.names, way.0 ++ last.0, chain_append g.D.MemoryDevice.step way.0 last.0 _ _ _ way.1 last.1, back.gives)
+    (back.names, way.0 ++ last.0, chain_append g.D.ObjectDevice.step way.0 last.0 _ _ _ way.1 last.1, back.gives)
 
 pub returns-clause-agrees : goal.returns-clause-agrees
 returns-clause-agrees g c =
-    subst (λ q. Agrees (left g c) q (g.D.MemoryDevice.objects c.give_back_first.new.device)) (sym (c.in_default.ensures.properties ∙ c.loop-object.invariant.properties)) (given g c).agrees
+    subst (λ q. Agrees (left g c) q (g.D.ObjectDevice.objects c.give_back_first.new.device)) (sym (c.in_default.ensures.properties ∙ c.loop-object.invariant.properties)) (given g c).agrees
 
 pub returns-clause-total : goal.returns-clause-total
 returns-clause-total g c = (given g c).whole

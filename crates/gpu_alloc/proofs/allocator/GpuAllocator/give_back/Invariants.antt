@@ -7,9 +7,9 @@ use Rattle.gpu_alloc.proofs.allocator.GpuAllocator.give_back.Given as goal
 -- some chunks went, and those that may go yet come after them
 abbrev pub invariant-loop-object : goal.invariant-loop-object
 invariant-loop-object g l = record {
-  way : (es : List Event) × Chain g.D.MemoryDevice.step l.fn.device es l.device × IsGivingBack l.keep_last l.memory_type l.heap l.fn.self (g.D.MemoryDevice.properties l.fn.device) (g.D.MemoryDevice.objects l.fn.device)
-      l.self-inside.limits l.self-inside.heaps.items l.self-inside.buddies.items l.self-inside.free_lists.items l.self-inside.spans l.self-inside.allocations_remains es (g.D.MemoryDevice.objects l.device);
-  properties : g.D.MemoryDevice.properties l.device ≡ g.D.MemoryDevice.properties l.fn.device;
+  way : (es : List Event) × Chain g.D.ObjectDevice.step l.fn.device es l.device × IsGivingBack l.keep_last l.memory_type l.heap l.fn.self (g.D.ObjectDevice.properties l.fn.device) (g.D.ObjectDevice.objects l.fn.device)
+      l.self-inside.limits l.self-inside.heaps.items l.self-inside.buddies.items l.self-inside.free_lists.items l.self-inside.spans l.self-inside.allocations_remains es (g.D.ObjectDevice.objects l.device);
+  properties : g.D.ObjectDevice.properties l.device ≡ g.D.ObjectDevice.properties l.fn.device;
 }
 
 abbrev pub decreases-loop-object : goal.decreases-loop-object

@@ -19,7 +19,7 @@ try_type-requires-clause-known g c =
 pub try_type-requires-clause-agrees : goal.try_type-requires-clause-agrees
 try_type-requires-clause-agrees g c =
     let before = c.loop-rank.invariant in
-    let properties = chain_keeps g.D.MemoryDevice.step g.D.MemoryDevice.properties g.met.D.MemoryDevice.keeps_properties _ _ _ before.passed.1 in
+    let properties = chain_keeps g.D.ObjectDevice.step g.D.ObjectDevice.properties g.met.D.ObjectDevice.keeps_properties _ _ _ before.passed.1 in
     agrees_kept c.args.self.now _ _ _ _ _ c.requires.agrees before.same properties before.objects
 
 pub returns-clause-tries : goal.returns-clause-tries
@@ -41,7 +41,7 @@ loop-rank-preserved g c = elim c.if-request-memory_type-eq1.branch [
       let tried = rw (w.in-Ok-None.field-0-is, c.loop-rank.invariant.same, at_rank) at w.in-Ok-None.ensures.tries in
       record {
         same = w.self-is ∙ tried.2.1;
-        passed = rw (w.device-is, add-one) (_, chain_append g.D.MemoryDevice.step _ _ _ _ _ before.1 tried.1, continues_next c.args.self.now c.args.request c.args.hint (is_allowed c.args.request.memory_types) row c.loop-rank.rank _ _ inside allowed before.2 tried.2.0);
+        passed = rw (w.device-is, add-one) (_, chain_append g.D.ObjectDevice.step _ _ _ _ _ before.1 tried.1, continues_next c.args.self.now c.args.request c.args.hint (is_allowed c.args.request.memory_types) row c.loop-rank.rank _ _ inside allowed before.2 tried.2.0);
         objects = rw w.device-is (rw w.in-Ok-None.field-0-is at w.in-Ok-None.ensures.objects ∙ c.loop-rank.invariant.objects);
       }
   | else-request-memory_type-eq1 w ↦
@@ -66,7 +66,7 @@ returns-in-Ok-Some-clause-tries g c =
     let allowed : is_allowed c.args.request.memory_types (get_or row c.loop-rank.rank 0) ≡ true = allowed_by_shift c.args.request.memory_types (get_or row c.loop-rank.rank 0) (rw at_rank at c.if-request-memory_type-eq1.true) in
     let tried = rw (c.in-Ok-Some.field-0-is, at_rank) at c.in-Ok-Some.ensures.tries in
     let decided = continues_decided c.args.self.now c.args.request c.args.hint (is_allowed c.args.request.memory_types) row c.loop-rank.self c.loop-rank.rank before.0 tried.0 _ _ c.loop-rank.invariant.same inside allowed before.2 tried.2 in
-    (_, chain_append g.D.MemoryDevice.step _ _ _ _ _ before.1 tried.1, tries_as_meant c.args.self.now c.args.request c.args.hint (usage_bits c.args.usage) _ _ _ c.requires.meant decided)
+    (_, chain_append g.D.ObjectDevice.step _ _ _ _ _ before.1 tried.1, tries_as_meant c.args.self.now c.args.request c.args.hint (usage_bits c.args.usage) _ _ _ c.requires.meant decided)
 
 pub returns-in-Err-clause-tries : goal.returns-in-Err-clause-tries
 returns-in-Err-clause-tries g c =
@@ -78,7 +78,7 @@ returns-in-Err-clause-tries g c =
     let tried = c.in-Err.ensures.tries in
     let here = subst (λ ts. Decides c.loop-rank.self c.args.request c.args.hint (get_or ts c.loop-rank.rank 0) tried.0 (Err c.in-Err.refusal) c.try_type.new.self) at_rank tried.2 in
     let decided = continues_decided c.args.self.now c.args.request c.args.hint (is_allowed c.args.request.memory_types) row c.loop-rank.self c.loop-rank.rank before.0 tried.0 _ _ c.loop-rank.invariant.same inside allowed before.2 here in
-    (_, chain_append g.D.MemoryDevice.step _ _ _ _ _ before.1 tried.1, tries_as_meant c.args.self.now c.args.request c.args.hint (usage_bits c.args.usage) _ _ _ c.requires.meant decided)
+    (_, chain_append g.D.ObjectDevice.step _ _ _ _ _ before.1 tried.1, tries_as_meant c.args.self.now c.args.request c.args.hint (usage_bits c.args.usage) _ _ _ c.requires.meant decided)
 
 pub returns-in-Err-clause-objects : goal.returns-in-Err-clause-objects
 returns-in-Err-clause-objects g c =

@@ -9,7 +9,7 @@ use Rattle.gpu_alloc.proofs.allocator.GpuAllocator.try_all.Given as goal
 abbrev pub invariant-loop-rank : goal.invariant-loop-rank
 invariant-loop-rank g l = record {
   same : l.self ≡ l.fn.self;
-  passed : (es : List Event) × Chain g.D.MemoryDevice.step l.fn.device es l.device
+  passed : (es : List Event) × Chain g.D.ObjectDevice.step l.fn.device es l.device
       × Continues l.fn.self l.request l.hint (is_allowed l.request.memory_types) (ranking (named (usage_bits l.usage)) l.fn.self.properties.memory_types) l.rank es;
-  objects : g.D.MemoryDevice.objects l.device ≡ g.D.MemoryDevice.objects l.fn.device;
+  objects : g.D.ObjectDevice.objects l.device ≡ g.D.ObjectDevice.objects l.fn.device;
 }

@@ -106,7 +106,7 @@ add_slot-key-requires-clause-free g c =
 
 given : (g : Over) (c : goal.After-new g)
     → Given c.self.inside.limits c.self.inside.heaps.items c.self.inside.buddies.items c.self.inside.free_lists.items c.self.inside.spans c.self.inside.allocations_remains c.args.memory_type c.heap_index-heap.result
-    c.self.inside.free_lists.items c.index_mut.result.now c.index_mut-2.result.now (allocation_bits c.flags-flags.result) (g.D.MemoryDevice.properties c.args.device.now) (g.D.MemoryDevice.objects c.args.device.now)
+    c.self.inside.free_lists.items c.index_mut.result.now c.index_mut-2.result.now (allocation_bits c.flags-flags.result) (g.D.ObjectDevice.properties c.args.device.now) (g.D.ObjectDevice.objects c.args.device.now)
 given g c =
     let known = rw (← c.self.view_is) at c.requires.known in
     let agrees = rw (← c.self.view_is) at c.requires.agrees in

@@ -83,8 +83,8 @@ block g c = whole_block (before g c) c.object.result c.args.request.size c.args.
 
 free : (g : Over) (c : goal.After-new g) → finite.get (before g c).held c.object.result ≡ None
 free g c =
-    let made = g.met.D.MemoryDevice.row _ _ _ c.in-Ok.ensures in
-    let none : g.D.MemoryDevice.objects c.args.device.now c.object.result ≡ None = rw c.object.ensures made.0 in
+    let made = g.met.D.ObjectDevice.row _ _ _ c.in-Ok.ensures in
+    let none : g.D.ObjectDevice.objects c.args.device.now c.object.result ≡ None = rw c.object.ensures made.0 in
     ap (λ (s : State). finite.get s.held c.object.result) c.self.view_is ∙ not_held c.args.self.now _ _ _ c.requires.agrees none
 
 more : (g : Over) (c : goal.After-new g) → HoldsMore _ _ _ _ c.self.invariant.books refl c.insert-key.new.self (object g c) (span_at c.object.result 0 c.args.request.size)
@@ -139,9 +139,9 @@ returns-in-Ok-clause-objects g c =
     let s = before g c in
     let h = object g c in
     let n = c.object.result in
-    let old = g.D.MemoryDevice.objects c.args.device.now in
-    let new = g.D.MemoryDevice.objects c.allocate_memory-answer.new.self in
-    let one = g.met.D.MemoryDevice.row _ _ _ c.in-Ok.ensures in
+    let old = g.D.ObjectDevice.objects c.args.device.now in
+    let new = g.D.ObjectDevice.objects c.allocate_memory-answer.new.self in
+    let one = g.met.D.ObjectDevice.row _ _ _ c.in-Ok.ensures in
     let fresh = one.1.1 in
     let found = ap (λ held. finite.get held n) (more g c).held ∙ own_inserted s.held n h in
     let made : HasOneMore (IsAsCounted s.properties) _ _ old new = record { counted = h; is_counted = found; was_free = rw c.object.ensures one.0; made = one.1.0; is_as = record { of_type = fresh.of_type; of_size = fresh.of_size; mapped = fresh.unmapped }; now = rw c.object.ensures one.1.2 } in
@@ -178,17 +178,17 @@ returns-in-Err-OutOfDeviceMemory-clause-tries g c =
     )
 
 pub returns-in-Err-OutOfDeviceMemory-clause-objects : goal.returns-in-Err-OutOfDeviceMemory-clause-objects
-returns-in-Err-OutOfDeviceMemory-clause-objects g c = g.met.D.MemoryDevice.row _ _ _ (rw c.in-Err-OutOfDeviceMemory.is at c.allocate_memory-answer.ensures)
+returns-in-Err-OutOfDeviceMemory-clause-objects g c = g.met.D.ObjectDevice.row _ _ _ (rw c.in-Err-OutOfDeviceMemory.is at c.allocate_memory-answer.ensures)
 
 pub returns-in-Err-OutOfHostMemory-clause-objects : goal.returns-in-Err-OutOfHostMemory-clause-objects
-returns-in-Err-OutOfHostMemory-clause-objects g c = g.met.D.MemoryDevice.row _ _ _ (rw c.in-Err-OutOfHostMemory.is at c.allocate_memory-answer.ensures)
+returns-in-Err-OutOfHostMemory-clause-objects g c = g.met.D.ObjectDevice.row _ _ _ (rw c.in-Err-OutOfHostMemory.is at c.allocate_memory-answer.ensures)
 
 -- The new object's name is free in the table, and so is its span.
 
 no_object : (g : Over) (c : goal.After-insert-arg-1 g) → finite.get c.self.inside.spans.held c.object.result ≡ None
 no_object g c =
-    let made = g.met.D.MemoryDevice.row _ _ _ c.in-Ok.ensures in
-    let none : g.D.MemoryDevice.objects c.args.device.now c.object.result ≡ None = rw c.object.ensures made.0 in
+    let made = g.met.D.ObjectDevice.row _ _ _ c.in-Ok.ensures in
+    let none : g.D.ObjectDevice.objects c.args.device.now c.object.result ≡ None = rw c.object.ensures made.0 in
     ap (λ (s : State). finite.get s.held c.object.result) c.self.view_is ∙ not_held c.args.self.now _ _ _ c.requires.agrees none
 
 pub insert-key-requires-clause-free : goal.insert-key-requires-clause-free

@@ -12,10 +12,10 @@ pub returns-in-Ok-clause-agrees : goal.returns-in-Ok-clause-agrees
 unfolding BlockAgrees
 returns-in-Ok-clause-agrees g c =
     let b = c.args.self.now in
-    let p = g.D.MemoryDevice.properties c.args.device.now in
-    let q = g.D.MemoryDevice.properties c.open.new.device in
-    let f = g.D.MemoryDevice.objects c.args.device.now in
-    let opened = g.D.MemoryDevice.objects c.open.new.device in
+    let p = g.D.ObjectDevice.properties c.args.device.now in
+    let q = g.D.ObjectDevice.properties c.open.new.device in
+    let f = g.D.ObjectDevice.objects c.args.device.now in
+    let opened = g.D.ObjectDevice.objects c.open.new.device in
     let objects = subst (λ answer. ObjectsMapped b (rounded b c.args.offset c.args.size) answer f opened) c.in-Ok.is c.open.ensures.objects in
     let inside : IsOfBlock b (mapping_of b c.args.offset c.args.size) = record { nonempty = c.requires.nonempty; from = omega arith; to = omega (arith, c.requires.inside) } in
     subst (λ x. BlockAgrees (record x { mapping = Some (mapping_of x c.args.offset c.args.size) }) q opened) (sym c.self.view_is)
@@ -26,11 +26,11 @@ pub returns-in-Ok-clause-keeps : goal.returns-in-Ok-clause-keeps
 unfolding BlockAgrees
 returns-in-Ok-clause-keeps g c =
     let b = c.args.self.now in
-    let p = g.D.MemoryDevice.properties c.args.device.now in
-    let f = g.D.MemoryDevice.objects c.args.device.now in
-    let opened = g.D.MemoryDevice.objects c.open.new.device in
+    let p = g.D.ObjectDevice.properties c.args.device.now in
+    let f = g.D.ObjectDevice.objects c.args.device.now in
+    let opened = g.D.ObjectDevice.objects c.open.new.device in
     let objects = subst (λ answer. ObjectsMapped b (rounded b c.args.offset c.args.size) answer f opened) c.in-Ok.is c.open.ensures.objects in
-    keeps_remapped b p (g.D.MemoryDevice.properties c.open.new.device) f opened (Some (mapping_of b c.args.offset c.args.size)) c.open.ensures.properties
+    keeps_remapped b p (g.D.ObjectDevice.properties c.open.new.device) f opened (Some (mapping_of b c.args.offset c.args.size)) c.open.ensures.properties
     (mapped_so p b c.args.offset c.args.size f opened c.requires.agrees objects)
 
 pub returns-in-Ok-clause-same : goal.returns-in-Ok-clause-same

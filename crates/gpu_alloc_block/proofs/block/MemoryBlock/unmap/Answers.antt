@@ -9,10 +9,10 @@ pub returns-clause-agrees : goal.returns-clause-agrees
 unfolding BlockAgrees
 returns-clause-agrees g c =
     let b = c.args.self.now in
-    let p = g.D.MemoryDevice.properties c.args.device.now in
-    let q = g.D.MemoryDevice.properties c.close.new.device in
-    let f = g.D.MemoryDevice.objects c.args.device.now in
-    let closed = g.D.MemoryDevice.objects c.close.new.device in
+    let p = g.D.ObjectDevice.properties c.args.device.now in
+    let q = g.D.ObjectDevice.properties c.close.new.device in
+    let f = g.D.ObjectDevice.objects c.args.device.now in
+    let closed = g.D.ObjectDevice.objects c.close.new.device in
     subst (λ x. BlockAgrees (record x { mapping = None }) q closed) (sym c.self.view_is)
     (agrees_remapped b None p q f closed c.close.ensures.properties tt (λ some. absurd (cc)) (unmapped_so p b f closed c.requires c.close.ensures.objects) c.requires)
 
@@ -20,10 +20,10 @@ pub returns-clause-keeps : goal.returns-clause-keeps
 unfolding BlockAgrees
 returns-clause-keeps g c =
     let b = c.args.self.now in
-    let p = g.D.MemoryDevice.properties c.args.device.now in
-    let f = g.D.MemoryDevice.objects c.args.device.now in
-    let closed = g.D.MemoryDevice.objects c.close.new.device in
-    keeps_remapped b p (g.D.MemoryDevice.properties c.close.new.device) f closed None c.close.ensures.properties (unmapped_so p b f closed c.requires c.close.ensures.objects)
+    let p = g.D.ObjectDevice.properties c.args.device.now in
+    let f = g.D.ObjectDevice.objects c.args.device.now in
+    let closed = g.D.ObjectDevice.objects c.close.new.device in
+    keeps_remapped b p (g.D.ObjectDevice.properties c.close.new.device) f closed None c.close.ensures.properties (unmapped_so p b f closed c.requires c.close.ensures.objects)
 
 pub returns-clause-same : goal.returns-clause-same
 unfolding BlockAgrees

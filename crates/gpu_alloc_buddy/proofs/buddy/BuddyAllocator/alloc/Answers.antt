@@ -24,7 +24,7 @@ returns-clause-agrees g c =
     let new = account c.alloc_rounded-answer.new.self c.alloc_rounded-answer.new.heap c.alloc_rounded-answer.new.allocations_remains in
     let told = c.alloc_rounded-answer.ensures.answers in
     answers_agree old new (2 ^ c.rounded_order-order.result) (allocation_bits c.args.flags) told.0 c.alloc_rounded-answer.result
-    (g.D.MemoryDevice.properties c.args.device.now) (g.D.MemoryDevice.properties c.alloc_rounded-answer.new.device) (g.D.MemoryDevice.objects c.args.device.now) (g.D.MemoryDevice.objects c.alloc_rounded-answer.new.device)
+    (g.D.ObjectDevice.properties c.args.device.now) (g.D.ObjectDevice.properties c.alloc_rounded-answer.new.device) (g.D.ObjectDevice.objects c.args.device.now) (g.D.ObjectDevice.objects c.alloc_rounded-answer.new.device)
     c.requires.agrees c.alloc_rounded-answer.ensures.properties told.2 c.alloc_rounded-answer.ensures.objects
 
 pub returns-clause-granted : goal.returns-clause-granted
@@ -36,7 +36,7 @@ returns-clause-granted g c =
     let told = c.alloc_rounded-answer.ensures.answers in
     let sound = c.rounded_order-order.ensures.sound in
     let w = wanted c.args.size c.args.align_mask flags in
-    answers_all_granted old new w (rounded c.args.self.now w) flags told.0 c.alloc_rounded-answer.result (g.D.MemoryDevice.properties c.args.device.now) (g.D.MemoryDevice.objects c.args.device.now) (g.D.MemoryDevice.objects c.alloc_rounded-answer.new.device)
+    answers_all_granted old new w (rounded c.args.self.now w) flags told.0 c.alloc_rounded-answer.result (g.D.ObjectDevice.properties c.args.device.now) (g.D.ObjectDevice.objects c.args.device.now) (g.D.ObjectDevice.objects c.alloc_rounded-answer.new.device)
     sound c.keeps_sound.ensures c.requires.agrees (rounds c.args.self.now w sound (omega (arith, c.ranges.size.fits)) c.requires.alignment)
     (subst (λ n. Answers (buddy_case old n flags) told.0 c.alloc_rounded-answer.result new) (sym size) told.2)
     c.alloc_rounded-answer.ensures.objects

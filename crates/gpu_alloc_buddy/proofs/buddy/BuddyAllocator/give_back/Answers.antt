@@ -85,8 +85,8 @@ returns-clause-agrees g c =
     let at = (goal.at.returns-clause-agrees g c).In-Some in
     let name = named g at in
     let agreed = rw (← c.self.view_is) at c.requires.agrees in
-    let freed = rw name at (g.met.D.MemoryDevice.row _ _ _ c.deallocate_memory.ensures) in
-    let same = g.met.D.MemoryDevice.keeps_properties _ _ _ c.deallocate_memory.ensures in
+    let freed = rw name at (g.met.D.ObjectDevice.row _ _ _ c.deallocate_memory.ensures) in
+    let same = g.met.D.ObjectDevice.keeps_properties _ _ _ c.deallocate_memory.ensures in
     let goes = c.in-Some.ensures.goes.1.1 in
     rw (same, freed, goes) (agrees_without (before g at) c.into_parts.result.1 (held g at) c.keeps_exact.ensures.sound (live g at) (is_held g at) agreed)
 

@@ -35,21 +35,21 @@ pub returns-clause-agrees : goal.returns-clause-agrees
 returns-clause-agrees g c =
     let told = c.alloc_rounded.ensures.answers in
     answers_agree (old g c) (new g c) c.rounded_size-size.result (c.max-align_mask.result + 1) (allocation_bits c.args.flags) told.0 c.alloc_rounded.result
-    (g.D.MemoryDevice.properties c.args.device.now) (g.D.MemoryDevice.properties c.alloc_rounded.new.device) (g.D.MemoryDevice.objects c.args.device.now) (g.D.MemoryDevice.objects c.alloc_rounded.new.device)
+    (g.D.ObjectDevice.properties c.args.device.now) (g.D.ObjectDevice.properties c.alloc_rounded.new.device) (g.D.ObjectDevice.objects c.args.device.now) (g.D.ObjectDevice.objects c.alloc_rounded.new.device)
     c.alloc_rounded.ensures.sound c.requires.agrees c.alloc_rounded.ensures.properties told.2 c.alloc_rounded.ensures.objects
 
 pub returns-clause-granted : goal.returns-clause-granted
 returns-clause-granted g c =
     let told = c.alloc_rounded.ensures.answers in
     answers_granted (old g c) (new g c) (wanted c.args.size c.args.align_mask (allocation_bits c.args.flags)) c.rounded_size-size.result (c.max-align_mask.result + 1) (allocation_bits c.args.flags) told.0 c.alloc_rounded.result
-    (g.D.MemoryDevice.properties c.args.device.now) (g.D.MemoryDevice.objects c.args.device.now) (g.D.MemoryDevice.objects c.alloc_rounded.new.device)
+    (g.D.ObjectDevice.properties c.args.device.now) (g.D.ObjectDevice.objects c.args.device.now) (g.D.ObjectDevice.objects c.alloc_rounded.new.device)
     c.alloc_rounded.ensures.sound c.requires.agrees (rounded_to g c) told.2 c.alloc_rounded.ensures.objects
 
 pub returns-clause-sound : goal.returns-clause-sound
 returns-clause-sound g c =
     let told = c.alloc_rounded.ensures.answers in
     answers_sound (old g c) (new g c) c.rounded_size-size.result (c.max-align_mask.result + 1) (allocation_bits c.args.flags) told.0 c.alloc_rounded.result
-    (g.D.MemoryDevice.properties c.args.device.now) (g.D.MemoryDevice.objects c.args.device.now) (g.D.MemoryDevice.objects c.alloc_rounded.new.device)
+    (g.D.ObjectDevice.properties c.args.device.now) (g.D.ObjectDevice.objects c.args.device.now) (g.D.ObjectDevice.objects c.alloc_rounded.new.device)
     c.alloc_rounded.ensures.sound c.requires.agrees (rounded_to g c).asked told.2 c.alloc_rounded.ensures.objects
 
 pub returns-clause-counted : goal.returns-clause-counted

@@ -95,7 +95,7 @@ pub take_chunk-requires-clause-agrees : goal.take_chunk-requires-clause-agrees
 take_chunk-requires-clause-agrees g c =
     let took = rw (c.in-Ok-None.field-0-is) at c.in-Ok-None.ensures.takes in
     let same : over g c.self.inside c.get_block.new.self.space ≡ c.args.self.now = ap (over g c.self.inside) took.1 ∙ c.self.view_is in
-    subst (λ x. Agrees x (g.D.MemoryDevice.properties c.args.device.now) (g.D.MemoryDevice.objects c.args.device.now)) (sym same) c.requires.agrees
+    subst (λ x. Agrees x (g.D.ObjectDevice.properties c.args.device.now) (g.D.ObjectDevice.objects c.args.device.now)) (sym same) c.requires.agrees
 
 pub take_chunk-requires-clause-asks : goal.take_chunk-requires-clause-asks
 take_chunk-requires-clause-asks g c =
@@ -129,7 +129,7 @@ pub returns-in-None-clause-objects : goal.returns-in-None-clause-objects
 returns-in-None-clause-objects g c =
     let took = rw (c.in-Ok-None.field-0-is) at c.in-Ok-None.ensures.takes in
     let same : over g c.self.inside c.get_block.new.self.space ≡ c.args.self.now = ap (over g c.self.inside) took.1 ∙ c.self.view_is in
-    subst (λ x. ObjectsAfter x c.take_chunk.result c.take_chunk.new.self (g.D.MemoryDevice.objects c.args.device.now) (g.D.MemoryDevice.objects c.take_chunk.new.device)) same c.take_chunk.ensures.objects
+    subst (λ x. ObjectsAfter x c.take_chunk.result c.take_chunk.new.self (g.D.ObjectDevice.objects c.args.device.now) (g.D.ObjectDevice.objects c.take_chunk.new.device)) same c.take_chunk.ensures.objects
 
 pub returns-in-None-clause-sound : goal.returns-in-None-clause-sound
 returns-in-None-clause-sound g c = subst IsSound c.self.view_is c.self.invariant

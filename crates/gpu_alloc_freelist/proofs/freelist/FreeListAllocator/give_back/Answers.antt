@@ -28,10 +28,10 @@ loop-memory-preserved g c =
       way = (
         way.0 ++ c.in-Some.field-0-2 ∷ [],
         way.1 ++ Deallocated (g.M.MemoryObject.object c.in-Some.memory) ∷ [],
-        chain_more g.D.MemoryDevice.step way.1 _ _ _ _ way.2 c.deallocate_memory.ensures,
-        goes_on_as {from = account c.args.self.now c.args.heap.now c.args.allocations_remains.now} way.3 c.in-Some.field-0-2 _ c.in-Some.ensures.chunk c.in-Some.ensures.first _ _ _ c.in-Some.ensures.gone c.dealloc.ensures (g.met.D.MemoryDevice.row _ _ _ c.deallocate_memory.ensures) c.in-Some.ensures.sound,
+        chain_more g.D.ObjectDevice.step way.1 _ _ _ _ way.2 c.deallocate_memory.ensures,
+        goes_on_as {from = account c.args.self.now c.args.heap.now c.args.allocations_remains.now} way.3 c.in-Some.field-0-2 _ c.in-Some.ensures.chunk c.in-Some.ensures.first _ _ _ c.in-Some.ensures.gone c.dealloc.ensures (g.met.D.ObjectDevice.row _ _ _ c.deallocate_memory.ensures) c.in-Some.ensures.sound,
       );
-      properties = g.met.D.MemoryDevice.keeps_properties _ _ _ c.deallocate_memory.ensures ∙ c.loop-memory.invariant.properties;
+      properties = g.met.D.ObjectDevice.keeps_properties _ _ _ c.deallocate_memory.ensures ∙ c.loop-memory.invariant.properties;
     }
 
 pub returns-clause-gives : goal.returns-clause-gives

@@ -32,7 +32,7 @@ pub invariant_of-self-2 : goal.invariant_of-self-2
 invariant_of-self-2 g c =
     let agreed = rw (← c.self.view_is) at c.requires.agrees in
     let counted = rw (← c.self.view_is) at c.requires.counted in
-    (goes_on_as (begins c.self.invariant agreed counted) c.in-Some.field-0-2 _ c.in-Some.ensures.chunk c.in-Some.ensures.first _ _ _ c.in-Some.ensures.gone c.dealloc.ensures (g.met.D.MemoryDevice.row _ _ _ c.deallocate_memory.ensures) c.in-Some.ensures.sound).sound
+    (goes_on_as (begins c.self.invariant agreed counted) c.in-Some.field-0-2 _ c.in-Some.ensures.chunk c.in-Some.ensures.first _ _ _ c.in-Some.ensures.gone c.dealloc.ensures (g.met.D.ObjectDevice.row _ _ _ c.deallocate_memory.ensures) c.in-Some.ensures.sound).sound
 
 pub returns-clause-sound : goal.returns-clause-sound
 returns-clause-sound g c = invariant_of-self-2 g c
@@ -41,14 +41,14 @@ pub returns-clause-agrees : goal.returns-clause-agrees
 returns-clause-agrees g c =
     let agreed = rw (← c.self.view_is) at c.requires.agrees in
     let counted = rw (← c.self.view_is) at c.requires.counted in
-    rw (g.met.D.MemoryDevice.keeps_properties _ _ _ c.deallocate_memory.ensures)
-    (goes_on_as (begins c.self.invariant agreed counted) c.in-Some.field-0-2 _ c.in-Some.ensures.chunk c.in-Some.ensures.first _ _ _ c.in-Some.ensures.gone c.dealloc.ensures (g.met.D.MemoryDevice.row _ _ _ c.deallocate_memory.ensures) c.in-Some.ensures.sound).agrees
+    rw (g.met.D.ObjectDevice.keeps_properties _ _ _ c.deallocate_memory.ensures)
+    (goes_on_as (begins c.self.invariant agreed counted) c.in-Some.field-0-2 _ c.in-Some.ensures.chunk c.in-Some.ensures.first _ _ _ c.in-Some.ensures.gone c.dealloc.ensures (g.met.D.ObjectDevice.row _ _ _ c.deallocate_memory.ensures) c.in-Some.ensures.sound).agrees
 
 pub returns-clause-counted : goal.returns-clause-counted
 returns-clause-counted g c =
     let agreed = rw (← c.self.view_is) at c.requires.agrees in
     let counted = rw (← c.self.view_is) at c.requires.counted in
-    (goes_on_as (begins c.self.invariant agreed counted) c.in-Some.field-0-2 _ c.in-Some.ensures.chunk c.in-Some.ensures.first _ _ _ c.in-Some.ensures.gone c.dealloc.ensures (g.met.D.MemoryDevice.row _ _ _ c.deallocate_memory.ensures) c.in-Some.ensures.sound).counted
+    (goes_on_as (begins c.self.invariant agreed counted) c.in-Some.field-0-2 _ c.in-Some.ensures.chunk c.in-Some.ensures.first _ _ _ c.in-Some.ensures.gone c.dealloc.ensures (g.met.D.ObjectDevice.row _ _ _ c.deallocate_memory.ensures) c.in-Some.ensures.sound).counted
 
 pub deallocate_memory-requires : goal.deallocate_memory-requires
 deallocate_memory-requires g c =
@@ -75,7 +75,7 @@ returns-clause-gives g c =
             c.object.ensures ∙ sym (ap object_in c.in-Some.ensures.chunk),
             (
               ap (λ k. Deallocated k ∷ []) (sym c.object.ensures),
-              (after, g.met.D.MemoryDevice.row _ _ _ c.deallocate_memory.ensures ∙ ap (λ k. put (g.D.MemoryDevice.objects c.args.device.now) k None) (sym c.object.ensures)),
+              (after, g.met.D.ObjectDevice.row _ _ _ c.deallocate_memory.ensures ∙ ap (λ k. put (g.D.ObjectDevice.objects c.args.device.now) k None) (sym c.object.ensures)),
             ),
           ),
         ),
@@ -93,7 +93,7 @@ returns-in_default-clause-sound g c = invariant_of-self g c
 pub returns-in_default-clause-agrees : goal.returns-in_default-clause-agrees
 returns-in_default-clause-agrees g c =
     let same : over g c.self.inside c.take_whole.new.self.space ≡ c.args.self.now = ap (over g c.self.inside) c.in_default.ensures.none.1 ∙ c.self.view_is in
-    subst (λ x. Agrees x (g.D.MemoryDevice.properties c.args.device.now) (g.D.MemoryDevice.objects c.args.device.now)) (sym same) c.requires.agrees
+    subst (λ x. Agrees x (g.D.ObjectDevice.properties c.args.device.now) (g.D.ObjectDevice.objects c.args.device.now)) (sym same) c.requires.agrees
 
 pub returns-in_default-clause-counted : goal.returns-in_default-clause-counted
 returns-in_default-clause-counted g c =

@@ -43,7 +43,7 @@ invariant_of-self-3 g c =
     let object = c.in_ok-block.block.object in
     let rounded = rw (← c.self.view_is) at c.requires.fits in
     let agrees = rw (← c.self.view_is) at c.requires.agrees in
-    let other : IsOther l object = other_objects l (g.D.MemoryDevice.properties c.args.device.now) (g.D.MemoryDevice.objects c.args.device.now) object agrees c.in_ok-block.ensures.objects.0 in
+    let other : IsOther l object = other_objects l (g.D.ObjectDevice.properties c.args.device.now) (g.D.ObjectDevice.objects c.args.device.now) object agrees c.in_ok-block.ensures.objects.0 in
     let asked = askable l c.args.size c.args.align_mask rounded in
     let is = grown_is l c.reserve.new.self.space c.get_block_from_new_chunk.new.self.space c.in_ok-block.block object c.chunk_size_for-chunk_size.result c.min-self-inside.result c.args.size (c.args.align_mask + 1)
     c.reserve.ensures.kept c.in_ok-block.ensures.block c.in_ok-block.ensures.chunk c.chunk_size_for-chunk_size.ensures.is c.min-self-inside.ensures in
@@ -145,8 +145,8 @@ returns-clause-objects g c =
     let flags = allocation_bits c.args.flags in
     let q : ChunkQuestion = chunk_question c.chunk_size_for-chunk_size.result c.self.inside.memory_type flags c.intersects-visible.result in
     let is = question_is l c.args.size c.chunk_size_for-chunk_size.result flags c.intersects-visible.result c.chunk_size_for-chunk_size.ensures.is c.intersects-visible.ensures in
-    let before = g.D.MemoryDevice.objects c.args.device.now in
-    let after = g.D.MemoryDevice.objects c.get_block_from_new_chunk.new.device in
+    let before = g.D.ObjectDevice.objects c.args.device.now in
+    let after = g.D.ObjectDevice.objects c.get_block_from_new_chunk.new.device in
     let new : Listing = record l { space = c.get_block_from_new_chunk.new.self.space; next_chunk = c.min-self-inside.result } in
     subst (λ x. ObjectsAfter x (Ok c.in_ok-block.block) new before after) c.self.view_is
     (grown_objects l c.args.size (c.args.align_mask + 1) flags c.in_ok-block.block.object c.chunk_size_for-chunk_size.result c.min-self-inside.result c.reserve.new.self.space

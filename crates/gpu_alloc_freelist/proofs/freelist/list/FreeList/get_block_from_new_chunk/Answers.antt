@@ -10,8 +10,8 @@ use Rattle.gpu_alloc_freelist.proofs.freelist.list.FreeList.get_block_from_new_c
 pub deallocate_memory-requires : goal.deallocate_memory-requires
 deallocate_memory-requires g c =
     let q : ChunkQuestion = chunk_question c.args.chunk_size c.args.memory_type (allocation_bits c.args.flags) c.args.visible in
-    subst (IsHeld (g.D.MemoryDevice.objects c.new_chunk.new.device)) (sym (ap g.M.MemoryObject.object c.in-Err.ensures.refused.0))
-    (chunk_is_there q (g.D.MemoryDevice.objects c.args.device.now) (g.D.MemoryDevice.objects c.new_chunk.new.device) (g.M.MemoryObject.object c.in_ok-memory.memory) c.in_ok-memory.ensures.objects)
+    subst (IsHeld (g.D.ObjectDevice.objects c.new_chunk.new.device)) (sym (ap g.M.MemoryObject.object c.in-Err.ensures.refused.0))
+    (chunk_is_there q (g.D.ObjectDevice.objects c.args.device.now) (g.D.ObjectDevice.objects c.new_chunk.new.device) (g.M.MemoryObject.object c.in_ok-memory.memory) c.in_ok-memory.ensures.objects)
 
 pub returns-in-Err-clause-asks : goal.returns-in-Err-clause-asks
 returns-in-Err-clause-asks g c =
@@ -19,17 +19,17 @@ returns-in-Err-clause-asks g c =
     let name = g.M.MemoryObject.object c.in-Err.memory in
     let object = g.M.MemoryObject.object c.in_ok-memory.memory in (
       told.0 ++ Deallocated name ∷ [],
-      chain_more g.D.MemoryDevice.step told.0 (Deallocated name) c.args.device.now c.new_chunk.new.device c.deallocate_memory.new.self told.1 c.deallocate_memory.ensures,
+      chain_more g.D.ObjectDevice.step told.0 (Deallocated name) c.args.device.now c.new_chunk.new.device c.deallocate_memory.new.self told.1 c.deallocate_memory.ensures,
       inr (object, ap (λ n. told.0 ++ Deallocated n ∷ []) (ap g.M.MemoryObject.object c.in-Err.ensures.refused.0) ∙ ap (λ es. es ++ Deallocated object ∷ []) told.2),
     )
 
 pub returns-in-Err-clause-objects : goal.returns-in-Err-clause-objects
 returns-in-Err-clause-objects g c =
     let q : ChunkQuestion = chunk_question c.args.chunk_size c.args.memory_type (allocation_bits c.args.flags) c.args.visible in
-    let gone = g.met.D.MemoryDevice.row _ _ _ c.deallocate_memory.ensures in
+    let gone = g.met.D.ObjectDevice.row _ _ _ c.deallocate_memory.ensures in
     let object = g.M.MemoryObject.object c.in_ok-memory.memory in
-    chunk_given_back q (g.D.MemoryDevice.objects c.args.device.now) (g.D.MemoryDevice.objects c.new_chunk.new.device) (g.D.MemoryDevice.objects c.deallocate_memory.new.self) object c.in_ok-memory.ensures.objects
-    (gone ∙ ap (λ n. put (g.D.MemoryDevice.objects c.new_chunk.new.device) n None) (ap g.M.MemoryObject.object c.in-Err.ensures.refused.0))
+    chunk_given_back q (g.D.ObjectDevice.objects c.args.device.now) (g.D.ObjectDevice.objects c.new_chunk.new.device) (g.D.ObjectDevice.objects c.deallocate_memory.new.self) object c.in_ok-memory.ensures.objects
+    (gone ∙ ap (λ n. put (g.D.ObjectDevice.objects c.new_chunk.new.device) n None) (ap g.M.MemoryObject.object c.in-Err.ensures.refused.0))
 
 pub returns-in-Err-clause-properties : goal.returns-in-Err-clause-properties
-returns-in-Err-clause-properties g c = g.met.D.MemoryDevice.keeps_properties _ _ _ c.deallocate_memory.ensures ∙ c.in_ok-memory.ensures.properties
+returns-in-Err-clause-properties g c = g.met.D.ObjectDevice.keeps_properties _ _ _ c.deallocate_memory.ensures ∙ c.in_ok-memory.ensures.properties
