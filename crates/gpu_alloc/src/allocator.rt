@@ -88,9 +88,8 @@ impl<M: MemoryObject, A: Allocator> Model for GpuAllocator<M, A> {
 }
 
 impl<M: MemoryObject, A: Allocator + Copy> GpuAllocator<M, A> {
-    /// An allocator that holds nothing, for a device with these properties, which have to be that device's own. The
-    /// device is not asked. It may hold `max_memory_allocation_count` objects, and `config` decides which requests
-    /// share one.
+    /// An allocator that holds nothing, for a device with these properties, which have to be its own. The device is not
+    /// asked. It may hold `max_memory_allocation_count` objects, and `config` decides which requests share one.
     ///
     /// `alloc` gives the memory of its tables. The properties have to be usable (`DeviceProperties::is_usable`). The
     /// only refusal is `OutOfHostMemory`.
@@ -149,8 +148,7 @@ impl<M: MemoryObject, A: Allocator + Copy> GpuAllocator<M, A> {
 }
 
 impl<M: MemoryObject, A: Allocator> GpuAllocator<M, A> {
-    /// Allocates a block as the request asks: a memory object of its own where it is large, and else a place in a
-    /// shared one.
+    /// Allocates a block as the request asks: an object of its own where it is large, else a place in a shared one.
     ///
     /// A request of at least the configuration's `dedicated_threshold`, or of the 32nd part of its heap where that is
     /// less, gets an object of its own: the block starts at offset 0 and has exactly the request's size. With the usage
@@ -303,8 +301,7 @@ impl<M: MemoryObject, A: Allocator> GpuAllocator<M, A> {
         self.limits.memory_for_usage.types(usage)
     }
 
-    /// Tries the candidates in rank: the memory types that serve a request, which has this meaning, where it allows
-    /// them.
+    /// Tries the candidates in rank: the memory types that serve a request, which has this meaning, and that it allows.
     fn try_all<D: ObjectDevice<M>>(
         &mut self,
         device: &mut D,
@@ -412,8 +409,7 @@ impl<M: MemoryObject, A: Allocator> GpuAllocator<M, A> {
     #[inline(always)]
     fn is_passed_unasked(&self, size: u64, memory_type: u32) -> bool
         requires known { memory_type < length (self.now.properties).memory_types }
-        ensures passed { result ≡ true
-            → (heap_size self.now.properties memory_type < size)
+        ensures passed { result ≡ true → (heap_size self.now.properties memory_type < size)
             ⊎ ((0 < self.now.remaining) × IsOverBudget (own_candidate self.now size memory_type)) }
         ensures fits { result ≡ false → size ≤ heap_size self.now.properties memory_type }
         ensures within { result ≡ false → 0 < self.now.remaining → IsWithinBudget (own_candidate self.now size memory_type) }
@@ -422,14 +418,13 @@ impl<M: MemoryObject, A: Allocator> GpuAllocator<M, A> {
             && self.is_larger_or_may_hold_more(size, memory_type)
     }
 
-    /// Whether an object of so many bytes is larger than a memory type's heap, or one more object may be held. (It
-    /// stands apart, so that requests within the budget do not pay for it.)
+    /// Whether an object of so many bytes is larger than a memory type's heap, or one more may be held. (It stands apart,
+    /// so that requests within the budget do not pay for it.)
     #[cold]
     #[inline(never)]
     fn is_larger_or_may_hold_more(&self, size: u64, memory_type: u32) -> bool
         requires known { memory_type < length (self.now.properties).memory_types }
-        ensures { IsTrue result
-            ↔ ((heap_size self.now.properties memory_type < size) ⊎ (0 < self.now.remaining)) }
+        ensures { IsTrue result ↔ ((heap_size self.now.properties memory_type < size) ⊎ (0 < self.now.remaining)) }
     {
         self.heap_size(memory_type) < size || self.allocations_remains > 0
     }
