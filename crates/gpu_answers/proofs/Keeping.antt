@@ -1,0 +1,87 @@
+-- What the calls make of objects that are kept is kept.
+use Rattle.std.proofs.Common.{◌≡◌, ◌≢◌, ℕ, suc, ◌+◌, ◌-◌, ◌^◌, ◌<◌, ◌≤◌, Option, Some, None, Bool, true, false, List, [], ◌∷◌, length, cond, ap, inl, inr, nat_eq, refl, subst, sym, ◌∙◌, arith}
+use Rattle.std.specs.Option.{is_some, IsSome}
+use Rattle.std.specs.Map.{lookup}
+use Rattle.std.specs.Cmp.{nat_cmp_total}
+use Rattle.std.specs.FinMap as map
+use Rattle.std.specs.FinMap.{FinMap}
+use Rattle.std.specs.Ordering.{nat_cmp}
+use Rattle.gpu_alloc_base.proofs.Names.{is_there, one_or_two, get_entries, put_by_name, get_put-other, get_removed, get_removed-other, len_put, len_removed}
+use Rattle.gpu_answers.specs.Held.{HeldState, AreKept, AreNamedUpTo, ChangesAt, room_in}
+use Rattle.gpu_answers.specs.declared.held.HeldObject.{HeldObject}
+
+pub kept-none : (places : ℕ) → AreKept 0 0 places map.empty
+kept-none places = record {
+  named = λ name above. map.get-empty nat_cmp name;
+  names_fit = let none = map.len-empty nat_cmp HeldObject in omega (arith, none);
+}
+
+-- an object in the place of another has as many beside it
+len_changed : (objects : FinMap nat_cmp HeldObject) (name : ℕ) (o there : HeldObject) → map.get objects name ≡ Some there
+    → map.len (map.insert objects name o) ≡ map.len objects
+len_changed objects name o there is =
+    map.len-insert nat_cmp_total objects name o ∙ ap (λ found. cond (is_some found) (map.len objects) (map.len objects + 1)) is
+
+module _ (last taken places : ℕ) (objects : FinMap nat_cmp HeldObject) (kept : AreKept last taken places objects) where
+  -- the next name is free
+  pub next_free : map.get objects (last + 1) ≡ None
+  next_free = kept.named (last + 1) (omega arith)
+
+  pub kept-held : (o : HeldObject) → taken + map.len objects < places → AreKept (last + 1) taken places (map.insert objects (last + 1) o)
+  kept-held o fits = record {
+    named = λ q above. get_put-other objects (last + 1) o q (omega (arith, above)) ∙ kept.named q (omega (arith, above));
+    names_fit = let more = len_put objects (last + 1) o next_free in omega (arith, fits, more);
+  }
+
+  pub kept-given_back : (name : ℕ) (there : HeldObject) → map.get objects name ≡ Some there → AreKept last (taken + 1) places (map.remove objects name)
+  kept-given_back name there is = record {
+    named = λ q above. elim (one_or_two q name) [
+      | inl same ↦ subst (λ n. map.get (map.remove objects name) n ≡ None) (sym same) (get_removed objects name)
+      | inr other ↦ get_removed-other objects name q other ∙ kept.named q above
+    ];
+    names_fit = let less = len_removed objects name there is in let fits = kept.names_fit in omega (arith, fits, less);
+  }
+
+  pub kept-changed : (f : HeldObject → HeldObject) (name : ℕ) (new : FinMap nat_cmp HeldObject) → ChangesAt f objects name new → AreKept last taken places new
+  kept-changed f name new c = subst (AreKept last taken places) (sym c.2) (record {
+    named = λ q above. elim (one_or_two q name) [
+      | inl same ↦ absurd (let none = subst (λ n. map.get objects n ≡ None) same (kept.named q above) in let there = c.1 in cc)
+      | inr other ↦ get_put-other objects name (f c.0) q other ∙ kept.named q above
+    ];
+    names_fit = let same = len_changed objects name (f c.0) c.0 c.1 in let fits = kept.names_fit in omega (arith, fits, same);
+  })
+
+-- where one more object fits in, so does its name
+pub room_is : (entries last taken places : ℕ) (objects : FinMap nat_cmp HeldObject) → 0 < room_in entries last taken places objects
+    → taken + map.len objects < places
+room_is entries last taken places objects room = omega (arith, room)
+
+-- room for an entry, for all names and for one more, and a name
+pub room_for_one : (entries last taken places : ℕ) (objects : FinMap nat_cmp HeldObject) (count : ℕ) → 1 ≤ entries → last < 2 ^ 64 → (last ≡ 2 ^ 64 - 1 → ⊥)
+    → map.len objects ≤ count → taken + (count + 1) ≤ places → 0 < room_in entries last taken places objects
+room_for_one entries last taken places objects count entry fits name few names = omega (arith, entry, fits, name, few, names)
+
+-- an object that is held of equal states
+pub held_in : (s t : HeldState) (name : ℕ) → s ≡ t → IsSome (map.get t.objects name) → (o : HeldObject) × (map.get s.objects name ≡ Some o)
+held_in s t name same held = let there = is_there _ held in (there.0, ap (λ (u : HeldState). map.get u.objects name) same ∙ there.1)
+
+-- an entry that is there and is changed
+pub changed_by : (f : HeldObject → HeldObject) (old new : List (ℕ × HeldObject)) (name : ℕ) (o : HeldObject) → lookup (nat_eq name) old ≡ Some o
+    → (IsSome (lookup (nat_eq name) old) → (q : ℕ) → lookup (nat_eq q) new ≡ cond (nat_eq name q) (Some (f o)) (lookup (nat_eq q) old))
+    → ChangesAt f (map.from_entries {R = nat_cmp} old) name (map.from_entries new)
+changed_by f old new name o found puts = (o, get_entries old name ∙ found, put_by_name old new name (f o) (puts (subst IsSome (sym found) refl)))
+
+pub changed_in : (f : HeldObject → HeldObject) (s t : HeldState) (name : ℕ) (new : FinMap nat_cmp HeldObject) → s ≡ t → ChangesAt f s.objects name new → ChangesAt f t.objects name new
+changed_in f s t name new same c = subst (λ (u : HeldState). ChangesAt f u.objects name new) same c
+
+-- there are no more objects than entries
+pub len_at_most : (entries : List (ℕ × HeldObject)) → map.len (map.from_entries {R = nat_cmp} entries) ≤ length entries
+len_at_most [] = let none = map.len-empty nat_cmp HeldObject in omega (arith, none)
+len_at_most (e ∷ entries) =
+    let rest = len_at_most entries in
+    subst (λ n. n ≤ suc (length entries)) (sym (map.len-insert nat_cmp_total (map.from_entries {R = nat_cmp} entries) e.0 e.1))
+    (at_most_one_more (is_some (map.get (map.from_entries {R = nat_cmp} entries) e.0)) _ _ rest)
+  where
+    at_most_one_more : (b : Bool) (n m : ℕ) → n ≤ m → cond b n (n + 1) ≤ suc m
+    at_most_one_more true n m le = omega arith
+    at_most_one_more false n m le = omega arith

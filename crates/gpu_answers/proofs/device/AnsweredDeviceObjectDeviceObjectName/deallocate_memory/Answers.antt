@@ -1,0 +1,15 @@
+use Rattle.std.proofs.Common.{◌≡◌, [], ◌∷◌, ◌++◌, ◌∙◌, ap, refl}
+use Rattle.std.specs.FinMap as map
+use Rattle.gpu_answers.proofs.Rows.{given_back_row}
+use Rattle.gpu_answers.proofs.device.AnsweredDeviceObjectDeviceObjectName.deallocate_memory.Goals as goal
+
+pub returns : goal.returns
+returns c =
+    let gone = c.give_back.ensures in
+    rw (← c.self.view_is) (record {
+      row = given_back_row c.self.inside.properties c.self.inside.held.objects c.args.memory.now c.give_back.new.self.objects
+          (gone.objects ∙ ap (map.remove c.self.inside.held.objects) c.object.ensures);
+      offers = refl;
+      answers = refl;
+      names = (gone.last_name, gone.gone ∙ ap (λ name. c.self.inside.held.gone ++ name ∷ []) c.object.ensures);
+    })

@@ -1,0 +1,52 @@
+-- The objects that are held, and the names of those that were given back.
+use Rattle.std.specs.Prelude.{◌≡◌, ℕ, ◌+◌, ◌-◌, ◌^◌, ◌<◌, ◌≤◌, min, List, Option, Some, None, refl}
+use Rattle.std.specs.Coded.{Coded, code_by, coded×, coded_ℕ, coded_list}
+use Rattle.std.specs.FinMap as map
+use Rattle.std.specs.FinMap.{FinMap}
+use Rattle.std.specs.Ordering.{nat_cmp}
+use Rattle.gpu_answers.specs.declared.held.HeldObject.{HeldObject}
+use Rattle.gpu_answers.specs.contracts.held.HeldObject as held_object
+
+-- The objects by name, the latest name that was used, the names that were given back, and how many more objects fit in
+-- with no allocation
+pub record HeldState : Type 0 where
+  pub objects : FinMap nat_cmp HeldObject
+  pub last_name : ℕ
+  pub gone : List ℕ
+  pub room : ℕ
+
+abbrev pub held_code : Coded HeldState
+held_code =
+    code_by ((FinMap nat_cmp HeldObject × ℕ) × (List ℕ × ℕ))
+    (coded× (coded× (map.code coded_ℕ held_object.the_row.coded) coded_ℕ) (coded× (coded_list coded_ℕ) coded_ℕ))
+    (λ s. ((s.objects, s.last_name), (s.gone, s.room)))
+    (λ c. record { objects = c.0.0; last_name = c.0.1; gone = c.1.0; room = c.1.1 }) (λ _. refl)
+
+-- an object that was just made
+abbrev pub new_object : (size memory_type : ℕ) → HeldObject
+new_object size t = record { memory_type = t; size = size; mapped = None }
+
+-- the object, with that range mapped or none
+abbrev pub mapped_as : Option (ℕ × ℕ) → HeldObject → HeldObject
+mapped_as range o = record o { mapped = range }
+
+-- the object of that name is changed so, and no other
+abbrev pub ChangesAt : (HeldObject → HeldObject) → FinMap nat_cmp HeldObject → ℕ → FinMap nat_cmp HeldObject → Type 0
+ChangesAt change old name new =
+    (o : HeldObject) × (map.get old name ≡ Some o) × (new ≡ map.insert old name (change o))
+
+-- no object has a name above the latest
+abbrev pub AreNamedUpTo : ℕ → FinMap nat_cmp HeldObject → Type 0
+AreNamedUpTo last objects = (name : ℕ) → last < name → map.get objects name ≡ None
+
+-- What always holds: no name is above the latest, and where so many of so many places are taken by names that were given
+-- back, there is one left for the name of each object.
+pub record AreKept (last taken places : ℕ) (objects : FinMap nat_cmp HeldObject) : Type 0 where
+  pub named : AreNamedUpTo last objects
+  pub names_fit : taken + map.len objects ≤ places
+
+-- How many more objects fit in: for each an entry, a place for its name once it is given back, and a name. Names end at
+-- the greatest number.
+abbrev pub room_in : (entries last taken places : ℕ) → FinMap nat_cmp HeldObject → ℕ
+room_in entries last taken places objects =
+    min entries (min (places - (taken + map.len objects)) (2 ^ 64 - 1 - last))

@@ -1,0 +1,5 @@
+pub mod Asking
+pub mod Device
+pub mod DeviceLaws
+pub mod DeviceState
+pub mod Held

@@ -1,0 +1,186 @@
+//! The device that is asked from outside.
+
+ghost use Rattle.std.specs.Prelude.{◌≡◌, ◌↔◌, [], Some, IfOk, IsTrue, OnOk, OnErr};
+ghost use Rattle.gpu_alloc_types.specs.Properties.{properties_of};
+ghost use Rattle.gpu_answers.specs.Asking.{begun, open_in};
+ghost use Rattle.gpu_answers.specs.Device.{IsFresh, KeepsObjects};
+ghost use Rattle.gpu_answers.specs.declared.run.Stop.TheVariants.{Strayed};
+
+use crate::held::HeldObjects;
+use crate::properties::OwnedProperties;
+use crate::question::{allocation_refused, map_refused};
+use crate::run::Run;
+use crate::{Answer, Answered, ObjectName, Question};
+use gpu_alloc_types::{
+    AllocationFlags, DeviceMapError, DeviceProperties, MappedMemoryRange, MemoryObject,
+    ObjectDevice, OutOfMemory,
+};
+use std::alloc::{AllocError, Global};
+use std::marker::Model;
+
+/// A device that is asked from outside, for a caller that can't be called back.
+///
+/// Its questions are answered from a list. A call of the allocator is a run: it begins with the answers that are known
+/// so far, and the first question that has none is refused and told by [`open`](AnsweredDevice::open). The caller asks
+/// the real device, and runs the call again with one answer more. Each answer names its question, so that an answer to
+/// another call counts nowhere: [`has_strayed`](AnsweredDevice::has_strayed) tells it.
+///
+/// Objects are named 1, 2, 3 and so on, and a name is never used again. No byte of an object is kept. So no flush and no
+/// invalidate is a question: both are granted at once and change nothing, as in memory whose bytes are all 0. (The
+/// caller flushes and invalidates the real device's memory.) What can't fail is no question either: an object that is
+/// given back is told by [`gone`](AnsweredDevice::gone).
+#[derive(Drop)]
+pub struct AnsweredDevice {
+    properties: OwnedProperties,
+    run: Run,
+    held: HeldObjects,
+}
+
+impl Model for AnsweredDevice {
+    ghost use Rattle.gpu_answers.specs.DeviceState.{DeviceState, device_code};
+
+    ghost Value = { DeviceState };
+
+    ghost coded = { device_code };
+
+    ghost view = { λ device. record { properties = device.properties; run = device.run; held = device.held } };
+}
+
+impl AnsweredDevice {
+    /// A device that offers what `props` says and holds no object, in a run with no answers.
+    ///
+    /// Takes memory for a copy of `props`, and fails only for want of it.
+    pub fn new(alloc: Global, props: DeviceProperties<'_>) -> Result<AnsweredDevice, AllocError>
+        ensures { IfOk result (λ device. IsFresh (properties_of props.entry) device) }
+    {
+        Ok(AnsweredDevice {
+            properties: OwnedProperties::new(alloc, props)?,
+            run: Run::new(alloc),
+            held: HeldObjects::new(alloc),
+        })
+    }
+
+    /// Begins a run with these answers, in the order in which their questions are asked. Of the run before it nothing is
+    /// told any more, and the objects stay.
+    ///
+    /// Takes memory for a copy of the answers. Fails only for want of it, and all is as before then.
+    pub fn begin(&mut self, answers: &[Answered]) -> Result<(), AllocError>
+        ensures run { OnOk result (self.new.run ≡ begun answers.now) }
+        ensures gone { OnOk result (self.new.held.gone ≡ []) }
+        ensures keeps { KeepsObjects self.old self.new }
+        ensures err { OnErr result (self.new ≡ self.old) }
+    {
+        self.run.begin(answers)?;
+        self.held.forget_gone();
+        Ok(())
+    }
+
+    /// The question that has no answer yet: the first one of the run that came after the last answer, if there was one.
+    /// It was refused by `OutOfHostMemory`, and so was each later one.
+    pub fn open(&self) -> Option<Question>
+        ensures { result ≡ open_in self.now.run.stop }
+    {
+        self.run.open()
+    }
+
+    /// Whether a question of the run isn't the one that the answer in its place is to. That question and each later one
+    /// were refused by `OutOfHostMemory`.
+    pub fn has_strayed(&self) -> bool
+        ensures { IsTrue result ↔ (self.now.run.stop ≡ Some Strayed) }
+    {
+        self.run.has_strayed()
+    }
+
+    /// The name of the object that the run made last, held or given back since.
+    pub fn made(&self) -> Option<u64>
+        ensures { result ≡ self.now.run.made }
+    {
+        self.run.made()
+    }
+
+    /// The names of the objects that were given back in the run, in that order. None is left out: the room for a name is
+    /// taken when its object is made.
+    pub fn gone(&self) -> &[u64]
+        ensures { result.now ≡ self.now.held.gone }
+    {
+        self.held.gone()
+    }
+}
+
+impl ObjectDevice<ObjectName> for AnsweredDevice {
+    ghost use Rattle.gpu_answers.specs.Device.{objects_of, IsStep};
+    ghost use Rattle.gpu_answers.specs.DeviceLaws.{step_is_row, step_keeps_properties, objects_are_well_formed};
+
+    ghost properties = { λ device. device.properties };
+
+    ghost objects = { objects_of };
+
+    ghost step = { IsStep };
+
+    fn allocate_memory(
+        &mut self,
+        size: u64,
+        memory_type: u32,
+        flags: AllocationFlags,
+    ) -> Result<ObjectName, OutOfMemory> {
+        if self.held.make_room().is_err() {
+            return Err(OutOfMemory::OutOfHostMemory);
+        }
+        let question = Question::Allocate {
+            size,
+            memory_type,
+            flags: flags.bits(),
+        };
+        match self.run.ask(question) {
+            Some(Answer::Granted) => {
+                let name = self.held.hold(size, memory_type);
+                self.run.note_made(name);
+                Ok(ObjectName::new(name))
+            }
+            refused => Err(allocation_refused(refused)),
+        }
+    }
+
+    fn deallocate_memory(&mut self, memory: &ObjectName) {
+        self.held.give_back(memory.object());
+    }
+
+    fn map_memory(
+        &mut self,
+        memory: &ObjectName,
+        offset: u64,
+        size: u64,
+    ) -> Result<(), DeviceMapError> {
+        match self.run.ask_to_map(memory.object(), offset, size) {
+            Some(Answer::Granted) => {
+                self.held.set_mapped(memory.object(), Some((offset, size)));
+                Ok(())
+            }
+            refused => Err(map_refused(refused)),
+        }
+    }
+
+    fn unmap_memory(&mut self, memory: &ObjectName) {
+        self.held.set_mapped(memory.object(), None);
+    }
+
+    fn flush_memory_ranges(
+        &mut self,
+        _ranges: &[MappedMemoryRange<'_, ObjectName>],
+    ) -> Result<(), OutOfMemory> {
+        Ok(())
+    }
+
+    fn invalidate_memory_ranges(
+        &mut self,
+        _ranges: &[MappedMemoryRange<'_, ObjectName>],
+    ) -> Result<(), OutOfMemory> {
+        Ok(())
+    }
+
+    ghost row = { step_is_row };
+
+    ghost keeps_properties = { step_keeps_properties };
+
+    ghost well_formed = { objects_are_well_formed };
+}
