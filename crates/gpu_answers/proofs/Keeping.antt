@@ -1,5 +1,5 @@
 -- What the calls make of objects that are kept is kept.
-use Rattle.std.proofs.Common.{◌≡◌, ◌≢◌, ℕ, suc, ◌+◌, ◌-◌, ◌^◌, ◌<◌, ◌≤◌, Option, Some, None, Bool, true, false, List, [], ◌∷◌, length, cond, ap, inl, inr, nat_eq, refl, subst, sym, ◌∙◌, arith}
+use Rattle.std.proofs.Common.{◌≡◌, ℕ, suc, ◌+◌, ◌-◌, ◌^◌, ◌<◌, ◌≤◌, Some, None, Bool, true, false, List, [], ◌∷◌, length, cond, ap, inl, inr, nat_eq, refl, subst, sym, ◌∙◌, arith}
 use Rattle.std.specs.Option.{is_some, IsSome}
 use Rattle.std.specs.Map.{lookup}
 use Rattle.std.specs.Cmp.{nat_cmp_total}
@@ -7,7 +7,7 @@ use Rattle.std.specs.FinMap as map
 use Rattle.std.specs.FinMap.{FinMap}
 use Rattle.std.specs.Ordering.{nat_cmp}
 use Rattle.gpu_alloc_base.proofs.Names.{is_there, one_or_two, get_entries, put_by_name, get_put-other, get_removed, get_removed-other, len_put, len_removed}
-use Rattle.gpu_answers.specs.Held.{HeldState, AreKept, AreNamedUpTo, ChangesAt, room_in}
+use Rattle.gpu_answers.specs.Held.{HeldState, AreKept, ChangesAt, room_in}
 use Rattle.gpu_answers.specs.declared.held.HeldObject.{HeldObject}
 
 pub kept-none : (places : ℕ) → AreKept 0 0 places map.empty

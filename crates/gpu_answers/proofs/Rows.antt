@@ -1,5 +1,5 @@
 -- What the device makes of its objects, as every device shows it.
-use Rattle.std.proofs.Common.{◌≡◌, ℕ, suc, ◌+◌, ◌<◌, ◌≤◌, Bool, true, false, cond, List, [], ◌∷◌, length, slice_get, All, Option, Some, None, Ok, refl, ap, subst, sym, ◌∙◌, arith, option_map, nat_le}
+use Rattle.std.proofs.Common.{◌≡◌, ℕ, suc, ◌+◌, ◌≤◌, Bool, true, false, cond, List, [], ◌∷◌, slice_get, All, Option, Some, None, Ok, refl, ap, subst, sym, ◌∙◌, arith, option_map, nat_le}
 use Rattle.std.proofs.Math.Path.{fun_ext}
 use Rattle.std.proofs.lemmas.Bool.Decides.{nat_tests}
 use Rattle.std.specs.Cmp.{nat_cmp_total}

@@ -98,8 +98,11 @@ impl AnsweredDevice {
         self.run.made()
     }
 
-    /// The names of the objects that were given back in the run, in that order. None is left out: the room for a name is
-    /// taken when its object is made.
+    /// The names of the objects that were given back in the run, in that order, and among them those of objects that the
+    /// run itself made. None is left out: the room for a name is taken when its object is made.
+    ///
+    /// A run that is left with an open question gives back what it made. The real object stays, since the next run makes
+    /// it again.
     pub fn gone(&self) -> &[u64]
         ensures { result.now ≡ self.now.held.gone }
     {
@@ -168,6 +171,7 @@ impl ObjectDevice<ObjectName> for AnsweredDevice {
         &mut self,
         _ranges: &[MappedMemoryRange<'_, ObjectName>],
     ) -> Result<(), OutOfMemory> {
+        // The bytes that the device sees are those that the host sees.
         Ok(())
     }
 
@@ -175,6 +179,7 @@ impl ObjectDevice<ObjectName> for AnsweredDevice {
         &mut self,
         _ranges: &[MappedMemoryRange<'_, ObjectName>],
     ) -> Result<(), OutOfMemory> {
+        // The bytes that the host sees are those that the device sees.
         Ok(())
     }
 

@@ -1,4 +1,4 @@
-use Rattle.std.proofs.Common.{◌≡◌, ◌+◌, ◌∙◌, Some, None, ap, refl, subst, sym}
+use Rattle.std.proofs.Common.{◌≡◌, ◌+◌, ◌∙◌, Some, None, ap, refl, subst}
 use Rattle.std.specs.FinMap as map
 use Rattle.gpu_answers.specs.Asking.{Asks}
 use Rattle.gpu_answers.specs.Held.{HeldState, new_object}

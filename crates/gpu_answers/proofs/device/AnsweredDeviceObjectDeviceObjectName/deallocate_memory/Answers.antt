@@ -1,4 +1,4 @@
-use Rattle.std.proofs.Common.{◌≡◌, [], ◌∷◌, ◌++◌, ◌∙◌, ap, refl}
+use Rattle.std.proofs.Common.{[], ◌∷◌, ◌++◌, ◌∙◌, ap, refl}
 use Rattle.std.specs.FinMap as map
 use Rattle.gpu_answers.proofs.Rows.{given_back_row}
 use Rattle.gpu_answers.proofs.device.AnsweredDeviceObjectDeviceObjectName.deallocate_memory.Goals as goal

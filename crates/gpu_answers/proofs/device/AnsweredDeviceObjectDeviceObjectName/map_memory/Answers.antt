@@ -1,4 +1,4 @@
-use Rattle.std.proofs.Common.{◌≡◌, ◌∙◌, Some, ap, refl, subst, sym}
+use Rattle.std.proofs.Common.{◌∙◌, Some, ap, refl, subst, sym}
 use Rattle.gpu_alloc_types.specs.Device.{HeldWith, IsMappable}
 use Rattle.gpu_answers.specs.Asking.{Asks, map_question}
 use Rattle.gpu_answers.specs.Device.{objects_of}
