@@ -7,7 +7,8 @@ use Rattle.gpu_alloc_types.specs.declared.types.OutOfMemory.TheVariants as Memor
 use Rattle.gpu_answers.specs.declared.question.Question.{Question}
 use Rattle.gpu_answers.specs.declared.question.Question.TheVariants.{MapMade, Map}
 use Rattle.gpu_answers.specs.declared.question.Answer.{Answer}
-use Rattle.gpu_answers.specs.declared.question.Answer.TheVariants.{Granted, OutOfDeviceMemory, OutOfHostMemory, MapFailed}
+use Rattle.gpu_answers.specs.declared.question.Answer.TheVariants.{Granted, OutOfDeviceMemory, OutOfHostMemory}
+use Rattle.gpu_answers.specs.declared.question.Answer.TheVariants.{MapFailed}
 use Rattle.gpu_answers.specs.declared.question.Answered.{Answered}
 use Rattle.gpu_answers.specs.declared.run.Stop.{Stop}
 use Rattle.gpu_answers.specs.declared.run.Stop.TheVariants.{Open, Strayed}

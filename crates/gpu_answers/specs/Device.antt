@@ -1,6 +1,6 @@
 -- The device that is asked from outside, and what its calls do.
-use Rattle.std.specs.Prelude.{◌≡◌, ◌≢◌, ◌⊎◌, ℕ, ◌+◌, cond, List, [], ◌∷◌, ◌++◌, replicate, Option, Some, None, option_map}
-use Rattle.std.specs.Prelude.{Ok, Err, nat_le}
+use Rattle.std.specs.Prelude.{◌≡◌, ◌≢◌, ◌⊎◌, ℕ, ◌+◌, cond, List, [], ◌∷◌, ◌++◌, replicate, Option, Some, None}
+use Rattle.std.specs.Prelude.{option_map, Ok, Err, nat_le}
 use Rattle.std.specs.FinMap as map
 use Rattle.std.specs.FinMap.{FinMap}
 use Rattle.std.specs.Ordering.{nat_cmp}
@@ -16,8 +16,9 @@ use Rattle.gpu_answers.specs.declared.question.Answer.{Answer}
 use Rattle.gpu_answers.specs.declared.question.Answer.TheVariants.{Granted}
 use Rattle.gpu_answers.specs.declared.question.Question.TheVariants.{Allocate}
 
--- As every device shows its objects. No byte is stored: those that the host sees are 0, for the host and for the device.
+-- As every device shows its objects.
 
+-- No byte is stored: those that the host sees are 0, for the host and for the device.
 abbrev pub zeros : Properties → HeldObject → List ℕ
 zeros p o = cond (is_host_visible p o.memory_type) (replicate o.size 0) []
 
@@ -50,12 +51,6 @@ pub record IsFresh (p : Properties) (s : DeviceState) : Type 0 where
   pub holds : s.held.objects ≡ map.empty
   pub names : s.held.last_name ≡ 0
   pub gone : s.held.gone ≡ []
-
--- it offers and holds the same, and the next name is the same
-pub record KeepsObjects (old new : DeviceState) : Type 0 where
-  pub offers : new.properties ≡ old.properties
-  pub objects : new.held.objects ≡ old.held.objects
-  pub names : new.held.last_name ≡ old.held.last_name
 
 -- What every device's calls do here, beside their row.
 

@@ -1,6 +1,6 @@
 -- What holds of every step of the device, and of its objects.
-use Rattle.std.specs.Prelude.{◌≡◌, ℕ, ◌+◌, ◌≤◌, Bool, true, false, cond, [], length, replicate, Option, Some, None, option_map}
-use Rattle.std.specs.Prelude.{IfSome, nat_le, refl}
+use Rattle.std.specs.Prelude.{◌≡◌, ℕ, ◌+◌, ◌≤◌, Bool, true, false, cond, [], length, replicate, Option, Some, None}
+use Rattle.std.specs.Prelude.{option_map, IfSome, nat_le, refl}
 use Rattle.std.specs.FinMap as map
 use Rattle.std.proofs.Common.{arith}
 use Rattle.std.proofs.lemmas.Bool.Decides.{nat_tests}

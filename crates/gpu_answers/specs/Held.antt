@@ -39,8 +39,8 @@ ChangesAt change old name new =
 abbrev pub AreNamedUpTo : ℕ → FinMap nat_cmp HeldObject → Type 0
 AreNamedUpTo last objects = (name : ℕ) → last < name → map.get objects name ≡ None
 
--- What always holds: no name is above the latest, and where so many of so many places are taken by names that were given
--- back, there is one left for the name of each object.
+-- What always holds: no name is above the latest. And of the places for names of objects that were given back, some are
+-- taken, and one is left for each object that is held.
 pub record AreKept (last taken places : ℕ) (objects : FinMap nat_cmp HeldObject) : Type 0 where
   pub named : AreNamedUpTo last objects
   pub names_fit : taken + map.len objects ≤ places

@@ -3,7 +3,7 @@
 ghost use Rattle.std.specs.Prelude.{◌≡◌, ◌↔◌, [], Some, IfOk, IsTrue, OnOk, OnErr};
 ghost use Rattle.gpu_alloc_types.specs.Properties.{properties_of};
 ghost use Rattle.gpu_answers.specs.Asking.{begun, open_in};
-ghost use Rattle.gpu_answers.specs.Device.{IsFresh, KeepsObjects};
+ghost use Rattle.gpu_answers.specs.Device.{IsFresh, objects_of};
 ghost use Rattle.gpu_answers.specs.declared.run.Stop.TheVariants.{Strayed};
 
 use crate::held::HeldObjects;
@@ -25,8 +25,8 @@ use std::marker::Model;
 /// the real device, and runs the call again with one answer more. Each answer names its question, so that an answer to
 /// another call counts nowhere: [`has_strayed`](AnsweredDevice::has_strayed) tells it.
 ///
-/// Objects are named 1, 2, 3 and so on, and a name is never used again. No byte of an object is kept. So no flush and no
-/// invalidate is a question: both are granted at once and change nothing, as in memory whose bytes are all 0. (The
+/// Objects are named 1, 2, 3 and so on, and a name is never used again. No byte of an object is kept. So no flush and
+/// no invalidate is a question: both are granted at once and change nothing, as in memory whose bytes are all 0. (The
 /// caller flushes and invalidates the real device's memory.) What can't fail is no question either: an object that is
 /// given back is told by [`gone`](AnsweredDevice::gone).
 #[derive(Drop)]
@@ -60,14 +60,16 @@ impl AnsweredDevice {
         })
     }
 
-    /// Begins a run with these answers, in the order in which their questions are asked. Of the run before it nothing is
-    /// told any more, and the objects stay.
+    /// Begins a run with these answers, in the order in which their questions are asked. Of the run before it nothing
+    /// is told any more. The objects stay as they are, and the next name is the same.
     ///
     /// Takes memory for a copy of the answers. Fails only for want of it, and all is as before then.
     pub fn begin(&mut self, answers: &[Answered]) -> Result<(), AllocError>
         ensures run { OnOk result (self.new.run ≡ begun answers.now) }
         ensures gone { OnOk result (self.new.held.gone ≡ []) }
-        ensures keeps { KeepsObjects self.old self.new }
+        ensures offers { self.new.properties ≡ self.old.properties }
+        ensures objects { objects_of self.new ≡ objects_of self.old }
+        ensures last_name { self.new.held.last_name ≡ self.old.held.last_name }
         ensures err { OnErr result (self.new ≡ self.old) }
     {
         self.run.begin(answers)?;
@@ -98,11 +100,11 @@ impl AnsweredDevice {
         self.run.made()
     }
 
-    /// The names of the objects that were given back in the run, in that order, and among them those of objects that the
-    /// run itself made. None is left out: the room for a name is taken when its object is made.
+    /// The names of the objects that were given back in the run, in that order, and among them those of objects that
+    /// the run itself made. None is left out: the room for a name is taken when its object is made.
     ///
-    /// A run that is left with an open question gives back what it made. The real object stays, since the next run makes
-    /// it again.
+    /// A run that is left with an open question gives back what it made. The real object stays, since the next run
+    /// makes it again.
     pub fn gone(&self) -> &[u64]
         ensures { result.now ≡ self.now.held.gone }
     {
