@@ -64,7 +64,7 @@ same_generation g h i = elim (one_or_two g h) [
 ]
 
 module _ {T : Type 0} where
-  either : (b : Bool) (o : Option T) → cond b o o ≡ o
+  pub either : (b : Bool) (o : Option T) → cond b o o ≡ o
   either true o = refl
   either false o = refl
 

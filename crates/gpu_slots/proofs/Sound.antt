@@ -1,16 +1,16 @@
 -- What the calls make of places and free places that are sound, and which keys are given.
-use Rattle.std.proofs.Common.{◌≡◌, ◌≢◌, ◌⊎◌, ◌↔◌, inl, inr, ℕ, ◌+◌, ◌-◌, ◌*◌, ◌/◌, ◌%◌, ◌^◌, ◌<◌, ◌≤◌, Bool, true, false, cond, ◌==◌, List, [], ◌∷◌, ◌++◌, length, map, get_or, set, take, Some, None, refl, sym, ◌∙◌, ap, subst, arith, length-append}
+use Rattle.std.proofs.Common.{◌≡◌, ◌≢◌, ◌⊎◌, ◌↔◌, inl, inr, ℕ, ◌+◌, ◌-◌, ◌*◌, ◌/◌, ◌%◌, ◌^◌, ◌<◌, ◌≤◌, Bool, true, false, cond, ◌==◌, List, [], ◌∷◌, ◌++◌, length, map, get_or, set, take, Option, Some, None, refl, sym, ◌∙◌, ap, subst, arith, length-append}
 use Rattle.std.proofs.Math.ListN.{get_or-append}
 use Rattle.std.proofs.Math.Seq.{get_or-append_seam}
 use Rattle.std.proofs.lemmas.List.{get_or_past, get_or-take, length-set, length-take-le}
 use Rattle.std.specs.Ordering.{nat_cmp}
 use Rattle.std.specs.Cmp.{nat_cmp_total}
-use Rattle.std.specs.Option.{IsSome, is_some}
+use Rattle.std.specs.Option.{IsSome, OnSome, is_some}
 use Rattle.std.specs.FinMap as finite
 use Rattle.gpu_slots.specs.declared.slot_map.Place.{Place}
-use Rattle.gpu_slots.specs.SlotMap.{IsGiven}
+use Rattle.gpu_slots.specs.SlotMap.{SlotState, IsGiven, IsGone, StaysGone}
 use Rattle.gpu_slots.specs.Places.{live_in, place_at, IsFree, IsSound}
-use Rattle.gpu_slots.proofs.Lookups.{IsLiveAt, live_at, place_in, Changes, changes_push, changes_set, one_or_two, key_parts, parts_of, generation_at, no_value, same, other, live_put, live_out, get_none, get_put, get_out}
+use Rattle.gpu_slots.proofs.Lookups.{IsLiveAt, live_at, place_in, Changes, changes_push, changes_set, one_or_two, key_parts, parts_of, generation_at, no_value, either, key_test, same, other, live_put, live_out, get_none, get_put, get_out}
 
 -- The last of the free places is taken off them.
 pub record TakesLast (free left : List ℕ) (i : ℕ) : Type 0 where
@@ -28,7 +28,18 @@ takes_last free left len len_left i is more value rest = record {
   rest = rest;
 }
 
+pub on_some : {X : Type 0} (o : Option X) {P : Type 0} → P → OnSome o P
+on_some None p = tt
+on_some (Some x) p = p
+
 module _ {T : Type 0} where
+  -- what is seen of these values and generations, and of these places, but for the room
+  abbrev pub roomless : finite.FinMap nat_cmp T → List ℕ → SlotState T
+  roomless m gs = record { live = m; generations = gs; room = 0 }
+
+  abbrev pub state : List (Place T) → SlotState T
+  state places = roomless (live_in places) (map (λ (p : Place T). p.generation) places)
+
   len_put : (m : finite.FinMap nat_cmp T) (k : ℕ) (v : T) → finite.get m k ≡ None → finite.len (finite.insert m k v) ≡ finite.len m + 1
   len_put m k v none = finite.len-insert nat_cmp_total m k v ∙ ap (λ o. cond (is_some o) (finite.len m) (finite.len m + 1)) none
 
@@ -101,8 +112,8 @@ module _ {T : Type 0} where
     gens_other : (q : ℕ) → q % 2 ^ 32 ≢ i → get_or (map (λ (p : Place T). p.generation) new) (q % 2 ^ 32) 0 ≡ get_or (map (λ (p : Place T). p.generation) old) (q % 2 ^ 32) 0
     gens_other q ne = generation_at new (q % 2 ^ 32) ∙ ap (λ (p : Place T). p.generation) (c.others (q % 2 ^ 32) ne) ∙ sym (generation_at old (q % 2 ^ 32))
 
-    pub put_is_new : (place_at old i).generation ≤ g → (room : ℕ) → IsGiven (record { live = live_in old; generations = map (λ (p : Place T). p.generation) old; room = room }) (g * 2 ^ 32 + i) → ⊥
-    put_is_new up room given = elim given [
+    pub put_is_new : (place_at old i).generation ≤ g → IsGiven (state old) (g * 2 ^ 32 + i) → ⊥
+    put_is_new up given = elim given [
       | inl p ↦
           let parts = parts_of g i fits in
           let were = gens_were (g * 2 ^ 32 + i) parts.1 in
@@ -112,16 +123,16 @@ module _ {T : Type 0} where
       | inr live ↦ no_value _ (get_none old new i g few_old le fits empty) live
     ]
 
-    pub put_given : (place_at old i).generation ≤ g → ((x : ℕ) → 0 < x → x < g → x < (place_at old i).generation) → (before after q : ℕ)
-        → IsGiven (record { live = live_in new; generations = map (λ (p : Place T). p.generation) new; room = after }) q
-        ↔ (IsGiven (record { live = live_in old; generations = map (λ (p : Place T). p.generation) old; room = before }) q ⊎ (q ≡ g * 2 ^ 32 + i))
-    put_given up had before after q = (to, from)
+    pub put_given : (place_at old i).generation ≤ g → ((x : ℕ) → 0 < x → x < g → x < (place_at old i).generation) → (q : ℕ)
+        → IsGiven (state new) q
+        ↔ (IsGiven (state old) q ⊎ (q ≡ g * 2 ^ 32 + i))
+    put_given up had q = (to, from)
       where
         found : (t : Bool) → (q == g * 2 ^ 32 + i) ≡ t → finite.get (live_in new) q ≡ cond t (Some v) (finite.get (live_in old) q)
         found t e = get_put old new i g few_old le fits v c empty q ∙ ap (λ b. cond b (Some v) (finite.get (live_in old) q)) e
 
-        to : IsGiven (record { live = live_in new; generations = map (λ (p : Place T). p.generation) new; room = after }) q
-            → IsGiven (record { live = live_in old; generations = map (λ (p : Place T). p.generation) old; room = before }) q ⊎ (q ≡ g * 2 ^ 32 + i)
+        to : IsGiven (state new) q
+            → IsGiven (state old) q ⊎ (q ≡ g * 2 ^ 32 + i)
         to given = elim given [
           | inl p ↦ elim (one_or_two (q % 2 ^ 32) i) [
             | inl e ↦
@@ -138,8 +149,8 @@ module _ {T : Type 0} where
           ]
         ]
 
-        from : IsGiven (record { live = live_in old; generations = map (λ (p : Place T). p.generation) old; room = before }) q ⊎ (q ≡ g * 2 ^ 32 + i)
-            → IsGiven (record { live = live_in new; generations = map (λ (p : Place T). p.generation) new; room = after }) q
+        from : IsGiven (state old) q ⊎ (q ≡ g * 2 ^ 32 + i)
+            → IsGiven (state new) q
         from (inl (inl p)) = elim (one_or_two (q % 2 ^ 32) i) [
           | inl e ↦
               let now = gens_here q e in
@@ -191,12 +202,12 @@ module _ {T : Type 0} where
     pub push_live : live_in new ≡ finite.insert (live_in old) (2 ^ 32 + length old) v
     push_live = live_put old new (length old) 1 few_old le_new last_fits v added past_empty
 
-    pub push_is_new : (room : ℕ) → IsGiven (record { live = live_in old; generations = map (λ (p : Place T). p.generation) old; room = room }) (2 ^ 32 + length old) → ⊥
+    pub push_is_new : IsGiven (state old) (2 ^ 32 + length old) → ⊥
     push_is_new = put_is_new old new (length old) 1 v added past_empty few_old few_new last_fits (omega (arith, past_unused))
 
-    pub push_given : (before after q : ℕ)
-        → IsGiven (record { live = live_in new; generations = map (λ (p : Place T). p.generation) new; room = after }) q
-        ↔ (IsGiven (record { live = live_in old; generations = map (λ (p : Place T). p.generation) old; room = before }) q ⊎ (q ≡ 2 ^ 32 + length old))
+    pub push_given : (q : ℕ)
+        → IsGiven (state new) q
+        ↔ (IsGiven (state old) q ⊎ (q ≡ 2 ^ 32 + length old))
     push_given = put_given old new (length old) 1 v added past_empty few_old few_new last_fits (omega (arith, past_unused)) (λ x some less. absurd (omega (arith, some, less)))
 
   pub last_free : (old : List (Place T)) (free left : List ℕ) (len capacity i : ℕ) → IsSound old free len capacity → TakesLast free left i → IsFree old i
@@ -204,6 +215,9 @@ module _ {T : Type 0} where
 
   -- A value goes into that place.
   module _ (old : List (Place T)) (free left : List ℕ) (len capacity i : ℕ) (p : Place T) (v : T) (s : IsSound old free len capacity) (t : TakesLast free left i) (is : i < length old → p ≡ place_at old i) where
+    abbrev pub refilled : List (Place T)
+    refilled = set old i (record { generation = p.generation; value = Some v })
+
     was_free : IsFree old i
     was_free = last_free old free left len capacity i s t
 
@@ -222,7 +236,7 @@ module _ {T : Type 0} where
     pub fill_unspent : p.generation < 2 ^ 32
     fill_unspent = let unspent = was_free.unspent in omega (arith, unspent, same_generation)
 
-    filled : Changes old (set old i (record { generation = p.generation; value = Some v })) i (record { generation = p.generation; value = Some v })
+    filled : Changes old refilled i (record { generation = p.generation; value = Some v })
     filled = changes_set old _ i _ was_free.within refl
 
     few : length old < 2 ^ 32
@@ -231,13 +245,13 @@ module _ {T : Type 0} where
     le_old : length old ≤ 2 ^ 32
     le_old = omega (arith, few)
 
-    as_long : length (set old i (record { generation = p.generation; value = Some v })) ≡ length old
+    as_long : length refilled ≡ length old
     as_long = length-set old i _
 
-    few_filled : length (set old i (record { generation = p.generation; value = Some v })) < 2 ^ 32
+    few_filled : length refilled < 2 ^ 32
     few_filled = omega (arith, few, as_long)
 
-    le_filled : length (set old i (record { generation = p.generation; value = Some v })) ≤ 2 ^ 32
+    le_filled : length refilled ≤ 2 ^ 32
     le_filled = omega (arith, few, as_long)
 
     pub place_fits : i < 2 ^ 32
@@ -250,7 +264,7 @@ module _ {T : Type 0} where
         let short = length-take-le t.count free (omega (arith, one_less)) in
         omega (arith, taken, short, one_less)
 
-    pub sound_fill : IsSound (set old i (record { generation = p.generation; value = Some v })) left (len + 1) capacity
+    pub sound_fill : IsSound refilled left (len + 1) capacity
     sound_fill =
         sound_put old _ i p.generation v filled fill_empty le_old few_filled place_fits free left len capacity s fill_begun (omega (arith, as_long))
         (λ j below ne. omega (arith, below, as_long)) within apart (let fits = s.fits in omega (arith, fits, one_less))
@@ -261,15 +275,15 @@ module _ {T : Type 0} where
         apart : (k : ℕ) → k < length left → get_or left k 0 ≢ i
         apart k below e = (let one = t.one_less in s.distinct k t.count (omega (arith, below, one_less, one)) (omega (arith, one)) (sym (within k below).1 ∙ e ∙ t.last))
 
-    pub fill_live : live_in (set old i (record { generation = p.generation; value = Some v })) ≡ finite.insert (live_in old) (p.generation * 2 ^ 32 + i) v
+    pub fill_live : live_in refilled ≡ finite.insert (live_in old) (p.generation * 2 ^ 32 + i) v
     fill_live = live_put old _ i p.generation le_old le_filled place_fits v filled fill_empty
 
-    pub fill_is_new : (room : ℕ) → IsGiven (record { live = live_in old; generations = map (λ (p : Place T). p.generation) old; room = room }) (p.generation * 2 ^ 32 + i) → ⊥
+    pub fill_is_new : IsGiven (state old) (p.generation * 2 ^ 32 + i) → ⊥
     fill_is_new = put_is_new old _ i p.generation v filled fill_empty le_old few_filled place_fits (omega (arith, same_generation))
 
-    pub fill_given : (before after q : ℕ)
-        → IsGiven (record { live = live_in (set old i (record { generation = p.generation; value = Some v })); generations = map (λ (p : Place T). p.generation) (set old i (record { generation = p.generation; value = Some v })); room = after }) q
-        ↔ (IsGiven (record { live = live_in old; generations = map (λ (p : Place T). p.generation) old; room = before }) q ⊎ (q ≡ p.generation * 2 ^ 32 + i))
+    pub fill_given : (q : ℕ)
+        → IsGiven (state refilled) q
+        ↔ (IsGiven (state old) q ⊎ (q ≡ p.generation * 2 ^ 32 + i))
     fill_given = put_given old _ i p.generation v filled fill_empty le_old few_filled place_fits (omega (arith, same_generation)) (λ x positive less. omega (arith, less, same_generation))
 
   -- A value is taken out of its place.
@@ -359,10 +373,10 @@ module _ {T : Type 0} where
     gens_others : (q : ℕ) → q % 2 ^ 32 ≢ i → get_or (map (λ (p : Place T). p.generation) new) (q % 2 ^ 32) 0 ≡ get_or (map (λ (p : Place T). p.generation) old) (q % 2 ^ 32) 0
     gens_others q ne = generation_at new (q % 2 ^ 32) ∙ ap (λ (p : Place T). p.generation) (c.others (q % 2 ^ 32) ne) ∙ sym (generation_at old (q % 2 ^ 32))
 
-    pub out_given : 0 < g → (before after q : ℕ)
-        → IsGiven (record { live = live_in new; generations = map (λ (p : Place T). p.generation) new; room = after }) q
-        ↔ IsGiven (record { live = live_in old; generations = map (λ (p : Place T). p.generation) old; room = before }) q
-    out_given begun before after q = (to, from)
+    pub out_given : 0 < g → (q : ℕ)
+        → IsGiven (state new) q
+        ↔ IsGiven (state old) q
+    out_given begun q = (to, from)
       where
         found : (t : Bool) → (q == g * 2 ^ 32 + i) ≡ t → finite.get (live_in new) q ≡ cond t None (finite.get (live_in old) q)
         found t e = get_out old new i g old_le new_le fits h c there q ∙ ap (λ b. cond b None (finite.get (live_in old) q)) e
@@ -370,8 +384,8 @@ module _ {T : Type 0} where
         this_key : q % 2 ^ 32 ≡ i → q / 2 ^ 32 ≡ g → g * 2 ^ 32 + i ≡ q
         this_key e f = omega (arith, e, f, key_parts q)
 
-        to : IsGiven (record { live = live_in new; generations = map (λ (p : Place T). p.generation) new; room = after }) q
-            → IsGiven (record { live = live_in old; generations = map (λ (p : Place T). p.generation) old; room = before }) q
+        to : IsGiven (state new) q
+            → IsGiven (state old) q
         to (inl p) = elim (one_or_two (q % 2 ^ 32) i) [
           | inl e ↦ elim (one_or_two (q / 2 ^ 32) g) [
             | inl f ↦ inr (subst (λ n. IsSome (finite.get (live_in old) n)) (this_key e f) live)
@@ -388,8 +402,8 @@ module _ {T : Type 0} where
           | inr ne ↦ inr (subst IsSome (found false (other q _ ne)) some)
         ]
 
-        from : IsGiven (record { live = live_in old; generations = map (λ (p : Place T). p.generation) old; room = before }) q
-            → IsGiven (record { live = live_in new; generations = map (λ (p : Place T). p.generation) new; room = after }) q
+        from : IsGiven (state old) q
+            → IsGiven (state new) q
         from (inl p) = elim (one_or_two (q % 2 ^ 32) i) [
           | inl e ↦
               let now = gens_now q e in
@@ -418,6 +432,9 @@ module _ {T : Type 0} where
 
   -- A live key's value is taken out of its place, whose generation rises.
   module _ (old : List (Place T)) (free : List ℕ) (len capacity : ℕ) (s : IsSound old free len capacity) (key : ℕ) (p : Place T) (live : IsSome (finite.get (live_in old) key)) (is : key % 2 ^ 32 < length old → p ≡ place_at old (key % 2 ^ 32)) where
+    abbrev pub vacated : List (Place T)
+    vacated = set old (key % 2 ^ 32) (record { generation = p.generation + 1; value = None })
+
     few_placed : length old < 2 ^ 32
     few_placed = s.few
 
@@ -439,36 +456,67 @@ module _ {T : Type 0} where
     pub take_value : p.value ≡ finite.get (live_in old) key
     take_value = ap (λ (q : Place T). q.value) found_there ∙ sym here.value
 
-    taken : Changes old (set old (key % 2 ^ 32) (record { generation = p.generation + 1; value = None })) (key % 2 ^ 32) (record { generation = p.generation + 1; value = None })
+    taken : Changes old vacated (key % 2 ^ 32) (record { generation = p.generation + 1; value = None })
     taken = changes_set old _ (key % 2 ^ 32) _ take_within refl
 
     up : p.generation + 1 ≡ key / 2 ^ 32 + 1
     up = ap (λ n. n + 1) take_generation
 
-    as_many : length (set old (key % 2 ^ 32) (record { generation = p.generation + 1; value = None })) ≡ length old
+    as_many : length vacated ≡ length old
     as_many = length-set old (key % 2 ^ 32) _
 
-    le_taken : length (set old (key % 2 ^ 32) (record { generation = p.generation + 1; value = None })) ≤ 2 ^ 32
+    le_taken : length vacated ≤ 2 ^ 32
     le_taken = omega (arith, le_placed, as_many)
 
     live_by_parts : IsSome (finite.get (live_in old) (key / 2 ^ 32 * 2 ^ 32 + key % 2 ^ 32))
     live_by_parts = subst (λ n. IsSome (finite.get (live_in old) n)) (key_parts key) live
 
-    pub take_retired : IsSound (set old (key % 2 ^ 32) (record { generation = p.generation + 1; value = None })) free (len - 1) capacity
+    pub take_retired : IsSound vacated free (len - 1) capacity
     take_retired = sound_retired old _ (key % 2 ^ 32) (key / 2 ^ 32) (p.generation + 1) taken here.of_it up as_many few_placed (place_in key) live_by_parts free len capacity s
 
-    pub take_freed : p.generation + 1 < 2 ^ 32 → IsSound (set old (key % 2 ^ 32) (record { generation = p.generation + 1; value = None })) (free ++ key % 2 ^ 32 ∷ []) (len - 1) capacity
+    pub take_freed : p.generation + 1 < 2 ^ 32 → IsSound vacated (free ++ key % 2 ^ 32 ∷ []) (len - 1) capacity
     take_freed unspent = sound_freed old _ (key % 2 ^ 32) (key / 2 ^ 32) (p.generation + 1) taken here.of_it up as_many few_placed (place_in key) live_by_parts free len capacity s unspent take_within
 
-    pub take_live : live_in (set old (key % 2 ^ 32) (record { generation = p.generation + 1; value = None })) ≡ finite.remove (live_in old) key
+    pub take_live : live_in vacated ≡ finite.remove (live_in old) key
     take_live =
         live_out old _ (key % 2 ^ 32) (key / 2 ^ 32) le_placed le_taken (place_in key) (p.generation + 1) taken here.of_it
         ∙ ap (finite.remove (live_in old)) (sym (key_parts key))
 
-    pub take_given : (before after q : ℕ)
-        → IsGiven (record { live = live_in (set old (key % 2 ^ 32) (record { generation = p.generation + 1; value = None })); generations = map (λ (p : Place T). p.generation) (set old (key % 2 ^ 32) (record { generation = p.generation + 1; value = None })); room = after }) q
-        ↔ IsGiven (record { live = live_in old; generations = map (λ (p : Place T). p.generation) old; room = before }) q
+    pub take_given : (q : ℕ)
+        → IsGiven (state vacated) q
+        ↔ IsGiven (state old) q
     take_given =
         let begun = s.begun (key % 2 ^ 32) take_within in
         let of_it = here.of_it in
         out_given old _ (key % 2 ^ 32) (key / 2 ^ 32) (p.generation + 1) taken here.of_it up as_many few_placed (place_in key) live_by_parts (omega (arith, begun, of_it))
+
+  -- Keys that are gone.
+
+  module _ (m n : finite.FinMap nat_cmp T) (gs hs : List ℕ) (k : ℕ) where
+    pub gone_put : (v : T) → (IsGiven (roomless m gs) k → ⊥) → n ≡ finite.insert m k v
+        → ((q : ℕ) → IsGiven (roomless n hs) q ↔ (IsGiven (roomless m gs) q ⊎ (q ≡ k)))
+        → StaysGone (roomless m gs) (roomless n hs)
+    gone_put v fresh live given q gone = elim (one_or_two q k) [
+      | inl e ↦ absurd (fresh (subst (IsGiven (roomless m gs)) e gone.0))
+      | inr ne ↦ (
+        (given q).1 (inl gone.0),
+        ap (λ (l : finite.FinMap nat_cmp T). finite.get l q) live
+            ∙ finite.get-insert nat_cmp_total m k v q
+            ∙ ap (λ b. cond b (Some v) (finite.get m q)) (key_test q k ∙ other q k ne)
+            ∙ gone.1,
+      )
+    ]
+
+    none_out : (q : ℕ) → n ≡ finite.remove m k → (q ≡ k) ⊎ (finite.get m q ≡ None) → finite.get n q ≡ None
+    none_out q live cases =
+        ap (λ (l : finite.FinMap nat_cmp T). finite.get l q) live ∙ finite.get-remove nat_cmp_total m k q ∙ ap (λ b. cond b None (finite.get m q)) (key_test q k) ∙ by cases
+      where
+        by : (q ≡ k) ⊎ (finite.get m q ≡ None) → cond (q == k) None (finite.get m q) ≡ None
+        by (inl e) = ap (λ b. cond b None (finite.get m q)) (same q k e)
+        by (inr none) = ap (cond (q == k) None) none ∙ either (q == k) None
+
+    pub gone_out : n ≡ finite.remove m k → ((q : ℕ) → IsGiven (roomless n hs) q ↔ IsGiven (roomless m gs) q) → StaysGone (roomless m gs) (roomless n hs)
+    gone_out live given q gone = ((given q).1 gone.0, none_out q live (inr gone.1))
+
+    pub gone_now : IsSome (finite.get m k) → n ≡ finite.remove m k → ((q : ℕ) → IsGiven (roomless n hs) q ↔ IsGiven (roomless m gs) q) → IsGone (roomless n hs) k
+    gone_now some live given = ((given k).1 (inr some), none_out k live (inl refl))

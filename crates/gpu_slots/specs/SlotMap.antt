@@ -1,5 +1,5 @@
 -- What a contract sees of a `SlotMap`.
-use Rattle.std.specs.Prelude.{◌⊎◌, ℕ, ◌/◌, ◌%◌, ◌^◌, ◌<◌, List, IsSome, slice_index, refl}
+use Rattle.std.specs.Prelude.{◌≡◌, ◌⊎◌, ℕ, ◌/◌, ◌%◌, ◌^◌, ◌<◌, List, None, IsSome, slice_index, refl}
 use Rattle.std.specs.Coded.{Coded, code_by, coded×, coded_ℕ, coded_list}
 use Rattle.std.specs.FinMap as map
 use Rattle.std.specs.FinMap.{FinMap}
@@ -32,3 +32,11 @@ generation_of key = key / 2 ^ 32
 abbrev pub IsGiven : {T : Type 0} → SlotState T → ℕ → Type 0
 IsGiven s key =
     ((0 < generation_of key) × (generation_of key < slice_index s.generations (place_of key))) ⊎ IsSome (map.get s.live key)
+
+-- the key was given, and its value was removed
+abbrev pub IsGone : {T : Type 0} → SlotState T → ℕ → Type 0
+IsGone s key = IsGiven s key × (map.get s.live key ≡ None)
+
+-- each key that was gone is gone still
+abbrev pub StaysGone : {T : Type 0} → SlotState T → SlotState T → Type 0
+StaysGone old new = (key : ℕ) → IsGone old key → IsGone new key

@@ -1,8 +1,8 @@
 //! Values under keys with generations.
 
-ghost use Rattle.std.specs.Prelude.{◌≡◌, ◌≢◌, ℕ, ◌+◌, ◌<◌, ◌≤◌, ◌==◌, ◌↔◌, ◌⊎◌, [], OnOk, IsOk, option_copied};
+ghost use Rattle.std.specs.Prelude.{◌≡◌, ◌≢◌, ℕ, ◌+◌, ◌<◌, ◌≤◌, ◌==◌, ◌↔◌, ◌⊎◌, [], OnOk, IsOk, OnSome, option_copied};
 ghost use Rattle.std.specs.FinMap as map;
-ghost use Rattle.gpu_slots.specs.SlotMap.{IsGiven};
+ghost use Rattle.gpu_slots.specs.SlotMap.{IsGiven, IsGone, StaysGone};
 
 use std::alloc::{AllocError, Global};
 use std::marker::Model;
@@ -103,6 +103,7 @@ impl<T: Drop> SlotMap<T> {
         ensures new_key { IsGiven self.old result → ⊥ }
         ensures live { self.new.live ≡ map.insert self.old.live result value }
         ensures given { (key : ℕ) → IsGiven self.new key ↔ (IsGiven self.old key ⊎ (key ≡ result)) }
+        ensures gone { StaysGone self.old self.new }
         ensures room { self.old.room ≤ self.new.room + 1 }
     {
         self.len += 1;
@@ -130,11 +131,13 @@ impl<T: Drop> SlotMap<T> {
     }
 
     /// Takes the value out that is under a key, or answers `None` where the key is not live, with nothing changed. It
-    /// takes no memory. The key stays given, so that no later value has it.
+    /// takes no memory. The key stays given, so that no later value has it, and is refused for ever after.
     pub fn remove(&mut self, key: u64) -> Option<T>
         ensures value { result ≡ map.get self.old.live key }
         ensures live { self.new.live ≡ map.remove self.old.live key }
         ensures given { (other : ℕ) → IsGiven self.new other ↔ IsGiven self.old other }
+        ensures refused { OnSome result (IsGone self.new key) }
+        ensures gone { StaysGone self.old self.new }
         ensures room { self.old.room ≤ self.new.room }
         ensures absent { map.get self.old.live key ≡ None → self.new ≡ self.old }
     {

@@ -2,7 +2,7 @@ use Rattle.std.proofs.Common.{◌≡◌, ◌∙◌, sym, None, arith}
 use Rattle.std.specs.FinMap as map
 use Rattle.std.specs.Option.{IsSome}
 use Rattle.gpu_slots.proofs.Lookups.{read_at, remove_none}
-use Rattle.gpu_slots.proofs.Sound.{live_within, live_counted, take_generation, take_value, take_retired, take_freed, take_live, take_given}
+use Rattle.gpu_slots.proofs.Sound.{on_some, gone_out, gone_now, live_within, live_counted, take_generation, take_value, take_retired, take_freed, take_live, take_given}
 use Rattle.gpu_slots.proofs.slot_map.SlotMap.remove.Goals as goal
 
 pub returns-then-is_none-clause-live : goal.returns-then-is_none-clause-live
@@ -71,7 +71,7 @@ returns-then-place-lt-SPAN-clause-given g c =
     let some : IsSome (map.get c.args.self.now.live c.args.key) = rw (← c.get.ensures) (grind arith) in
     let live = rw (← c.self.view_is) at some in
     rw (← c.self.view_is, c.take-value.ensures.after)
-    (take_given _ _ _ _ c.self.invariant c.args.key c.index_mut-place.result.now live (λ within. read_at _ _ _ within c.index_mut-place.ensures.value) 0 0)
+    (take_given _ _ _ _ c.self.invariant c.args.key c.index_mut-place.result.now live (λ within. read_at _ _ _ within c.index_mut-place.ensures.value))
 
 pub returns-then-place-lt-SPAN-clause-room : goal.returns-then-place-lt-SPAN-clause-room
 returns-then-place-lt-SPAN-clause-room g c =
@@ -100,4 +100,20 @@ returns-else-place-lt-SPAN-clause-given g c =
     let some : IsSome (map.get c.args.self.now.live c.args.key) = rw (← c.get.ensures) (grind arith) in
     let live = rw (← c.self.view_is) at some in
     rw (← c.self.view_is, c.take-value.ensures.after)
-    (take_given _ _ _ _ c.self.invariant c.args.key c.index_mut-place.result.now live (λ within. read_at _ _ _ within c.index_mut-place.ensures.value) 0 0)
+    (take_given _ _ _ _ c.self.invariant c.args.key c.index_mut-place.result.now live (λ within. read_at _ _ _ within c.index_mut-place.ensures.value))
+
+pub returns-then-place-lt-SPAN-clause-gone : goal.returns-then-place-lt-SPAN-clause-gone
+returns-then-place-lt-SPAN-clause-gone g c = gone_out _ _ _ _ c.args.key (returns-then-place-lt-SPAN-clause-live g c) (returns-then-place-lt-SPAN-clause-given g c)
+
+pub returns-then-place-lt-SPAN-clause-refused : goal.returns-then-place-lt-SPAN-clause-refused
+returns-then-place-lt-SPAN-clause-refused g c =
+    let some : IsSome (map.get c.args.self.now.live c.args.key) = rw (← c.get.ensures) (grind arith) in
+    on_some _ (gone_now _ _ _ _ c.args.key some (returns-then-place-lt-SPAN-clause-live g c) (returns-then-place-lt-SPAN-clause-given g c))
+
+pub returns-else-place-lt-SPAN-clause-gone : goal.returns-else-place-lt-SPAN-clause-gone
+returns-else-place-lt-SPAN-clause-gone g c = gone_out _ _ _ _ c.args.key (returns-else-place-lt-SPAN-clause-live g c) (returns-else-place-lt-SPAN-clause-given g c)
+
+pub returns-else-place-lt-SPAN-clause-refused : goal.returns-else-place-lt-SPAN-clause-refused
+returns-else-place-lt-SPAN-clause-refused g c =
+    let some : IsSome (map.get c.args.self.now.live c.args.key) = rw (← c.get.ensures) (grind arith) in
+    on_some _ (gone_now _ _ _ _ c.args.key some (returns-else-place-lt-SPAN-clause-live g c) (returns-else-place-lt-SPAN-clause-given g c))
