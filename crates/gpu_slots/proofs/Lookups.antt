@@ -273,6 +273,32 @@ module _ {T : Type 0} where
         ∙ ap (λ t. cond t None (finite.get (live_in old) q)) (key_test q (g * 2 ^ 32 + i))
         ∙ ap (cond (q == g * 2 ^ 32 + i) None) (get_live old q few_old)))
 
+    -- Another value is put in the place of one.
+    held_over : (v : T) → Changes old new i (record { generation = g; value = Some v }) → (place_at old i).generation ≡ g
+        → (q : ℕ) → held new q ≡ cond (q == g * 2 ^ 32 + i) (Some v) (held old q)
+    held_over v c there q = elim (one_or_two (q % 2 ^ 32) i) [
+      | inl e ↦
+          ap (λ n. of_generation (q / 2 ^ 32) (place_at new n)) e
+          ∙ ap (of_generation (q / 2 ^ 32)) c.changed
+          ∙ sym (ap (λ t. cond t (Some v) (held old q)) (by_generation q e)
+          ∙ ap (λ n. cond (g == q / 2 ^ 32) (Some v) (of_generation (q / 2 ^ 32) (place_at old n))) e
+          ∙ ap (λ n. cond (g == q / 2 ^ 32) (Some v) (cond (n == q / 2 ^ 32) (place_at old i).value None)) there
+          ∙ put (g == q / 2 ^ 32) (place_at old i).value)
+      | inr ne ↦ held_other q _ c ne ∙ sym (ap (λ t. cond t (Some v) (held old q)) (other q _ (not_in_place q ne)))
+    ]
+      where
+        put : (b : Bool) (o : Option T) → cond b (Some v) (cond b o None) ≡ cond b (Some v) None
+        put true o = refl
+        put false o = refl
+
+    pub live_over : (v : T) → Changes old new i (record { generation = g; value = Some v }) → (place_at old i).generation ≡ g
+        → live_in new ≡ finite.insert (live_in old) (g * 2 ^ 32 + i) v
+    live_over v c there = finite.same_map nat_cmp_total nat_cmp-IsAntisymmetric _ _ (λ q.
+        get_live new q few ∙ held_over v c there q
+        ∙ sym (finite.get-insert nat_cmp_total (live_in old) (g * 2 ^ 32 + i) v q
+        ∙ ap (λ t. cond t (Some v) (finite.get (live_in old) q)) (key_test q (g * 2 ^ 32 + i))
+        ∙ ap (cond (q == g * 2 ^ 32 + i) (Some v)) (get_live old q few_old)))
+
     -- What is found then.
 
     pub get_none : (place_at old i).value ≡ None → finite.get (live_in old) (g * 2 ^ 32 + i) ≡ None

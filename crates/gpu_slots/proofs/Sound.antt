@@ -1,7 +1,7 @@
 -- What the calls make of places and free places that are sound, and which keys are given.
 use Rattle.std.proofs.Common.{◌≡◌, ◌≢◌, ◌⊎◌, ◌↔◌, inl, inr, ℕ, ◌+◌, ◌-◌, ◌*◌, ◌/◌, ◌%◌, ◌^◌, ◌<◌, ◌≤◌, Bool, true, false, cond, ◌==◌, List, [], ◌∷◌, ◌++◌, length, map, get_or, set, take, Option, Some, None, refl, sym, ◌∙◌, ap, subst, arith, length-append}
 use Rattle.std.proofs.Math.ListN.{get_or-append}
-use Rattle.std.proofs.Math.Seq.{get_or-append_seam}
+use Rattle.std.proofs.Math.Seq.{get_or-append_seam, map-set_same}
 use Rattle.std.proofs.lemmas.List.{get_or_past, get_or-take, length-set, length-take-le}
 use Rattle.std.specs.Ordering.{nat_cmp}
 use Rattle.std.specs.Cmp.{nat_cmp_total}
@@ -10,7 +10,7 @@ use Rattle.std.specs.FinMap as finite
 use Rattle.gpu_slots.specs.declared.slot_map.Place.{Place}
 use Rattle.gpu_slots.specs.SlotMap.{SlotState, IsGiven, IsGone, StaysGone}
 use Rattle.gpu_slots.specs.Places.{live_in, place_at, IsFree, IsSound}
-use Rattle.gpu_slots.proofs.Lookups.{IsLiveAt, live_at, place_in, Changes, changes_push, changes_set, one_or_two, key_parts, parts_of, generation_at, no_value, either, key_test, same, other, live_put, live_out, get_none, get_put, get_out}
+use Rattle.gpu_slots.proofs.Lookups.{IsLiveAt, live_at, place_in, Changes, changes_push, changes_set, one_or_two, key_parts, parts_of, generation_at, no_value, either, key_test, same, other, live_put, live_over, live_out, get_none, get_put, get_out}
 
 -- The last of the free places is taken off them.
 pub record TakesLast (free left : List ℕ) (i : ℕ) : Type 0 where
@@ -489,6 +489,56 @@ module _ {T : Type 0} where
         let begun = s.begun (key % 2 ^ 32) take_within in
         let of_it = here.of_it in
         out_given old _ (key % 2 ^ 32) (key / 2 ^ 32) (p.generation + 1) taken here.of_it up as_many few_placed (place_in key) live_by_parts (omega (arith, begun, of_it))
+
+  -- A live key's value is changed.
+  module _ (old : List (Place T)) (free : List ℕ) (len capacity : ℕ) (s : IsSound old free len capacity) (key : ℕ) (p : Place T) (live : IsSome (finite.get (live_in old) key)) (is : key % 2 ^ 32 < length old → p ≡ place_at old (key % 2 ^ 32)) (v : T) where
+    abbrev pub changed_at : List (Place T)
+    changed_at = set old (key % 2 ^ 32) (record { generation = p.generation; value = Some v })
+
+    old_fits : length old ≤ 2 ^ 32
+    old_fits = let few = s.few in omega (arith, few)
+
+    place : IsLiveAt old key
+    place = live_at old key old_fits live
+
+    of_key : p.generation ≡ key / 2 ^ 32
+    of_key = ap (λ (q : Place T). q.generation) (is place.within) ∙ place.of_it
+
+    change : Changes old changed_at (key % 2 ^ 32) (record { generation = key / 2 ^ 32; value = Some v })
+    change = changes_set old changed_at (key % 2 ^ 32) _ place.within (ap (λ n. set old (key % 2 ^ 32) (record { generation = n; value = Some v })) of_key)
+
+    same_length : length changed_at ≡ length old
+    same_length = length-set old (key % 2 ^ 32) _
+
+    changed_fits : length changed_at ≤ 2 ^ 32
+    changed_fits = omega (arith, old_fits, same_length)
+
+    pub change_live : live_in changed_at ≡ finite.insert (live_in old) key v
+    change_live =
+        live_over old changed_at (key % 2 ^ 32) (key / 2 ^ 32) old_fits changed_fits (place_in key) v change place.of_it
+        ∙ ap (λ k. finite.insert (live_in old) k v) (sym (key_parts key))
+
+    pub change_generations : map (λ (p : Place T). p.generation) changed_at ≡ map (λ (p : Place T). p.generation) old
+    change_generations = map-set_same (λ (p : Place T). p.generation) old (key % 2 ^ 32) _ (record { generation = 0; value = None }) (ap (λ (q : Place T). q.generation) (is place.within))
+
+    not_free_there : (k : ℕ) → k < length free → get_or free k 0 ≢ key % 2 ^ 32
+    not_free_there k below e =
+        let f = subst (IsFree old) e (s.all_free k below) in
+        no_value _ (place.value ∙ f.empty) live
+
+    pub change_sound : IsSound changed_at free len capacity
+    change_sound = record {
+      few = let few = s.few in omega (arith, few, same_length);
+      counted =
+          s.counted
+          ∙ sym (ap (λ (m : finite.FinMap nat_cmp T). finite.len m) change_live
+          ∙ finite.len-insert nat_cmp_total (live_in old) key v
+          ∙ ap (λ b. cond b (finite.len (live_in old)) (finite.len (live_in old) + 1)) live);
+      begun = begun_kept old changed_at (key % 2 ^ 32) _ change (λ j below ne. omega (arith, below, same_length)) (let begun = s.begun (key % 2 ^ 32) place.within in let of_it = place.of_it in omega (arith, begun, of_it)) s.begun;
+      all_free = λ k below. free_kept old changed_at (key % 2 ^ 32) _ _ change (omega (arith, same_length)) (not_free_there k below) (s.all_free k below);
+      distinct = s.distinct;
+      fits = s.fits;
+    }
 
   -- Keys that are gone.
 

@@ -19,6 +19,10 @@ slots_code {T} code =
     (λ s. (s.live, (s.generations, s.room)))
     (λ c. record { live = c.0; generations = c.1.0; room = c.1.1 }) (λ _. refl)
 
+-- the map after a write through `get_mut(key)`
+abbrev pub with_value : {T : Type 0} → SlotState T → ℕ → T → SlotState T
+with_value s key value = record s { live = map.insert s.live key value }
+
 -- the place of a key, its lower 32 bits
 abbrev pub place_of : ℕ → ℕ
 place_of key = key % 2 ^ 32

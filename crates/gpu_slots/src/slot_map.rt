@@ -1,6 +1,8 @@
 //! Values under keys with generations.
 
-ghost use Rattle.std.specs.Prelude.{◌≡◌, ◌≢◌, ℕ, ◌+◌, ◌<◌, ◌≤◌, ◌==◌, ◌↔◌, ◌⊎◌, [], OnOk, IsOk, OnSome, option_copied};
+ghost use Rattle.std.specs.Prelude.{◌≡◌, ◌≢◌, ℕ, ◌+◌, ◌<◌, ◌≤◌, ◌==◌, ◌↔◌, ◌⊎◌, [], OnOk, IsOk, OnSome, IsSome, Some, option_copied};
+ghost use Rattle.std.specs.Option.{option_copied_mut};
+ghost use Rattle.std.specs.Borrow.{sem};
 ghost use Rattle.std.specs.FinMap as map;
 ghost use Rattle.gpu_slots.specs.SlotMap.{IsGiven, IsGone, StaysGone};
 
@@ -15,6 +17,21 @@ const SPAN: u64 = 1 << 32;
 struct Place<T> {
     generation: u64,
     value: Option<T>,
+}
+
+impl<T> Place<T> {
+    ghost use Rattle.gpu_slots.specs.Lends.{lends_place};
+
+    fn value_mut(&mut self) -> &mut T
+        requires { IsSome self.old.value }
+        ensures* writes_back { sem 𝓛 (lends_place T.row self.entry result) }
+        ensures value { self.old.value ≡ Some result.now }
+    {
+        match &mut self.value {
+            Some(value) => value,
+            None => unreachable!(),
+        }
+    }
 }
 
 /// Values, each under a key that is given once.
@@ -51,6 +68,8 @@ impl<T> Model for SlotMap<T> {
 }
 
 impl<T: Drop> SlotMap<T> {
+    ghost use Rattle.gpu_slots.specs.Lends.{lends_get, lends_value};
+
     /// No value. `alloc` gives the memory of the values, of which this call takes none.
     pub fn new(alloc: Global) -> SlotMap<T>
         ensures live { result.live ≡ map.empty }
@@ -128,6 +147,26 @@ impl<T: Drop> SlotMap<T> {
             Some(place) if place.generation == key / SPAN => place.value.as_ref(),
             _ => None,
         }
+    }
+
+    /// The value under a key for writing, or `None` where the key is not live.
+    pub fn get_mut(&mut self, key: u64) -> Option<&mut T>
+        ensures* writes_back { sem 𝓛 (lends_get T.row key self.entry result) }
+        ensures value { option_copied_mut result ≡ map.get self.old.live key }
+    {
+        if self.get(key).is_some() {
+            Some(self.value_mut(key))
+        } else {
+            None
+        }
+    }
+
+    fn value_mut(&mut self, key: u64) -> &mut T
+        requires { IsSome (map.get self.old.live key) }
+        ensures* writes_back { sem 𝓛 (lends_value T.row key self.entry result) }
+        ensures value { map.get self.old.live key ≡ Some result.now }
+    {
+        self.places[(key % SPAN) as usize].value_mut()
     }
 
     /// Takes the value out that is under a key, or answers `None` where the key is not live, with nothing changed. It
