@@ -1,0 +1,119 @@
+use Rattle.std.proofs.Common.{◌≡◌, ◌∙◌, sym, None, arith}
+use Rattle.std.specs.FinMap as map
+use Rattle.std.specs.Option.{IsSome}
+use Rattle.gpu_slots.proofs.Lookups.{read_at, remove_none}
+use Rattle.gpu_slots.proofs.Sound.{on_some, gone_out, gone_now, live_within, live_counted, take_generation, take_value, take_retired, take_freed, take_live, take_given}
+use Rattle.gpu_slots.proofs.slot_map.SlotMap.remove.Goals as goal
+
+pub returns-then-is_none-clause-live : goal.returns-then-is_none-clause-live
+returns-then-is_none-clause-live g c =
+    let none : map.get c.args.self.now.live c.args.key ≡ None = sym c.get.ensures ∙ grind arith in
+    remove_none _ c.args.key none
+
+pub overflow_sub-self : goal.overflow_sub-self
+overflow_sub-self g c =
+    let some : IsSome (map.get c.args.self.now.live c.args.key) = rw (← c.get.ensures) (grind arith) in
+    live_counted _ _ _ _ c.self.invariant c.args.key (rw (← c.self.view_is) at some)
+
+pub index_mut-place-requires : goal.index_mut-place-requires
+index_mut-place-requires g c =
+    let some : IsSome (map.get c.args.self.now.live c.args.key) = rw (← c.get.ensures) (grind arith) in
+    let within = live_within _ _ _ _ c.self.invariant c.args.key (rw (← c.self.view_is) at some) in
+    let ok = c.self.inside.places.ok in
+    omega (arith, within, ok)
+
+pub overflow_add-place : goal.overflow_add-place
+overflow_add-place g c =
+    let some : IsSome (map.get c.args.self.now.live c.args.key) = rw (← c.get.ensures) (grind arith) in
+    let live = rw (← c.self.view_is) at some in
+    let is = take_generation _ _ _ _ c.self.invariant c.args.key c.index_mut-place.result.now live (λ within. read_at _ _ _ within c.index_mut-place.ensures.value) in
+    let fits = c.ranges.key.fits in
+    omega (arith, is, fits)
+
+pub push_reserved-requires : goal.push_reserved-requires
+push_reserved-requires g c =
+    let some : IsSome (map.get c.args.self.now.live c.args.key) = rw (← c.get.ensures) (grind arith) in
+    let live = rw (← c.self.view_is) at some in
+    let counted = live_counted _ _ _ _ c.self.invariant c.args.key live in
+    let fits = c.self.invariant.fits in
+    let ok = c.self.inside.free.ok in
+    omega (arith, counted, fits, ok)
+
+pub invariant_of-self : goal.invariant_of-self
+invariant_of-self g c =
+    let some : IsSome (map.get c.args.self.now.live c.args.key) = rw (← c.get.ensures) (grind arith) in
+    let live = rw (← c.self.view_is) at some in
+    rw (c.push_reserved.ensures.items, c.push_reserved.ensures.capacity, c.take-value.ensures.after)
+    (take_freed _ _ _ _ c.self.invariant c.args.key c.index_mut-place.result.now live (λ within. read_at _ _ _ within c.index_mut-place.ensures.value) c.if-place-lt-SPAN.true)
+
+pub invariant_of-self-else-place-lt-SPAN : goal.invariant_of-self-else-place-lt-SPAN
+invariant_of-self-else-place-lt-SPAN g c =
+    let some : IsSome (map.get c.args.self.now.live c.args.key) = rw (← c.get.ensures) (grind arith) in
+    let live = rw (← c.self.view_is) at some in
+    rw c.take-value.ensures.after
+    (take_retired _ _ _ _ c.self.invariant c.args.key c.index_mut-place.result.now live (λ within. read_at _ _ _ within c.index_mut-place.ensures.value))
+
+pub returns-then-place-lt-SPAN-clause-value : goal.returns-then-place-lt-SPAN-clause-value
+returns-then-place-lt-SPAN-clause-value g c =
+    let some : IsSome (map.get c.args.self.now.live c.args.key) = rw (← c.get.ensures) (grind arith) in
+    let live = rw (← c.self.view_is) at some in
+    rw (← c.self.view_is) (c.take-value.ensures.value ∙ take_value _ _ _ _ c.self.invariant c.args.key c.index_mut-place.result.now live (λ within. read_at _ _ _ within c.index_mut-place.ensures.value))
+
+pub returns-then-place-lt-SPAN-clause-live : goal.returns-then-place-lt-SPAN-clause-live
+returns-then-place-lt-SPAN-clause-live g c =
+    let some : IsSome (map.get c.args.self.now.live c.args.key) = rw (← c.get.ensures) (grind arith) in
+    let live = rw (← c.self.view_is) at some in
+    rw (← c.self.view_is, c.take-value.ensures.after)
+    (take_live _ _ _ _ c.self.invariant c.args.key c.index_mut-place.result.now live (λ within. read_at _ _ _ within c.index_mut-place.ensures.value))
+
+pub returns-then-place-lt-SPAN-clause-given : goal.returns-then-place-lt-SPAN-clause-given
+returns-then-place-lt-SPAN-clause-given g c =
+    let some : IsSome (map.get c.args.self.now.live c.args.key) = rw (← c.get.ensures) (grind arith) in
+    let live = rw (← c.self.view_is) at some in
+    rw (← c.self.view_is, c.take-value.ensures.after)
+    (take_given _ _ _ _ c.self.invariant c.args.key c.index_mut-place.result.now live (λ within. read_at _ _ _ within c.index_mut-place.ensures.value))
+
+pub returns-then-place-lt-SPAN-clause-room : goal.returns-then-place-lt-SPAN-clause-room
+returns-then-place-lt-SPAN-clause-room g c =
+    let some : IsSome (map.get c.args.self.now.live c.args.key) = rw (← c.get.ensures) (grind arith) in
+    let live = rw (← c.self.view_is) at some in
+    let counted = live_counted _ _ _ _ c.self.invariant c.args.key live in
+    let more = c.push_reserved.ensures.len in
+    let as_before = c.push_reserved.ensures.capacity in
+    rw (← c.self.view_is) (omega (arith, counted, more, as_before))
+
+pub returns-else-place-lt-SPAN-clause-value : goal.returns-else-place-lt-SPAN-clause-value
+returns-else-place-lt-SPAN-clause-value g c =
+    let some : IsSome (map.get c.args.self.now.live c.args.key) = rw (← c.get.ensures) (grind arith) in
+    let live = rw (← c.self.view_is) at some in
+    rw (← c.self.view_is) (c.take-value.ensures.value ∙ take_value _ _ _ _ c.self.invariant c.args.key c.index_mut-place.result.now live (λ within. read_at _ _ _ within c.index_mut-place.ensures.value))
+
+pub returns-else-place-lt-SPAN-clause-live : goal.returns-else-place-lt-SPAN-clause-live
+returns-else-place-lt-SPAN-clause-live g c =
+    let some : IsSome (map.get c.args.self.now.live c.args.key) = rw (← c.get.ensures) (grind arith) in
+    let live = rw (← c.self.view_is) at some in
+    rw (← c.self.view_is, c.take-value.ensures.after)
+    (take_live _ _ _ _ c.self.invariant c.args.key c.index_mut-place.result.now live (λ within. read_at _ _ _ within c.index_mut-place.ensures.value))
+
+pub returns-else-place-lt-SPAN-clause-given : goal.returns-else-place-lt-SPAN-clause-given
+returns-else-place-lt-SPAN-clause-given g c =
+    let some : IsSome (map.get c.args.self.now.live c.args.key) = rw (← c.get.ensures) (grind arith) in
+    let live = rw (← c.self.view_is) at some in
+    rw (← c.self.view_is, c.take-value.ensures.after)
+    (take_given _ _ _ _ c.self.invariant c.args.key c.index_mut-place.result.now live (λ within. read_at _ _ _ within c.index_mut-place.ensures.value))
+
+pub returns-then-place-lt-SPAN-clause-gone : goal.returns-then-place-lt-SPAN-clause-gone
+returns-then-place-lt-SPAN-clause-gone g c = gone_out _ _ _ _ c.args.key (returns-then-place-lt-SPAN-clause-live g c) (returns-then-place-lt-SPAN-clause-given g c)
+
+pub returns-then-place-lt-SPAN-clause-refused : goal.returns-then-place-lt-SPAN-clause-refused
+returns-then-place-lt-SPAN-clause-refused g c =
+    let some : IsSome (map.get c.args.self.now.live c.args.key) = rw (← c.get.ensures) (grind arith) in
+    on_some _ (gone_now _ _ _ _ c.args.key some (returns-then-place-lt-SPAN-clause-live g c) (returns-then-place-lt-SPAN-clause-given g c))
+
+pub returns-else-place-lt-SPAN-clause-gone : goal.returns-else-place-lt-SPAN-clause-gone
+returns-else-place-lt-SPAN-clause-gone g c = gone_out _ _ _ _ c.args.key (returns-else-place-lt-SPAN-clause-live g c) (returns-else-place-lt-SPAN-clause-given g c)
+
+pub returns-else-place-lt-SPAN-clause-refused : goal.returns-else-place-lt-SPAN-clause-refused
+returns-else-place-lt-SPAN-clause-refused g c =
+    let some : IsSome (map.get c.args.self.now.live c.args.key) = rw (← c.get.ensures) (grind arith) in
+    on_some _ (gone_now _ _ _ _ c.args.key some (returns-else-place-lt-SPAN-clause-live g c) (returns-else-place-lt-SPAN-clause-given g c))

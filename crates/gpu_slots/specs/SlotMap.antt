@@ -1,0 +1,46 @@
+-- What a contract sees of a `SlotMap`.
+use Rattle.std.specs.Prelude.{◌≡◌, ◌⊎◌, ℕ, ◌/◌, ◌%◌, ◌^◌, ◌<◌, List, None, IsSome, slice_index, refl}
+use Rattle.std.specs.Coded.{Coded, code_by, coded×, coded_ℕ, coded_list}
+use Rattle.std.specs.FinMap as map
+use Rattle.std.specs.FinMap.{FinMap}
+use Rattle.std.specs.Ordering.{nat_cmp}
+
+-- The values by key, the generation of each place, which is that of its value or of its next one, and how many more
+-- values fit in with no allocation
+pub record SlotState (T : Type 0) : Type 0 where
+  pub live : FinMap nat_cmp T
+  pub generations : List ℕ
+  pub room : ℕ
+
+abbrev pub slots_code : {T : Type 0} → Coded T → Coded (SlotState T)
+slots_code {T} code =
+    code_by (FinMap nat_cmp T × (List ℕ × ℕ))
+    (coded× (map.code coded_ℕ code) (coded× (coded_list coded_ℕ) coded_ℕ))
+    (λ s. (s.live, (s.generations, s.room)))
+    (λ c. record { live = c.0; generations = c.1.0; room = c.1.1 }) (λ _. refl)
+
+-- the map after a write through `get_mut(key)`
+abbrev pub with_value : {T : Type 0} → SlotState T → ℕ → T → SlotState T
+with_value s key value = record s { live = map.insert s.live key value }
+
+-- the place of a key, its lower 32 bits
+abbrev pub place_of : ℕ → ℕ
+place_of key = key % 2 ^ 32
+
+-- the generation of a key, the bits above
+abbrev pub generation_of : ℕ → ℕ
+generation_of key = key / 2 ^ 32
+
+-- the key was given, to a value that is there or to one that was removed: its generation is one that its place has
+-- behind it, and generations begin at 1
+abbrev pub IsGiven : {T : Type 0} → SlotState T → ℕ → Type 0
+IsGiven s key =
+    ((0 < generation_of key) × (generation_of key < slice_index s.generations (place_of key))) ⊎ IsSome (map.get s.live key)
+
+-- the key was given, and its value was removed
+abbrev pub IsGone : {T : Type 0} → SlotState T → ℕ → Type 0
+IsGone s key = IsGiven s key × (map.get s.live key ≡ None)
+
+-- each key that was gone is gone still
+abbrev pub StaysGone : {T : Type 0} → SlotState T → SlotState T → Type 0
+StaysGone old new = (key : ℕ) → IsGone old key → IsGone new key

@@ -1,0 +1,196 @@
+//! Values under keys with generations.
+
+ghost use Rattle.std.specs.Prelude.{◌≡◌, ◌≢◌, ℕ, ◌+◌, ◌<◌, ◌≤◌, ◌==◌, ◌↔◌, ◌⊎◌, [], OnOk, IsOk, OnSome, IsSome, Some, option_copied};
+ghost use Rattle.std.specs.Option.{option_copied_mut};
+ghost use Rattle.std.specs.Borrow.{sem};
+ghost use Rattle.std.specs.FinMap as map;
+ghost use Rattle.gpu_slots.specs.SlotMap.{IsGiven, IsGone, StaysGone};
+
+use std::alloc::{AllocError, Global};
+use std::marker::Model;
+
+/// How many generations a place has, and how many places there can be, each counted from 0 on.
+const SPAN: u64 = 1 << 32;
+
+/// A place, with the generation of the value in it, or of the next one where there is none.
+#[derive(Drop)]
+struct Place<T> {
+    generation: u64,
+    value: Option<T>,
+}
+
+impl<T> Place<T> {
+    ghost use Rattle.gpu_slots.specs.Lends.{lends_place};
+
+    fn value_mut(&mut self) -> &mut T
+        requires { IsSome self.old.value }
+        ensures* writes_back { sem 𝓛 (lends_place T.row self.entry result) }
+        ensures value { self.old.value ≡ Some result.now }
+    {
+        match &mut self.value {
+            Some(value) => value,
+            None => unreachable!(),
+        }
+    }
+}
+
+/// Values, each under a key that is given once.
+///
+/// A key has the number of its place in the lower 32 bits, and the place's generation in the upper 32 bits. Generations
+/// begin at 1, so that 0 is never a key. When a value is removed its place's generation rises by one. A place whose
+/// generations are used up is never used again. Each call takes a number of steps that hangs on no count, but where
+/// `reserve` moves the values to more memory.
+#[derive(Drop)]
+pub struct SlotMap<T> {
+    places: Vec<Place<T>>,
+    // The places that have no value and a generation left.
+    free: Vec<u32>,
+    len: usize,
+}
+
+impl<T> Model for SlotMap<T> {
+    ghost use Rattle.gpu_slots.specs.SlotMap.{SlotState, slots_code};
+
+    ghost Value = { SlotState T };
+
+    ghost coded = { slots_code T.code };
+
+    ghost use Rattle.std.specs.Prelude.{map, vec_len, vec_capacity};
+    ghost use Rattle.gpu_slots.specs.Places.{live_in, room_in, IsSound};
+
+    ghost view = { λ s. record {
+      live = live_in s.places.items;
+      generations = map (λ p. p.generation) s.places.items;
+      room = room_in (vec_len s.places) (vec_capacity s.places) (vec_len s.free) s.len (vec_capacity s.free);
+    } };
+
+    ghost invariant = { λ s. IsSound s.places.items s.free.items s.len (vec_capacity s.free) };
+}
+
+impl<T: Drop> SlotMap<T> {
+    ghost use Rattle.gpu_slots.specs.Lends.{lends_get, lends_value};
+
+    /// No value. `alloc` gives the memory of the values, of which this call takes none.
+    pub fn new(alloc: Global) -> SlotMap<T>
+        ensures live { result.live ≡ map.empty }
+        ensures generations { result.generations ≡ [] }
+    {
+        SlotMap {
+            places: Vec::new(alloc),
+            free: Vec::new(alloc),
+            len: 0,
+        }
+    }
+
+    /// How many values there are.
+    pub fn len(&self) -> usize
+        ensures { result ≡ map.len self.now.live }
+    {
+        self.len
+    }
+
+    /// Whether there is no value.
+    pub fn is_empty(&self) -> bool
+        ensures { result ≡ (map.len self.now.live == 0) }
+    {
+        self.len == 0
+    }
+
+    /// Makes room for one more value, so that the next `insert_reserved` takes no memory.
+    ///
+    /// Fails for want of memory, or where no place is free and 2^32 - 1 places are spent. Nothing but the room changes,
+    /// which is no less, after a refusal too.
+    pub fn reserve(&mut self) -> Result<(), AllocError>
+        ensures room { OnOk result (0 < self.new.room) }
+        ensures stays { self.old.room ≤ self.new.room }
+        ensures succeeds { 0 < self.old.room → IsOk result }
+        ensures kept { self.new ≡ record self.old { room = self.new.room } }
+    {
+        if self.free.is_empty() {
+            if self.places.len() as u64 >= SPAN - 1 {
+                return Err(AllocError);
+            }
+            self.places.reserve(1)?;
+        }
+        self.free.reserve(self.len + 1)
+    }
+
+    /// Puts a value under a key that was never given before, which it answers. There has to be room.
+    pub fn insert_reserved(&mut self, value: T) -> u64
+        requires { 0 < self.old.room }
+        ensures never_zero { result ≢ 0 }
+        ensures new_key { IsGiven self.old result → ⊥ }
+        ensures live { self.new.live ≡ map.insert self.old.live result value }
+        ensures given { (key : ℕ) → IsGiven self.new key ↔ (IsGiven self.old key ⊎ (key ≡ result)) }
+        ensures gone { StaysGone self.old self.new }
+        ensures room { self.old.room ≤ self.new.room + 1 }
+    {
+        self.len += 1;
+        let Some(at) = self.free.pop() else {
+            let at = self.places.len() as u64;
+            self.places.push_reserved(Place {
+                generation: 1,
+                value: Some(value),
+            });
+            return SPAN + at;
+        };
+        let place = &mut self.places[at as usize];
+        place.value = Some(value);
+        place.generation * SPAN + at as u64
+    }
+
+    /// The value under a key, or `None` where the key is not live.
+    pub fn get(&self, key: u64) -> Option<&T>
+        ensures { option_copied result ≡ map.get self.now.live key }
+    {
+        match self.places.get((key % SPAN) as usize) {
+            Some(place) if place.generation == key / SPAN => place.value.as_ref(),
+            _ => None,
+        }
+    }
+
+    /// The value under a key for writing, or `None` where the key is not live.
+    pub fn get_mut(&mut self, key: u64) -> Option<&mut T>
+        ensures* writes_back { sem 𝓛 (lends_get T.row key self.entry result) }
+        ensures value { option_copied_mut result ≡ map.get self.old.live key }
+    {
+        if self.get(key).is_some() {
+            Some(self.value_mut(key))
+        } else {
+            None
+        }
+    }
+
+    fn value_mut(&mut self, key: u64) -> &mut T
+        requires { IsSome (map.get self.old.live key) }
+        ensures* writes_back { sem 𝓛 (lends_value T.row key self.entry result) }
+        ensures value { map.get self.old.live key ≡ Some result.now }
+    {
+        self.places[(key % SPAN) as usize].value_mut()
+    }
+
+    /// Takes the value out that is under a key, or answers `None` where the key is not live, with nothing changed. It
+    /// takes no memory. The key stays given, so that no later value has it, and is refused for ever after.
+    pub fn remove(&mut self, key: u64) -> Option<T>
+        ensures value { result ≡ map.get self.old.live key }
+        ensures live { self.new.live ≡ map.remove self.old.live key }
+        ensures given { (other : ℕ) → IsGiven self.new other ↔ IsGiven self.old other }
+        ensures refused { OnSome result (IsGone self.new key) }
+        ensures gone { StaysGone self.old self.new }
+        ensures room { self.old.room ≤ self.new.room }
+        ensures absent { map.get self.old.live key ≡ None → self.new ≡ self.old }
+    {
+        if self.get(key).is_none() {
+            return None;
+        }
+        self.len -= 1;
+        let at = (key % SPAN) as usize;
+        let place = &mut self.places[at];
+        let value = place.value.take();
+        place.generation += 1;
+        if place.generation < SPAN {
+            self.free.push_reserved(at as u32);
+        }
+        value
+    }
+}
