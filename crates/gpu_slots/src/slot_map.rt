@@ -8,6 +8,7 @@ ghost use Rattle.gpu_slots.specs.SlotMap.{IsGiven, IsGone, StaysGone};
 
 use std::alloc::{AllocError, Global};
 use std::marker::Model;
+use std::mem;
 
 /// How many generations a place has, and how many places there can be, each counted from 0 on.
 const SPAN: u64 = 1 << 32;
@@ -67,7 +68,7 @@ impl<T> Model for SlotMap<T> {
     ghost invariant = { λ s. IsSound s.places.items s.free.items s.len (vec_capacity s.free) };
 }
 
-impl<T: Drop> SlotMap<T> {
+impl<T> SlotMap<T> {
     ghost use Rattle.gpu_slots.specs.Lends.{lends_get, lends_value};
 
     /// No value. `alloc` gives the memory of the values, of which this call takes none.
@@ -135,8 +136,10 @@ impl<T: Drop> SlotMap<T> {
             return SPAN + at;
         };
         let place = &mut self.places[at as usize];
-        place.value = Some(value);
-        place.generation * SPAN + at as u64
+        match mem::replace(&mut place.value, Some(value)) {
+            None => place.generation * SPAN + at as u64,
+            Some(_) => unreachable!(),
+        }
     }
 
     /// The value under a key, or `None` where the key is not live.
