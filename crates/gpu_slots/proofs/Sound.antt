@@ -227,6 +227,9 @@ module _ {T : Type 0} where
     fill_empty : (place_at old i).value ≡ None
     fill_empty = was_free.empty
 
+    pub fill_was_empty : p.value ≡ None
+    fill_was_empty = ap (λ (q : Place T). q.value) there ∙ fill_empty
+
     same_generation : p.generation ≡ (place_at old i).generation
     same_generation = ap (λ (q : Place T). q.generation) there
 

@@ -5,11 +5,11 @@ use Rattle.std.specs.FinMap.{FinMap}
 use Rattle.std.specs.Ordering.{nat_cmp}
 use Rattle.gpu_slots.specs.declared.slot_map.Place.{Place}
 
--- How many more values fit in: for each a place that is free, or one to be added of the 2^32 - 1 that there can be, and
--- room among the free places for when it is removed.
+-- How many more values fit in: one in each free place, and one in each place that may be added, of the 2^32 - 1 that
+-- there can be, for which there is room, among the free places too for when its value is removed.
 abbrev pub room_in : (places places_capacity free len free_capacity : ℕ) → ℕ
 room_in places places_capacity free len free_capacity =
-    min (free_capacity - (free + len)) (free + min (places_capacity - places) (2 ^ 32 - 1 - places))
+    free + min (free_capacity - (free + len)) (min (places_capacity - places) (2 ^ 32 - 1 - places))
 
 module _ {T : Type 0} where
   -- the key of a value of that generation in that place, with the value, where there is one

@@ -1,13 +1,14 @@
 //! Values under keys with generations.
 
-ghost use Rattle.std.specs.Prelude.{◌≡◌, ◌≢◌, ℕ, ◌+◌, ◌<◌, ◌≤◌, ◌==◌, ◌↔◌, ◌⊎◌, [], OnOk, IsOk, OnSome, IsSome, Some, option_copied};
+ghost use Rattle.std.specs.Prelude.{◌≡◌, ◌≢◌, ℕ, ◌+◌, ◌^◌, ◌<◌, ◌≤◌, ◌==◌, ◌↔◌, ◌⊎◌, [], OnOk, IsOk, OnSome, IsSome, Some, option_copied};
 ghost use Rattle.std.specs.Option.{option_copied_mut};
 ghost use Rattle.std.specs.Borrow.{sem};
 ghost use Rattle.std.specs.FinMap as map;
-ghost use Rattle.gpu_slots.specs.SlotMap.{IsGiven, IsGone, StaysGone};
+ghost use Rattle.gpu_slots.specs.SlotMap.{generation_of, IsGiven, IsGone, StaysGone};
 
 use std::alloc::{AllocError, Global};
 use std::marker::Model;
+use std::mem;
 
 /// How many generations a place has, and how many places there can be, each counted from 0 on.
 const SPAN: u64 = 1 << 32;
@@ -67,7 +68,7 @@ impl<T> Model for SlotMap<T> {
     ghost invariant = { λ s. IsSound s.places.items s.free.items s.len (vec_capacity s.free) };
 }
 
-impl<T: Drop> SlotMap<T> {
+impl<T> SlotMap<T> {
     ghost use Rattle.gpu_slots.specs.Lends.{lends_get, lends_value};
 
     /// No value. `alloc` gives the memory of the values, of which this call takes none.
@@ -106,12 +107,13 @@ impl<T: Drop> SlotMap<T> {
         ensures succeeds { 0 < self.old.room → IsOk result }
         ensures kept { self.new ≡ record self.old { room = self.new.room } }
     {
-        if self.free.is_empty() {
-            if self.places.len() as u64 >= SPAN - 1 {
-                return Err(AllocError);
-            }
-            self.places.reserve(1)?;
+        if !self.free.is_empty() {
+            return Ok(());
         }
+        if self.places.len() as u64 >= SPAN - 1 {
+            return Err(AllocError);
+        }
+        self.places.reserve(1)?;
         self.free.reserve(self.len + 1)
     }
 
@@ -123,7 +125,7 @@ impl<T: Drop> SlotMap<T> {
         ensures live { self.new.live ≡ map.insert self.old.live result value }
         ensures given { (key : ℕ) → IsGiven self.new key ↔ (IsGiven self.old key ⊎ (key ≡ result)) }
         ensures gone { StaysGone self.old self.new }
-        ensures room { self.old.room ≤ self.new.room + 1 }
+        ensures room { self.old.room ≡ self.new.room + 1 }
     {
         self.len += 1;
         let Some(at) = self.free.pop() else {
@@ -135,8 +137,10 @@ impl<T: Drop> SlotMap<T> {
             return SPAN + at;
         };
         let place = &mut self.places[at as usize];
-        place.value = Some(value);
-        place.generation * SPAN + at as u64
+        match mem::replace(&mut place.value, Some(value)) {
+            None => place.generation * SPAN + at as u64,
+            Some(_) => unreachable!(),
+        }
     }
 
     /// The value under a key, or `None` where the key is not live.
@@ -170,7 +174,8 @@ impl<T: Drop> SlotMap<T> {
     }
 
     /// Takes the value out that is under a key, or answers `None` where the key is not live, with nothing changed. It
-    /// takes no memory. The key stays given, so that no later value has it, and is refused for ever after.
+    /// takes no memory. The key stays given, so that no later value has it, and is refused for ever after. There is room
+    /// for one more value then, but where the place's generations are used up.
     pub fn remove(&mut self, key: u64) -> Option<T>
         ensures value { result ≡ map.get self.old.live key }
         ensures live { self.new.live ≡ map.remove self.old.live key }
@@ -178,6 +183,7 @@ impl<T: Drop> SlotMap<T> {
         ensures refused { OnSome result (IsGone self.new key) }
         ensures gone { StaysGone self.old self.new }
         ensures room { self.old.room ≤ self.new.room }
+        ensures reused { IsSome result → generation_of key + 1 < 2 ^ 32 → self.new.room ≡ self.old.room + 1 }
         ensures absent { map.get self.old.live key ≡ None → self.new ≡ self.old }
     {
         if self.get(key).is_none() {

@@ -1,6 +1,6 @@
 use Rattle.std.proofs.Common.{◌≡◌, ◌<◌, ◌∙◌, length, arith}
 use Rattle.gpu_slots.proofs.Lookups.{read_at}
-use Rattle.gpu_slots.proofs.Sound.{gone_put, sound_push, push_live, push_is_new, push_given, takes_last, last_free, fill_begun, fill_unspent, place_fits, sound_fill, fill_live, fill_is_new, fill_given}
+use Rattle.gpu_slots.proofs.Sound.{gone_put, sound_push, push_live, push_is_new, push_given, takes_last, last_free, fill_was_empty, fill_begun, fill_unspent, place_fits, sound_fill, fill_live, fill_is_new, fill_given}
 use Rattle.gpu_slots.proofs.slot_map.SlotMap.insert_reserved.Goals as goal
 
 pub invariant_of-self : goal.invariant_of-self
@@ -48,8 +48,8 @@ overflow_mul-result g c =
     let unspent = fill_unspent _ _ _ _ _ _ c.index_mut-place.result.now c.args.value c.self.invariant last (λ within. read_at _ _ _ within c.index_mut-place.ensures.value) in
     omega (arith, unspent)
 
-pub overflow_add-result-2 : goal.overflow_add-result-2
-overflow_add-result-2 g c =
+pub overflow_add-result-in-None : goal.overflow_add-result-in-None
+overflow_add-result-in-None g c =
     let last = takes_last _ _ _ _ _ c.self.inside.free.ok.0 c.in-Some.ensures.cases c.in-Some.ensures.value c.in-Some.ensures.rest in
     let read = λ (within : c.in-Some.at < length c.self.inside.places.items). read_at _ _ _ within c.index_mut-place.ensures.value in
     let unspent = fill_unspent _ _ _ _ _ _ c.index_mut-place.result.now c.args.value c.self.invariant last read in
@@ -59,7 +59,7 @@ overflow_add-result-2 g c =
 pub invariant_of-self-2 : goal.invariant_of-self-2
 invariant_of-self-2 g c =
     let last = takes_last _ _ _ _ _ c.self.inside.free.ok.0 c.in-Some.ensures.cases c.in-Some.ensures.value c.in-Some.ensures.rest in
-    rw c.pop.ensures.capacity
+    rw (c.pop.ensures.capacity, c.replace.ensures.after)
     (sound_fill _ _ _ _ _ _ c.index_mut-place.result.now c.args.value c.self.invariant last (λ within. read_at _ _ _ within c.index_mut-place.ensures.value))
 
 pub returns-clause-never_zero : goal.returns-clause-never_zero
@@ -77,13 +77,13 @@ returns-clause-new_key g c =
 pub returns-clause-live : goal.returns-clause-live
 returns-clause-live g c =
     let last = takes_last _ _ _ _ _ c.self.inside.free.ok.0 c.in-Some.ensures.cases c.in-Some.ensures.value c.in-Some.ensures.rest in
-    rw (← c.self.view_is)
+    rw (← c.self.view_is, c.replace.ensures.after)
     (fill_live _ _ _ _ _ _ c.index_mut-place.result.now c.args.value c.self.invariant last (λ within. read_at _ _ _ within c.index_mut-place.ensures.value))
 
 pub returns-clause-given : goal.returns-clause-given
 returns-clause-given g c =
     let last = takes_last _ _ _ _ _ c.self.inside.free.ok.0 c.in-Some.ensures.cases c.in-Some.ensures.value c.in-Some.ensures.rest in
-    rw (← c.self.view_is)
+    rw (← c.self.view_is, c.replace.ensures.after)
     (fill_given _ _ _ _ _ _ c.index_mut-place.result.now c.args.value c.self.invariant last (λ within. read_at _ _ _ within c.index_mut-place.ensures.value))
 
 pub returns-in_default-clause-gone : goal.returns-in_default-clause-gone
@@ -91,3 +91,11 @@ returns-in_default-clause-gone g c = gone_put _ _ _ _ _ c.args.value (returns-in
 
 pub returns-clause-gone : goal.returns-clause-gone
 returns-clause-gone g c = gone_put _ _ _ _ _ c.args.value (returns-clause-new_key g c) (returns-clause-live g c) (returns-clause-given g c)
+
+pub unreachable-requires : goal.unreachable-requires
+unreachable-requires g c =
+    let last = takes_last _ _ _ _ _ c.self.inside.free.ok.0 c.in-Some.ensures.cases c.in-Some.ensures.value c.in-Some.ensures.rest in
+    let empty = fill_was_empty _ _ _ _ _ _ c.index_mut-place.result.now c.args.value c.self.invariant last (λ within. read_at _ _ _ within c.index_mut-place.ensures.value) in
+    let is = c.in-Some-replace.is in
+    let value = c.replace.ensures.value in
+    cc

@@ -117,3 +117,20 @@ pub returns-else-place-lt-SPAN-clause-refused : goal.returns-else-place-lt-SPAN-
 returns-else-place-lt-SPAN-clause-refused g c =
     let some : IsSome (map.get c.args.self.now.live c.args.key) = rw (← c.get.ensures) (grind arith) in
     on_some _ (gone_now _ _ _ _ c.args.key some (returns-else-place-lt-SPAN-clause-live g c) (returns-else-place-lt-SPAN-clause-given g c))
+
+pub returns-then-place-lt-SPAN-clause-reused : goal.returns-then-place-lt-SPAN-clause-reused
+returns-then-place-lt-SPAN-clause-reused g c =
+    let some : IsSome (map.get c.args.self.now.live c.args.key) = rw (← c.get.ensures) (grind arith) in
+    let live = rw (← c.self.view_is) at some in
+    let counted = live_counted _ _ _ _ c.self.invariant c.args.key live in
+    let more = c.push_reserved.ensures.len in
+    let as_before = c.push_reserved.ensures.capacity in
+    λ _ unspent. rw (← c.self.view_is) (omega (arith, counted, more, as_before))
+
+pub returns-else-place-lt-SPAN-clause-reused : goal.returns-else-place-lt-SPAN-clause-reused
+returns-else-place-lt-SPAN-clause-reused g c =
+    let some : IsSome (map.get c.args.self.now.live c.args.key) = rw (← c.get.ensures) (grind arith) in
+    let live = rw (← c.self.view_is) at some in
+    let is = take_generation _ _ _ _ c.self.invariant c.args.key c.index_mut-place.result.now live (λ within. read_at _ _ _ within c.index_mut-place.ensures.value) in
+    let spent = c.if-place-lt-SPAN.false in
+    λ _ unspent. absurd (omega (arith, is, spent, unspent))

@@ -1,4 +1,4 @@
-use Rattle.std.proofs.Common.{◌≡◌, Some, refl, sym, ap, ◌∙◌, arith}
+use Rattle.std.proofs.Common.{refl, sym, ◌∙◌, arith}
 use Rattle.gpu_slots.proofs.Lookups.{read_at}
 use Rattle.gpu_slots.proofs.Sound.{live_within, take_value, change_live, change_generations, change_sound}
 use Rattle.gpu_slots.proofs.slot_map.SlotMap.value_mut.Goals as goal
