@@ -3,5 +3,7 @@
 #![tactic(auto)]
 
 mod slot_map;
+#[cfg(test)]
+mod tests;
 
 pub use slot_map::SlotMap;
