@@ -1,9 +1,9 @@
 -- What is found under a key, and what a change of one place makes of it.
-use Rattle.std.proofs.Common.{◌≡◌, ◌≢◌, ◌⊎◌, inl, inr, ℕ, zero, suc, ◌+◌, ◌*◌, ◌/◌, ◌%◌, ◌^◌, ◌<◌, ◌≤◌, Bool, true, false, cond, ◌==◌, List, [], ◌∷◌, ◌++◌, length, map, get_or, set, Option, Some, None, refl, sym, ◌∙◌, ap, arith, length-append, nat_lt}
+use Rattle.std.proofs.Common.{◌≡◌, ◌≢◌, ◌⊎◌, inl, inr, ℕ, zero, suc, ◌+◌, ◌*◌, ◌/◌, ◌%◌, ◌^◌, ◌<◌, ◌≤◌, Bool, true, false, cond, ◌==◌, List, [], ◌∷◌, ◌++◌, length, map, get_or, set, All, Option, Some, None, refl, sym, ◌∙◌, ap, arith, length-append, nat_lt}
 use Rattle.std.proofs.lemmas.Bool.Decides.{nat_tests}
-use Rattle.std.proofs.lemmas.List.{get_or-set_same, get_or-set_other, get_or_past}
+use Rattle.std.proofs.lemmas.List.{get_or-set_same, get_or-set_other, get_or_past, get_or_default}
 use Rattle.std.proofs.Math.ListN.{get_or-append, get_or-map}
-use Rattle.std.proofs.lemmas.List.Elements.{at_read}
+use Rattle.std.proofs.lemmas.List.Elements.{at_read, All-from_get_or}
 use Rattle.std.proofs.Math.Seq.{get_or-append_seam}
 use Rattle.std.specs.Ordering.{nat_cmp, eq_by_cmp}
 use Rattle.std.specs.Cmp.{nat_cmp_total}
@@ -311,3 +311,13 @@ module _ {T : Type 0} where
     pub get_out : (h : ℕ) → Changes old new i (record { generation = h; value = None }) → (place_at old i).generation ≡ g
         → (q : ℕ) → finite.get (live_in new) q ≡ cond (q == g * 2 ^ 32 + i) None (finite.get (live_in old) q)
     get_out h c there q = get_live new q few ∙ held_out h c there q ∙ ap (cond (q == g * 2 ^ 32 + i) None) (sym (get_live old q few_old))
+
+-- where nothing is live, no place has a value
+module _ {T : Type 0} where
+  pub none_live : (places : List (Place T)) → length places ≤ 2 ^ 32 → live_in places ≡ finite.empty → All (λ (p : Place T). p.value ≡ None) places
+  none_live places few empty = All-from_get_or (λ p. p.value ≡ None) places (record { generation = 0; value = None }) (λ i within.
+      let p = get_or places i (record { generation = 0; value = None }) in
+      let parts = parts_of p.generation i (omega (arith, within, few)) in
+      let at : p ≡ place_at places i = read_at places i p within (get_or_default places i _ _ within) in
+      sym (get_here places (p.generation * 2 ^ 32 + i) p few (at ∙ ap (place_at places) (sym parts.1)) (sym parts.0))
+      ∙ ap (λ m. finite.get m (p.generation * 2 ^ 32 + i)) empty ∙ finite.get-empty nat_cmp (p.generation * 2 ^ 32 + i))

@@ -199,4 +199,26 @@ impl<T> SlotMap<T> {
         }
         value
     }
+
+    /// Ends a map that has no value. A map of values that can't be dropped ends so alone.
+    pub fn destroy_empty(self)
+        requires { self.live ≡ map.empty }
+    {
+        let SlotMap {
+            mut places,
+            free: _,
+            len: _,
+        } = self;
+        while let Some(place) = places.pop() {
+            let Place {
+                generation: _,
+                value,
+            } = place;
+            match value {
+                None => {}
+                Some(_) => unreachable!(),
+            }
+        }
+        places.destroy_empty();
+    }
 }
