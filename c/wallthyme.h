@@ -1,0 +1,275 @@
+/* Wallthyme: the GPU memory allocator gpu-alloc 0.6.0, ported to Rattle and proved, for C (C99 and later) and C++ (C++11
+ * and later).
+ *
+ * It never calls back, and never touches a device. A call that needs the device answers WT_ASK with a question: the
+ * caller puts it to its device, writes the answer into it, and makes the same call again with the questions so far:
+ *
+ *     wt_question asked[WT_MAX_QUESTIONS];
+ *     size_t n = 0;
+ *     while ((status = wt_alloc(&a, &request, asked, n, &block, &asked[n])) == WT_ASK) {
+ *         asked[n].answer = my_device_answers(&asked[n]);
+ *         n++;
+ *     }
+ *
+ * What is proved of the calls (the contracts of the crates gpu_desk and wallthyme): each live block is a range of a
+ * memory object, inside it, aligned and as large as was asked for, and no two share a byte; a call that ends otherwise
+ * than in WT_OK leaves all as it was; each memory object is told once to be freed, when no block needs it; after all blocks
+ * were freed and wt_cleanup none is held.
+ *
+ * What the caller owes, and nothing checks: pointers are valid (a pointer to 0 elements may be null); a wt_allocator is
+ * zeroed before its first use, then written by these calls alone, and never copied while it is open; one thread calls at
+ * a time; and the answers are true.
+ *
+ * Sizes, offsets and alignments are bytes. A status has a text: wt_text.
+ */
+#ifndef WALLTHYME_H
+#define WALLTHYME_H
+
+#include <stddef.h>
+#include <stdint.h>
+
+#ifdef __cplusplus
+extern "C" {
+#endif
+
+/* The version of this header: 0xMMmmpp. wt_version tells the library's. */
+#define WT_VERSION 0x000600u
+
+/* What a call answers. */
+enum {
+    WT_OK = 0,
+    WT_ASK = 1,                        /* a question has no answer yet: nothing was done so far */
+
+    /* Refusals. Nothing was changed. */
+    WT_OUT_OF_DEVICE_MEMORY = 2,       /* by the device or a heap's budget, or the size is over the limit */
+    WT_OUT_OF_HOST_MEMORY = 3,         /* for the device or for the library, or a new shared object could not be mapped */
+    WT_NO_COMPATIBLE_MEMORY_TYPES = 4, /* no permitted memory type serves the usage */
+    WT_TOO_MANY_OBJECTS = 5,           /* as many objects are held as the device allows */
+    WT_NON_HOST_VISIBLE = 6,           /* the host does not see the block's memory */
+    WT_ALREADY_MAPPED = 7,             /* the block is mapped */
+    WT_MAP_FAILED = 8,                 /* the device failed to map for a reason of its own */
+
+    /* Misuses. Nothing was changed. */
+    WT_NOT_OPEN = 9,                   /* the allocator is closed */
+    WT_ALREADY_OPEN = 10,              /* the allocator is open */
+    WT_BAD_PROPERTIES = 11,            /* over 32 memory types, one of a heap that is not there, or an atom that is no
+                                          power of two of at most 2^62 */
+    WT_UNKNOWN_KEY = 12,               /* no live block has this key: it was freed, or is none of this allocator's */
+    WT_OTHER_QUESTION = 13,            /* an answer is to another question than is asked */
+    WT_BAD_ANSWER = 14,                /* an answer is none of WT_GRANTED .. WT_DEVICE_MAP_FAILED, or its question is none */
+    WT_BAD_SIZE = 15,                  /* a size of 0 */
+    WT_BAD_ALIGNMENT = 16,             /* align_mask + 1 is no power of two of at most 2^63 */
+    WT_BAD_USAGE = 17,                 /* usage bits without a name */
+    WT_BAD_DEDICATED = 18,             /* none of WT_SHARED, WT_PREFERRED, WT_REQUIRED */
+    WT_NO_DEVICE_ADDRESS = 19,         /* WT_USAGE_DEVICE_ADDRESS without the device's feature */
+    WT_BAD_RANGE = 20,                 /* a range that passes the end of its block or object */
+    WT_BAD_MEMORY_TYPE = 21,           /* no such memory type */
+    WT_BAD_HEAP = 22,                  /* no such heap */
+    WT_BAD_IMPORT_END = 23,            /* an import of non-coherent memory that ends neither on the atom nor where its
+                                          object ends */
+    WT_NO_REMAINING = 24,              /* an import, and as many objects are held as the device allows */
+    WT_TOO_MANY_REMAINING = 25,        /* together with the held objects not below 2^32 */
+    WT_STILL_HELD = 26,                /* an object is held: free all blocks, and call wt_cleanup */
+    WT_STILL_TOLD = 27                 /* objects to free were not read by wt_gone */
+};
+
+/* How a question was answered: wt_question.answer. */
+enum {
+    WT_GRANTED = 0,                    /* it was done */
+    WT_NO_DEVICE_MEMORY = 1,           /* VK_ERROR_OUT_OF_DEVICE_MEMORY */
+    WT_NO_HOST_MEMORY = 2,             /* VK_ERROR_OUT_OF_HOST_MEMORY */
+    WT_DEVICE_MAP_FAILED = 3           /* VK_ERROR_MEMORY_MAP_FAILED; to WT_ALLOCATE as WT_NO_HOST_MEMORY */
+};
+
+/* What is asked: wt_question.kind. */
+enum {
+    WT_ALLOCATE = 1,                   /* make an object of size bytes of memory_type (vkAllocateMemory) */
+    WT_MAP_MADE = 2,                   /* map offset .. offset + size of the object made last (vkMapMemory) */
+    WT_MAP = 3                         /* map offset .. offset + size of the object of that name (vkMapMemory) */
+};
+
+/* wt_question.flags: the object has to have VK_MEMORY_ALLOCATE_DEVICE_ADDRESS_BIT */
+#define WT_ALLOCATE_DEVICE_ADDRESS 1u
+
+/* wt_request.usage */
+#define WT_USAGE_FAST_DEVICE_ACCESS 0x01u
+#define WT_USAGE_HOST_ACCESS 0x02u
+#define WT_USAGE_DOWNLOAD 0x04u
+#define WT_USAGE_UPLOAD 0x08u
+#define WT_USAGE_TRANSIENT 0x10u
+#define WT_USAGE_DEVICE_ADDRESS 0x20u
+
+/* wt_request.dedicated: whether the block has to be a whole object of its own */
+enum { WT_SHARED = 0, WT_PREFERRED = 1, WT_REQUIRED = 2 };
+
+/* wt_memory_type.props: the lower six bits of VkMemoryType::propertyFlags. Others are refused by nobody and cut off; leave
+   such types out of wt_request.memory_types. */
+#define WT_DEVICE_LOCAL 0x01u
+#define WT_HOST_VISIBLE 0x02u
+#define WT_HOST_COHERENT 0x04u
+#define WT_HOST_CACHED 0x08u
+#define WT_LAZILY_ALLOCATED 0x10u
+#define WT_PROTECTED 0x20u
+
+/* The most questions that one call asks: an object of each memory type, and one mapping. */
+#define WT_MAX_QUESTIONS 33
+
+/* An allocator: zeroed at first, which is closed. Its fields are the library's own. */
+typedef struct wt_allocator {
+    uint32_t full;
+    void *state;
+} wt_allocator;
+
+typedef struct wt_memory_type {
+    uint32_t heap; /* index of its heap */
+    uint32_t props;
+} wt_memory_type;
+
+/* What the device offers. */
+typedef struct wt_limits {
+    uint64_t max_memory_allocation_size;  /* the largest request */
+    uint64_t non_coherent_atom_size;
+    uint32_t max_memory_allocation_count; /* how many objects may be held: less those that the program makes itself */
+    uint32_t buffer_device_address;       /* not 0: the feature is enabled */
+} wt_limits;
+
+/* The sizes by which the allocator decides, as of gpu-alloc's Config. Any values serve. */
+typedef struct wt_config {
+    uint64_t dedicated_threshold;
+    uint64_t preferred_dedicated_threshold;
+    uint64_t transient_dedicated_threshold;
+    uint64_t starting_free_list_chunk;
+    uint64_t final_free_list_chunk;
+    uint64_t minimal_buddy_size;
+    uint64_t initial_buddy_dedicated_size;
+} wt_config;
+
+typedef struct wt_request {
+    uint64_t size;         /* at least 1 */
+    uint64_t align_mask;   /* the alignment less 1 */
+    uint32_t usage;        /* bits WT_USAGE_.. */
+    uint32_t memory_types; /* bit i: memory type i is permitted (VkMemoryRequirements::memoryTypeBits) */
+    uint32_t dedicated;    /* WT_SHARED, WT_PREFERRED or WT_REQUIRED */
+} wt_request;
+
+/* A question to the device, with its answer. */
+typedef struct wt_question {
+    uint64_t object; /* WT_MAP: the name of the object; else 0 */
+    uint64_t offset; /* WT_MAP and WT_MAP_MADE; else 0 */
+    uint64_t size;
+    uint32_t kind;
+    uint32_t memory_type; /* WT_ALLOCATE; else 0 */
+    uint32_t flags;       /* WT_ALLOCATE; else 0 */
+    uint32_t answer;      /* the caller's to write */
+} wt_question;
+
+/* A block. Objects have names 1, 2, 3 and so on, none of them twice. */
+typedef struct wt_block {
+    uint64_t key;
+    uint64_t object;
+    uint64_t offset;
+    uint64_t size;
+    uint32_t memory_type;
+    uint32_t fresh; /* wt_alloc: 1 where the object is the one that was made for it, and else 0. Elsewhere 0 */
+} wt_block;
+
+/* A range of an object. */
+typedef struct wt_range {
+    uint64_t object;
+    uint64_t offset;
+    uint64_t size;
+} wt_range;
+
+typedef struct wt_counts {
+    uint64_t blocks;    /* live ones */
+    uint64_t told;      /* objects to free that wt_gone was not asked for yet */
+    uint32_t held;      /* objects */
+    uint32_t remaining; /* objects that may be held beside those */
+} wt_counts;
+
+typedef struct wt_heap_counts {
+    uint64_t used;      /* what the held objects of the heap count, its lower 64 bits */
+    uint64_t used_high; /* the upper 64 bits, which imports alone can make other than 0 */
+    uint64_t budget;    /* how many bytes may still be asked of it: its size less used, or 0 */
+} wt_heap_counts;
+
+/* The library's version: WT_VERSION of its header. */
+uint32_t wt_version(void);
+
+/* Opens a closed allocator for a device that offers these.
+   WT_ALREADY_OPEN, WT_BAD_PROPERTIES, WT_OUT_OF_HOST_MEMORY: it is as before. */
+uint32_t wt_open(wt_allocator *a, const wt_memory_type *types, size_t types_len, const uint64_t *heap_sizes,
+                 size_t heaps_len, const wt_limits *limits, const wt_config *config);
+
+/* Closes it. WT_NOT_OPEN, WT_STILL_HELD, WT_STILL_TOLD: it is as before. */
+uint32_t wt_close(wt_allocator *a);
+
+/* Allocates a block.
+   WT_OK: *block tells it. Where it is fresh, its object is the one that the last WT_GRANTED to WT_ALLOCATE made, which
+   has the name block->object from then on. Any other object that was made for this request is the caller's to free.
+   WT_ASK: *question is the next one, to be answered and appended. It may lie behind the asked ones in their array.
+   Any other status ends the request: the four refusals of an allocation; WT_NOT_OPEN, WT_BAD_SIZE, WT_BAD_ALIGNMENT,
+   WT_BAD_USAGE, WT_BAD_DEDICATED, WT_NO_DEVICE_ADDRESS, WT_BAD_ANSWER, or WT_OTHER_QUESTION, as where another call came
+   between. Nothing is changed then, and each object that was made for this request is the caller's to free. */
+uint32_t wt_alloc(wt_allocator *a, const wt_request *request, const wt_question *asked, size_t asked_len,
+                  wt_block *block, wt_question *question);
+
+/* Takes a range of an object of the caller's as a block. The object has object_size bytes and is not mapped; it is the
+   allocator's from then on, under the name block->object, and told by wt_gone once the block was freed.
+   WT_NOT_OPEN, WT_BAD_MEMORY_TYPE, WT_BAD_SIZE, WT_BAD_RANGE, WT_BAD_IMPORT_END, WT_NO_REMAINING,
+   WT_OUT_OF_HOST_MEMORY: nothing is changed, and the object stays the caller's. */
+uint32_t wt_import(wt_allocator *a, uint32_t memory_type, uint64_t object_size, uint64_t offset, uint64_t size,
+                   wt_block *block);
+
+/* Tells a block again. WT_NOT_OPEN, WT_UNKNOWN_KEY. */
+uint32_t wt_block_of(wt_allocator *a, uint64_t key, wt_block *block);
+
+/* Maps size bytes of a block from offset on, counted from its start.
+   WT_OK: *mapped tells where they lie in the object. A block of a shared object asks nothing, as that was mapped whole
+   when it was made (WT_MAP_MADE). Where asked (WT_ASK, as of wt_alloc), the range of the question covers them in whole
+   atoms. WT_NOT_OPEN, WT_UNKNOWN_KEY, WT_BAD_SIZE, WT_BAD_RANGE, WT_NON_HOST_VISIBLE, WT_ALREADY_MAPPED,
+   WT_BAD_ANSWER, WT_OTHER_QUESTION, and what the device answered: nothing is changed, and what was mapped for it is the
+   caller's to unmap. */
+uint32_t wt_map(wt_allocator *a, uint64_t key, uint64_t offset, uint64_t size, const wt_question *asked,
+                size_t asked_len, wt_range *mapped, wt_question *question);
+
+/* Ends a block's mapping, if it has one. *object is the name of the object to unmap (vkUnmapMemory), or 0 where there is
+   none: a shared object stays mapped. WT_NOT_OPEN, WT_UNKNOWN_KEY. */
+uint32_t wt_unmap(wt_allocator *a, uint64_t key, uint64_t *object);
+
+/* The range to flush once the host wrote size bytes of a block from offset on, or to invalidate before it reads them:
+   whole atoms, cut at the block's end. Its size is 0 where nothing has to be: the memory is coherent, or size is 0. That
+   of an import may begin before the block, by less than an atom. WT_NOT_OPEN, WT_UNKNOWN_KEY, WT_BAD_RANGE,
+   WT_NON_HOST_VISIBLE. */
+uint32_t wt_range_of(wt_allocator *a, uint64_t key, uint64_t offset, uint64_t size, wt_range *range);
+
+/* Takes a block back, mapped or not. The device must be done with it. Objects that no block needs any more are told by
+   wt_gone. The key is refused from then on. WT_NOT_OPEN, WT_UNKNOWN_KEY. */
+uint32_t wt_free(wt_allocator *a, uint64_t key);
+
+/* Lets each object go that no block needs. WT_NOT_OPEN. */
+uint32_t wt_cleanup(wt_allocator *a);
+
+/* Reads names of objects that are the caller's to free (vkFreeMemory): as many as there are and as fit in room, *count.
+   Each is read once, in no certain order; the others stay to be read. WT_NOT_OPEN. */
+uint32_t wt_gone(wt_allocator *a, uint64_t *names, size_t room, size_t *count);
+
+/* WT_NOT_OPEN. */
+uint32_t wt_count(wt_allocator *a, wt_counts *counts);
+
+/* WT_NOT_OPEN, WT_BAD_HEAP. */
+uint32_t wt_heap(wt_allocator *a, uint32_t heap, wt_heap_counts *counts);
+
+/* From now on this many objects may be held beside those that are. WT_NOT_OPEN, WT_TOO_MANY_REMAINING. */
+uint32_t wt_set_remaining(wt_allocator *a, uint32_t remaining);
+
+/* The free ranges of a memory type's shared objects, in the order of their objects and offsets: those from the one of
+   number first on, as many as fit in room. *count is how many there are in all. WT_NOT_OPEN, WT_BAD_MEMORY_TYPE,
+   WT_OUT_OF_HOST_MEMORY. */
+uint32_t wt_free_ranges(wt_allocator *a, uint32_t memory_type, size_t first, wt_range *ranges, size_t room,
+                        size_t *count);
+
+#ifdef __cplusplus
+}
+#endif
+#endif
