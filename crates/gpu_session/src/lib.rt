@@ -2,6 +2,7 @@
 #![tactic(auto)]
 
 mod command;
+mod conditions;
 mod items;
 pub mod laws;
 mod offer;
@@ -9,6 +10,8 @@ mod session;
 mod written;
 
 pub use command::{Command, Fault, Reply};
+pub use conditions::{import_fault, passes_end, request_fault};
 pub use items::{Bytes, Items, Ledgers, Ranges};
+pub use offer::Offer;
 pub use session::{Session, SessionOpenError};
 pub use written::values_of;

@@ -8,13 +8,21 @@ ghost use Rattle.gpu_alloc.specs.NewChunk.{flags_of};
 use gpu_alloc::{AllocationFlags, DeviceProperties, MemoryPropertyFlags, MemoryType};
 use std::alloc::{AllocError, Allocator};
 
-/// What a session keeps of what its device offers.
+/// What a session keeps of what its device offers. Whoever keeps live blocks beside an allocator may keep it too.
 #[derive(Drop)]
-pub(crate) struct Offer<A: Allocator> {
-    pub(crate) memory_types: Vec<MemoryType, A>,
-    pub(crate) heaps: u32,
-    pub(crate) non_coherent_atom_size: u64,
-    pub(crate) buffer_device_address: bool,
+pub struct Offer<A: Allocator> {
+    /// The memory types.
+    pub memory_types: Vec<MemoryType, A>,
+
+    /// How many heaps there are.
+    pub heaps: u32,
+
+    /// The least unit of a flush, in bytes.
+    pub non_coherent_atom_size: u64,
+
+    /// Whether the device has the feature.
+    pub buffer_device_address: bool,
+
     ghost some_atom: { 0 < non_coherent_atom_size },
 }
 
@@ -22,8 +30,8 @@ impl<A: Allocator> Offer<A> {
     ghost use Rattle.gpu_session.specs.Faults.{is_bad_end, fault_of_request};
     ghost use Rattle.gpu_session.specs.Offer.{IsOffer};
 
-    /// What a session has to know of these.
-    pub(crate) fn of(alloc: A, props: &DeviceProperties<'_>) -> Result<Self, AllocError>
+    /// What a session has to know of these, which have to be usable. Fails only for want of memory.
+    pub fn of(alloc: A, props: &DeviceProperties<'_>) -> Result<Self, AllocError>
         requires { IsUsable (properties_of props.now) }
         ensures { IfOk result (IsOffer (properties_of props.now)) }
     {
@@ -36,14 +44,14 @@ impl<A: Allocator> Offer<A> {
     }
 
     /// Whether there is such a memory type.
-    pub(crate) fn has_type(&self, memory_type: u32) -> bool
+    pub fn has_type(&self, memory_type: u32) -> bool
         ensures { (p : Properties) → IsOffer p self.now → result ≡ nat_lt memory_type (length p.memory_types) }
     {
         (memory_type as usize) < self.memory_types.len()
     }
 
     /// The properties of a memory type, none where there is no such type.
-    pub(crate) fn props(&self, memory_type: u32) -> MemoryPropertyFlags
+    pub fn props(&self, memory_type: u32) -> MemoryPropertyFlags
         ensures { (p : Properties) → IsOffer p self.now → property_bits result ≡ props_at p memory_type }
     {
         match self.memory_types.get(memory_type as usize) {
@@ -53,7 +61,7 @@ impl<A: Allocator> Offer<A> {
     }
 
     /// The flags of what the device is asked for.
-    pub(crate) fn flags(&self) -> AllocationFlags
+    pub fn flags(&self) -> AllocationFlags
         ensures { (p : Properties) → IsOffer p self.now → allocation_bits result ≡ flags_of p }
     {
         AllocationFlags::by_feature(self.buffer_device_address)
@@ -61,7 +69,7 @@ impl<A: Allocator> Offer<A> {
 
     /// Whether an import of this memory type may not end there: what has to be flushed has to end on the atom or where
     /// its object ends.
-    pub(crate) fn is_bad_end(&self, memory_type: u32, object_size: u64, end: u64) -> bool
+    pub fn is_bad_end(&self, memory_type: u32, object_size: u64, end: u64) -> bool
         ensures { (p : Properties) → IsOffer p self.now → result ≡ is_bad_end p memory_type object_size end }
     {
         let props = self.props(memory_type);

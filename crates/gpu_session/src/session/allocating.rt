@@ -1,42 +1,19 @@
 //! Commands that grant blocks and give them back.
 
-ghost use Rattle.std.specs.Prelude.{◌≡◌, ◌<◌, nat_eq, nat_lt, ◌+◌, None};
+ghost use Rattle.std.specs.Prelude.{◌≡◌, ◌<◌, nat_eq, None};
 ghost use Rattle.std.specs.FinMap as map;
 ghost use Rattle.std.specs.Ordering.{nat_cmp};
 ghost use Rattle.indexmap.specs.IndexMap.{get, spare};
-ghost use Rattle.gpu_session.specs.Faults.{fault_of_import, fault_of_request};
 ghost use Rattle.gpu_session.specs.Run.{Step};
 ghost use Rattle.gpu_session.specs.Sound.{Keeps};
 
 use super::{Blocks, Session};
+use crate::conditions::{import_fault, request_fault};
 use crate::{Command, Fault, Reply};
 use gpu_alloc::laws::{made_objects_may_be_imported, objects_of_others_may_go};
 use gpu_alloc::{AllocationError, Dedicated, MemoryBlock, Request};
 use gpu_alloc_types::{MemoryDevice, MemoryObject};
 use std::alloc::Allocator;
-
-/// Why a request cannot be asked for: the first condition that it misses.
-fn fault_of(request: Request, buffer_device_address: bool) -> Option<Fault>
-    ensures { result ≡ fault_of_request buffer_device_address request }
-{
-    if request.size == 0 {
-        return Some(Fault::BadSize);
-    }
-    if request.align_mask >= 1 << 63 || !(request.align_mask + 1).is_power_of_two() {
-        return Some(Fault::BadAlignment);
-    }
-    if request.usage.lacks_address(buffer_device_address) {
-        return Some(Fault::NoDeviceAddress);
-    }
-    None
-}
-
-/// Whether a range passes the end of so many bytes.
-pub(super) fn passes_end(offset: u64, len: u64, size: u64) -> bool
-    ensures { result ≡ nat_lt size (offset + len) }
-{
-    len > size || offset > size - len
-}
 
 /// Keeps a block under a name that has none, and tells of it. There has to be room for its entry.
 fn keep<M: MemoryObject, A: Allocator + Copy>(
@@ -72,7 +49,7 @@ impl<M: MemoryObject, D: MemoryDevice<M>, A: Allocator + Copy> Session<M, D, A> 
         if self.blocks.contains_key(&name) {
             return Reply::Fault(Fault::NameInUse);
         }
-        if let Some(fault) = fault_of(request, self.offer.buffer_device_address) {
+        if let Some(fault) = request_fault(request, self.offer.buffer_device_address) {
             return Reply::Fault(fault);
         }
         if self.blocks.reserve(1).is_err() {
@@ -97,7 +74,7 @@ impl<M: MemoryObject, D: MemoryDevice<M>, A: Allocator + Copy> Session<M, D, A> 
         if self.blocks.contains_key(&name) {
             return Reply::Fault(Fault::NameInUse);
         }
-        if let Some(fault) = fault_of(request, self.offer.buffer_device_address) {
+        if let Some(fault) = request_fault(request, self.offer.buffer_device_address) {
             return Reply::Fault(fault);
         }
         if self.blocks.reserve(1).is_err() {
@@ -110,37 +87,6 @@ impl<M: MemoryObject, D: MemoryDevice<M>, A: Allocator + Copy> Session<M, D, A> 
             Ok(block) => keep(&mut self.blocks, name, block),
             Err(e) => Reply::Refused(e),
         }
-    }
-
-    /// Why an import cannot be asked for: the first condition that it misses.
-    fn fault_of_import(
-        &self,
-        memory_type: u32,
-        object_size: u64,
-        offset: u64,
-        size: u64,
-    ) -> Option<Fault>
-        ensures { result ≡ fault_of_import (self.now.books).allocator memory_type object_size offset size }
-    {
-        if !self.offer.has_type(memory_type) {
-            return Some(Fault::BadType);
-        }
-        if object_size == 0 || size == 0 {
-            return Some(Fault::BadSize);
-        }
-        if passes_end(offset, size, object_size) {
-            return Some(Fault::BadRange);
-        }
-        if self
-            .offer
-            .is_bad_end(memory_type, object_size, offset + size)
-        {
-            return Some(Fault::BadImportEnd);
-        }
-        if self.allocator.remaining_allocations() == 0 {
-            return Some(Fault::NoRemaining);
-        }
-        None
     }
 
     /// Answers `Import`. Room for the block's entry is made before the device is asked; where the allocator then finds
@@ -160,7 +106,15 @@ impl<M: MemoryObject, D: MemoryDevice<M>, A: Allocator + Copy> Session<M, D, A> 
         if self.blocks.contains_key(&name) {
             return Reply::Fault(Fault::NameInUse);
         }
-        if let Some(fault) = self.fault_of_import(memory_type, object_size, offset, size) {
+        let fault = import_fault(
+            &self.allocator,
+            &self.offer,
+            memory_type,
+            object_size,
+            offset,
+            size,
+        );
+        if let Some(fault) = fault {
             return Reply::Fault(fault);
         }
         if self.blocks.reserve(1).is_err() {

@@ -5,9 +5,9 @@ use Rattle.gpu_alloc.specs.Importing.{Imports, imported_block}
 use Rattle.gpu_alloc.specs.NewChunk.{flags_of}
 use Rattle.gpu_alloc.specs.State.{Block}
 use Rattle.gpu_alloc_base.proofs.Names.{get_put, get_put-other}
-use Rattle.gpu_session.specs.Books.{SessionState}
 use Rattle.gpu_session.specs.Does.{object_asked}
 use Rattle.gpu_session.specs.Faults.{fault_of_import, is_bad_end}
+use Rattle.gpu_session.specs.Offer.{IsOffer}
 use Rattle.gpu_session.proofs.Conditions.{in_use, new_name}
 use Rattle.gpu_session.proofs.Grants.{grant_is_kept}
 use Rattle.gpu_session.proofs.Imports.{faultless, import_agrees, importable_is_held, part_may_be_imported, undone}
@@ -21,25 +21,26 @@ returns-then-contains_key-clause-step g c =
     let there = named _ c.args.name (sym c.contains_key.ensures ∙ c.if-contains_key.true) in
     rw (← c.self.view_is) ([], refl, (refl, inl (in_use _ there.0 _ there.1, refl)))
 
+pub import_fault-requires : goal.import_fault-requires
+import_fault-requires g c = subst (λ p. IsOffer p c.self.inside.offer) c.self.invariant.sound.agrees.properties c.self.invariant.offer
+
 pub returns-in-Some-clause-step : goal.returns-in-Some-clause-step
 returns-in-Some-clause-step g c =
     let free = unnamed _ c.args.name (sym c.contains_key.ensures ∙ c.if-contains_key.false) in
-    let good = ap (λ (s : SessionState _). fault_of_import s.books.allocator c.args.memory_type c.args.object_size c.args.offset c.args.size) c.self.view_is ∙ sym c.fault_of_import.ensures ∙ c.in-Some.is in
+    let good = sym c.import_fault.ensures ∙ c.in-Some.is in
     rw (← c.self.view_is) ([], refl, (refl, inl (new_name _ _ free ∙ good, refl)))
 
 pub returns-then-is_err-clause-step : goal.returns-then-is_err-clause-step
 returns-then-is_err-clause-step g c =
     let free = unnamed _ c.args.name (sym c.contains_key.ensures ∙ c.if-contains_key.false) in
-    let good : fault_of_import c.self.inside.allocator c.args.memory_type c.args.object_size c.args.offset c.args.size ≡ None =
-    ap (λ (s : SessionState _). fault_of_import s.books.allocator c.args.memory_type c.args.object_size c.args.offset c.args.size) c.self.view_is ∙ sym c.in_default.ensures in
+    let good : fault_of_import c.self.inside.allocator c.args.memory_type c.args.object_size c.args.offset c.args.size ≡ None = sym c.in_default.ensures in
     let able = new_name _ _ free ∙ good in
     rw (← c.self.view_is, c.reserve.ensures.entries) ([], refl, (refl, inr (refl, able, refl, inl refl)))
 
 pub returns-in-Err-clause-step : goal.returns-in-Err-clause-step
 returns-in-Err-clause-step g c =
     let free = unnamed _ c.args.name (sym c.contains_key.ensures ∙ c.if-contains_key.false) in
-    let good : fault_of_import c.self.inside.allocator c.args.memory_type c.args.object_size c.args.offset c.args.size ≡ None =
-    ap (λ (s : SessionState _). fault_of_import s.books.allocator c.args.memory_type c.args.object_size c.args.offset c.args.size) c.self.view_is ∙ sym c.in_default.ensures in
+    let good : fault_of_import c.self.inside.allocator c.args.memory_type c.args.object_size c.args.offset c.args.size ≡ None = sym c.in_default.ensures in
     let able = new_name _ _ free ∙ good in
     let flags = c.flags-flags.ensures _ c.self.invariant.offer ∙ ap flags_of c.self.invariant.sound.agrees.properties in
     let asked = rw (c.in-Err.is, flags) at c.allocate_memory-answer.ensures in
@@ -52,8 +53,7 @@ returns-in-Err-clause-step g c =
 pub invariant_of-self-in-Ok-import_memory : goal.invariant_of-self-in-Ok-import_memory
 invariant_of-self-in-Ok-import_memory g c =
     let free = unnamed _ c.args.name (sym c.contains_key.ensures ∙ c.if-contains_key.false) in
-    let good : fault_of_import c.self.inside.allocator c.args.memory_type c.args.object_size c.args.offset c.args.size ≡ None =
-    ap (λ (s : SessionState _). fault_of_import s.books.allocator c.args.memory_type c.args.object_size c.args.offset c.args.size) c.self.view_is ∙ sym c.in_default.ensures in
+    let good : fault_of_import c.self.inside.allocator c.args.memory_type c.args.object_size c.args.offset c.args.size ≡ None = sym c.in_default.ensures in
     let able = new_name _ _ free ∙ good in
     let put = rw c.reserve.ensures.entries at c.keep.ensures.kept in
     let name = g.M.MemoryObject.object c.in-Ok.memory in
@@ -106,8 +106,7 @@ invariant_of-self-in-Err-import_memory g c =
 pub returns-in-Ok-import_memory-clause-step : goal.returns-in-Ok-import_memory-clause-step
 returns-in-Ok-import_memory-clause-step g c =
     let free = unnamed _ c.args.name (sym c.contains_key.ensures ∙ c.if-contains_key.false) in
-    let good : fault_of_import c.self.inside.allocator c.args.memory_type c.args.object_size c.args.offset c.args.size ≡ None =
-    ap (λ (s : SessionState _). fault_of_import s.books.allocator c.args.memory_type c.args.object_size c.args.offset c.args.size) c.self.view_is ∙ sym c.in_default.ensures in
+    let good : fault_of_import c.self.inside.allocator c.args.memory_type c.args.object_size c.args.offset c.args.size ≡ None = sym c.in_default.ensures in
     let able = new_name _ _ free ∙ good in
     let put = rw c.reserve.ensures.entries at c.keep.ensures.kept in
     let flags = c.flags-flags.ensures _ c.self.invariant.offer ∙ ap flags_of c.self.invariant.sound.agrees.properties in
@@ -146,8 +145,7 @@ returns-in-Ok-import_memory-clause-keeps g c =
 pub returns-in-Err-import_memory-clause-step : goal.returns-in-Err-import_memory-clause-step
 returns-in-Err-import_memory-clause-step g c =
     let free = unnamed _ c.args.name (sym c.contains_key.ensures ∙ c.if-contains_key.false) in
-    let good : fault_of_import c.self.inside.allocator c.args.memory_type c.args.object_size c.args.offset c.args.size ≡ None =
-    ap (λ (s : SessionState _). fault_of_import s.books.allocator c.args.memory_type c.args.object_size c.args.offset c.args.size) c.self.view_is ∙ sym c.in_default.ensures in
+    let good : fault_of_import c.self.inside.allocator c.args.memory_type c.args.object_size c.args.offset c.args.size ≡ None = sym c.in_default.ensures in
     let able = new_name _ _ free ∙ good in
     let flags = c.flags-flags.ensures _ c.self.invariant.offer ∙ ap flags_of c.self.invariant.sound.agrees.properties in
     let name = g.M.MemoryObject.object c.in-Ok.memory in
