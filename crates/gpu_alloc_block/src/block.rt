@@ -439,8 +439,11 @@ impl<M: MemoryObject> MemoryBlock<M> {
         }
     }
 
-    /// Some bytes of the block in whole atoms of its object, cut where the block ends.
-    fn rounded(&self, offset: u64, len: u64) -> MappedMemoryRange<'_, M>
+    /// Some bytes of the block in whole atoms of its object, cut where the block ends: `len` of them from `offset` on, in
+    /// bytes from the block's start, which have to be inside it. While the block is mapped and its memory non-coherent,
+    /// this is what its user has flushed once the host wrote them, and has invalidated before it reads them (the Vulkan
+    /// specification's rule on `VkMappedMemoryRange`). An import's may begin before the block, by less than an atom.
+    pub fn rounded(&self, offset: u64, len: u64) -> MappedMemoryRange<'_, M>
         requires { offset + len ≤ self.now.size }
         ensures { range_of M.object result ≡ rounded self.now offset len }
     {

@@ -1,9 +1,9 @@
 //! The device that is asked from outside.
 
-ghost use Rattle.std.specs.Prelude.{◌≡◌, ◌↔◌, [], Some, IfOk, IsTrue, OnOk, OnErr};
+ghost use Rattle.std.specs.Prelude.{◌≡◌, ◌↔◌, [], ◌∷◌, ◌++◌, take, None, Some, IfOk, IfSome, IsTrue, OnOk, OnErr};
 ghost use Rattle.gpu_alloc_types.specs.Properties.{properties_of};
 ghost use Rattle.gpu_answers.specs.Asking.{begun, open_in};
-ghost use Rattle.gpu_answers.specs.Device.{IsFresh, objects_of};
+ghost use Rattle.gpu_answers.specs.Device.{IsFresh};
 ghost use Rattle.gpu_answers.specs.declared.run.Stop.TheVariants.{Strayed};
 
 use crate::held::HeldObjects;
@@ -60,21 +60,18 @@ impl AnsweredDevice {
         })
     }
 
-    /// Begins a run with these answers, in the order in which their questions are asked. Of the run before it nothing
-    /// is told any more. The objects stay as they are, and the next name is the same.
+    /// Begins a run with these answers, in the order in which their questions are asked. Of the answers of the run before
+    /// it nothing is told any more. The objects stay as they are, the next name is the same, and the names that were
+    /// given back and not taken are still told.
     ///
     /// Takes memory for a copy of the answers. Fails only for want of it, and all is as before then.
     pub fn begin(&mut self, answers: &[Answered]) -> Result<(), AllocError>
         ensures run { OnOk result (self.new.run ≡ begun answers.now) }
-        ensures gone { OnOk result (self.new.held.gone ≡ []) }
         ensures offers { self.new.properties ≡ self.old.properties }
-        ensures objects { objects_of self.new ≡ objects_of self.old }
-        ensures last_name { self.new.held.last_name ≡ self.old.held.last_name }
+        ensures held { self.new.held ≡ self.old.held }
         ensures err { OnErr result (self.new ≡ self.old) }
     {
-        self.run.begin(answers)?;
-        self.held.forget_gone();
-        Ok(())
+        self.run.begin(answers)
     }
 
     /// The question that has no answer yet: the first one of the run that came after the last answer, if there was one.
@@ -100,15 +97,39 @@ impl AnsweredDevice {
         self.run.made()
     }
 
-    /// The names of the objects that were given back in the run, in that order, and among them those of objects that
-    /// the run itself made. None is left out: the room for a name is taken when its object is made.
+    /// The names of the objects that were given back and not taken, in that order. None is left out: the room for a name
+    /// is taken when its object is made.
     ///
     /// A run that is left with an open question gives back what it made. The real object stays, since the next run
-    /// makes it again.
+    /// makes it again: [`forget_gone_after`](AnsweredDevice::forget_gone_after) drops such names.
     pub fn gone(&self) -> &[u64]
         ensures { result.now ≡ self.now.held.gone }
     {
         self.held.gone()
+    }
+
+    /// Takes the name that was given back last, or answers `None` where none is left. Nothing else changes.
+    pub fn take_gone(&mut self) -> Option<u64>
+        ensures taken { IfSome result (λ name. self.old.held.gone ≡ self.new.held.gone ++ name ∷ []) }
+        ensures none { result ≡ None → (self.old.held.gone ≡ []) × (self.new.held.gone ≡ []) }
+        ensures run { self.new.run ≡ self.old.run }
+        ensures offers { self.new.properties ≡ self.old.properties }
+        ensures objects { self.new.held.objects ≡ self.old.held.objects }
+        ensures last_name { self.new.held.last_name ≡ self.old.held.last_name }
+    {
+        self.held.take_gone()
+    }
+
+    /// Keeps the first names alone that were given back, so many of them: of a run that is asked again, what it gave
+    /// back itself is not to be told. Nothing else changes.
+    pub fn forget_gone_after(&mut self, count: usize)
+        ensures gone { self.new.held.gone ≡ take count self.old.held.gone }
+        ensures run { self.new.run ≡ self.old.run }
+        ensures offers { self.new.properties ≡ self.old.properties }
+        ensures objects { self.new.held.objects ≡ self.old.held.objects }
+        ensures last_name { self.new.held.last_name ≡ self.old.held.last_name }
+    {
+        self.held.forget_gone_after(count);
     }
 }
 

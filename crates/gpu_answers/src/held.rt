@@ -1,6 +1,6 @@
 //! The objects that are held, and the names of those that were given back.
 
-ghost use Rattle.std.specs.Prelude.{◌≡◌, ◌+◌, ◌<◌, [], ◌∷◌, ◌++◌, None, Some, IsSome, OnOk, IfSome};
+ghost use Rattle.std.specs.Prelude.{◌≡◌, ◌+◌, ◌<◌, [], ◌∷◌, ◌++◌, take, None, Some, IsSome, OnOk, IfSome};
 ghost use Rattle.std.specs.FinMap as map;
 ghost use Rattle.gpu_answers.specs.Held.{new_object, mapped_as, ChangesAt};
 
@@ -137,12 +137,22 @@ impl HeldObjects {
         &self.gone
     }
 
-    /// Forgets the names that were given back.
-    pub(crate) fn forget_gone(&mut self)
+    /// Takes the name that was given back last.
+    pub(crate) fn take_gone(&mut self) -> Option<u64>
+        ensures taken { IfSome result (λ name. self.old.gone ≡ self.new.gone ++ name ∷ []) }
+        ensures none { result ≡ None → (self.old.gone ≡ []) × (self.new.gone ≡ []) }
         ensures objects { self.new.objects ≡ self.old.objects }
         ensures last_name { self.new.last_name ≡ self.old.last_name }
-        ensures gone { self.new.gone ≡ [] }
     {
-        self.gone.clear();
+        self.gone.pop()
+    }
+
+    /// Keeps the first names alone that were given back, so many of them.
+    pub(crate) fn forget_gone_after(&mut self, count: usize)
+        ensures gone { self.new.gone ≡ take count self.old.gone }
+        ensures objects { self.new.objects ≡ self.old.objects }
+        ensures last_name { self.new.last_name ≡ self.old.last_name }
+    {
+        self.gone.truncate(count);
     }
 }
