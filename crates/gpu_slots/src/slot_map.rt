@@ -200,9 +200,9 @@ impl<T> SlotMap<T> {
         value
     }
 
-    /// Ends a map that has no value. A map of values that can't be dropped ends so alone.
+    /// Ends a map that has no value (`is_empty` tells). A map of values that can't be dropped ends so alone.
     pub fn destroy_empty(self)
-        requires { self.live ≡ map.empty }
+        requires { map.len self.live ≡ 0 }
     {
         let SlotMap {
             mut places,

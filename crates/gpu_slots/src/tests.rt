@@ -31,5 +31,10 @@ fn a_place_is_used_again_under_another_key(rt: HostRuntime) -> Result<(), Fail> 
         assert_eq!(rt; slots.get(key).copied(), value, "under {key}");
     }
     assert_eq!(rt; slots.len(), 2);
+    assert_eq!(rt; slots.remove(second), Some(10));
+    assert_eq!(rt; slots.remove(third), Some(9));
+    if slots.is_empty() {
+        slots.destroy_empty();
+    }
     Ok(())
 }

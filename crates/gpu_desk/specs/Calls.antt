@@ -1,0 +1,245 @@
+-- What the calls of a desk do.
+use Rattle.std.specs.Prelude.{◌≡◌, ◌≢◌, ◌⊎◌, ◌↔◌, ℕ, ◌+◌, ◌==◌, ◌&&◌, ◌≤◌, Bool, true, false, not, cond, List, []}
+use Rattle.std.specs.Prelude.{◌∷◌, ◌++◌, length, Option, Some, None, is_some, Result, Ok, Err, IsTrue}
+use Rattle.std.specs.FinMap as map
+use Rattle.gpu_alloc_types.specs.Device.{Chain, Event, HeldWith}
+use Rattle.gpu_alloc_types.specs.Flags.{has_bit, host_visible}
+use Rattle.gpu_alloc_types.specs.Properties.{are_non_coherent}
+use Rattle.gpu_alloc.specs.Allocation.{Allocates, IsGranted}
+use Rattle.gpu_alloc.specs.Budget.{heap_budget}
+use Rattle.gpu_alloc.specs.Importing.{imported_block}
+use Rattle.gpu_alloc.specs.Mapped.{AsksToMap, mapping_of, unmapping}
+use Rattle.gpu_alloc.specs.Ranges.{rounded}
+use Rattle.gpu_alloc.specs.Release.{Cleans, Frees, GoesBack}
+use Rattle.gpu_alloc.specs.State.{Block, is_shared, ledger, total}
+use Rattle.gpu_alloc.specs.Types.AllocationError.{AllocationError}
+use Rattle.gpu_alloc.specs.Types.Kind.TheVariants.{Dedicated as DedicatedObject}
+use Rattle.gpu_alloc.specs.Types.MapError.{MapError}
+use Rattle.gpu_alloc.specs.Types.MapError.TheVariants.{NonHostVisible}
+use Rattle.gpu_alloc.specs.Types.Mapping.{Mapping}
+use Rattle.gpu_alloc.specs.declared.request.Dedicated.{Dedicated}
+use Rattle.gpu_alloc.specs.declared.request.Dedicated.TheVariants.{Required}
+use Rattle.gpu_alloc.specs.declared.request.Request.{Request}
+use Rattle.gpu_answers.specs.Asking.{begun}
+use Rattle.gpu_answers.specs.Device.{IsStep, objects_of}
+use Rattle.gpu_answers.specs.DeviceState.{DeviceState}
+use Rattle.gpu_answers.specs.declared.question.Answered.{Answered}
+use Rattle.gpu_answers.specs.declared.run.Stop.{Stop}
+use Rattle.gpu_answers.specs.declared.run.Stop.TheVariants as Stopped
+use Rattle.gpu_session.specs.Faults.{fault_of_block, fault_of_import, fault_of_range, fault_of_request, where_true}
+use Rattle.gpu_session.specs.Sound.{HoldsNothing, KeepsGiven}
+use Rattle.gpu_session.specs.declared.command.Fault.{Fault as FaultCode}
+use Rattle.gpu_session.specs.declared.command.Fault.TheVariants.{BadSize, NoMemory, UnknownName}
+use Rattle.gpu_slots.specs.SlotMap.{IsGiven, IsGone, SlotState, StaysGone}
+use Rattle.gpu_desk.specs.Desk.{DeskState, OfKey, books, objects}
+use Rattle.gpu_desk.specs.declared.denial.Denial.{Denial}
+use Rattle.gpu_desk.specs.declared.denial.Denial.TheVariants.{Open, Strayed, Refused, MapRefused, Fault}
+use Rattle.gpu_desk.specs.declared.told.Counts.{Counts}
+use Rattle.gpu_desk.specs.declared.told.Grant.{Grant}
+use Rattle.gpu_desk.specs.declared.told.HeapCounts.{HeapCounts}
+use Rattle.gpu_desk.specs.declared.told.ObjectRange.{ObjectRange}
+
+-- What stays.
+
+-- what was given to the allocator, how many objects may be held in all, and each key that is gone
+pub record Keeps (old new : DeskState) : Type 0 where
+  pub given : KeepsGiven old.allocator new.allocator
+  pub total : total new.allocator ≡ total old.allocator
+  pub gone : StaysGone old.blocks new.blocks
+
+-- Nothing changed but the room for keys, which names are spent, and what the run tells.
+pub record IsAsBefore (old new : DeskState) : Type 0 where
+  pub allocator : new.allocator ≡ old.allocator
+  pub live : new.blocks.live ≡ old.blocks.live
+  pub keys : new.blocks.generations ≡ old.blocks.generations
+  pub objects : objects new ≡ objects old
+  pub names : new.device.held.gone ≡ old.device.held.gone
+
+-- The device in a run.
+
+-- a run with these answers: what was asked in it, and how the device stood then
+abbrev pub InRun : DeskState → List Answered → (List Event → DeviceState → Type 0) → Type 0
+InRun s answers P =
+    (es : List Event) × (after : DeviceState) × Chain IsStep (record (s.device) { run = begun answers }) es after
+    × P es after
+
+-- why a run gives nothing that ended so, with this refusal
+abbrev pub denial_after : Option Stop → Denial → Denial
+denial_after None refusal = refusal
+denial_after (Some (Stopped.Open question)) refusal = Open question
+denial_after (Some Stopped.Strayed) refusal = Strayed
+
+-- Blocks and keys.
+
+-- where the block lies is told
+pub record Tells (b : Block) (g : Grant) : Type 0 where
+  pub object : g.object ≡ b.object
+  pub offset : g.offset ≡ b.offset
+  pub size : g.size ≡ b.size
+  pub memory_type : g.memory_type ≡ b.memory_type
+
+-- the block is kept under a key that was never given
+pub record HasKey (old : SlotState Block) (key : ℕ) (b : Block) (new : SlotState Block) : Type 0 where
+  pub never_zero : key ≢ 0
+  pub new_key : IsGiven old key → ⊥
+  pub live : new.live ≡ map.insert old.live key b
+  pub gone : StaysGone old new
+
+-- a grant: the block, its new key, and no name of an object to read that was not there before
+pub record Gives (old : DeskState) (g : Grant) (b : Block) (new : DeskState) : Type 0 where
+  pub tells : Tells b g
+  pub key : HasKey old.blocks g.key b new.blocks
+  pub names : new.device.held.gone ≡ old.device.held.gone
+
+-- A request is granted: as it asks, and as the allocator decides it in a run with these answers.
+pub record Allocated (old : DeskState) (r : Request) (hint : Option Dedicated) (answers : List Answered) (new : DeskState)
+    (g : Grant) : Type 0 where
+  pub block : Block
+  pub gives : Gives old g block new
+  pub as_asked : IsGranted old.allocator r new.allocator block
+  pub own : hint ≡ Some Required → block.kind ≡ DedicatedObject
+  pub run : InRun old answers (λ es after. Allocates old.allocator r hint es (Ok block) new.allocator
+      × (objects new ≡ objects_of after) × (IsTrue g.fresh ↔ (after.run.made ≡ Some block.object)))
+
+-- the allocator refuses it in a run that ends so
+abbrev pub RefusesIn : DeskState → Request → Option Dedicated → List Answered → Denial → Type 0
+RefusesIn s r hint answers d =
+    InRun s answers (λ es after. (e : AllocationError) × Allocates s.allocator r hint es (Err e) s.allocator
+    × (d ≡ denial_after after.run.stop (Refused e)))
+
+-- why a request is denied: the first condition that it misses, or want of memory, or the run
+abbrev pub IsFaultOf : Option FaultCode → Denial → Type 0
+IsFaultOf missed d =
+    (fault : FaultCode) × (d ≡ Fault fault) × ((missed ≡ Some fault) ⊎ ((missed ≡ None) × (fault ≡ NoMemory)))
+
+abbrev pub fault_of_alloc : DeskState → Request → Option FaultCode
+fault_of_alloc s r = fault_of_request s.allocator.properties.buffer_device_address r
+
+abbrev pub AllocationDenied : DeskState → Request → Option Dedicated → List Answered → Denial → Type 0
+AllocationDenied s r hint answers d =
+    IsFaultOf (fault_of_alloc s r) d ⊎ ((fault_of_alloc s r ≡ None) × RefusesIn s r hint answers d)
+
+-- An import: the block is the given span of a new object, which the device holds so.
+pub record Imported (old : DeskState) (t object_size offset size : ℕ) (new : DeskState) (g : Grant) : Type 0 where
+  pub gives : Gives old g (imported_block old.allocator g.object t offset size) new
+  pub was_free : objects old g.object ≡ None
+  pub held : HeldWith (objects new) g.object (λ o. (o.memory_type ≡ t) × (o.size ≡ object_size))
+
+abbrev pub ImportDenied : DeskState → (t object_size offset size : ℕ) → Denial → Type 0
+ImportDenied s t object_size offset size d = IsFaultOf (fault_of_import s.allocator t object_size offset size) d
+
+-- no block has the key
+abbrev pub IsUnknown : DeskState → ℕ → Denial → Type 0
+IsUnknown s key d = (d ≡ Fault UnknownName) × (map.get s.blocks.live key ≡ None)
+
+-- Objects go back to the device, and their names are to be read after those of before.
+pub record LetsGo (old new : DeskState) : Type 0 where
+  pub back : GoesBack IsStep objects_of old.allocator old.device new.allocator new.device
+  pub names : new.device.held.gone ≡ old.device.held.gone ++ back.gone
+
+-- A block is returned: as the allocator frees it, and its key is refused from then on.
+pub record Returns (old : DeskState) (key : ℕ) (new : DeskState) : Type 0 where
+  pub block : Block
+  pub at : map.get old.blocks.live key ≡ Some block
+  pub freed : (es : List Event) × Chain IsStep old.device es new.device × Frees old.allocator block es new.allocator
+  pub goes : LetsGo old new
+  pub live : new.blocks.live ≡ map.remove old.blocks.live key
+  pub refused : IsGone new.blocks key
+
+-- Each object goes that no block needs. Where no block is live none is held then.
+pub record CleansUp (old new : DeskState) : Type 0 where
+  pub cleaned : (es : List Event) × Chain IsStep old.device es new.device × Cleans old.allocator es new.allocator
+  pub goes : LetsGo old new
+  pub blocks : new.blocks ≡ old.blocks
+  pub rest : old.blocks.live ≡ map.empty → HoldsNothing old.allocator new.allocator
+
+-- Blocks on their objects.
+
+-- the block of the key is told
+abbrev pub Told : DeskState → ℕ → Grant → Type 0
+Told s key g = (g.key ≡ key) × (g.fresh ≡ false) × OfKey s key (λ b. Tells b g)
+
+-- nothing but one block's mapping changes in the books
+pub record MapsOnly (old : DeskState) (key : ℕ) (b : Block) (mapping : Option Mapping) (new : DeskState) : Type 0 where
+  pub at : map.get old.blocks.live key ≡ Some b
+  pub live : new.blocks.live ≡ map.insert old.blocks.live key (record b { mapping = mapping })
+  pub keys : new.blocks.generations ≡ old.blocks.generations
+  pub allocator : new.allocator ≡ old.allocator
+  pub names : new.device.held.gone ≡ old.device.held.gone
+
+-- so many bytes of the block are mapped, as the block asks for it in a run with these answers
+pub record Maps (old : DeskState) (key offset size : ℕ) (answers : List Answered) (new : DeskState) (r : ObjectRange)
+    : Type 0 where
+  pub block : Block
+  pub only : MapsOnly old key block (Some (mapping_of block offset size)) new
+  pub inside : offset + size ≤ block.size
+  pub told : r ≡ record { object = block.object; offset = block.offset + offset; size = size }
+  pub run : InRun old answers (λ es after. AsksToMap block offset size (Ok (mapping_of block offset size)) es
+      × (new.device ≡ after))
+
+-- the first condition that it misses
+abbrev pub fault_of_map : DeskState → (key offset size : ℕ) → Option FaultCode
+fault_of_map s key offset size =
+    fault_of_block (map.get s.blocks.live key)
+    (λ b. where_true (size == 0) BadSize (fault_of_range offset size b.size None))
+
+-- the block's mapping is refused in a run that ends so
+abbrev pub MapRefusedIn : DeskState → (key offset size : ℕ) → List Answered → Denial → Type 0
+MapRefusedIn s key offset size answers d =
+    OfKey s key (λ b. InRun s answers (λ es after. (e : MapError) × AsksToMap b offset size (Err e) es
+    × (d ≡ denial_after after.run.stop (MapRefused e))))
+
+abbrev pub MapDenied : DeskState → (key offset size : ℕ) → List Answered → Denial → Type 0
+MapDenied s key offset size answers d =
+    IsFaultOf (fault_of_map s key offset size) d
+    ⊎ ((fault_of_map s key offset size ≡ None) × MapRefusedIn s key offset size answers d)
+
+-- the object that is to be unmapped: the block's own, where the block was mapped
+abbrev pub object_to_unmap : Block → Option ℕ
+object_to_unmap b = cond (is_some b.mapping && not (is_shared b.kind)) (Some b.object) None
+
+-- the block's mapping ends
+pub record Unmaps (old : DeskState) (key : ℕ) (new : DeskState) (object : Option ℕ) : Type 0 where
+  pub block : Block
+  pub only : MapsOnly old key block None new
+  pub told : object ≡ object_to_unmap block
+  pub asked : Chain IsStep old.device (unmapping block) new.device
+
+-- the rounded range of some bytes, which is empty where nothing has to be flushed or invalidated
+abbrev pub range_told : Block → (offset size : ℕ) → ObjectRange
+range_told b offset size =
+    let r = rounded b offset size in
+    record {
+      object = b.object;
+      offset = r.offset;
+      size = cond (not (size == 0) && are_non_coherent b.props) r.size 0;
+    }
+
+abbrev pub RangeTold : DeskState → (key offset size : ℕ) → ObjectRange → Type 0
+RangeTold s key offset size r = OfKey s key (λ b. (offset + size ≤ b.size) × (r ≡ range_told b offset size))
+
+-- the first condition that it misses: there is such a block, with such a range, and the host sees its memory
+abbrev pub RangeDenied : DeskState → (key offset size : ℕ) → Denial → Type 0
+RangeDenied s key offset size d =
+    ((fault : FaultCode) × (d ≡ Fault fault)
+    × (fault_of_block (map.get s.blocks.live key) (λ b. fault_of_range offset size b.size None) ≡ Some fault))
+    ⊎ ((d ≡ MapRefused NonHostVisible)
+    × OfKey s key (λ b. (offset + size ≤ b.size) × (has_bit b.props host_visible ≡ false)))
+
+-- Counts.
+
+pub record CountsOf (s : DeskState) (c : Counts) : Type 0 where
+  pub blocks : c.blocks ≡ map.len s.blocks.live
+  pub told : c.told ≡ length s.device.held.gone
+  pub held : c.held ≡ map.len s.allocator.held
+  pub remaining : c.remaining ≡ s.allocator.remaining
+
+pub record HeapCountsOf (s : DeskState) (heap : ℕ) (c : HeapCounts) : Type 0 where
+  pub used : c.used ≡ ledger s.allocator heap
+  pub budget : c.budget ≡ heap_budget s.allocator heap
+
+-- a name was read, and nothing else changed
+pub record OnlyReads (old new : DeskState) : Type 0 where
+  pub allocator : new.allocator ≡ old.allocator
+  pub blocks : new.blocks ≡ old.blocks
+  pub objects : objects new ≡ objects old

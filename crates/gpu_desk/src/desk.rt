@@ -1,0 +1,119 @@
+//! The desk.
+
+ghost use Rattle.std.specs.Prelude.{◌≡◌, ◌≢◌, ◌<◌, ◌+◌, ◌↔◌, [], ◌∷◌, ◌++◌, length, None, Some, IfOk, IfErr, IfSome, OnOk, OnErr};
+ghost use Rattle.std.specs.FinMap as map;
+ghost use Rattle.gpu_alloc_types.specs.Properties.{IsUsable, properties_of};
+ghost use Rattle.gpu_alloc.specs.Opening.{opened};
+ghost use Rattle.gpu_alloc_block.specs.State.{ledger};
+ghost use Rattle.gpu_alloc.specs.Budget.{heap_budget};
+ghost use Rattle.gpu_desk.specs.Desk.{IsEmpty, IsSound};
+
+mod counting;
+mod granting;
+mod mapping;
+
+use crate::{Config, DeviceProperties, OpenError};
+use gpu_alloc::{GpuAllocator, MemoryBlock};
+use gpu_answers::{AnsweredDevice, ObjectName};
+use gpu_session::Offer;
+use gpu_slots::SlotMap;
+use std::alloc::{AllocError, Global};
+use std::marker::Model;
+
+/// Live blocks by key.
+type Blocks = SlotMap<MemoryBlock<ObjectName>>;
+
+/// An allocator with its live blocks by key, whose device is asked from outside. It cannot be let go:
+/// [`close`](Desk::close) ends it.
+///
+/// A call that needs the device takes the answers to its questions so far, and denies with the question that is open;
+/// its caller asks, and makes the call again. Names of objects that go back to the device are read one by one
+/// ([`next_gone`](Desk::next_gone)), and none is lost.
+pub struct Desk {
+    allocator: GpuAllocator<ObjectName>,
+    device: AnsweredDevice,
+    blocks: Blocks,
+    offer: Offer<Global>,
+}
+
+impl Model for Desk {
+    ghost use Rattle.gpu_desk.specs.Desk.{DeskState, desk_code};
+
+    ghost Value = { DeskState };
+
+    ghost coded = { desk_code };
+
+    ghost use Rattle.gpu_answers.specs.Device.{objects_of};
+    ghost use Rattle.gpu_session.specs.Sound.{IsKept};
+
+    ghost view = { λ d. record { allocator = d.allocator; blocks = d.blocks; device = d.device } };
+
+    ghost invariant = { λ d. IsKept d.device.properties (objects_of d.device)
+        (record { allocator = d.allocator; blocks = d.blocks.live }) d.offer };
+}
+
+impl Desk {
+    /// A desk over a device that offers these, with nothing held.
+    ///
+    /// Takes memory for its tables. Fails where the properties are not usable, or for want of memory.
+    pub fn new(
+        alloc: Global,
+        config: Config,
+        props: DeviceProperties<'_>,
+    ) -> Result<Desk, OpenError>
+        ensures opened { IfOk result (λ desk. desk.allocator ≡ opened config (properties_of props.entry)) }
+        ensures empty { IfOk result IsEmpty }
+        ensures usable { OnOk result (IsUsable (properties_of props.entry)) }
+        ensures bad { result ≡ Err OpenError.BadProperties → IsUsable (properties_of props.entry) → ⊥ }
+    {
+        if !props.is_usable() {
+            return Err(OpenError::BadProperties);
+        }
+        match Desk::over(alloc, config, props) {
+            Ok(desk) => Ok(desk),
+            Err(_) => Err(OpenError::OutOfHostMemory),
+        }
+    }
+
+    fn over(alloc: Global, config: Config, props: DeviceProperties<'_>) -> Result<Desk, AllocError>
+        requires { IsUsable (properties_of props) }
+        ensures opened { IfOk result (λ desk. desk.allocator ≡ opened config (properties_of props.entry)) }
+        ensures empty { IfOk result IsEmpty }
+    {
+        let offer = Offer::of(alloc, &props)?;
+        let device = AnsweredDevice::new(alloc, props.clone()?)?;
+        let Ok(allocator) = GpuAllocator::new(alloc, config, props) else {
+            return Err(AllocError);
+        };
+        Ok(Desk {
+            allocator,
+            device,
+            blocks: SlotMap::new(alloc),
+            offer,
+        })
+    }
+
+    /// Nothing is done: its contract tells what every desk keeps, whatever calls were made. Live blocks are memory of
+    /// their own.
+    pub fn keeps_sound(&self)
+        ensures { IsSound self.now }
+    {
+        let _ = &self.offer;
+    }
+
+    /// Ends the desk, once no block is live, no object is held and each name was read (`counts` tells).
+    pub fn close(self)
+        requires blocks { map.len self.blocks.live ≡ 0 }
+        requires held { map.len self.allocator.held ≡ 0 }
+        requires told { self.device.held.gone ≡ [] }
+    {
+        let Desk {
+            allocator,
+            device: _,
+            blocks,
+            offer: _,
+        } = self;
+        blocks.destroy_empty();
+        allocator.close();
+    }
+}

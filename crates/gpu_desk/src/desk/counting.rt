@@ -1,0 +1,84 @@
+//! Calls that tell and set counts.
+
+ghost use Rattle.std.specs.Prelude.{◌≡◌, ◌↔◌, ◌<◌, ◌≤◌, ◌+◌, ◌^◌, ◌++◌, ◌∷◌, [], None, length, IsNone, IfOk, IfErr, IfSome, OnOk, OnErr};
+ghost use Rattle.std.specs.FinMap as map;
+ghost use Rattle.gpu_alloc.specs.Budget.{heap_budget};
+ghost use Rattle.gpu_alloc_block.specs.State.{ledger};
+ghost use Rattle.gpu_session.specs.Does.{IsEachFreeRange};
+ghost use Rattle.gpu_desk.specs.Calls.{CountsOf, HeapCountsOf, IsAsBefore, OnlyReads};
+
+use super::Desk;
+use crate::{Counts, Denial, Fault, FreeRange, HeapCounts};
+
+impl Desk {
+    /// Reads the name of an object that was given back, the latest of those that were not read, or answers `None` where
+    /// each was. The object is the caller's to free. Nothing else changes.
+    pub fn next_gone(&mut self) -> Option<u64>
+        ensures read { IfSome result (λ name. self.old.device.held.gone ≡ self.new.device.held.gone ++ name ∷ []) }
+        ensures none { result ≡ None → (self.old.device.held.gone ≡ []) × (self.new.device.held.gone ≡ []) }
+        ensures kept { OnlyReads self.old self.new }
+    {
+        let name = self.device.take_gone();
+        name
+    }
+
+    /// How much there is.
+    pub fn counts(&self) -> Counts
+        ensures { CountsOf self.now result }
+    {
+        Counts {
+            blocks: self.blocks.len() as u64,
+            told: self.device.gone().len() as u64,
+            held: self.allocator.held_objects(),
+            remaining: self.allocator.remaining_allocations(),
+        }
+    }
+
+    /// How much is held of a heap, or `None` where there is no such heap.
+    pub fn heap(&self, heap: u32) -> Option<HeapCounts>
+        ensures told { IfSome result (HeapCountsOf self.now heap) }
+        ensures none { result ≡ None → length ((self.now.allocator).properties).memory_heaps ≤ heap }
+    {
+        if heap >= self.offer.heaps {
+            return None;
+        }
+        Some(HeapCounts {
+            used: self.allocator.heap_used(heap),
+            budget: self.allocator.heap_budget(heap),
+        })
+    }
+
+    /// From now on this many objects may be held beside those that are.
+    ///
+    /// Denied is a number that together with the held objects is not below 2^32, by `Fault::TooManyRemaining`. Nothing
+    /// has changed then.
+    pub fn set_remaining(&mut self, remaining: u32) -> Result<(), Denial>
+        ensures set { OnOk result (self.new ≡ record self.old { allocator = record (self.old.allocator) { remaining = remaining } }) }
+        ensures denied { IfErr result (λ e. (e ≡ Denial.Fault Fault.TooManyRemaining)
+            × (2 ^ 32 ≤ remaining + map.len (self.old.allocator).held)) }
+        ensures unchanged { OnErr result (self.new ≡ self.old) }
+    {
+        if remaining > u32::MAX - self.allocator.held_objects() {
+            return Err(Denial::Fault(Fault::TooManyRemaining));
+        }
+        self.allocator.set_remaining_allocations(remaining);
+        Ok(())
+    }
+
+    /// The free ranges of a memory type's shared objects, in the order of their objects and offsets.
+    ///
+    /// Takes memory for them. Denied are a memory type that is not there, by `Fault::BadType`, and `Fault::NoMemory`.
+    pub fn free_ranges(&self, memory_type: u32) -> Result<Vec<FreeRange>, Denial>
+        ensures told { IfOk result (λ ranges. IsEachFreeRange self.now.allocator memory_type ranges.items) }
+        ensures denied { IfErr result (λ e. (e ≡ Denial.Fault Fault.BadType)
+            ↔ (length ((self.now.allocator).properties).memory_types ≤ memory_type)) }
+    {
+        if !self.offer.has_type(memory_type) {
+            return Err(Denial::Fault(Fault::BadType));
+        }
+        match self.allocator.free_ranges(memory_type) {
+            Ok(ranges) => Ok(ranges),
+            Err(_) => Err(Denial::Fault(Fault::NoMemory)),
+        }
+    }
+}

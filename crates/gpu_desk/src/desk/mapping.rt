@@ -1,0 +1,123 @@
+//! Calls that map blocks, and tell where they lie.
+
+ghost use Rattle.std.specs.Prelude.{◌≡◌, IfOk, IfErr, OnOk, OnErr};
+ghost use Rattle.gpu_desk.specs.Calls.{IsAsBefore, Keeps, MapDenied, Maps, RangeDenied, RangeTold, Told, Unmaps, IsUnknown};
+
+use super::Desk;
+use super::granting::grant_of;
+use crate::denial::denial_after;
+use crate::{Denial, Fault, Grant, MapError, MemoryPropertyFlags, ObjectRange};
+use gpu_alloc_types::MemoryObject;
+use gpu_answers::Answered;
+use gpu_session::passes_end;
+
+impl Desk {
+    /// Tells where the block of a key lies. Denied is a key that has no live block, by `Fault::UnknownName`.
+    pub fn block(&self, key: u64) -> Result<Grant, Denial>
+        ensures told { IfOk result (Told self.now key) }
+        ensures denied { IfErr result (IsUnknown self.now key) }
+    {
+        match self.blocks.get(key) {
+            Some(block) => Ok(grant_of(block, key, None)),
+            None => Err(Denial::Fault(Fault::UnknownName)),
+        }
+    }
+
+    /// Maps `size` bytes of a block from `offset` on, in bytes from its start, as `MemoryBlock::map` does, in a run with
+    /// these answers, and tells where they lie in its object.
+    ///
+    /// A block of a shared object asks nothing, since that was mapped whole when it was made. Else the question's range
+    /// covers the bytes in whole atoms.
+    ///
+    /// Denied are: `Fault::UnknownName`, `BadSize` for 0 bytes, `BadRange` for a range that passes the block's end, and
+    /// `NoMemory` for want of memory for the answers; `Open`, with the question that has no answer; `Strayed`; and
+    /// `MapRefused`, as the block refuses. Nothing has changed then.
+    pub fn map(
+        &mut self,
+        key: u64,
+        offset: u64,
+        size: u64,
+        answers: &[Answered],
+    ) -> Result<ObjectRange, Denial>
+        ensures mapped { IfOk result (Maps self.old key offset size answers.now self.new) }
+        ensures denied { IfErr result (MapDenied self.old key offset size answers.now) }
+        ensures unchanged { OnErr result (IsAsBefore self.old self.new) }
+        ensures keeps { Keeps self.old self.new }
+    {
+        let Some(block) = self.blocks.get(key) else {
+            return Err(Denial::Fault(Fault::UnknownName));
+        };
+        if size == 0 {
+            return Err(Denial::Fault(Fault::BadSize));
+        }
+        if passes_end(offset, size, block.size()) {
+            return Err(Denial::Fault(Fault::BadRange));
+        }
+        if self.device.begin(answers).is_err() {
+            return Err(Denial::Fault(Fault::NoMemory));
+        }
+        let Some(block) = self.blocks.get_mut(key) else {
+            unreachable!()
+        };
+        let answer = block.map(&mut self.device, offset, size as usize);
+        let object = block.memory().object();
+        match answer {
+            Ok(mapping) => Ok(ObjectRange {
+                object,
+                offset: mapping.start,
+                size: mapping.len,
+            }),
+            Err(refusal) => Err(denial_after(&self.device, Denial::MapRefused(refusal))),
+        }
+    }
+
+    /// Ends a block's mapping, if it has one, and names the object that is to be unmapped: none where the block was not
+    /// mapped, or its object is a shared one, which stays so. It takes no memory.
+    ///
+    /// Denied is a key that has no live block, by `Fault::UnknownName`. Nothing has changed then.
+    pub fn unmap(&mut self, key: u64) -> Result<Option<u64>, Denial>
+        ensures unmapped { IfOk result (Unmaps self.old key self.new) }
+        ensures denied { IfErr result (IsUnknown self.old key) }
+        ensures unchanged { OnErr result (self.new ≡ self.old) }
+        ensures keeps { Keeps self.old self.new }
+    {
+        let Some(block) = self.blocks.get_mut(key) else {
+            return Err(Denial::Fault(Fault::UnknownName));
+        };
+        let was_mapped = block.unmap(&mut self.device);
+        let object = if was_mapped && !block.kind().is_shared() {
+            Some(block.memory().object())
+        } else {
+            None
+        };
+        Ok(object)
+    }
+
+    /// The range to flush once the host wrote `size` bytes of a block from `offset` on, in bytes from its start, or to
+    /// invalidate before it reads them: the block's own rounded range (`MemoryBlock::rounded`). It has 0 bytes where
+    /// nothing has to be: where the memory is coherent, or `size` is 0.
+    ///
+    /// Denied are: `Fault::UnknownName`, `BadRange` for a range that passes the block's end, and
+    /// `MapError::NonHostVisible` where the host does not see the memory.
+    pub fn range(&self, key: u64, offset: u64, size: u64) -> Result<ObjectRange, Denial>
+        ensures told { IfOk result (RangeTold self.now key offset size) }
+        ensures denied { IfErr result (RangeDenied self.now key offset size) }
+    {
+        let Some(block) = self.blocks.get(key) else {
+            return Err(Denial::Fault(Fault::UnknownName));
+        };
+        if passes_end(offset, size, block.size()) {
+            return Err(Denial::Fault(Fault::BadRange));
+        }
+        if !block.props().intersects(MemoryPropertyFlags::HOST_VISIBLE) {
+            return Err(Denial::MapRefused(MapError::NonHostVisible));
+        }
+        let range = block.rounded(offset, size);
+        let needed = size != 0 && block.props().is_non_coherent();
+        Ok(ObjectRange {
+            object: block.memory().object(),
+            offset: range.offset,
+            size: if needed { range.size } else { 0 },
+        })
+    }
+}

@@ -1,0 +1,17 @@
+//! An allocator with its live blocks by key, over a device that is asked from outside: what a library for callers that
+//! can't be called back stands on.
+#![tactic(auto)]
+
+mod denial;
+mod desk;
+mod told;
+
+pub use denial::{Denial, OpenError};
+pub use desk::Desk;
+pub use gpu_alloc::{
+    AllocationError, Config, Dedicated, DeviceProperties, FreeRange, MapError, MemoryHeap,
+    MemoryPropertyFlags, MemoryType, Request, UsageFlags,
+};
+pub use gpu_answers::{Answer, Answered, Question};
+pub use gpu_session::Fault;
+pub use told::{Counts, Grant, HeapCounts, ObjectRange};
