@@ -99,7 +99,10 @@ pub record Allocated (old : DeskState) (r : Request) (hint : Option Dedicated) (
   pub as_asked : IsGranted old.allocator r new.allocator block
   pub own : hint ≡ Some Required → block.kind ≡ DedicatedObject
   pub run : InRun old answers (λ es after. Allocates old.allocator r hint es (Ok block) new.allocator
-      × (objects new ≡ objects_of after) × (IsTrue g.fresh ↔ (after.run.made ≡ Some block.object)))
+      × (objects new ≡ objects_of after))
+  -- the object is new, or else it was held; no other object comes or goes
+  pub fresh : IsTrue g.fresh ↔ (map.get old.allocator.held block.object ≡ None)
+  pub others : (name : ℕ) → name ≢ block.object → objects new name ≡ objects old name
 
 -- the allocator refuses it in a run that ends so
 abbrev pub RefusesIn : DeskState → Request → Option Dedicated → List Answered → Denial → Type 0
@@ -122,6 +125,7 @@ AllocationDenied s r hint answers d =
 -- An import: the block is the given span of a new object, which the device holds so.
 pub record Imported (old : DeskState) (t object_size offset size : ℕ) (new : DeskState) (g : Grant) : Type 0 where
   pub gives : Gives old g (imported_block old.allocator g.object t offset size) new
+  pub fresh : g.fresh ≡ true
   pub was_free : objects old g.object ≡ None
   pub held : HeldWith (objects new) g.object (λ o. (o.memory_type ≡ t) × (o.size ≡ object_size))
 

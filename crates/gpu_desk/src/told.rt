@@ -18,7 +18,7 @@ pub struct Grant {
     /// The index of its memory type.
     pub memory_type: u32,
 
-    /// Whether its object is the one that was made for it in the run that granted it.
+    /// Whether its object was not held before the call that tells it.
     pub fresh: bool,
 }
 

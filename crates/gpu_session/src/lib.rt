@@ -2,7 +2,7 @@
 #![tactic(auto)]
 
 mod command;
-mod conditions;
+mod faults;
 mod items;
 pub mod laws;
 mod offer;
@@ -10,7 +10,7 @@ mod session;
 mod written;
 
 pub use command::{Command, Fault, Reply};
-pub use conditions::{import_fault, passes_end, request_fault};
+pub use faults::{import_fault, passes_end, request_fault};
 pub use items::{Bytes, Items, Ledgers, Ranges};
 pub use offer::Offer;
 pub use session::{Session, SessionOpenError};

@@ -53,31 +53,30 @@ fn allocate(
     }
 }
 
-/// Tells of a block. `made` names the object that was made in this run, if one was.
-pub(super) fn grant_of(block: &MemoryBlock<ObjectName>, key: u64, made: Option<u64>) -> Grant
+/// Tells of a block.
+pub(super) fn grant_of(block: &MemoryBlock<ObjectName>, key: u64, fresh: bool) -> Grant
     ensures key { result.key ≡ key }
     ensures tells { Tells block.now result }
-    ensures fresh { IsTrue result.fresh ↔ (made ≡ Some (block.now).object) }
+    ensures fresh { result.fresh ≡ fresh }
 {
-    let object = block.memory().object();
     Grant {
         key,
-        object,
+        object: block.memory().object(),
         offset: block.offset(),
         size: block.size(),
         memory_type: block.memory_type(),
-        fresh: made == Some(object),
+        fresh,
     }
 }
 
 /// Keeps a block under a new key, and tells of it. There has to be room.
-fn keep(blocks: &mut Blocks, block: MemoryBlock<ObjectName>, made: Option<u64>) -> Grant
+fn keep(blocks: &mut Blocks, block: MemoryBlock<ObjectName>, fresh: bool) -> Grant
     requires { 0 < blocks.old.room }
     ensures kept { HasKey blocks.old result.key block blocks.new }
     ensures tells { Tells block result }
-    ensures fresh { IsTrue result.fresh ↔ (made ≡ Some block.object) }
+    ensures fresh { result.fresh ≡ fresh }
 {
-    let told = grant_of(&block, 0, made);
+    let told = grant_of(&block, 0, fresh);
     let key = blocks.insert_reserved(block);
     Grant { key, ..told }
 }
@@ -86,7 +85,7 @@ impl Desk {
     /// Allocates a block as `GpuAllocator::alloc` does, or with a hint as `alloc_with_dedicated`, in a run with these
     /// answers.
     ///
-    /// The grant tells where the block lies, and whether its object is the one that was made in the run. Any other
+    /// The grant tells where the block lies, and whether its object is new: the one that was made last outside. Any other
     /// object that was made for the request outside is its caller's to free, and so is each where the call is denied.
     ///
     /// Denied are: a request that is not askable, by the fault that it misses first; `Fault::NoMemory` for want of
@@ -112,13 +111,14 @@ impl Desk {
         if self.device.begin(answers).is_err() {
             return Err(Denial::Fault(Fault::NoMemory));
         }
+        let held = self.allocator.held_objects();
         let told = self.device.gone().len();
         let answer = allocate(&mut self.allocator, &mut self.device, request, dedicated);
         self.device.forget_gone_after(told);
         match answer {
             Ok(block) => {
-                let grant = keep(&mut self.blocks, block, self.device.made());
-                Ok(grant)
+                let fresh = self.allocator.held_objects() > held;
+                Ok(keep(&mut self.blocks, block, fresh))
             }
             Err(refusal) => { Err(denial_after(&self.device, Denial::Refused(refusal))) }
         }
@@ -178,10 +178,7 @@ impl Desk {
             .allocator
             .import_memory(memory, memory_type, props, offset, size)
         {
-            Ok(block) => {
-                let grant = keep(&mut self.blocks, block, None);
-                Ok(grant)
-            }
+            Ok(block) => { Ok(keep(&mut self.blocks, block, true)) }
             Err(memory) => {
                 self.device.deallocate_memory(&memory);
                 objects_of_others_may_go(&self.allocator, &self.device);

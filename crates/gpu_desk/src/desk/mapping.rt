@@ -18,7 +18,7 @@ impl Desk {
         ensures denied { IfErr result (IsUnknown self.now key) }
     {
         match self.blocks.get(key) {
-            Some(block) => Ok(grant_of(block, key, None)),
+            Some(block) => Ok(grant_of(block, key, false)),
             None => Err(Denial::Fault(Fault::UnknownName)),
         }
     }

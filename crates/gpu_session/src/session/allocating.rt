@@ -8,7 +8,7 @@ ghost use Rattle.gpu_session.specs.Run.{Step};
 ghost use Rattle.gpu_session.specs.Sound.{Keeps};
 
 use super::{Blocks, Session};
-use crate::conditions::{import_fault, request_fault};
+use crate::faults::{import_fault, request_fault};
 use crate::{Command, Fault, Reply};
 use gpu_alloc::laws::{made_objects_may_be_imported, objects_of_others_may_go};
 use gpu_alloc::{AllocationError, Dedicated, MemoryBlock, Request};

@@ -5,7 +5,7 @@ ghost use Rattle.gpu_session.specs.Run.{Step};
 ghost use Rattle.gpu_session.specs.Sound.{Keeps};
 
 use super::Session;
-use crate::conditions::passes_end;
+use crate::faults::passes_end;
 use crate::{Bytes, Command, Fault, Reply};
 use gpu_alloc::laws::{
     byte_calls_keep_agreement, bytes_of_a_mapping_may_be_moved, rounded_ranges_lie_in_their_block,
