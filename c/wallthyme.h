@@ -111,8 +111,9 @@ enum { WT_SHARED = 0, WT_PREFERRED = 1, WT_REQUIRED = 2 };
 #define WT_LAZILY_ALLOCATED 0x10u
 #define WT_PROTECTED 0x20u
 
-/* The most questions that one call asks: an object of each memory type, and one mapping. */
-#define WT_MAX_QUESTIONS 33
+/* The most questions that one call asks: an object of each memory type, and its mapping, since a type is passed too where
+   the mapping lacks device memory. */
+#define WT_MAX_QUESTIONS 64
 
 /* An allocator: zeroed at first, which is closed. Its fields are the library's own. */
 typedef struct wt_allocator {
