@@ -13,8 +13,7 @@
 static const char *current_case = "";
 static unsigned current_step;
 
-static inline void expect(int holds, const char *what)
-{
+static inline void expect(int holds, const char *what) {
     if (!holds) {
         fprintf(stderr, "FAILED: %s%s%s (step %u)\n", current_case, *current_case ? ": " : "", what, current_step);
         exit(1);
@@ -24,14 +23,12 @@ static inline void expect(int holds, const char *what)
 /* Drawn numbers: the same ones for the same seed everywhere. */
 static uint64_t drawn_state = 1;
 
-static inline void seed_draws(uint64_t seed)
-{
+static inline void seed_draws(uint64_t seed) {
     drawn_state = seed * 0x9e3779b97f4a7c15u + 1;
 }
 
 /* A drawn number below the bound, which is at least 1. */
-static inline uint64_t draw(uint64_t bound)
-{
+static inline uint64_t draw(uint64_t bound) {
     drawn_state ^= drawn_state << 13;
     drawn_state ^= drawn_state >> 7;
     drawn_state ^= drawn_state << 17;
@@ -64,8 +61,7 @@ static const wt_config small_config = {
     8 * KIBIBYTE,  /* initial_buddy_dedicated_size */
 };
 
-static inline wt_limits device_limits(uint32_t objects, uint32_t has_device_address)
-{
+static inline wt_limits device_limits(uint32_t objects, uint32_t has_device_address) {
     wt_limits limits = { 0, ATOM, 0, 0 };
     limits.max_memory_allocation_size = 12 * MEBIBYTE;
     limits.max_memory_allocation_count = objects;
@@ -73,26 +69,22 @@ static inline wt_limits device_limits(uint32_t objects, uint32_t has_device_addr
     return limits;
 }
 
-static inline int is_host_visible(uint32_t memory_type)
-{
+static inline int is_host_visible(uint32_t memory_type) {
     return (memory_types[memory_type].props & WT_HOST_VISIBLE) != 0;
 }
 
-static inline int is_non_coherent(uint32_t memory_type)
-{
+static inline int is_non_coherent(uint32_t memory_type) {
     return (memory_types[memory_type].props & (WT_HOST_VISIBLE | WT_HOST_COHERENT)) == WT_HOST_VISIBLE;
 }
 
-static inline void open_device(wt_allocator *a, const wt_limits *limits)
-{
+static inline void open_device(wt_allocator *a, const wt_limits *limits) {
     expect(wt_open(a, memory_types, TYPES, heap_sizes, HEAPS, limits, &small_config) == WT_OK, "it was not opened");
 }
 
 /* How a device answers a question. */
 typedef uint32_t answering(const wt_question *question);
 
-static inline uint32_t grants(const wt_question *question)
-{
+static inline uint32_t grants(const wt_question *question) {
     (void)question;
     return WT_GRANTED;
 }
@@ -103,8 +95,7 @@ typedef struct {
     size_t len;
 } questions;
 
-static inline void answer_next(questions *so_far, answering *answer)
-{
+static inline void answer_next(questions *so_far, answering *answer) {
     wt_question *next = &so_far->asked[so_far->len];
     expect(so_far->len < WT_MAX_QUESTIONS, "a call asks more than WT_MAX_QUESTIONS");
     next->answer = answer(next);
@@ -112,8 +103,7 @@ static inline void answer_next(questions *so_far, answering *answer)
 }
 
 static inline uint32_t allocate(wt_allocator *a, const wt_request *request, answering *answer, questions *so_far,
-                                wt_block *block)
-{
+                                wt_block *block) {
     uint32_t status;
     so_far->len = 0;
     while ((status = wt_alloc(a, request, so_far->asked, so_far->len, block, &so_far->asked[so_far->len])) == WT_ASK)
@@ -122,8 +112,7 @@ static inline uint32_t allocate(wt_allocator *a, const wt_request *request, answ
 }
 
 static inline uint32_t map(wt_allocator *a, uint64_t key, uint64_t offset, uint64_t size, answering *answer,
-                           questions *so_far, wt_range *mapped)
-{
+                           questions *so_far, wt_range *mapped) {
     uint32_t status;
     so_far->len = 0;
     while ((status = wt_map(a, key, offset, size, so_far->asked, so_far->len, mapped, &so_far->asked[so_far->len]))
@@ -132,23 +121,20 @@ static inline uint32_t map(wt_allocator *a, uint64_t key, uint64_t offset, uint6
     return status;
 }
 
-static inline wt_counts counts_of(wt_allocator *a)
-{
+static inline wt_counts counts_of(wt_allocator *a) {
     wt_counts counts;
     expect(wt_count(a, &counts) == WT_OK, "an open allocator is not counted");
     return counts;
 }
 
-static inline wt_heap_counts heap_counts_of(wt_allocator *a, uint32_t heap)
-{
+static inline wt_heap_counts heap_counts_of(wt_allocator *a, uint32_t heap) {
     wt_heap_counts counts;
     expect(wt_heap(a, heap, &counts) == WT_OK, "a heap is not counted");
     return counts;
 }
 
 /* A number of all free ranges, which another list of them would hardly have. */
-static inline uint64_t free_space(wt_allocator *a)
-{
+static inline uint64_t free_space(wt_allocator *a) {
     wt_range ranges[64];
     uint64_t sum = 0;
     for (uint32_t type = 0; type < TYPES; type++) {
@@ -162,20 +148,17 @@ static inline uint64_t free_space(wt_allocator *a)
     return sum;
 }
 
-static inline int is_same_block(const wt_block *one, const wt_block *other)
-{
+static inline int is_same_block(const wt_block *one, const wt_block *other) {
     return one->key == other->key && one->object == other->object && one->offset == other->offset
         && one->size == other->size && one->memory_type == other->memory_type && one->fresh == other->fresh;
 }
 
-static inline int share_a_byte(uint64_t start, uint64_t size, uint64_t other_start, uint64_t other_size)
-{
+static inline int share_a_byte(uint64_t start, uint64_t size, uint64_t other_start, uint64_t other_size) {
     return start < other_start + other_size && other_start < start + size;
 }
 
 /* Whether a key is refused by each call that takes one. */
-static inline int is_refused_everywhere(wt_allocator *a, uint64_t key)
-{
+static inline int is_refused_everywhere(wt_allocator *a, uint64_t key) {
     wt_block block;
     wt_range range;
     wt_question question;

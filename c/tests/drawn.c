@@ -30,16 +30,14 @@ static uint64_t percent, last_name, made, freed, granted, refused, asked;
 static uint64_t total; /* the objects that are held and that may be */
 static uint32_t has_device_address;
 
-static object *find_object(uint64_t name)
-{
+static object *find_object(uint64_t name) {
     for (size_t i = 0; i < objects_len; i++)
         if (objects[i].name == name) return &objects[i];
     expect(0, "an object is named that is not there");
     return NULL;
 }
 
-static int is_live(uint64_t key)
-{
+static int is_live(uint64_t key) {
     for (size_t i = 0; i < blocks_len; i++)
         if (blocks[i].at.key == key) return 1;
     return 0;
@@ -47,22 +45,19 @@ static int is_live(uint64_t key)
 
 /* ---- The device ---- */
 
-static void free_pending(void)
-{
+static void free_pending(void) {
     freed += (uint64_t)has_pending;
     has_pending = 0;
 }
 
-static void make_pending(const wt_question *question)
-{
+static void make_pending(const wt_question *question) {
     object fresh = { 0, question->size, question->size, question->memory_type, 0, 0, 0 };
     pending = fresh;
     has_pending = 1;
     made++;
 }
 
-static void check_allocate(const wt_question *question)
-{
+static void check_allocate(const wt_question *question) {
     wt_heap_counts heap;
     expect(question->object == 0 && question->offset == 0, "a field of an object to make is not 0");
     expect(question->memory_type < TYPES, "an object is wanted of no memory type");
@@ -71,16 +66,14 @@ static void check_allocate(const wt_question *question)
     expect(question->size > 0 && question->size <= heap.budget, "an object is wanted that is over the heap's budget");
 }
 
-static void check_map_made(const wt_question *question)
-{
+static void check_map_made(const wt_question *question) {
     expect(question->object == 0 && question->memory_type == 0 && question->flags == 0, "a field of a mapping is not 0");
     expect(has_pending && !pending.is_mapped_whole, "an object is to be mapped that was not made, or twice");
     expect(is_host_visible(pending.memory_type), "an object is to be mapped that the host does not see");
     expect(question->offset == 0 && question->size == pending.size, "a shared object is not mapped whole");
 }
 
-static void check_map(const wt_question *question)
-{
+static void check_map(const wt_question *question) {
     const object *of = find_object(question->object);
     expect(question->memory_type == 0 && question->flags == 0, "a field of a mapping is not 0");
     expect(!of->is_mapped && !of->is_mapped_whole, "an object is to be mapped that is mapped");
@@ -89,8 +82,7 @@ static void check_map(const wt_question *question)
            "a mapping passes the end of its object");
 }
 
-static uint32_t answer(const wt_question *question)
-{
+static uint32_t answer(const wt_question *question) {
     int is_refused = draw(100) < percent;
     asked++;
     if (question->kind == WT_ALLOCATE) {
@@ -110,8 +102,7 @@ static uint32_t answer(const wt_question *question)
 
 /* ---- What has to be so after each step ---- */
 
-static void check_heap(uint32_t heap, int is_all_read)
-{
+static void check_heap(uint32_t heap, int is_all_read) {
     wt_heap_counts counts = heap_counts_of(&allocator, heap);
     uint64_t sum = 0;
     for (size_t i = 0; i < objects_len; i++)
@@ -121,8 +112,7 @@ static void check_heap(uint32_t heap, int is_all_read)
     expect(counts.budget == (counts.used < heap_sizes[heap] ? heap_sizes[heap] - counts.used : 0), "a wrong budget");
 }
 
-static void check_books(void)
-{
+static void check_books(void) {
     wt_counts counts = counts_of(&allocator);
     wt_block told;
     expect(counts.blocks == blocks_len, "other blocks are counted than are live");
@@ -137,8 +127,7 @@ static void check_books(void)
 
 /* ---- Blocks ---- */
 
-static void remember(const wt_block *given)
-{
+static void remember(const wt_block *given) {
     block fresh = { *given, 0 };
     for (size_t i = 0; i < keys_len; i++) expect(keys[i] != given->key, "a key is given twice");
     keys[keys_len++] = given->key;
@@ -146,16 +135,14 @@ static void remember(const wt_block *given)
     blocks[blocks_len++] = fresh;
 }
 
-static void add_object(object new_one, uint64_t name)
-{
+static void add_object(object new_one, uint64_t name) {
     expect(name > last_name, "an object has a name that was used");
     last_name = name;
     new_one.name = name;
     objects[objects_len++] = new_one;
 }
 
-static void check_place(const wt_block *given, const object *of)
-{
+static void check_place(const wt_block *given, const object *of) {
     expect(given->memory_type == of->memory_type, "a block has another memory type than its object");
     expect(given->offset <= of->size && given->size <= of->size - given->offset, "a block passes its object's end");
     for (size_t i = 0; i < blocks_len; i++)
@@ -164,14 +151,12 @@ static void check_place(const wt_block *given, const object *of)
                "two blocks share a byte");
 }
 
-static int serves(const wt_request *request, uint32_t memory_type)
-{
+static int serves(const wt_request *request, uint32_t memory_type) {
     uint32_t host = WT_USAGE_HOST_ACCESS | WT_USAGE_DOWNLOAD | WT_USAGE_UPLOAD;
     return (request->memory_types >> memory_type & 1) && (!(request->usage & host) || is_host_visible(memory_type));
 }
 
-static void check_granted(const wt_request *request, const questions *talk, const wt_block *given)
-{
+static void check_granted(const wt_request *request, const questions *talk, const wt_block *given) {
     const object *of;
     expect(given->fresh <= 1, "fresh is neither 0 nor 1");
     if (given->fresh) {
@@ -194,8 +179,7 @@ static void check_granted(const wt_request *request, const questions *talk, cons
 }
 
 /* Whether a block with an object of its own was refused though a heap had room, and nothing was asked. */
-static int is_refused_with_room(const wt_request *request, const questions *talk)
-{
+static int is_refused_with_room(const wt_request *request, const questions *talk) {
     int has_room = 0;
     for (uint32_t type = 0; type < TYPES; type++)
         has_room |= serves(request, type)
@@ -203,8 +187,7 @@ static int is_refused_with_room(const wt_request *request, const questions *talk
     return request->dedicated == WT_REQUIRED && talk->len == 0 && has_room;
 }
 
-static void check_refused(const wt_request *request, uint32_t status, const questions *talk)
-{
+static void check_refused(const wt_request *request, uint32_t status, const questions *talk) {
     uint32_t last = talk->len ? talk->asked[talk->len - 1].answer : WT_GRANTED;
     int is_served = 0;
     for (uint32_t type = 0; type < TYPES; type++) is_served |= serves(request, type);
@@ -224,8 +207,7 @@ static void check_refused(const wt_request *request, uint32_t status, const ques
 
 /* ---- The steps ---- */
 
-static wt_request draw_request(void)
-{
+static wt_request draw_request(void) {
     wt_request request = { 0, 0, 0, 0, WT_SHARED };
     request.size = 1 + (draw(10) ? draw(4000) : draw(200 * KIBIBYTE));
     request.align_mask = ((uint64_t)1 << draw(9)) - 1;
@@ -236,8 +218,7 @@ static wt_request draw_request(void)
     return request;
 }
 
-static void step_allocate(void)
-{
+static void step_allocate(void) {
     wt_request request = draw_request();
     questions talk;
     wt_block given;
@@ -252,8 +233,7 @@ static void step_allocate(void)
 }
 
 /* A request that is not asked again after its first question. */
-static void step_abandon(void)
-{
+static void step_abandon(void) {
     wt_request request = draw_request();
     wt_question question;
     wt_block given;
@@ -263,8 +243,7 @@ static void step_abandon(void)
         expect(free_space(&allocator) == before, "a question changed what is free");
 }
 
-static void step_free(void)
-{
+static void step_free(void) {
     size_t at = (size_t)draw(blocks_len + 1);
     uint64_t key;
     if (at == blocks_len) return;
@@ -274,20 +253,17 @@ static void step_free(void)
     expect(wt_free(&allocator, key) == WT_UNKNOWN_KEY, "a block is taken back twice");
 }
 
-static void step_old_key(void)
-{
+static void step_old_key(void) {
     uint64_t key = keys_len ? keys[draw(keys_len)] : 0;
     if (!is_live(key)) expect(is_refused_everywhere(&allocator, key), "a key that was freed is taken");
 }
 
-static uint32_t map_status(uint32_t answered)
-{
+static uint32_t map_status(uint32_t answered) {
     static const uint32_t statuses[] = { WT_OK, WT_OUT_OF_DEVICE_MEMORY, WT_OUT_OF_HOST_MEMORY, WT_MAP_FAILED };
     return statuses[answered];
 }
 
-static void check_mapping(const block *of, uint64_t start, uint64_t size, const wt_question *question)
-{
+static void check_mapping(const block *of, uint64_t start, uint64_t size, const wt_question *question) {
     uint64_t end = question->offset + question->size, atom = is_non_coherent(of->at.memory_type) ? ATOM : 1;
     expect(question->object == of->at.object, "another object is to be mapped");
     expect(question->offset <= start && end >= start + size, "a mapping leaves bytes out");
@@ -296,8 +272,7 @@ static void check_mapping(const block *of, uint64_t start, uint64_t size, const 
            "a mapping is not of whole atoms");
 }
 
-static void map_unmapped(block *of, uint64_t offset, uint64_t size)
-{
+static void map_unmapped(block *of, uint64_t offset, uint64_t size) {
     questions talk;
     wt_range mapped;
     const object *in = find_object(of->at.object);
@@ -311,8 +286,7 @@ static void map_unmapped(block *of, uint64_t offset, uint64_t size)
     of->is_mapped = 1;
 }
 
-static void step_map(void)
-{
+static void step_map(void) {
     block *of = &blocks[draw(blocks_len + 1)];
     wt_question question;
     wt_range mapped;
@@ -328,8 +302,7 @@ static void step_map(void)
     }
 }
 
-static void step_unmap(void)
-{
+static void step_unmap(void) {
     block *of = &blocks[draw(blocks_len + 1)];
     object *in;
     uint64_t name = UINT64_MAX;
@@ -341,8 +314,7 @@ static void step_unmap(void)
     in->is_mapped = 0;
 }
 
-static void check_range(const block *of, uint64_t start, uint64_t size, const wt_range *range)
-{
+static void check_range(const block *of, uint64_t start, uint64_t size, const wt_range *range) {
     const object *in = find_object(of->at.object);
     uint64_t block_end = of->at.offset + of->at.size, end = (start + size + ATOM - 1) / ATOM * ATOM;
     if (end > block_end) end = block_end;
@@ -352,8 +324,7 @@ static void check_range(const block *of, uint64_t start, uint64_t size, const wt
     expect(in->is_imported || range->offset >= of->at.offset, "a range begins before its block");
 }
 
-static void step_range(void)
-{
+static void step_range(void) {
     const block *of = &blocks[draw(blocks_len + 1)];
     wt_range range;
     uint64_t offset, size;
@@ -371,8 +342,7 @@ static void step_range(void)
     }
 }
 
-static void check_imported(object own, uint64_t offset, uint64_t size, const wt_block *given)
-{
+static void check_imported(object own, uint64_t offset, uint64_t size, const wt_block *given) {
     add_object(own, given->object);
     expect(given->offset == offset && given->size == size, "an import is another range");
     expect(given->fresh == 0, "an import is told as fresh");
@@ -381,8 +351,7 @@ static void check_imported(object own, uint64_t offset, uint64_t size, const wt_
     made++;
 }
 
-static void step_import(void)
-{
+static void step_import(void) {
     object own = { 0, 1 + draw(20000), 0, (uint32_t)draw(TYPES), 1, 0, 0 };
     uint64_t offset = draw(own.size), size = 1 + draw(own.size - offset);
     uint32_t remaining = counts_of(&allocator).remaining, status;
@@ -398,8 +367,7 @@ static void step_import(void)
     if (status == WT_OK) check_imported(own, offset, size, &given);
 }
 
-static void take_gone(uint64_t name)
-{
+static void take_gone(uint64_t name) {
     object *gone = find_object(name);
     for (size_t i = 0; i < blocks_len; i++)
         expect(blocks[i].at.object != name, "an object of a live block is told as gone");
@@ -407,8 +375,7 @@ static void take_gone(uint64_t name)
     freed++;
 }
 
-static void read_gone(size_t room)
-{
+static void read_gone(size_t room) {
     uint64_t names[8];
     size_t count = SIZE_MAX;
     uint64_t before = counts_of(&allocator).told;
@@ -418,27 +385,23 @@ static void read_gone(size_t room)
     expect(counts_of(&allocator).told == before - count, "a name is lost, or stays after it was read");
 }
 
-static void step_gone(void)
-{
+static void step_gone(void) {
     static const size_t rooms[] = { 0, 1, 1, 2, 8, 8 };
     read_gone(rooms[draw(LENGTH(rooms))]);
 }
 
-static void step_cleanup(void)
-{
+static void step_cleanup(void) {
     expect(wt_cleanup(&allocator) == WT_OK, "it is not cleaned up");
 }
 
-static void step_set_remaining(void)
-{
+static void step_set_remaining(void) {
     uint32_t remaining = (uint32_t)draw(MOST_OBJECTS);
     expect(wt_set_remaining(&allocator, remaining) == WT_OK, "a number of objects is refused");
     total = (uint64_t)counts_of(&allocator).held + remaining;
 }
 
 /* The bytes of an object that are free or lie in live blocks, which have to be all where any block is live. */
-static void check_filled(const object *of, uint64_t free_bytes)
-{
+static void check_filled(const object *of, uint64_t free_bytes) {
     uint64_t live_bytes = 0;
     for (size_t i = 0; i < blocks_len; i++)
         if (blocks[i].at.object == of->name) live_bytes += blocks[i].at.size;
@@ -447,8 +410,7 @@ static void check_filled(const object *of, uint64_t free_bytes)
     else expect(free_bytes == 0 || free_bytes == of->size, "an object with no block is not wholly free");
 }
 
-static void check_free_range(const wt_range *range, const wt_range *before, uint32_t memory_type)
-{
+static void check_free_range(const wt_range *range, const wt_range *before, uint32_t memory_type) {
     const object *in = find_object(range->object);
     expect(in->memory_type == memory_type, "a free range is of another memory type");
     expect(range->size > 0 && range->offset + range->size <= in->size, "a free range is empty or passes its object's end");
@@ -461,8 +423,7 @@ static void check_free_range(const wt_range *range, const wt_range *before, uint
                "a live byte is free");
 }
 
-static void step_free_ranges(void)
-{
+static void step_free_ranges(void) {
     static uint64_t free_bytes[MOST];
     uint32_t type = (uint32_t)draw(TYPES);
     size_t count = SIZE_MAX, again, room = 1 + (size_t)draw(3);
@@ -482,8 +443,7 @@ static void step_free_ranges(void)
         if (objects[i].memory_type == type) check_filled(&objects[i], free_bytes[i]);
 }
 
-static void take_step(void)
-{
+static void take_step(void) {
     static const struct {
         void (*step)(void);
         unsigned weight;
@@ -505,8 +465,7 @@ static void take_step(void)
     }
 }
 
-static void finish(void)
-{
+static void finish(void) {
     while (blocks_len) step_free();
     step_cleanup();
     while (objects_len) {
@@ -518,8 +477,7 @@ static void finish(void)
     expect(made == freed, "other objects were freed than made");
 }
 
-int main(int argc, char **argv)
-{
+int main(int argc, char **argv) {
     unsigned long steps;
     wt_limits limits;
     if (argc != 4) {

@@ -34,38 +34,33 @@ static const wt_request shared_request = { 100, 0, WT_USAGE_UPLOAD | WT_USAGE_TR
 static const wt_request host_request = { 1000, 0, WT_USAGE_HOST_ACCESS, ONLY(CACHED_TYPE), WT_REQUIRED };
 static const wt_request local_request = { 1000, 0, 0, ONLY(LOCAL_TYPE), WT_REQUIRED };
 
-static wt_block granted(wt_allocator *a, const wt_request *request)
-{
+static wt_block granted(wt_allocator *a, const wt_request *request) {
     questions talk;
     wt_block block;
     expect(allocate(a, request, grants, &talk, &block) == WT_OK, "a request is refused that its device grants");
     return block;
 }
 
-static void read_all_gone(wt_allocator *a)
-{
+static void read_all_gone(wt_allocator *a) {
     uint64_t name;
     size_t count = 1;
     while (count) expect(wt_gone(a, &name, 1, &count) == WT_OK, "what is gone is not told");
 }
 
-static void free_all(world *w)
-{
+static void free_all(world *w) {
     for (size_t i = 0; i < BLOCKS; i++) {
         if (w->blocks[i].key) expect(wt_free(&w->allocator, w->blocks[i].key) == WT_OK, "a block is not taken back");
         w->blocks[i].key = 0;
     }
 }
 
-static void clean_and_close(wt_allocator *a)
-{
+static void clean_and_close(wt_allocator *a) {
     expect(wt_cleanup(a) == WT_OK, "it is not cleaned up");
     read_all_gone(a);
     expect(wt_close(a) == WT_OK, "it is not closed");
 }
 
-static void begin_world(world *w)
-{
+static void begin_world(world *w) {
     wt_limits limits = device_limits(32, 0);
     memset(w, 0, sizeof *w);
     open_device(&w->allocator, &limits);
@@ -76,8 +71,7 @@ static void begin_world(world *w)
     expect(wt_free(&w->allocator, w->freed_key) == WT_OK, "a block is not taken back");
 }
 
-static void end_world(world *w)
-{
+static void end_world(world *w) {
     wt_counts counts;
     uint64_t object;
     if (w->blocks[HOST_BLOCK].key) {
@@ -97,8 +91,7 @@ typedef struct {
     uint64_t free_space;
 } picture;
 
-static picture taken(world *w)
-{
+static picture taken(world *w) {
     picture seen;
     memset(&seen, 0, sizeof seen);
     seen.status = wt_count(&w->allocator, &seen.counts);
@@ -112,35 +105,30 @@ static picture taken(world *w)
 
 /* ---- What comes before a call ---- */
 
-static void shut(world *w, const test_case *c)
-{
+static void shut(world *w, const test_case *c) {
     (void)c;
     free_all(w);
     clean_and_close(&w->allocator);
 }
 
-static void free_blocks_alone(world *w, const test_case *c)
-{
+static void free_blocks_alone(world *w, const test_case *c) {
     (void)c;
     free_all(w);
     read_all_gone(&w->allocator);
 }
 
-static void free_and_clean_alone(world *w, const test_case *c)
-{
+static void free_and_clean_alone(world *w, const test_case *c) {
     (void)c;
     free_all(w);
     expect(wt_cleanup(&w->allocator) == WT_OK, "it is not cleaned up");
 }
 
-static void allow_no_more(world *w, const test_case *c)
-{
+static void allow_no_more(world *w, const test_case *c) {
     (void)c;
     expect(wt_set_remaining(&w->allocator, 0) == WT_OK, "no objects more are refused");
 }
 
-static void map_blocks(world *w, const test_case *c)
-{
+static void map_blocks(world *w, const test_case *c) {
     questions talk;
     wt_range mapped;
     (void)c;
@@ -150,8 +138,7 @@ static void map_blocks(world *w, const test_case *c)
 }
 
 /* The first question of the case's request, answered, and nothing done with it yet. */
-static void begin_request(world *w, const test_case *c)
-{
+static void begin_request(world *w, const test_case *c) {
     wt_block block;
     expect(wt_alloc(&w->allocator, &c->request, NULL, 0, &block, &w->talk.asked[0]) == WT_ASK, "nothing is asked");
     w->talk.asked[0].answer = WT_GRANTED;
@@ -159,45 +146,39 @@ static void begin_request(world *w, const test_case *c)
 }
 
 /* Between the question and its answer, most of the heap goes to another block, so that the question is another one. */
-static void begin_and_take_its_heap(world *w, const test_case *c)
-{
+static void begin_and_take_its_heap(world *w, const test_case *c) {
     wt_request other = { 10 * MEBIBYTE, 0, 0, ONLY(LOCAL_TYPE), WT_REQUIRED };
     begin_request(w, c);
     w->blocks[EXTRA_BLOCK] = granted(&w->allocator, &other);
 }
 
 /* Between the question and its answer, the same is granted to another, so that there is room and nothing is asked. */
-static void begin_and_serve_another(world *w, const test_case *c)
-{
+static void begin_and_serve_another(world *w, const test_case *c) {
     begin_request(w, c);
     w->blocks[EXTRA_BLOCK] = granted(&w->allocator, &c->request);
 }
 
 /* ---- Calls ---- */
 
-static uint32_t request(world *w, const test_case *c)
-{
+static uint32_t request(world *w, const test_case *c) {
     questions talk;
     wt_block block;
     return allocate(&w->allocator, &c->request, c->answer ? c->answer : grants, &talk, &block);
 }
 
-static uint32_t answer_begun(world *w, const test_case *c)
-{
+static uint32_t answer_begun(world *w, const test_case *c) {
     wt_block block;
     wt_question question;
     return wt_alloc(&w->allocator, &c->request, w->talk.asked, w->talk.len, &block, &question);
 }
 
-static uint32_t answer_twice(world *w, const test_case *c)
-{
+static uint32_t answer_twice(world *w, const test_case *c) {
     w->talk.asked[1] = w->talk.asked[0];
     w->talk.len = 2;
     return answer_begun(w, c);
 }
 
-static uint32_t answer_with_another_field(world *w, const test_case *c)
-{
+static uint32_t answer_with_another_field(world *w, const test_case *c) {
     wt_question *answered = &w->talk.asked[0];
     if (c->which == 0) answered->object++;
     if (c->which == 1) answered->offset++;
@@ -208,8 +189,7 @@ static uint32_t answer_with_another_field(world *w, const test_case *c)
     return answer_begun(w, c);
 }
 
-static uint32_t answer_badly(world *w, const test_case *c)
-{
+static uint32_t answer_badly(world *w, const test_case *c) {
     static const struct {
         uint32_t kind, answer;
     } bad[] = { { WT_ALLOCATE, 4 }, { WT_ALLOCATE, UINT32_MAX }, { 0, WT_GRANTED }, { 4, WT_GRANTED } };
@@ -218,8 +198,7 @@ static uint32_t answer_badly(world *w, const test_case *c)
     return answer_begun(w, c);
 }
 
-static uint32_t map_with(world *w, size_t of, uint64_t offset, uint64_t size, answering *answer)
-{
+static uint32_t map_with(world *w, size_t of, uint64_t offset, uint64_t size, answering *answer) {
     questions talk;
     wt_range mapped;
     return map(&w->allocator, w->blocks[of].key, offset, size, answer, &talk, &mapped);
@@ -234,28 +213,24 @@ static uint32_t map_nothing(world *w, const test_case *c) { (void)c; return map_
 static const wt_range bad_ranges[] = { { 0, 0, 1001 }, { 0, 1001, 1 }, { 0, 1000, 1 }, { 0, 1, UINT64_MAX },
                                        { 0, UINT64_MAX, 1 } };
 
-static uint32_t map_past_the_end(world *w, const test_case *c)
-{
+static uint32_t map_past_the_end(world *w, const test_case *c) {
     return map_with(w, HOST_BLOCK, bad_ranges[c->which].offset, bad_ranges[c->which].size, grants);
 }
 
-static uint32_t range_past_the_end(world *w, const test_case *c)
-{
+static uint32_t range_past_the_end(world *w, const test_case *c) {
     wt_range range;
     return wt_range_of(&w->allocator, w->blocks[HOST_BLOCK].key, bad_ranges[c->which].offset, bad_ranges[c->which].size,
                        &range);
 }
 
-static uint32_t range_of_local(world *w, const test_case *c)
-{
+static uint32_t range_of_local(world *w, const test_case *c) {
     wt_range range;
     (void)c;
     return wt_range_of(&w->allocator, w->blocks[LOCAL_BLOCK].key, 0, 1, &range);
 }
 
 /* Maps with one answer, which is to the right question but for one field. */
-static uint32_t map_with_another_field(world *w, const test_case *c)
-{
+static uint32_t map_with_another_field(world *w, const test_case *c) {
     const wt_block *of = &w->blocks[HOST_BLOCK];
     wt_question question;
     wt_range mapped;
@@ -268,16 +243,14 @@ static uint32_t map_with_another_field(world *w, const test_case *c)
     return wt_map(&w->allocator, of->key, 0, 1, &question, 1, &mapped, &w->talk.asked[0]);
 }
 
-static uint32_t map_shared_with_an_answer(world *w, const test_case *c)
-{
+static uint32_t map_shared_with_an_answer(world *w, const test_case *c) {
     wt_question answered = { w->blocks[SHARED_BLOCK].object, 0, 1, WT_MAP, 0, 0, WT_GRANTED }, question;
     wt_range mapped;
     (void)c;
     return wt_map(&w->allocator, w->blocks[SHARED_BLOCK].key, 0, 1, &answered, 1, &mapped, &question);
 }
 
-static uint32_t import_wrongly(world *w, const test_case *c)
-{
+static uint32_t import_wrongly(world *w, const test_case *c) {
     static const struct {
         uint32_t memory_type;
         uint64_t object_size, offset, size;
@@ -291,15 +264,13 @@ static uint32_t import_wrongly(world *w, const test_case *c)
                      wrong[c->which].size, &block);
 }
 
-static uint32_t open_again(world *w, const test_case *c)
-{
+static uint32_t open_again(world *w, const test_case *c) {
     wt_limits limits = device_limits(32, 0);
     (void)c;
     return wt_open(&w->allocator, memory_types, TYPES, heap_sizes, HEAPS, &limits, &small_config);
 }
 
-static uint32_t open_wrongly(world *w, const test_case *c)
-{
+static uint32_t open_wrongly(world *w, const test_case *c) {
     static const uint64_t bad_atoms[] = { 0, 3, 96, (uint64_t)1 << 63 };
     wt_memory_type many[33];
     wt_limits limits = device_limits(32, 0);
@@ -311,21 +282,18 @@ static uint32_t open_wrongly(world *w, const test_case *c)
     return wt_open(&w->allocator, many, types_len, heap_sizes, HEAPS, &limits, &small_config);
 }
 
-static uint32_t refused_everywhere(world *w, uint64_t key)
-{
+static uint32_t refused_everywhere(world *w, uint64_t key) {
     return is_refused_everywhere(&w->allocator, key) ? WT_UNKNOWN_KEY : WT_OK;
 }
 
-static uint32_t use_key(world *w, const test_case *c)
-{
+static uint32_t use_key(world *w, const test_case *c) {
     uint64_t live = w->blocks[LOCAL_BLOCK].key;
     const uint64_t wrong[] = { w->freed_key, live + ((uint64_t)1 << 32), live - ((uint64_t)1 << 32), live + 1000, UINT64_MAX };
     return refused_everywhere(w, wrong[c->which]);
 }
 
 /* Keys of another allocator, but those that are keys of a live block of this one too. */
-static uint32_t use_keys_of_another(world *w, const test_case *c)
-{
+static uint32_t use_keys_of_another(world *w, const test_case *c) {
     wt_limits limits = device_limits(32, 0);
     wt_block theirs[2 * BLOCKS];
     uint32_t status = WT_OK, tried = 0;
@@ -342,34 +310,29 @@ static uint32_t use_keys_of_another(world *w, const test_case *c)
     return status;
 }
 
-static uint32_t remain_too_many(world *w, const test_case *c)
-{
+static uint32_t remain_too_many(world *w, const test_case *c) {
     (void)c;
     return wt_set_remaining(&w->allocator, UINT32_MAX - counts_of(&w->allocator).held + 1);
 }
 
-static uint32_t look_at_no_heap(world *w, const test_case *c)
-{
+static uint32_t look_at_no_heap(world *w, const test_case *c) {
     wt_heap_counts counts;
     (void)c;
     return wt_heap(&w->allocator, HEAPS, &counts);
 }
 
-static uint32_t ranges_of_no_type(world *w, const test_case *c)
-{
+static uint32_t ranges_of_no_type(world *w, const test_case *c) {
     size_t count;
     (void)c;
     return wt_free_ranges(&w->allocator, TYPES, 0, NULL, 0, &count);
 }
 
-static uint32_t close_it(world *w, const test_case *c)
-{
+static uint32_t close_it(world *w, const test_case *c) {
     (void)c;
     return wt_close(&w->allocator);
 }
 
-static uint32_t any_call(world *w, const test_case *c)
-{
+static uint32_t any_call(world *w, const test_case *c) {
     wt_block block;
     wt_question question;
     wt_range range;
@@ -400,8 +363,7 @@ static uint32_t no_device_memory(const wt_question *q) { (void)q; return WT_NO_D
 static uint32_t no_host_memory(const wt_question *q) { (void)q; return WT_NO_HOST_MEMORY; }
 static uint32_t map_failed(const wt_question *q) { (void)q; return WT_DEVICE_MAP_FAILED; }
 
-static uint32_t makes_and(const wt_question *q, uint32_t otherwise)
-{
+static uint32_t makes_and(const wt_question *q, uint32_t otherwise) {
     return q->kind == WT_ALLOCATE ? WT_GRANTED : otherwise;
 }
 
@@ -533,8 +495,7 @@ static const test_case cases[] = {
     { "it is closed with names to read", WT_STILL_TOLD, free_and_clean_alone, close_it, OF_OWN, NULL, 0 },
 };
 
-static void run(const test_case *c)
-{
+static void run(const test_case *c) {
     world w;
     picture before, after;
     char what[64];
@@ -551,8 +512,7 @@ static void run(const test_case *c)
     end_world(&w);
 }
 
-int main(void)
-{
+int main(void) {
     for (size_t i = 0; i < LENGTH(cases); i++) run(&cases[i]);
     current_case = "";
     for (uint32_t status = WT_OUT_OF_DEVICE_MEMORY; status <= WT_STILL_TOLD; status++) {
