@@ -77,8 +77,12 @@ static inline int is_non_coherent(uint32_t memory_type) {
     return (memory_types[memory_type].props & (WT_HOST_VISIBLE | WT_HOST_COHERENT)) == WT_HOST_VISIBLE;
 }
 
+static inline void open_heaps(wt_allocator *a, const wt_limits *limits, const uint64_t *sizes) {
+    expect(wt_open(a, memory_types, TYPES, sizes, HEAPS, limits, &small_config) == WT_OK, "it was not opened");
+}
+
 static inline void open_device(wt_allocator *a, const wt_limits *limits) {
-    expect(wt_open(a, memory_types, TYPES, heap_sizes, HEAPS, limits, &small_config) == WT_OK, "it was not opened");
+    open_heaps(a, limits, heap_sizes);
 }
 
 /* How a device answers a question. */

@@ -29,6 +29,7 @@ static int has_pending;
 static uint64_t percent, last_name, made, freed, granted, refused, asked;
 static uint64_t total; /* the objects that are held and that may be */
 static uint32_t has_device_address;
+static uint64_t heaps[HEAPS];
 
 static object *find_object(uint64_t name) {
     for (size_t i = 0; i < objects_len; i++)
@@ -109,7 +110,7 @@ static void check_heap(uint32_t heap, int is_all_read) {
         if (memory_types[objects[i].memory_type].heap == heap) sum += objects[i].counted;
     expect(counts.used_high == 0, "a heap counts 2^64 bytes");
     expect(counts.used == sum || (!is_all_read && counts.used < sum), "a heap counts other bytes than are held");
-    expect(counts.budget == (counts.used < heap_sizes[heap] ? heap_sizes[heap] - counts.used : 0), "a wrong budget");
+    expect(counts.budget == (counts.used < heaps[heap] ? heaps[heap] - counts.used : 0), "a wrong budget");
 }
 
 static void check_books(void) {
@@ -491,7 +492,8 @@ int main(int argc, char **argv) {
     has_device_address = (uint32_t)draw(2);
     limits = device_limits(MOST_OBJECTS, has_device_address);
     total = MOST_OBJECTS;
-    open_device(&allocator, &limits);
+    for (size_t i = 0; i < HEAPS; i++) heaps[i] = heap_sizes[i] >> draw(6); /* so that some are often full */
+    open_heaps(&allocator, &limits, heaps);
     for (unsigned long i = 0; i < steps; i++) {
         current_step++;
         take_step();

@@ -145,11 +145,16 @@ static void begin_request(world *w, const test_case *c) {
     w->talk.len = 1;
 }
 
+static void take_most_of_the_heap(world *w, const test_case *c) {
+    wt_request most = { 10 * MEBIBYTE, 0, 0, ONLY(LOCAL_TYPE), WT_REQUIRED };
+    (void)c;
+    w->blocks[EXTRA_BLOCK] = granted(&w->allocator, &most);
+}
+
 /* Between the question and its answer, most of the heap goes to another block, so that the question is another one. */
 static void begin_and_take_its_heap(world *w, const test_case *c) {
-    wt_request other = { 10 * MEBIBYTE, 0, 0, ONLY(LOCAL_TYPE), WT_REQUIRED };
     begin_request(w, c);
-    w->blocks[EXTRA_BLOCK] = granted(&w->allocator, &other);
+    take_most_of_the_heap(w, c);
 }
 
 /* Between the question and its answer, the same is granted to another, so that there is room and nothing is asked. */
@@ -381,8 +386,10 @@ static uint32_t makes_and_fails_to_map(const wt_question *q) { return makes_and(
 static const test_case cases[] = {
     { "a request over the limit is served", WT_OUT_OF_DEVICE_MEMORY, NULL, request,
       REQUEST(12 * MEBIBYTE + 1, 0, 0, ANY_TYPE, WT_REQUIRED), grants, 0 },
-    { "a request over its heap's budget is asked", WT_OUT_OF_DEVICE_MEMORY, NULL, request,
+    { "a request that is larger than its heap is asked", WT_OUT_OF_DEVICE_MEMORY, NULL, request,
       REQUEST(9 * MEBIBYTE, 0, WT_USAGE_HOST_ACCESS, ONLY(COHERENT_TYPE), WT_REQUIRED), grants, 0 },
+    { "a request over its heap's budget is asked", WT_OUT_OF_DEVICE_MEMORY, take_most_of_the_heap, request,
+      REQUEST(7 * MEBIBYTE, 0, 0, ONLY(LOCAL_TYPE), WT_REQUIRED), grants, 0 },
     { "an object that was not made is granted", WT_OUT_OF_DEVICE_MEMORY, NULL, request, OF_OWN, no_device_memory, 0 },
     { "want of device memory ends otherwise in a mapping", WT_OUT_OF_DEVICE_MEMORY, NULL, request, OF_NEW_CHUNK,
       makes_and_maps_without_device, 0 },
