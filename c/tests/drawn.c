@@ -17,10 +17,11 @@ typedef struct {
     int is_mapped;
 } block;
 
-static wt_allocator allocator;
+static wt_allocator allocator, other; /* of the other one nothing is wanted but its keys */
 static object objects[MOST]; /* those that were not read from wt_gone */
 static block blocks[MOST];   /* the live ones */
 static uint64_t keys[MOST];  /* all that were ever given */
+static uint64_t other_keys[64];
 static size_t objects_len, blocks_len, keys_len;
 
 static object pending; /* what was made for the request that is being served */
@@ -255,8 +256,13 @@ static void step_free(void) {
 }
 
 static void step_old_key(void) {
-    uint64_t key = keys_len ? keys[draw(keys_len)] : 0;
+    uint64_t key = keys_len ? keys[draw(keys_len)] : UINT64_MAX;
     if (!is_live(key)) expect(is_refused_everywhere(&allocator, key), "a key that was freed is taken");
+}
+
+static void step_other_key(void) {
+    uint64_t key = other_keys[draw(LENGTH(other_keys))];
+    if (!is_live(key)) expect(is_refused_everywhere(&allocator, key), "a key that another gave is taken");
 }
 
 static uint32_t map_status(uint32_t answered) {
@@ -449,9 +455,9 @@ static void take_step(void) {
         void (*step)(void);
         unsigned weight;
     } steps[] = {
-        { step_allocate, 40 }, { step_abandon, 3 },  { step_free, 22 },   { step_old_key, 3 },
-        { step_map, 8 },       { step_unmap, 6 },    { step_range, 6 },   { step_import, 3 },
-        { step_gone, 8 },      { step_cleanup, 1 },  { step_free_ranges, 3 }, { step_set_remaining, 1 },
+        { step_allocate, 40 }, { step_abandon, 3 }, { step_free, 22 },   { step_old_key, 3 },     { step_other_key, 2 },
+        { step_map, 8 },       { step_unmap, 6 },   { step_range, 6 },   { step_import, 3 },      { step_gone, 8 },
+        { step_cleanup, 1 },   { step_set_remaining, 1 },                { step_free_ranges, 3 },
     };
     unsigned sum = 0;
     uint64_t drawn;
@@ -464,6 +470,31 @@ static void take_step(void) {
         }
         drawn -= steps[i].weight;
     }
+}
+
+/* Some blocks of another allocator, each in a place that another block had before. */
+static void fill_other(void) {
+    wt_limits limits = device_limits(LENGTH(other_keys) + 1, 0);
+    wt_request request = { 16, 0, WT_USAGE_TRANSIENT, UINT32_MAX, WT_SHARED };
+    questions talk;
+    wt_block first, given;
+    open_device(&other, &limits);
+    for (size_t i = 0; i < LENGTH(other_keys); i++) {
+        expect(allocate(&other, &request, grants, &talk, &first) == WT_OK, "another gives no block");
+        expect(wt_free(&other, first.key) == WT_OK, "another takes no block back");
+        expect(allocate(&other, &request, grants, &talk, &given) == WT_OK, "another gives no block");
+        other_keys[i] = given.key;
+    }
+}
+
+static void close_other(void) {
+    uint64_t name;
+    size_t count = 1;
+    for (size_t i = 0; i < LENGTH(other_keys); i++)
+        expect(wt_free(&other, other_keys[i]) == WT_OK, "a block was taken back by the wrong allocator");
+    expect(wt_cleanup(&other) == WT_OK, "another is not cleaned up");
+    while (count) expect(wt_gone(&other, &name, 1, &count) == WT_OK, "another does not tell what is gone");
+    expect(wt_close(&other) == WT_OK, "another is not closed");
 }
 
 static void finish(void) {
@@ -494,12 +525,14 @@ int main(int argc, char **argv) {
     total = MOST_OBJECTS;
     for (size_t i = 0; i < HEAPS; i++) heaps[i] = heap_sizes[i] >> draw(6); /* so that some are often full */
     open_heaps(&allocator, &limits, heaps);
+    fill_other();
     for (unsigned long i = 0; i < steps; i++) {
         current_step++;
         take_step();
         check_books();
     }
     finish();
+    close_other();
     printf("drawn %s %s %s: %llu granted, %llu refused, %llu questions, %llu objects made and freed\n", argv[1], argv[2],
            argv[3], (unsigned long long)granted, (unsigned long long)refused, (unsigned long long)asked,
            (unsigned long long)made);
