@@ -523,7 +523,8 @@ int main(int argc, char **argv) {
     has_device_address = (uint32_t)draw(2);
     limits = device_limits(MOST_OBJECTS, has_device_address);
     total = MOST_OBJECTS;
-    for (size_t i = 0; i < HEAPS; i++) heaps[i] = heap_sizes[i] >> draw(6); /* so that some are often full */
+    /* Some heaps are small, so that they are often full. */
+    for (size_t i = 0; i < HEAPS; i++) heaps[i] = heap_sizes[i] >> (draw(2) ? 3 + draw(5) : 0);
     open_heaps(&allocator, &limits, heaps);
     fill_other();
     for (unsigned long i = 0; i < steps; i++) {
