@@ -54,8 +54,9 @@ enum {
     WT_ALREADY_OPEN = 10,              /* the allocator is open */
     WT_BAD_PROPERTIES = 11,            /* over 32 memory types, one of a heap that is not there, or an atom that is no
                                           power of two of at most 2^62 */
-    WT_UNKNOWN_KEY = 12,               /* no live block has this key: it was freed, or is none of this allocator's */
-    WT_OTHER_QUESTION = 13,            /* an answer is to another question than is asked */
+    WT_UNKNOWN_KEY = 12,               /* no live block has this key: it was freed, or is none of this allocator's. (Keys of
+                                          two allocators may be the same numbers.) */
+    WT_OTHER_QUESTION = 13,            /* an answer is to another question than is asked, or is left over */
     WT_BAD_ANSWER = 14,                /* an answer is none of WT_GRANTED .. WT_DEVICE_MAP_FAILED, or its question is none */
     WT_BAD_SIZE = 15,                  /* a size of 0 */
     WT_BAD_ALIGNMENT = 16,             /* align_mask + 1 is no power of two of at most 2^63 */
@@ -65,8 +66,8 @@ enum {
     WT_BAD_RANGE = 20,                 /* a range that passes the end of its block or object */
     WT_BAD_MEMORY_TYPE = 21,           /* no such memory type */
     WT_BAD_HEAP = 22,                  /* no such heap */
-    WT_BAD_IMPORT_END = 23,            /* an import of non-coherent memory that ends neither on the atom nor where its
-                                          object ends */
+    WT_BAD_IMPORT_END = 23,            /* an import of memory that the host sees and that is not coherent, which ends
+                                          neither on the atom nor where its object ends */
     WT_NO_REMAINING = 24,              /* an import, and as many objects are held as the device allows */
     WT_TOO_MANY_REMAINING = 25,        /* together with the held objects not below 2^32 */
     WT_STILL_HELD = 26,                /* an object is held: free all blocks, and call wt_cleanup */
@@ -111,8 +112,9 @@ enum { WT_SHARED = 0, WT_PREFERRED = 1, WT_REQUIRED = 2 };
 #define WT_LAZILY_ALLOCATED 0x10u
 #define WT_PROTECTED 0x20u
 
-/* The most questions that one call asks: an object of each memory type, and one mapping. */
-#define WT_MAX_QUESTIONS 33
+/* The most questions that one call asks: an object of each memory type, and its mapping, since a type is passed too where
+   the mapping lacks device memory. */
+#define WT_MAX_QUESTIONS 64
 
 /* An allocator: zeroed at first, which is closed. Its fields are the library's own. */
 typedef struct wt_allocator {
