@@ -30,7 +30,9 @@ fn main() {
 fn named(folder: PathBuf) -> PathBuf {
     if !folder.join(ARCHIVE).is_file() {
         let folder = folder.display();
-        eprintln!("WALLTHYME_LIB is {folder}, which has no {ARCHIVE}. It has to be the folder that `cd c && make` put it in.");
+        eprintln!(
+            "WALLTHYME_LIB is {folder}, which has no {ARCHIVE}. It has to be the folder that `cd c && make` put it in."
+        );
         std::process::exit(1);
     }
     // Cargo runs this script and the linker in different folders.

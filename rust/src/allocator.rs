@@ -169,7 +169,11 @@ impl<M> GpuAllocator<M> {
         let (key, memory) = block.into_parts();
         let own = match memory {
             Memory::Own(memory) => Some(memory),
-            Memory::Shared(_) => None,
+            Memory::Shared(shared) => {
+                // Before the object may go, which takes its last handle.
+                drop(shared);
+                None
+            }
         };
         self.library.free(key);
         // SAFETY: the device is the objects', as the caller says, and done with the block.
@@ -303,9 +307,9 @@ impl<M> Drop for GpuAllocator<M> {
     fn drop(&mut self) {
         let counts = self.library.counts();
         if counts.blocks > 0 {
-            report(&format!("an allocator was dropped with {} blocks that were not given back", counts.blocks));
+            report(&format!("an allocator was dropped, with blocks that were not given back: {}", counts.blocks));
         } else if counts.held > 0 {
-            report(&format!("an allocator was dropped with {} memory objects: `cleanup` was not called", counts.held));
+            report(&format!("an allocator was dropped without `cleanup`, with memory objects: {}", counts.held));
         }
         // The memory objects are lost to the device, and dropped as values. So that the library's memory is not lost too,
         // where no block is live, it lets them go.
@@ -425,5 +429,120 @@ fn no_import(status: u32) -> ! {
         ffi::BAD_SIZE => panic!("an import's `size` has to be at least 1"),
         ffi::OUT_OF_HOST_MEMORY => panic!("too little host memory for an import"),
         status => unexpected("wt_import", status),
+    }
+}
+
+#[cfg(test)]
+mod tests {
+    use super::*;
+    use crate::types::{MappedMemoryRange, MemoryHeap};
+    use crate::UsageFlags;
+    use std::borrow::Cow;
+    use std::cell::Cell;
+    use std::ptr::NonNull;
+
+    const PROPS: MemoryPropertyFlags = MemoryPropertyFlags::HOST_VISIBLE;
+
+    /// Grants all, and keeps no bytes. It counts what was made less what went back.
+    #[derive(Default)]
+    struct Grants {
+        held: Cell<u64>,
+    }
+
+    impl MemoryDevice<()> for Grants {
+        unsafe fn allocate_memory(&self, _: u64, _: u32, _: AllocationFlags) -> Result<(), OutOfMemory> {
+            self.held.set(self.held.get() + 1);
+            Ok(())
+        }
+        unsafe fn deallocate_memory(&self, _: ()) {
+            self.held.set(self.held.get() - 1);
+        }
+        unsafe fn map_memory(&self, _: &mut (), _: u64, _: u64) -> Result<NonNull<u8>, DeviceMapError> {
+            Ok(NonNull::dangling())
+        }
+        unsafe fn unmap_memory(&self, _: &mut ()) {}
+        unsafe fn invalidate_memory_ranges(&self, _: &[MappedMemoryRange<'_, ()>]) -> Result<(), OutOfMemory> {
+            Ok(())
+        }
+        unsafe fn flush_memory_ranges(&self, _: &[MappedMemoryRange<'_, ()>]) -> Result<(), OutOfMemory> {
+            Ok(())
+        }
+    }
+
+    fn allocator(atom: u64, props: MemoryPropertyFlags) -> GpuAllocator<()> {
+        let offered = DeviceProperties {
+            memory_types: Cow::Owned(vec![MemoryType { heap: 0, props }]),
+            memory_heaps: Cow::Borrowed(&[MemoryHeap { size: 1 << 40 }]),
+            max_memory_allocation_count: 1000,
+            max_memory_allocation_size: 1 << 36,
+            non_coherent_atom_size: atom,
+            buffer_device_address: false,
+        };
+        GpuAllocator::new(Config::i_am_potato(), offered)
+    }
+
+    /// The range that this crate flushes for bytes of a block is the one that the library tells.
+    fn compare(allocator: &mut GpuAllocator<()>, block: &MemoryBlock<()>) {
+        let size = block.size();
+        for offset in [0, 1, 63, 64, 65, size / 2, size.saturating_sub(1)] {
+            for len in [1, 2, 63, 64, 65, size / 3, size] {
+                if offset >= size || len == 0 || len > size - offset {
+                    continue;
+                }
+                let told = allocator.library.range_of(block.key(), offset, len);
+                let found = block.whole_atoms(offset, len);
+                assert_eq!(
+                    (told.offset, told.size),
+                    (found.start, found.end - found.start),
+                    "{block:?} {offset} {len}"
+                );
+            }
+        }
+    }
+
+    #[test]
+    fn ranges_are_the_librarys() {
+        let device = Grants::default();
+        for atom in [1, 4, 64, 4096] {
+            let mut allocator = allocator(atom, PROPS);
+            let mut blocks = Vec::new();
+            for (size, usage) in [(1, 0), (100, 0x10), (5000, 0), (5001, 0x10), (300_000, 0), (300_001, 0x10)] {
+                let usage = UsageFlags::HOST_ACCESS | UsageFlags::from_bits_truncate(usage);
+                let request = Request { size, align_mask: 0, usage, memory_types: 1 };
+                // SAFETY: there is one device, which grants all that the allocator asks.
+                blocks.push(unsafe { allocator.alloc(&device, request) }.unwrap());
+            }
+            for (offset, size) in [(0, 7), (1, 100), (65, 1), (100, 1 << 20), (u64::MAX - 100, 100)] {
+                device.held.set(device.held.get() + 1);
+                // SAFETY: the object, which has no bytes, ends with the range.
+                blocks.push(unsafe { allocator.import_memory((), 0, PROPS, offset, size) });
+            }
+            for block in blocks {
+                compare(&mut allocator, &block);
+                // SAFETY: the block is this allocator's.
+                unsafe { allocator.dealloc(&device, block) };
+            }
+            // SAFETY: there is one device.
+            unsafe { allocator.cleanup(&device) };
+            assert_eq!(device.held.get(), 0);
+        }
+    }
+
+    /// More objects go at once than are read at once.
+    #[test]
+    fn all_names_are_read() {
+        let device = Grants::default();
+        let mut allocator = allocator(1, MemoryPropertyFlags::DEVICE_LOCAL);
+        let request = Request { size: 100_000, align_mask: 0, usage: UsageFlags::TRANSIENT, memory_types: 1 };
+        // SAFETY: there is one device, which grants all that the allocator asks.
+        let blocks: Vec<_> = (0..200).map(|_| unsafe { allocator.alloc(&device, request) }.unwrap()).collect();
+        for block in blocks {
+            // The library alone is told, so that what went waits to be read.
+            let (key, _memory) = block.into_parts();
+            allocator.library.free(key);
+        }
+        // SAFETY: there is one device.
+        unsafe { allocator.cleanup(&device) };
+        assert_eq!((device.held.get(), allocator.remaining_allocations(), allocator.objects.len()), (0, 1000, 0));
     }
 }

@@ -78,9 +78,8 @@ impl Library {
             // SAFETY: the handle is open, and each pointer is to a value that lives until the call ends. `count` questions of
             // the array were written; the next one is in the array, which has one more than the highest count, and not among
             // those.
-            let status = unsafe {
-                ffi::wt_alloc(&mut state.handle, request, asked, count, &mut block, asked.add(count))
-            };
+            let status =
+                unsafe { ffi::wt_alloc(&mut state.handle, request, asked, count, &mut block, asked.add(count)) };
             match status {
                 ffi::OK => return Ok(block),
                 ffi::ASK => state.asked[count].answer = answer(&state.asked[count]),

@@ -124,12 +124,7 @@ pub trait MemoryDevice<M> {
     ///
     /// `memory_type` is the index of a memory type of the device, `size` is at least 1, and each flag is of a feature that is
     /// enabled.
-    unsafe fn allocate_memory(
-        &self,
-        size: u64,
-        memory_type: u32,
-        flags: AllocationFlags,
-    ) -> Result<M, OutOfMemory>;
+    unsafe fn allocate_memory(&self, size: u64, memory_type: u32, flags: AllocationFlags) -> Result<M, OutOfMemory>;
 
     /// Takes a memory object back, mapped or not.
     ///
@@ -144,12 +139,7 @@ pub trait MemoryDevice<M> {
     /// # Safety
     ///
     /// The object is of this device, host-visible and not mapped, and `offset .. offset + size` lies in it.
-    unsafe fn map_memory(
-        &self,
-        memory: &mut M,
-        offset: u64,
-        size: u64,
-    ) -> Result<NonNull<u8>, DeviceMapError>;
+    unsafe fn map_memory(&self, memory: &mut M, offset: u64, size: u64) -> Result<NonNull<u8>, DeviceMapError>;
 
     /// Ends the mapping of a memory object.
     ///
@@ -163,18 +153,12 @@ pub trait MemoryDevice<M> {
     /// # Safety
     ///
     /// They are of mapped objects of this device, in what is mapped, and of whole atoms or up to the object's end.
-    unsafe fn invalidate_memory_ranges(
-        &self,
-        ranges: &[MappedMemoryRange<'_, M>],
-    ) -> Result<(), OutOfMemory>;
+    unsafe fn invalidate_memory_ranges(&self, ranges: &[MappedMemoryRange<'_, M>]) -> Result<(), OutOfMemory>;
 
     /// Makes what the host wrote into these ranges seen by the device.
     ///
     /// # Safety
     ///
     /// As for [`invalidate_memory_ranges`](MemoryDevice::invalidate_memory_ranges).
-    unsafe fn flush_memory_ranges(
-        &self,
-        ranges: &[MappedMemoryRange<'_, M>],
-    ) -> Result<(), OutOfMemory>;
+    unsafe fn flush_memory_ranges(&self, ranges: &[MappedMemoryRange<'_, M>]) -> Result<(), OutOfMemory>;
 }

@@ -30,3 +30,57 @@ flags! {
         const DEVICE_ADDRESS = 0x20;
     }
 }
+
+#[cfg(test)]
+mod tests {
+    use super::UsageFlags;
+
+    const BOTH: UsageFlags = UsageFlags::DOWNLOAD.union(UsageFlags::UPLOAD);
+
+    #[test]
+    fn sets_and_bits() {
+        assert_eq!(UsageFlags::all().bits(), 0x3f);
+        assert_eq!(UsageFlags::from_bits(0x40), None);
+        assert_eq!(UsageFlags::from_bits_truncate(0x4c), BOTH);
+        assert_eq!(UsageFlags::from_bits_retain(0x40).bits(), 0x40);
+        assert_eq!(UsageFlags::from_name("UPLOAD"), Some(UsageFlags::UPLOAD));
+        assert_eq!(UsageFlags::from_name("upload"), None);
+        assert!(UsageFlags::empty().is_empty() && UsageFlags::all().is_all() && !BOTH.is_all());
+        assert!(BOTH.contains(UsageFlags::UPLOAD) && !UsageFlags::UPLOAD.contains(BOTH));
+        assert!(BOTH.intersects(UsageFlags::UPLOAD) && !BOTH.intersects(UsageFlags::TRANSIENT));
+    }
+
+    #[test]
+    fn operators_and_changes() {
+        let upload = UsageFlags::UPLOAD;
+        assert_eq!(UsageFlags::DOWNLOAD | upload, BOTH);
+        assert_eq!((BOTH & upload, BOTH ^ upload, BOTH - upload), (upload, UsageFlags::DOWNLOAD, UsageFlags::DOWNLOAD));
+        assert_eq!(!UsageFlags::all(), UsageFlags::empty());
+        let mut flags = UsageFlags::empty();
+        flags |= BOTH;
+        flags -= upload;
+        flags ^= BOTH;
+        flags &= upload;
+        assert_eq!(flags, upload);
+        flags.insert(UsageFlags::DOWNLOAD);
+        flags.remove(upload);
+        flags.toggle(BOTH);
+        flags.set(UsageFlags::TRANSIENT, true);
+        flags.set(upload, false);
+        assert_eq!(flags, UsageFlags::TRANSIENT);
+    }
+
+    #[test]
+    fn one_by_one_and_written() {
+        let unnamed = UsageFlags::from_bits_retain(0x40);
+        let all: Vec<_> = (BOTH | unnamed).iter().collect();
+        assert_eq!(all, [UsageFlags::DOWNLOAD, UsageFlags::UPLOAD, unnamed]);
+        assert_eq!(all.into_iter().collect::<UsageFlags>(), BOTH | unnamed);
+        assert_eq!(BOTH.iter_names().map(|named| named.0).collect::<Vec<_>>(), ["DOWNLOAD", "UPLOAD"]);
+        assert_eq!(
+            format!("{BOTH:?} {:?}", BOTH | unnamed),
+            "UsageFlags(DOWNLOAD | UPLOAD) UsageFlags(DOWNLOAD | UPLOAD | 0x40)"
+        );
+        assert_eq!(format!("{:?} {BOTH:#x} {BOTH:b}", UsageFlags::empty()), "UsageFlags(0x0) 0xc 1100");
+    }
+}
