@@ -1,7 +1,7 @@
 //! Finds libwallthyme.a: in the folder that WALLTHYME_LIB names, or else by pkg-config.
 //!
-//! Where there is none the crate is compiled with the cfg `wallthyme_missing`, under which it stops with a message. It is
-//! not this script that stops, since `cargo doc` runs it too, and documents need no archive.
+//! Where there is none the crate is compiled with the cfg `wallthyme_missing`, under which it stops with a message.
+//! It is not this script that stops, since `cargo doc` runs it too, and documents need no archive.
 
 use std::env;
 use std::path::{Path, PathBuf};
@@ -39,7 +39,8 @@ fn named(folder: PathBuf) -> PathBuf {
     folder.canonicalize().unwrap_or(folder)
 }
 
-/// The first folder that pkg-config tells for `wallthyme` and that has the archive; none where there is no such command.
+/// The first folder that pkg-config tells for `wallthyme` and that has the archive; none where there is no such
+/// command.
 fn asked_of_pkg_config() -> Option<PathBuf> {
     let command = env::var_os("PKG_CONFIG").unwrap_or_else(|| "pkg-config".into());
     let told = Command::new(command).args(["--variable=libdir", "wallthyme"]).output().ok()?;

@@ -21,8 +21,8 @@ static MADE: AtomicU64 = AtomicU64::new(0);
 /// A memory allocator for Vulkan and what is like it. `M` is the type of a memory object's handle.
 ///
 /// It decides by the proved library which memory type serves a request and where the block lies, and asks a
-/// [`MemoryDevice`] for memory objects. One that is dropped while it holds memory objects is reported on standard error: give
-/// each block back, and call [`cleanup`](GpuAllocator::cleanup), before.
+/// [`MemoryDevice`] for memory objects. One that is dropped while it holds memory objects is reported on standard
+/// error: give each block back, and call [`cleanup`](GpuAllocator::cleanup), before.
 pub struct GpuAllocator<M> {
     library: Library,
     objects: Objects<M>,
@@ -75,8 +75,8 @@ impl<M> GpuAllocator<M> {
     ///
     /// # Panics
     ///
-    /// Where `request.align_mask` is none, a bit of `request.usage` has no name, or [`UsageFlags::DEVICE_ADDRESS`] is asked
-    /// for without [`DeviceProperties::buffer_device_address`]. Nothing is changed.
+    /// Where `request.align_mask` is none, a bit of `request.usage` has no name, or [`UsageFlags::DEVICE_ADDRESS`] is
+    /// asked for without [`DeviceProperties::buffer_device_address`]. Nothing is changed.
     ///
     /// [`UsageFlags::DEVICE_ADDRESS`]: crate::UsageFlags::DEVICE_ADDRESS
     ///
@@ -116,22 +116,23 @@ impl<M> GpuAllocator<M> {
         unsafe { self.grant(device, request.with(Some(dedicated))) }
     }
 
-    /// Takes `size` bytes of a memory object of the caller's from `offset` on as a block. The object is the allocator's from
-    /// then on, counts as one that it holds, with `size` bytes of its heap, and goes back to the device with its block.
+    /// Takes `size` bytes of a memory object of the caller's from `offset` on as a block. The object is the
+    /// allocator's from then on, counts as one that it holds, with `size` bytes of its heap, and goes back to the
+    /// device with its block.
     ///
     /// # Panics
     ///
-    /// Where no objects remain ([`remaining_allocations`](GpuAllocator::remaining_allocations)), there is no such memory
-    /// type, `size` is 0, `offset + size` passes 64 bits, or the host has too little memory. The allocator is then as before,
-    /// and `memory` is dropped.
+    /// Where no objects remain ([`remaining_allocations`](GpuAllocator::remaining_allocations)), there is no such
+    /// memory type, `size` is 0, `offset + size` passes 64 bits, or the host has too little memory. The allocator is
+    /// then as before, and `memory` is dropped.
     ///
     /// # Safety
     ///
-    /// * The object is of the device of all calls of this allocator and its blocks, is of that memory type, not mapped, and
-    ///   no other's to give back.
+    /// * The object is of the device of all calls of this allocator and its blocks, is of that memory type, not
+    ///   mapped, and no other's to give back.
     /// * `props` are the properties of the memory type, or fewer.
-    /// * `offset .. offset + size` lies in the object. Where the memory is host-visible and not host-coherent, it ends at a
-    ///   multiple of [`DeviceProperties::non_coherent_atom_size`], or where the object ends.
+    /// * `offset .. offset + size` lies in the object. Where the memory is host-visible and not host-coherent, it
+    ///   ends at a multiple of [`DeviceProperties::non_coherent_atom_size`], or where the object ends.
     #[track_caller]
     pub unsafe fn import_memory(
         &mut self,
@@ -141,8 +142,8 @@ impl<M> GpuAllocator<M> {
         offset: u64,
         size: u64,
     ) -> MemoryBlock<M> {
-        // The library is told that the object ends with the block. It asks for that to see that the block ends well, which
-        // the caller has said.
+        // The library is told that the object ends with the block. It asks for that to see that the block ends well,
+        // which the caller has said.
         let end = offset.checked_add(size).expect("an import's `offset + size` has to fit 64 bits");
         let block = match self.library.import(memory_type, end, offset, size) {
             Ok(block) => block,
@@ -152,8 +153,8 @@ impl<M> GpuAllocator<M> {
         self.block(block, props, Memory::Own(memory))
     }
 
-    /// Takes a block back, mapped or not. Memory objects that no block needs go back to the device, but for the last of a
-    /// free list, which [`cleanup`](GpuAllocator::cleanup) gives back.
+    /// Takes a block back, mapped or not. Memory objects that no block needs go back to the device, but for the last
+    /// of a free list, which [`cleanup`](GpuAllocator::cleanup) gives back.
     ///
     /// # Panics
     ///
@@ -206,8 +207,8 @@ impl<M> GpuAllocator<M> {
         self.remaining = remaining;
     }
 
-    /// Gives each memory object back to the device that no block needs. Where all blocks were given back none is held after
-    /// it, and the allocator can be dropped, or used on.
+    /// Gives each memory object back to the device that no block needs. Where all blocks were given back none is held
+    /// after it, and the allocator can be dropped, or used on.
     ///
     /// # Safety
     ///
@@ -252,9 +253,9 @@ impl<M> GpuAllocator<M> {
 
     /// Takes a new object in: into the books, or for its block alone.
     ///
-    /// The library maps a new object where the host sees it and blocks will share it. So one that the host sees, and that is
-    /// not mapped, is its block's own. Of one that the host does not see nothing tells; it is kept as a shared one, which it
-    /// may be, since nothing is ever asked of it but to go back.
+    /// The library maps a new object where the host sees it and blocks will share it. So one that the host sees, and
+    /// that is not mapped, is its block's own. Of one that the host does not see nothing tells; it is kept as a
+    /// shared one, which it may be, since nothing is ever asked of it but to go back.
     fn keep(&mut self, name: u64, made: Made<M>, props: MemoryPropertyFlags) -> Memory<M> {
         if made.start.is_none() && props.contains(MemoryPropertyFlags::HOST_VISIBLE) {
             return Memory::Own(made.memory);
@@ -291,7 +292,8 @@ impl<M> GpuAllocator<M> {
             for &name in names {
                 let memory = self.objects.take(name).or_else(|| own.take());
                 let memory = memory.expect("an object that went has to be known, or the block's own");
-                // SAFETY: the library tells each object once, when no block is in it. The device is its, as the caller says.
+                // SAFETY: the library tells each object once, when no block is in it. The device is its, as the
+                // caller says.
                 unsafe { device.deallocate_memory(memory) };
             }
             self.count();
@@ -311,8 +313,8 @@ impl<M> Drop for GpuAllocator<M> {
         } else if counts.held > 0 {
             report(&format!("an allocator was dropped without `cleanup`, with memory objects: {}", counts.held));
         }
-        // The memory objects are lost to the device, and dropped as values. So that the library's memory is not lost too,
-        // where no block is live, it lets them go.
+        // The memory objects are lost to the device, and dropped as values. So that the library's memory is not lost
+        // too, where no block is live, it lets them go.
         self.library.cleanup();
         while !self.library.gone().is_empty() {}
         self.library.close();
@@ -365,7 +367,8 @@ impl<M, D: MemoryDevice<M>> Asked<'_, M, D> {
         unsafe { self.give_back() };
         let mut flags = AllocationFlags::empty();
         flags.set(AllocationFlags::DEVICE_ADDRESS, question.flags & ffi::ALLOCATE_DEVICE_ADDRESS != 0);
-        // SAFETY: the memory type is the device's, and the size at least 1. The flag is there if the feature is enabled.
+        // SAFETY: the memory type is the device's, and the size at least 1. The flag is there if the feature is
+        // enabled.
         match unsafe { self.device.allocate_memory(question.size, question.memory_type, flags) } {
             Ok(memory) => {
                 self.made = Some(Made { memory, start: None });

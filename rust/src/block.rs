@@ -1,11 +1,11 @@
 //! Blocks, and the host's access to their bytes.
 //!
-//! The library can keep a block's mapping (`wt_map`, `wt_unmap`), but a block of this crate is mapped without its allocator,
-//! and on any thread, so that it would have to share the allocator under a lock. Here the block keeps its mapping itself: it
-//! holds what the calls need, which is its own memory object, or the address where its shared one was mapped when it was made.
-//! The library then believes each block unmapped, which it may: it takes a block back mapped or not, and tells nothing by it.
-//! What is left to this file is the rounding of ranges to atoms, [`MemoryBlock::whole_atoms`]; a test compares it with the
-//! library's (`wt_range_of`).
+//! The library can keep a block's mapping (`wt_map`, `wt_unmap`), but a block of this crate is mapped without its
+//! allocator, and on any thread, so that it would have to share the allocator under a lock. Here the block keeps its
+//! mapping itself: it holds what the calls need, which is its own memory object, or the address where its shared one
+//! was mapped when it was made. The library then believes each block unmapped, which it may: it takes a block back
+//! mapped or not, and tells nothing by it. What is left to this file is the rounding of ranges to atoms,
+//! [`MemoryBlock::whole_atoms`]; a test compares it with the library's (`wt_range_of`).
 
 use crate::error::MapError;
 use crate::report::report;
@@ -149,18 +149,18 @@ impl<M> MemoryBlock<M> {
         self.memory_type
     }
 
-    /// Maps `size` bytes of the block from `offset` on, both counted in bytes from its start, and gives the address of the
-    /// first of them. A `size` of 0 counts as 1. The address is good until [`unmap`](MemoryBlock::unmap), or until the block
-    /// is given back.
+    /// Maps `size` bytes of the block from `offset` on, both counted in bytes from its start, and gives the address
+    /// of the first of them. A `size` of 0 counts as 1. The address is good until [`unmap`](MemoryBlock::unmap), or
+    /// until the block is given back.
     ///
-    /// Where the memory is not host-coherent, what is written has to be flushed, and what is read invalidated before, in
-    /// ranges of whole atoms that end at the block's end at most. [`write_bytes`](MemoryBlock::write_bytes) and
+    /// Where the memory is not host-coherent, what is written has to be flushed, and what is read invalidated before,
+    /// in ranges of whole atoms that end at the block's end at most. [`write_bytes`](MemoryBlock::write_bytes) and
     /// [`read_bytes`](MemoryBlock::read_bytes) do so.
     ///
     /// # Errors
     ///
-    /// [`MapError::NonHostVisible`], [`MapError::AlreadyMapped`], or what the device answered. The block is then mapped or not
-    /// as before.
+    /// [`MapError::NonHostVisible`], [`MapError::AlreadyMapped`], or what the device answered. The block is then
+    /// mapped or not as before.
     ///
     /// # Panics
     ///
@@ -169,8 +169,8 @@ impl<M> MemoryBlock<M> {
     /// # Safety
     ///
     /// * `device` is the one that the block was allocated from, or that its memory was imported from.
-    /// * Through the address those bytes alone are reached, and none that the device may be writing, or, to write, reading:
-    ///   rounded to whole atoms where the memory is not host-coherent.
+    /// * Through the address those bytes alone are reached, and none that the device may be writing, or, to write,
+    ///   reading: rounded to whole atoms where the memory is not host-coherent.
     #[inline]
     pub unsafe fn map(
         &mut self,
@@ -186,14 +186,15 @@ impl<M> MemoryBlock<M> {
         let base = if let Memory::Own(_) = self.memory { range.start } else { 0 };
         let distance = usize::try_from(self.offset + offset - base).expect("a mapping has to fit the host's memory");
         let start = match &mut self.memory {
-            // SAFETY: the device is the object's, as the caller says. The object is host-visible, and not mapped, as this
-            // block alone maps it. The range lies in the block, or begins less than an atom before it, inside the object.
+            // SAFETY: the device is the object's, as the caller says. The object is host-visible, and not mapped, as
+            // this block alone maps it. The range lies in the block, or begins less than an atom before it, inside
+            // the object.
             Memory::Own(memory) => unsafe { device.map_memory(memory, range.start, range.end - range.start) }?,
             Memory::Shared(shared) => shared.start.ok_or(MapError::NonHostVisible)?.0,
         };
         self.mapped = true;
-        // SAFETY: `start` is the address of the object's byte at `base`, mapped up to `range.end` at least, and the block's
-        // byte at `offset` lies at `base` or between the two.
+        // SAFETY: `start` is the address of the object's byte at `base`, mapped up to `range.end` at least, and the
+        // block's byte at `offset` lies at `base` or between the two.
         Ok(unsafe { start.add(distance) })
     }
 
@@ -215,13 +216,13 @@ impl<M> MemoryBlock<M> {
         true
     }
 
-    /// Writes bytes into the block from `offset` on, counted in bytes from its start: maps them, copies them, flushes them
-    /// where the memory is not host-coherent, and unmaps them. No bytes ask nothing of the device.
+    /// Writes bytes into the block from `offset` on, counted in bytes from its start: maps them, copies them, flushes
+    /// them where the memory is not host-coherent, and unmaps them. No bytes ask nothing of the device.
     ///
     /// # Errors
     ///
-    /// As for [`map`](MemoryBlock::map), with nothing written; or what the device answered to the flush: the bytes are then
-    /// written, but the device may not see them. The block is mapped or not as before.
+    /// As for [`map`](MemoryBlock::map), with nothing written; or what the device answered to the flush: the bytes
+    /// are then written, but the device may not see them. The block is mapped or not as before.
     ///
     /// # Panics
     ///
@@ -230,7 +231,8 @@ impl<M> MemoryBlock<M> {
     /// # Safety
     ///
     /// * `device` is the one that the block was allocated from, or that its memory was imported from.
-    /// * The device is not reading or writing those bytes, rounded to whole atoms where the memory is not host-coherent.
+    /// * The device is not reading or writing those bytes, rounded to whole atoms where the memory is not
+    ///   host-coherent.
     #[inline]
     pub unsafe fn write_bytes(
         &mut self,
@@ -243,8 +245,8 @@ impl<M> MemoryBlock<M> {
         }
         // SAFETY: the device is the block's, as the caller says; the address is used for `data`'s length below alone.
         let start = unsafe { self.map(device, offset, data.len()) }?;
-        // SAFETY: as many bytes as `data` has were mapped, for writes too. `data` cannot overlap them: it is borrowed, and
-        // they are reached through a mapping alone, which the block did not have before.
+        // SAFETY: as many bytes as `data` has were mapped, for writes too. `data` cannot overlap them: it is
+        // borrowed, and they are reached through a mapping alone, which the block did not have before.
         unsafe { copy_nonoverlapping(data.as_ptr(), start.as_ptr(), data.len()) };
         let range = self.to_flush(offset, data.len());
         // SAFETY: the range is of whole atoms or ends with the block, and is mapped.
@@ -254,13 +256,13 @@ impl<M> MemoryBlock<M> {
         flushed.map_err(OutOfMemory::into)
     }
 
-    /// Reads bytes of the block from `offset` on, counted in bytes from its start: maps them, invalidates them where the
-    /// memory is not host-coherent, copies them, and unmaps them. No bytes ask nothing of the device.
+    /// Reads bytes of the block from `offset` on, counted in bytes from its start: maps them, invalidates them where
+    /// the memory is not host-coherent, copies them, and unmaps them. No bytes ask nothing of the device.
     ///
     /// # Errors
     ///
-    /// As for [`map`](MemoryBlock::map), or what the device answered to the invalidate. `data` is then unchanged, and the
-    /// block is mapped or not as before.
+    /// As for [`map`](MemoryBlock::map), or what the device answered to the invalidate. `data` is then unchanged, and
+    /// the block is mapped or not as before.
     ///
     /// # Panics
     ///
@@ -286,8 +288,8 @@ impl<M> MemoryBlock<M> {
         // SAFETY: the range is of whole atoms or ends with the block, and is mapped.
         let seen = range.map_or(Ok(()), |range| unsafe { device.invalidate_memory_ranges(&[range]) });
         if seen.is_ok() {
-            // SAFETY: as many bytes as `data` has were mapped, for reads too. `data` cannot overlap them: it is borrowed, and
-            // they are reached through a mapping alone, which the block did not have before.
+            // SAFETY: as many bytes as `data` has were mapped, for reads too. `data` cannot overlap them: it is
+            // borrowed, and they are reached through a mapping alone, which the block did not have before.
             unsafe { copy_nonoverlapping(start.as_ptr(), data.as_mut_ptr(), data.len()) };
         }
         // SAFETY: the device is the block's, as the caller says.
@@ -320,8 +322,8 @@ impl<M> MemoryBlock<M> {
         Some(MappedMemoryRange { memory: self.memory(), offset: range.start, size: range.end - range.start })
     }
 
-    /// The atoms of the memory object that have these bytes of the block, cut at the block's end. There ends an atom, but in
-    /// an object of the block's own, which may end inside one.
+    /// The atoms of the memory object that have these bytes of the block, cut at the block's end. There ends an atom,
+    /// but in an object of the block's own, which may end inside one.
     pub(crate) fn whole_atoms(&self, offset: u64, size: u64) -> Range<u64> {
         let start = self.offset + offset;
         let end = start + size;

@@ -1,10 +1,11 @@
 //! The sizes by which the allocator decides.
 
-/// The sizes by which the allocator decides, in bytes. Any values serve: the allocator cuts them to what a heap can hold.
+/// The sizes by which the allocator decides, in bytes. Any values serve: the allocator cuts them to what a heap can
+/// hold.
 #[derive(Clone, Copy, Debug, PartialEq, Eq)]
 pub struct Config {
-    /// A request of this size or more gets a memory object of its own. A smaller value costs more objects, of which a device
-    /// allows few, and their making is slow.
+    /// A request of this size or more gets a memory object of its own. A smaller value costs more objects, of which a
+    /// device allows few, and their making is slow.
     pub dedicated_threshold: u64,
 
     /// As `dedicated_threshold`, for requests that prefer an object of their own
@@ -24,16 +25,16 @@ pub struct Config {
     /// The size of the smallest block of a buddy allocator, rounded up to a power of two.
     pub minimal_buddy_size: u64,
 
-    /// What decides the size of a buddy allocator's first memory object, rounded up to a power of two. Where it is less than
-    /// `minimal_buddy_size`, that counts.
+    /// What decides the size of a buddy allocator's first memory object, rounded up to a power of two. Where it is
+    /// less than `minimal_buddy_size`, that counts.
     pub initial_buddy_dedicated_size: u64,
 }
 
 impl Config {
     /// Sizes to start with on a desktop GPU: those of [`i_am_potato`](Config::i_am_potato) 1,024 times.
     ///
-    /// Their names say why they are no `Default`: the right sizes depend on the device and on what it is used for, and these
-    /// may not serve where heaps are small.
+    /// Their names say why they are no `Default`: the right sizes depend on the device and on what it is used for,
+    /// and these may not serve where heaps are small.
     pub fn i_am_prototyping() -> Self {
         let potato = Config::i_am_potato();
         Config {

@@ -11,15 +11,16 @@ pub enum AllocationError {
     /// [`DeviceProperties::max_memory_allocation_size`](crate::DeviceProperties::max_memory_allocation_size).
     OutOfDeviceMemory,
 
-    /// The host has too little memory, for the device or for the allocator, or a new shared memory object could not be mapped.
+    /// The host has too little memory, for the device or for the allocator, or a new shared memory object could not
+    /// be mapped.
     OutOfHostMemory,
 
     /// No memory type of [`Request::memory_types`](crate::Request::memory_types) serves
     /// [`Request::usage`](crate::Request::usage).
     NoCompatibleMemoryTypes,
 
-    /// A new memory object is needed, and as many are held as the device allows. Where this comes with heaps nearly empty,
-    /// larger sizes in [`Config`](crate::Config) make fewer objects.
+    /// A new memory object is needed, and as many are held as the device allows. Where this comes with heaps nearly
+    /// empty, larger sizes in [`Config`](crate::Config) make fewer objects.
     TooManyObjects,
 }
 
@@ -54,7 +55,8 @@ pub enum MapError {
     /// The host has too little memory.
     OutOfHostMemory,
 
-    /// The host does not see the block's memory: its request lacked [`UsageFlags::HOST_ACCESS`](crate::UsageFlags::HOST_ACCESS).
+    /// The host does not see the block's memory: its request lacked
+    /// [`UsageFlags::HOST_ACCESS`](crate::UsageFlags::HOST_ACCESS).
     NonHostVisible,
 
     /// The device failed for a reason of its own, such as no address space of that size.
@@ -102,8 +104,8 @@ impl Error for MapError {}
 #[non_exhaustive]
 pub enum NewError {
     /// There are more than 32 memory types, one is of a heap that is not there, or
-    /// [`DeviceProperties::non_coherent_atom_size`](crate::DeviceProperties::non_coherent_atom_size) is no power of two of at
-    /// most 2^62.
+    /// [`DeviceProperties::non_coherent_atom_size`](crate::DeviceProperties::non_coherent_atom_size) is no power of
+    /// two of at most 2^62.
     BadProperties,
 
     /// The host has too little memory.
@@ -117,8 +119,8 @@ impl Display for NewError {
     fn fmt(&self, formatter: &mut Formatter<'_>) -> Result {
         formatter.write_str(match self {
             NewError::BadProperties => {
-                "over 32 memory types, one of a heap that is not there, or a non-coherent atom that is no power of two of at \
-                 most 2^62"
+                "over 32 memory types, one of a heap that is not there, or a non-coherent atom that is no power of two \
+                 of at most 2^62"
             }
             NewError::OutOfHostMemory => "too little host memory",
             NewError::OtherVersion => "libwallthyme.a is of another version than the crate wallthyme",

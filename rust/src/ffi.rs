@@ -159,12 +159,12 @@ extern "C" {
     pub(crate) fn wt_range_of(a: *mut Allocator, key: u64, offset: u64, size: u64, range: *mut Range) -> u32;
 }
 
-#[cfg(test)]
+#[cfg(all(test, target_pointer_width = "64"))]
 mod tests {
     use super::*;
     use std::mem::{align_of, offset_of, size_of};
 
-    /// The sizes that a C compiler for x86-64 or AArch64 gives the types of the header.
+    /// The sizes and places that a C compiler for x86-64 or AArch64 gives the types of the header.
     #[test]
     fn types_are_as_the_header_has_them() {
         assert_eq!(size_of::<Allocator>(), 16);

@@ -12,8 +12,8 @@ pub(crate) struct Library {
     state: Box<State>,
 }
 
-/// What has to stay in its place: the handle, which is never copied while it is open. Beside it what a call needs for its
-/// questions and names, so that no call clears it.
+/// What has to stay in its place: the handle, which is never copied while it is open. Beside it what a call needs for
+/// its questions and names, so that no call clears it.
 struct State {
     handle: ffi::Allocator,
     /// One more than are ever asked: each call tells where the next question may be written.
@@ -21,8 +21,9 @@ struct State {
     names: [u64; ROOM],
 }
 
-// SAFETY: the handle points to memory of the library's own, which nothing else points to, and the library keeps nothing by
-// thread: it asks that one thread calls at a time. Each call here takes `&mut self`, so that there is one caller.
+// SAFETY: the handle points to memory of the library's own, which nothing else points to, and the library keeps
+// nothing by thread: it asks that one thread calls at a time. Each call here takes `&mut self`, so that there is one
+// caller.
 unsafe impl Send for Library {}
 
 // SAFETY: no function takes `&self`, so that nothing can be done with a shared reference.
@@ -30,7 +31,8 @@ unsafe impl Sync for Library {}
 
 impl Library {
     pub(crate) fn open(config: &Config, props: &DeviceProperties<'_>) -> Result<Library, NewError> {
-        // SAFETY: it has no parameters. Only the patch level, its lower eight bits, may differ: the calls are then the same.
+        // SAFETY: it has no parameters. Only the patch level, its lower eight bits, may differ: the calls are then
+        // the same.
         if (unsafe { ffi::wt_version() } ^ ffi::VERSION) >> 8 != 0 {
             return Err(NewError::OtherVersion);
         }
@@ -45,7 +47,8 @@ impl Library {
             asked: [ffi::Question::default(); ffi::MAX_QUESTIONS + 1],
             names: [0; ROOM],
         });
-        // SAFETY: each pointer is to a value that lives until the call ends, or to as many as are told. The handle is zeroed.
+        // SAFETY: each pointer is to a value that lives until the call ends, or to as many as are told. The handle is
+        // zeroed.
         let status = unsafe {
             ffi::wt_open(
                 &mut state.handle,
@@ -75,9 +78,9 @@ impl Library {
         let mut block = ffi::Block::default();
         for count in 0..=ffi::MAX_QUESTIONS {
             let asked = state.asked.as_mut_ptr();
-            // SAFETY: the handle is open, and each pointer is to a value that lives until the call ends. `count` questions of
-            // the array were written; the next one is in the array, which has one more than the highest count, and not among
-            // those.
+            // SAFETY: the handle is open, and each pointer is to a value that lives until the call ends. `count`
+            // questions of the array were written; the next one is in the array, which has one more than the highest
+            // count, and not among those.
             let status =
                 unsafe { ffi::wt_alloc(&mut state.handle, request, asked, count, &mut block, asked.add(count)) };
             match status {
@@ -115,7 +118,8 @@ impl Library {
     pub(crate) fn gone(&mut self) -> &[u64] {
         let state = &mut *self.state;
         let mut count = 0;
-        // SAFETY: the handle is open, `names` has the room that is told, and both pointers are good until the call ends.
+        // SAFETY: the handle is open, `names` has the room that is told, and both pointers are good until the call
+        // ends.
         let status = unsafe { ffi::wt_gone(&mut state.handle, state.names.as_mut_ptr(), ROOM, &mut count) };
         expect("wt_gone", status);
         &state.names[..count]

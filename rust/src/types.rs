@@ -114,16 +114,16 @@ pub struct MappedMemoryRange<'a, M> {
 
 /// A device that the allocator takes memory objects from, each a value of `M`.
 ///
-/// The allocator keeps what Vulkan asks for of the calls: ranges are inside their objects; what is flushed and invalidated is
-/// whole atoms, or ends where its object ends, and is mapped; an object is mapped once at a time; and one that goes back was
-/// not given back before. A mapped object may go back: it needs no `unmap_memory` before.
+/// The allocator keeps what Vulkan asks for of the calls: ranges are inside their objects; what is flushed and
+/// invalidated is whole atoms, or ends where its object ends, and is mapped; an object is mapped once at a time; and
+/// one that goes back was not given back before. A mapped object may go back: it needs no `unmap_memory` before.
 pub trait MemoryDevice<M> {
     /// Makes a memory object of `size` bytes of a memory type.
     ///
     /// # Safety
     ///
-    /// `memory_type` is the index of a memory type of the device, `size` is at least 1, and each flag is of a feature that is
-    /// enabled.
+    /// `memory_type` is the index of a memory type of the device, `size` is at least 1, and each flag is of a feature
+    /// that is enabled.
     unsafe fn allocate_memory(&self, size: u64, memory_type: u32, flags: AllocationFlags) -> Result<M, OutOfMemory>;
 
     /// Takes a memory object back, mapped or not.
@@ -133,8 +133,8 @@ pub trait MemoryDevice<M> {
     /// It is of this device, which is done with it.
     unsafe fn deallocate_memory(&self, memory: M);
 
-    /// Maps a range of a memory object. The pointer is to the range's start, and valid for reads and writes of all its bytes
-    /// until the object is unmapped or given back.
+    /// Maps a range of a memory object. The pointer is to the range's start, and valid for reads and writes of all
+    /// its bytes until the object is unmapped or given back.
     ///
     /// # Safety
     ///

@@ -1,5 +1,5 @@
-//! What is dropped and should have been given back is reported on standard error. Each case runs in a process of its own, whose
-//! standard error is read.
+//! What is dropped and should have been given back is reported on standard error. Each case runs in a process of its
+//! own, whose standard error is read.
 
 mod common;
 

@@ -193,8 +193,8 @@ fn an_address_without_the_feature_panics() {
 #[should_panic = "the allocator that it came from"]
 fn another_allocators_block_panics() {
     let device = Device::new();
-    // SAFETY: there is one device, which offers what the allocators were made with. That the block is of another allocator
-    // is what is tested.
+    // SAFETY: there is one device, which offers what the allocators were made with. That the block is of another
+    // allocator is what is tested.
     unsafe {
         let block = allocator(1).alloc(&device, request(1 << 20, UsageFlags::empty())).unwrap();
         allocator(1).dealloc(&device, block);

@@ -35,9 +35,9 @@ impl<T: Send> Asked<T> {
 /// Blocks of one object share its handle. So they stay in one thread where a handle must not be shared.
 #[test]
 fn handles_that_stay_in_a_thread() {
-    assert!(Asked::<MemoryBlock<Memory>>::SEND);
-    assert!(!Asked::<MemoryBlock<Cell<u64>>>::SEND);
-    assert!(!Asked::<GpuAllocator<Cell<u64>>>::SEND);
+    const { assert!(Asked::<MemoryBlock<Memory>>::SEND) };
+    const { assert!(!Asked::<MemoryBlock<Cell<u64>>>::SEND) };
+    const { assert!(!Asked::<GpuAllocator<Cell<u64>>>::SEND) };
 }
 
 #[test]
