@@ -170,8 +170,8 @@ impl<M> GpuAllocator<M> {
         let (key, memory) = block.into_parts();
         let own = match memory {
             Memory::Own(memory) => Some(memory),
+            // Not `_`, which would keep it to the end: an object that goes has one handle left, the allocator's.
             Memory::Shared(shared) => {
-                // Before the object may go, which takes its last handle.
                 drop(shared);
                 None
             }

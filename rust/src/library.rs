@@ -21,9 +21,9 @@ struct State {
     names: [u64; ROOM],
 }
 
-// SAFETY: the handle points to memory of the library's own, which nothing else points to, and the library keeps
-// nothing by thread: it asks that one thread calls at a time. Each call here takes `&mut self`, so that there is one
-// caller.
+// SAFETY: the handle points to memory of the library's own, which nothing else points to. The library keeps nothing by
+// thread, and nothing that two allocators share: it asks that one thread calls with a handle at a time. Each call here
+// takes `&mut self`, so that one does.
 unsafe impl Send for Library {}
 
 // SAFETY: no function takes `&self`, so that nothing can be done with a shared reference.

@@ -81,6 +81,7 @@ fn too_many_objects() {
         assert_eq!(allocator.remaining_allocations(), 0);
         assert_eq!(asked(&mut allocator, &device, large), Err(AllocationError::TooManyObjects));
         allocator.set_remaining_allocations(1);
+        assert_eq!(allocator.remaining_allocations(), 1);
         assert_eq!(asked(&mut allocator, &device, large), Ok(()));
         allocator.dealloc(&device, block);
         assert_eq!(allocator.remaining_allocations(), 2);
