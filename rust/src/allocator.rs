@@ -4,7 +4,7 @@ use crate::block::{Memory, MemoryBlock, Parts, Place, Shared, Start};
 use crate::config::Config;
 use crate::error::{AllocationError, NewError};
 use crate::ffi;
-use crate::library::{unexpected, Library};
+use crate::library::{unexpected, Library, ROOM};
 use crate::objects::Objects;
 use crate::report::report;
 use crate::request::{Dedicated, Request};
@@ -82,7 +82,7 @@ impl<M> GpuAllocator<M> {
     ///
     /// # Safety
     ///
-    /// * `device` offers the properties that this allocator was made with.
+    /// * `device` does what [`MemoryDevice`] says, and offers the properties that this allocator was made with.
     /// * It is the same in all calls of this allocator and its blocks.
     pub unsafe fn alloc(
         &mut self,
@@ -289,6 +289,7 @@ impl<M> GpuAllocator<M> {
             if names.is_empty() {
                 return;
             }
+            let more = names.len() == ROOM;
             for &name in names {
                 let memory = self.objects.take(name).or_else(|| own.take());
                 let memory = memory.expect("an object that went has to be known, or the block's own");
@@ -297,6 +298,9 @@ impl<M> GpuAllocator<M> {
                 unsafe { device.deallocate_memory(memory) };
             }
             self.count();
+            if !more {
+                return;
+            }
         }
     }
 

@@ -5,7 +5,7 @@ use crate::ffi;
 use crate::{Config, DeviceProperties};
 
 /// How many names one call reads at most.
-const ROOM: usize = 32;
+pub(crate) const ROOM: usize = 32;
 
 /// An open allocator, until it is closed.
 pub(crate) struct Library {
@@ -114,7 +114,7 @@ impl Library {
         expect("wt_cleanup", unsafe { ffi::wt_cleanup(&mut self.state.handle) });
     }
 
-    /// Names of objects that went, some or all of them; none where there are no more.
+    /// Names of objects that went: `ROOM` of them, or all where there are fewer.
     pub(crate) fn gone(&mut self) -> &[u64] {
         let state = &mut *self.state;
         let mut count = 0;
