@@ -1,0 +1,555 @@
+//! The allocator: requests go in, blocks come out and go back.
+
+use crate::block::{Memory, MemoryBlock, Parts, Place, Shared, Start};
+use crate::config::Config;
+use crate::error::{AllocationError, NewError};
+use crate::ffi;
+use crate::library::{unexpected, Library, ROOM};
+use crate::objects::Objects;
+use crate::report::report;
+use crate::request::{Dedicated, Request};
+use crate::types::{
+    AllocationFlags, DeviceMapError, DeviceProperties, MemoryDevice, MemoryPropertyFlags, MemoryType, OutOfMemory,
+};
+use std::fmt::{Debug, Formatter};
+use std::sync::atomic::{AtomicU64, Ordering};
+use std::sync::Arc;
+
+/// How many allocators were made. Each keeps its number, by which it knows its blocks.
+static MADE: AtomicU64 = AtomicU64::new(0);
+
+/// A memory allocator for Vulkan and what is like it. `M` is the type of a memory object's handle.
+///
+/// It decides by the proved library which memory type serves a request and where the block lies, and asks a
+/// [`MemoryDevice`] for memory objects. One that is dropped while it holds memory objects is reported on standard
+/// error: give each block back, and call [`cleanup`](GpuAllocator::cleanup), before.
+pub struct GpuAllocator<M> {
+    library: Library,
+    objects: Objects<M>,
+    number: u64,
+    memory_types: Box<[MemoryType]>,
+    atom_mask: u64,
+    max_allocation_size: u64,
+    /// As the library counts it, so that it is told without a call.
+    remaining: u32,
+}
+
+impl<M> GpuAllocator<M> {
+    /// Makes an allocator for a device that offers `props`, which holds no memory objects. See
+    /// [`try_new`](GpuAllocator::try_new) for one that may be refused.
+    ///
+    /// # Panics
+    ///
+    /// Where `try_new` refuses.
+    #[track_caller]
+    pub fn new(config: Config, props: DeviceProperties<'_>) -> Self {
+        match GpuAllocator::try_new(config, props) {
+            Ok(allocator) => allocator,
+            Err(error) => panic!("no `GpuAllocator` can be made: {error}"),
+        }
+    }
+
+    /// Makes an allocator for a device that offers `props`, which holds no memory objects.
+    ///
+    /// # Errors
+    ///
+    /// [`NewError`] says which. Nothing is held then.
+    pub fn try_new(config: Config, props: DeviceProperties<'_>) -> Result<Self, NewError> {
+        let library = Library::open(&config, &props)?;
+        Ok(GpuAllocator {
+            library,
+            objects: Objects::new(),
+            number: MADE.fetch_add(1, Ordering::Relaxed),
+            memory_types: props.memory_types.iter().copied().collect(),
+            atom_mask: props.non_coherent_atom_size - 1,
+            max_allocation_size: props.max_memory_allocation_size,
+            remaining: props.max_memory_allocation_count,
+        })
+    }
+
+    /// Allocates a block, of a memory object of its own where its size says so.
+    ///
+    /// # Errors
+    ///
+    /// [`AllocationError`] says which. The allocator and the device then hold what they held before.
+    ///
+    /// # Panics
+    ///
+    /// Where `request.align_mask` is none, a bit of `request.usage` has no name, or [`UsageFlags::DEVICE_ADDRESS`] is
+    /// asked for without [`DeviceProperties::buffer_device_address`]. Nothing is changed.
+    ///
+    /// [`UsageFlags::DEVICE_ADDRESS`]: crate::UsageFlags::DEVICE_ADDRESS
+    ///
+    /// # Safety
+    ///
+    /// * `device` does what [`MemoryDevice`] says, and offers the properties that this allocator was made with.
+    /// * It is the same in all calls of this allocator and its blocks.
+    pub unsafe fn alloc(
+        &mut self,
+        device: &impl MemoryDevice<M>,
+        request: Request,
+    ) -> Result<MemoryBlock<M>, AllocationError> {
+        // SAFETY: the caller keeps this function's conditions, which are the same.
+        unsafe { self.grant(device, request.with(None)) }
+    }
+
+    /// As [`alloc`](GpuAllocator::alloc), with a word on whether the block has to be a memory object of its own.
+    ///
+    /// # Errors
+    ///
+    /// As for `alloc`.
+    ///
+    /// # Panics
+    ///
+    /// As for `alloc`.
+    ///
+    /// # Safety
+    ///
+    /// As for `alloc`.
+    pub unsafe fn alloc_with_dedicated(
+        &mut self,
+        device: &impl MemoryDevice<M>,
+        request: Request,
+        dedicated: Dedicated,
+    ) -> Result<MemoryBlock<M>, AllocationError> {
+        // SAFETY: the caller keeps this function's conditions, which are the same.
+        unsafe { self.grant(device, request.with(Some(dedicated))) }
+    }
+
+    /// Takes `size` bytes of a memory object of the caller's from `offset` on as a block. The object is the
+    /// allocator's from then on, counts as one that it holds, with `size` bytes of its heap, and goes back to the
+    /// device with its block.
+    ///
+    /// # Panics
+    ///
+    /// Where no objects remain ([`remaining_allocations`](GpuAllocator::remaining_allocations)), there is no such
+    /// memory type, `size` is 0, `offset + size` passes 64 bits, or the host has too little memory. The allocator is
+    /// then as before, and `memory` is dropped.
+    ///
+    /// # Safety
+    ///
+    /// * The object is of the device of all calls of this allocator and its blocks, is of that memory type, not
+    ///   mapped, and no other's to give back.
+    /// * `props` are the properties of the memory type, or fewer.
+    /// * `offset .. offset + size` lies in the object. Where the memory is host-visible and not host-coherent, it
+    ///   ends at a multiple of [`DeviceProperties::non_coherent_atom_size`], or where the object ends.
+    #[track_caller]
+    pub unsafe fn import_memory(
+        &mut self,
+        memory: M,
+        memory_type: u32,
+        props: MemoryPropertyFlags,
+        offset: u64,
+        size: u64,
+    ) -> MemoryBlock<M> {
+        // The library is told that the object ends with the block. It asks for that to see that the block ends well,
+        // which the caller has said.
+        let end = offset.checked_add(size).expect("an import's `offset + size` has to fit 64 bits");
+        let block = match self.library.import(memory_type, end, offset, size) {
+            Ok(block) => block,
+            Err(status) => no_import(status),
+        };
+        self.count();
+        self.block(block, props, Memory::Own(memory))
+    }
+
+    /// Takes a block back, mapped or not. Memory objects that no block needs go back to the device, but for the last
+    /// of a free list, which [`cleanup`](GpuAllocator::cleanup) gives back.
+    ///
+    /// # Panics
+    ///
+    /// Where the block is another allocator's. Nothing is changed, but the block is dropped.
+    ///
+    /// # Safety
+    ///
+    /// * The block is of this allocator, and the device is done with it.
+    /// * `device` is the same in all calls of this allocator and its blocks.
+    #[track_caller]
+    pub unsafe fn dealloc(&mut self, device: &impl MemoryDevice<M>, block: MemoryBlock<M>) {
+        assert!(block.allocator() == self.number, "a block has to go back to the allocator that it came from");
+        let (key, memory) = block.into_parts();
+        let own = match memory {
+            Memory::Own(memory) => Some(memory),
+            // Not `_`, which would keep it to the end: an object that goes has one handle left, the allocator's.
+            Memory::Shared(shared) => {
+                drop(shared);
+                None
+            }
+        };
+        self.library.free(key);
+        // SAFETY: the device is the objects', as the caller says, and done with the block.
+        unsafe { self.give_back(device, own) };
+    }
+
+    /// The largest size of a request, in bytes.
+    pub fn max_allocation_size(&self) -> u64 {
+        self.max_allocation_size
+    }
+
+    /// How many memory objects may be held beside those that are.
+    pub fn remaining_allocations(&self) -> u32 {
+        self.remaining
+    }
+
+    /// Lets this many memory objects be held beside those that are, from now on.
+    ///
+    /// # Panics
+    ///
+    /// Where it is not below 2^32 together with the objects that are held. Nothing is changed.
+    ///
+    /// # Safety
+    ///
+    /// The device allows that many.
+    #[track_caller]
+    pub unsafe fn set_remaining_allocations(&mut self, remaining: u32) {
+        let set = self.library.set_remaining(remaining);
+        assert!(set, "`remaining` has to be below 2^32 together with the objects that are held");
+        self.remaining = remaining;
+    }
+
+    /// Gives each memory object back to the device that no block needs. Where all blocks were given back none is held
+    /// after it, and the allocator can be dropped, or used on.
+    ///
+    /// # Safety
+    ///
+    /// `device` is the same in all calls of this allocator and its blocks.
+    pub unsafe fn cleanup(&mut self, device: &impl MemoryDevice<M>) {
+        self.library.cleanup();
+        // SAFETY: the device is the objects', as the caller says, and no block is in them.
+        unsafe { self.give_back(device, None) };
+    }
+
+    /// # Safety
+    ///
+    /// As for `alloc`.
+    unsafe fn grant(
+        &mut self,
+        device: &impl MemoryDevice<M>,
+        request: ffi::Request,
+    ) -> Result<MemoryBlock<M>, AllocationError> {
+        let mut asked = Asked { device, made: None };
+        // SAFETY: the questions are the library's, of the device's own properties, as the caller says.
+        let answer = self.library.alloc(&request, |question| unsafe { asked.answer(question) });
+        let block = match answer {
+            Ok(block) => block,
+            Err(status) => {
+                // SAFETY: the call has ended, and kept no object that was made for it.
+                unsafe { asked.give_back() };
+                return Err(refusal(status));
+            }
+        };
+        let props = self.memory_types[block.memory_type as usize].props;
+        let memory = if block.fresh != 0 {
+            let made = asked.made.take().expect("a fresh block has to be in an object that was made for it");
+            self.count();
+            self.keep(block.object, made, props)
+        } else {
+            // SAFETY: the block lies in another object.
+            unsafe { asked.give_back() };
+            Memory::Shared(self.objects.get(block.object).clone())
+        };
+        Ok(self.block(block, props, memory))
+    }
+
+    /// Takes a new object in: into the books, or for its block alone.
+    ///
+    /// The library maps a new object where the host sees it and blocks will share it. So one that the host sees, and
+    /// that is not mapped, is its block's own. Of one that the host does not see nothing tells; it is kept as a
+    /// shared one, which it may be, since nothing is ever asked of it but to go back.
+    fn keep(&mut self, name: u64, made: Made<M>, props: MemoryPropertyFlags) -> Memory<M> {
+        if made.start.is_none() && props.contains(MemoryPropertyFlags::HOST_VISIBLE) {
+            return Memory::Own(made.memory);
+        }
+        let shared = Shared { memory: Arc::new(made.memory), start: made.start };
+        self.objects.insert(name, shared.clone());
+        Memory::Shared(shared)
+    }
+
+    fn block(&self, block: ffi::Block, props: MemoryPropertyFlags, memory: Memory<M>) -> MemoryBlock<M> {
+        let kind = MemoryPropertyFlags::HOST_VISIBLE | MemoryPropertyFlags::HOST_COHERENT;
+        let parts = Parts {
+            place: Place { allocator: self.number, key: block.key },
+            offset: block.offset,
+            size: block.size,
+            atom_mask: if props & kind == MemoryPropertyFlags::HOST_VISIBLE { self.atom_mask } else { 0 },
+            memory_type: block.memory_type,
+            props,
+        };
+        MemoryBlock::new(parts, memory)
+    }
+
+    /// Gives the objects that went back to the device. The one of `own` may be among them.
+    ///
+    /// # Safety
+    ///
+    /// `device` is the objects', and done with them.
+    unsafe fn give_back(&mut self, device: &impl MemoryDevice<M>, mut own: Option<M>) {
+        loop {
+            let names = self.library.gone();
+            if names.is_empty() {
+                return;
+            }
+            let more = names.len() == ROOM;
+            for &name in names {
+                let memory = self.objects.take(name).or_else(|| own.take());
+                let memory = memory.expect("an object that went has to be known, or the block's own");
+                // SAFETY: the library tells each object once, when no block is in it. The device is its, as the
+                // caller says.
+                unsafe { device.deallocate_memory(memory) };
+            }
+            self.count();
+            if !more {
+                return;
+            }
+        }
+    }
+
+    fn count(&mut self) {
+        self.remaining = self.library.counts().remaining;
+    }
+}
+
+impl<M> Drop for GpuAllocator<M> {
+    fn drop(&mut self) {
+        let counts = self.library.counts();
+        if counts.blocks > 0 {
+            report(&format!("an allocator was dropped, with blocks that were not given back: {}", counts.blocks));
+        } else if counts.held > 0 {
+            report(&format!("an allocator was dropped without `cleanup`, with memory objects: {}", counts.held));
+        }
+        // The memory objects are lost to the device, and dropped as values. So that the library's memory is not lost
+        // too, where no block is live, it lets them go.
+        self.library.cleanup();
+        while !self.library.gone().is_empty() {}
+        self.library.close();
+    }
+}
+
+impl<M> Debug for GpuAllocator<M> {
+    fn fmt(&self, formatter: &mut Formatter<'_>) -> std::fmt::Result {
+        formatter
+            .debug_struct("GpuAllocator")
+            .field("memory_types", &self.memory_types)
+            .field("max_allocation_size", &self.max_allocation_size)
+            .field("remaining_allocations", &self.remaining)
+            .field("shared_objects", &self.objects.len())
+            .finish_non_exhaustive()
+    }
+}
+
+/// An object that was made for a request, and where it is mapped.
+struct Made<M> {
+    memory: M,
+    start: Option<Start>,
+}
+
+/// The device as it is asked for a request.
+struct Asked<'a, M, D> {
+    device: &'a D,
+    made: Option<Made<M>>,
+}
+
+impl<M, D: MemoryDevice<M>> Asked<'_, M, D> {
+    /// # Safety
+    ///
+    /// The question is the library's, of a device that offers what this one offers.
+    unsafe fn answer(&mut self, question: &ffi::Question) -> u32 {
+        match question.kind {
+            // SAFETY: as the caller says.
+            ffi::ALLOCATE => unsafe { self.allocate(question) },
+            // SAFETY: as the caller says.
+            ffi::MAP_MADE => unsafe { self.map_made(question) },
+            kind => unexpected("a question of wt_alloc", kind),
+        }
+    }
+
+    /// # Safety
+    ///
+    /// As for `answer`.
+    unsafe fn allocate(&mut self, question: &ffi::Question) -> u32 {
+        // SAFETY: an object that was made before was not mapped, and the library goes on without it.
+        unsafe { self.give_back() };
+        let mut flags = AllocationFlags::empty();
+        flags.set(AllocationFlags::DEVICE_ADDRESS, question.flags & ffi::ALLOCATE_DEVICE_ADDRESS != 0);
+        // SAFETY: the memory type is the device's, and the size at least 1. The flag is there if the feature is
+        // enabled.
+        match unsafe { self.device.allocate_memory(question.size, question.memory_type, flags) } {
+            Ok(memory) => {
+                self.made = Some(Made { memory, start: None });
+                ffi::GRANTED
+            }
+            Err(OutOfMemory::OutOfDeviceMemory) => ffi::NO_DEVICE_MEMORY,
+            Err(OutOfMemory::OutOfHostMemory) => ffi::NO_HOST_MEMORY,
+        }
+    }
+
+    /// # Safety
+    ///
+    /// As for `answer`.
+    unsafe fn map_made(&mut self, question: &ffi::Question) -> u32 {
+        let made = self.made.as_mut().expect("an object has to be made before it is mapped");
+        assert_eq!(question.offset, 0, "a shared object has to be mapped from its start on");
+        // SAFETY: the object is of a host-visible type and not mapped, and the range is all of it.
+        match unsafe { self.device.map_memory(&mut made.memory, question.offset, question.size) } {
+            Ok(start) => {
+                made.start = Some(Start(start));
+                ffi::GRANTED
+            }
+            Err(DeviceMapError::OutOfDeviceMemory) => ffi::NO_DEVICE_MEMORY,
+            Err(DeviceMapError::OutOfHostMemory) => ffi::NO_HOST_MEMORY,
+            Err(DeviceMapError::MapFailed) => ffi::DEVICE_MAP_FAILED,
+        }
+    }
+
+    /// Gives an object that was made back to the device, if there is one.
+    ///
+    /// # Safety
+    ///
+    /// The library has not taken it, and will not.
+    unsafe fn give_back(&mut self) {
+        if let Some(made) = self.made.take() {
+            // SAFETY: it was made here, and nothing but this has it.
+            unsafe { self.device.deallocate_memory(made.memory) };
+        }
+    }
+}
+
+/// Why a request was refused, or a panic where it could not be asked.
+fn refusal(status: u32) -> AllocationError {
+    match status {
+        ffi::OUT_OF_DEVICE_MEMORY => AllocationError::OutOfDeviceMemory,
+        ffi::OUT_OF_HOST_MEMORY => AllocationError::OutOfHostMemory,
+        ffi::NO_COMPATIBLE_MEMORY_TYPES => AllocationError::NoCompatibleMemoryTypes,
+        ffi::TOO_MANY_OBJECTS => AllocationError::TooManyObjects,
+        ffi::BAD_ALIGNMENT => panic!("`align_mask` has to be one less than a power of two of at most 2^63"),
+        ffi::BAD_USAGE => panic!("each bit of `usage` has to have a name"),
+        ffi::NO_DEVICE_ADDRESS => panic!("`DEVICE_ADDRESS` needs the device's feature `buffer_device_address`"),
+        status => unexpected("wt_alloc", status),
+    }
+}
+
+#[track_caller]
+fn no_import(status: u32) -> ! {
+    match status {
+        ffi::NO_REMAINING => panic!("no memory objects remain: see `remaining_allocations` before an import"),
+        ffi::BAD_MEMORY_TYPE => panic!("an import's `memory_type` has to be one of the device's"),
+        ffi::BAD_SIZE => panic!("an import's `size` has to be at least 1"),
+        ffi::OUT_OF_HOST_MEMORY => panic!("too little host memory for an import"),
+        status => unexpected("wt_import", status),
+    }
+}
+
+#[cfg(test)]
+mod tests {
+    use super::*;
+    use crate::types::{MappedMemoryRange, MemoryHeap};
+    use crate::UsageFlags;
+    use std::borrow::Cow;
+    use std::cell::Cell;
+    use std::ptr::NonNull;
+
+    const PROPS: MemoryPropertyFlags = MemoryPropertyFlags::HOST_VISIBLE;
+
+    /// Grants all, and keeps no bytes. It counts what was made less what went back.
+    #[derive(Default)]
+    struct Grants {
+        held: Cell<u64>,
+    }
+
+    impl MemoryDevice<()> for Grants {
+        unsafe fn allocate_memory(&self, _: u64, _: u32, _: AllocationFlags) -> Result<(), OutOfMemory> {
+            self.held.set(self.held.get() + 1);
+            Ok(())
+        }
+        unsafe fn deallocate_memory(&self, _: ()) {
+            self.held.set(self.held.get() - 1);
+        }
+        unsafe fn map_memory(&self, _: &mut (), _: u64, _: u64) -> Result<NonNull<u8>, DeviceMapError> {
+            Ok(NonNull::dangling())
+        }
+        unsafe fn unmap_memory(&self, _: &mut ()) {}
+        unsafe fn invalidate_memory_ranges(&self, _: &[MappedMemoryRange<'_, ()>]) -> Result<(), OutOfMemory> {
+            Ok(())
+        }
+        unsafe fn flush_memory_ranges(&self, _: &[MappedMemoryRange<'_, ()>]) -> Result<(), OutOfMemory> {
+            Ok(())
+        }
+    }
+
+    fn allocator(atom: u64, props: MemoryPropertyFlags) -> GpuAllocator<()> {
+        let offered = DeviceProperties {
+            memory_types: Cow::Owned(vec![MemoryType { heap: 0, props }]),
+            memory_heaps: Cow::Borrowed(&[MemoryHeap { size: 1 << 40 }]),
+            max_memory_allocation_count: 1000,
+            max_memory_allocation_size: 1 << 36,
+            non_coherent_atom_size: atom,
+            buffer_device_address: false,
+        };
+        GpuAllocator::new(Config::i_am_potato(), offered)
+    }
+
+    /// The range that this crate flushes for bytes of a block is the one that the library tells.
+    fn compare(allocator: &mut GpuAllocator<()>, block: &MemoryBlock<()>) {
+        let size = block.size();
+        for offset in [0, 1, 63, 64, 65, size / 2, size.saturating_sub(1)] {
+            for len in [1, 2, 63, 64, 65, size / 3, size] {
+                if offset >= size || len == 0 || len > size - offset {
+                    continue;
+                }
+                let told = allocator.library.range_of(block.key(), offset, len);
+                let found = block.whole_atoms(offset, len);
+                assert_eq!(
+                    (told.offset, told.size),
+                    (found.start, found.end - found.start),
+                    "{block:?} {offset} {len}"
+                );
+            }
+        }
+    }
+
+    #[test]
+    fn ranges_are_the_librarys() {
+        let device = Grants::default();
+        for atom in [1, 4, 64, 4096] {
+            let mut allocator = allocator(atom, PROPS);
+            let mut blocks = Vec::new();
+            for (size, usage) in [(1, 0), (100, 0x10), (5000, 0), (5001, 0x10), (300_000, 0), (300_001, 0x10)] {
+                let usage = UsageFlags::HOST_ACCESS | UsageFlags::from_bits_truncate(usage);
+                let request = Request { size, align_mask: 0, usage, memory_types: 1 };
+                // SAFETY: there is one device, which grants all that the allocator asks.
+                blocks.push(unsafe { allocator.alloc(&device, request) }.unwrap());
+            }
+            for (offset, size) in [(0, 7), (1, 100), (65, 1), (100, 1 << 20), (u64::MAX - 100, 100)] {
+                device.held.set(device.held.get() + 1);
+                // SAFETY: the object, which has no bytes, ends with the range.
+                blocks.push(unsafe { allocator.import_memory((), 0, PROPS, offset, size) });
+            }
+            for block in blocks {
+                compare(&mut allocator, &block);
+                // SAFETY: the block is this allocator's.
+                unsafe { allocator.dealloc(&device, block) };
+            }
+            // SAFETY: there is one device.
+            unsafe { allocator.cleanup(&device) };
+            assert_eq!(device.held.get(), 0);
+        }
+    }
+
+    /// More objects go at once than are read at once.
+    #[test]
+    fn all_names_are_read() {
+        let device = Grants::default();
+        let mut allocator = allocator(1, MemoryPropertyFlags::DEVICE_LOCAL);
+        let request = Request { size: 100_000, align_mask: 0, usage: UsageFlags::TRANSIENT, memory_types: 1 };
+        // SAFETY: there is one device, which grants all that the allocator asks.
+        let blocks: Vec<_> = (0..200).map(|_| unsafe { allocator.alloc(&device, request) }.unwrap()).collect();
+        for block in blocks {
+            // The library alone is told, so that what went waits to be read.
+            let (key, _memory) = block.into_parts();
+            allocator.library.free(key);
+        }
+        // SAFETY: there is one device.
+        unsafe { allocator.cleanup(&device) };
+        assert_eq!((device.held.get(), allocator.remaining_allocations(), allocator.objects.len()), (0, 1000, 0));
+    }
+}

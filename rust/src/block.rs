@@ -1,0 +1,341 @@
+//! Blocks, and the host's access to their bytes.
+//!
+//! The library can keep a block's mapping (`wt_map`, `wt_unmap`), but a block of this crate is mapped without its
+//! allocator, and on any thread, so that it would have to share the allocator under a lock. Here the block keeps its
+//! mapping itself: it holds what the calls need, which is its own memory object, or the address where its shared one
+//! was mapped when it was made. The library then believes each block unmapped, which it may: it takes a block back
+//! mapped or not, and tells nothing by it. What is left to this file is the rounding of ranges to atoms,
+//! [`MemoryBlock::whole_atoms`]; a test compares it with the library's (`wt_range_of`).
+
+use crate::error::MapError;
+use crate::report::report;
+use crate::types::{MappedMemoryRange, MemoryDevice, MemoryPropertyFlags, OutOfMemory};
+use std::ops::Range;
+use std::ptr::{copy_nonoverlapping, NonNull};
+use std::sync::Arc;
+
+/// Where a memory object is mapped: the address of its first byte.
+#[derive(Clone, Copy, Debug)]
+pub(crate) struct Start(pub(crate) NonNull<u8>);
+
+// SAFETY: it is an address. What is reached through it is for the unsafe calls that do so to say.
+unsafe impl Send for Start {}
+
+// SAFETY: as above.
+unsafe impl Sync for Start {}
+
+/// A memory object that blocks share.
+#[derive(Debug)]
+pub(crate) struct Shared<M> {
+    pub(crate) memory: Arc<M>,
+    /// Where it is mapped, which it is as long as it is held, if the host sees it.
+    pub(crate) start: Option<Start>,
+}
+
+impl<M> Clone for Shared<M> {
+    fn clone(&self) -> Self {
+        Shared { memory: Arc::clone(&self.memory), start: self.start }
+    }
+}
+
+/// A block's memory object.
+#[derive(Debug)]
+pub(crate) enum Memory<M> {
+    /// No other block is in it. It is mapped where this block is.
+    Own(M),
+    /// Other blocks may be in it.
+    Shared(Shared<M>),
+}
+
+/// What the allocator knows a block by.
+#[derive(Debug)]
+pub(crate) struct Place {
+    pub(crate) allocator: u64,
+    pub(crate) key: u64,
+}
+
+/// Reports a block that was dropped.
+#[derive(Debug)]
+struct Unreturned;
+
+impl Drop for Unreturned {
+    fn drop(&mut self) {
+        report("a memory block was dropped, and not given back: its memory stays taken");
+    }
+}
+
+/// A range of a memory object, to be given back by [`GpuAllocator::dealloc`](crate::GpuAllocator::dealloc). One that is
+/// dropped is reported on standard error, and its memory stays taken.
+#[derive(Debug)]
+pub struct MemoryBlock<M> {
+    place: Place,
+    offset: u64,
+    size: u64,
+    /// The alignment less 1 of what is flushed and invalidated; 0 where nothing has to be.
+    atom_mask: u64,
+    memory_type: u32,
+    props: MemoryPropertyFlags,
+    mapped: bool,
+    memory: Memory<M>,
+    unreturned: Unreturned,
+}
+
+/// What a block is made of, beside its memory object.
+pub(crate) struct Parts {
+    pub(crate) place: Place,
+    pub(crate) offset: u64,
+    pub(crate) size: u64,
+    pub(crate) atom_mask: u64,
+    pub(crate) memory_type: u32,
+    pub(crate) props: MemoryPropertyFlags,
+}
+
+impl<M> MemoryBlock<M> {
+    pub(crate) fn new(parts: Parts, memory: Memory<M>) -> Self {
+        MemoryBlock {
+            place: parts.place,
+            offset: parts.offset,
+            size: parts.size,
+            atom_mask: parts.atom_mask,
+            memory_type: parts.memory_type,
+            props: parts.props,
+            mapped: false,
+            memory,
+            unreturned: Unreturned,
+        }
+    }
+
+    /// The number of the block's allocator.
+    pub(crate) fn allocator(&self) -> u64 {
+        self.place.allocator
+    }
+
+    /// Ends the block, for its allocator to take it back.
+    pub(crate) fn into_parts(self) -> (u64, Memory<M>) {
+        std::mem::forget(self.unreturned);
+        (self.place.key, self.memory)
+    }
+
+    /// The block's memory object.
+    #[inline]
+    pub fn memory(&self) -> &M {
+        match &self.memory {
+            Memory::Own(memory) => memory,
+            Memory::Shared(shared) => &shared.memory,
+        }
+    }
+
+    /// Where the block starts, in bytes from the start of its memory object.
+    #[inline]
+    pub fn offset(&self) -> u64 {
+        self.offset
+    }
+
+    /// The block's size in bytes: at least what was asked for.
+    #[inline]
+    pub fn size(&self) -> u64 {
+        self.size
+    }
+
+    /// The properties of the block's memory type.
+    #[inline]
+    pub fn props(&self) -> MemoryPropertyFlags {
+        self.props
+    }
+
+    /// The index of the block's memory type.
+    #[inline]
+    pub fn memory_type(&self) -> u32 {
+        self.memory_type
+    }
+
+    /// Maps `size` bytes of the block from `offset` on, both counted in bytes from its start, and gives the address
+    /// of the first of them. A `size` of 0 counts as 1. The address is good until [`unmap`](MemoryBlock::unmap), or
+    /// until the block is given back.
+    ///
+    /// Where the memory is not host-coherent, what is written has to be flushed, and what is read invalidated before,
+    /// in ranges of whole atoms that end at the block's end at most. [`write_bytes`](MemoryBlock::write_bytes) and
+    /// [`read_bytes`](MemoryBlock::read_bytes) do so.
+    ///
+    /// # Errors
+    ///
+    /// [`MapError::NonHostVisible`], [`MapError::AlreadyMapped`], or what the device answered. The block is then
+    /// mapped or not as before.
+    ///
+    /// # Panics
+    ///
+    /// Where the range does not lie in the block, or starts at its end. Nothing is changed.
+    ///
+    /// # Safety
+    ///
+    /// * `device` is the one that the block was allocated from, or that its memory was imported from.
+    /// * Through the address those bytes alone are reached, and none that the device may be writing, or, to write,
+    ///   reading: rounded to whole atoms where the memory is not host-coherent.
+    #[inline]
+    pub unsafe fn map(
+        &mut self,
+        device: &impl MemoryDevice<M>,
+        offset: u64,
+        size: usize,
+    ) -> Result<NonNull<u8>, MapError> {
+        let size = u64::try_from(size).expect("`size` has to fit 64 bits");
+        assert!(offset < self.size, "`offset` has to be less than the block's size");
+        assert!(size <= self.size - offset, "`offset + size` has to be at most the block's size");
+        self.may_be_mapped()?;
+        let range = self.whole_atoms(offset, size.max(1));
+        let base = if let Memory::Own(_) = self.memory { range.start } else { 0 };
+        let distance = usize::try_from(self.offset + offset - base).expect("a mapping has to fit the host's memory");
+        let start = match &mut self.memory {
+            // SAFETY: the device is the object's, as the caller says. The object is host-visible, and not mapped, as
+            // this block alone maps it. The range lies in the block, or begins less than an atom before it, inside
+            // the object.
+            Memory::Own(memory) => unsafe { device.map_memory(memory, range.start, range.end - range.start) }?,
+            Memory::Shared(shared) => shared.start.ok_or(MapError::NonHostVisible)?.0,
+        };
+        self.mapped = true;
+        // SAFETY: `start` is the address of the object's byte at `base`, mapped up to `range.end` at least, and the
+        // block's byte at `offset` lies at `base` or between the two.
+        Ok(unsafe { start.add(distance) })
+    }
+
+    /// Ends the block's mapping, and tells whether it had one.
+    ///
+    /// # Safety
+    ///
+    /// `device` is the one that the block was allocated from, or that its memory was imported from.
+    #[inline]
+    pub unsafe fn unmap(&mut self, device: &impl MemoryDevice<M>) -> bool {
+        if !self.mapped {
+            return false;
+        }
+        self.mapped = false;
+        if let Memory::Own(memory) = &mut self.memory {
+            // SAFETY: the device is the object's, as the caller says; the object is mapped, as this block was.
+            unsafe { device.unmap_memory(memory) };
+        }
+        true
+    }
+
+    /// Writes bytes into the block from `offset` on, counted in bytes from its start: maps them, copies them, flushes
+    /// them where the memory is not host-coherent, and unmaps them. No bytes ask nothing of the device.
+    ///
+    /// # Errors
+    ///
+    /// As for [`map`](MemoryBlock::map), with nothing written; or what the device answered to the flush: the bytes
+    /// are then written, but the device may not see them. The block is mapped or not as before.
+    ///
+    /// # Panics
+    ///
+    /// Where the range does not lie in the block. Nothing is written.
+    ///
+    /// # Safety
+    ///
+    /// * `device` is the one that the block was allocated from, or that its memory was imported from.
+    /// * The device is not reading or writing those bytes, rounded to whole atoms where the memory is not
+    ///   host-coherent.
+    #[inline]
+    pub unsafe fn write_bytes(
+        &mut self,
+        device: &impl MemoryDevice<M>,
+        offset: u64,
+        data: &[u8],
+    ) -> Result<(), MapError> {
+        if data.is_empty() {
+            return self.reaches(offset);
+        }
+        // SAFETY: the device is the block's, as the caller says; the address is used for `data`'s length below alone.
+        let start = unsafe { self.map(device, offset, data.len()) }?;
+        // SAFETY: as many bytes as `data` has were mapped, for writes too. `data` cannot overlap them: it is
+        // borrowed, and they are reached through a mapping alone, which the block did not have before.
+        unsafe { copy_nonoverlapping(data.as_ptr(), start.as_ptr(), data.len()) };
+        let range = self.to_flush(offset, data.len());
+        // SAFETY: the range is of whole atoms or ends with the block, and is mapped.
+        let flushed = range.map_or(Ok(()), |range| unsafe { device.flush_memory_ranges(&[range]) });
+        // SAFETY: the device is the block's, as the caller says.
+        unsafe { self.unmap(device) };
+        flushed.map_err(OutOfMemory::into)
+    }
+
+    /// Reads bytes of the block from `offset` on, counted in bytes from its start: maps them, invalidates them where
+    /// the memory is not host-coherent, copies them, and unmaps them. No bytes ask nothing of the device.
+    ///
+    /// # Errors
+    ///
+    /// As for [`map`](MemoryBlock::map), or what the device answered to the invalidate. `data` is then unchanged, and
+    /// the block is mapped or not as before.
+    ///
+    /// # Panics
+    ///
+    /// Where the range does not lie in the block. Nothing is read.
+    ///
+    /// # Safety
+    ///
+    /// * `device` is the one that the block was allocated from, or that its memory was imported from.
+    /// * The device is not writing those bytes, rounded to whole atoms where the memory is not host-coherent.
+    #[inline]
+    pub unsafe fn read_bytes(
+        &mut self,
+        device: &impl MemoryDevice<M>,
+        offset: u64,
+        data: &mut [u8],
+    ) -> Result<(), MapError> {
+        if data.is_empty() {
+            return self.reaches(offset);
+        }
+        // SAFETY: the device is the block's, as the caller says; the address is used for `data`'s length below alone.
+        let start = unsafe { self.map(device, offset, data.len()) }?;
+        let range = self.to_flush(offset, data.len());
+        // SAFETY: the range is of whole atoms or ends with the block, and is mapped.
+        let seen = range.map_or(Ok(()), |range| unsafe { device.invalidate_memory_ranges(&[range]) });
+        if seen.is_ok() {
+            // SAFETY: as many bytes as `data` has were mapped, for reads too. `data` cannot overlap them: it is
+            // borrowed, and they are reached through a mapping alone, which the block did not have before.
+            unsafe { copy_nonoverlapping(start.as_ptr(), data.as_mut_ptr(), data.len()) };
+        }
+        // SAFETY: the device is the block's, as the caller says.
+        unsafe { self.unmap(device) };
+        seen.map_err(OutOfMemory::into)
+    }
+
+    /// What writing and reading no bytes at `offset` answers.
+    fn reaches(&self, offset: u64) -> Result<(), MapError> {
+        assert!(offset <= self.size, "`offset` has to be at most the block's size");
+        self.may_be_mapped()
+    }
+
+    fn may_be_mapped(&self) -> Result<(), MapError> {
+        if !self.props.contains(MemoryPropertyFlags::HOST_VISIBLE) {
+            return Err(MapError::NonHostVisible);
+        }
+        if self.mapped {
+            return Err(MapError::AlreadyMapped);
+        }
+        Ok(())
+    }
+
+    /// The range to flush or to invalidate for these bytes of the block; none where the memory is host-coherent.
+    fn to_flush(&self, offset: u64, size: usize) -> Option<MappedMemoryRange<'_, M>> {
+        if self.props.contains(MemoryPropertyFlags::HOST_COHERENT) {
+            return None;
+        }
+        let range = self.whole_atoms(offset, size as u64);
+        Some(MappedMemoryRange { memory: self.memory(), offset: range.start, size: range.end - range.start })
+    }
+
+    /// The atoms of the memory object that have these bytes of the block, cut at the block's end. There ends an atom,
+    /// but in an object of the block's own, which may end inside one.
+    pub(crate) fn whole_atoms(&self, offset: u64, size: u64) -> Range<u64> {
+        let start = self.offset + offset;
+        let end = start + size;
+        let block_end = self.offset + self.size;
+        let rounded = end.checked_add(self.atom_mask).map_or(block_end, |end| end & !self.atom_mask);
+        start & !self.atom_mask..rounded.min(block_end)
+    }
+}
+
+#[cfg(test)]
+impl<M> MemoryBlock<M> {
+    pub(crate) fn key(&self) -> u64 {
+        self.place.key
+    }
+}

@@ -1,0 +1,63 @@
+//! The sizes by which the allocator decides.
+
+/// The sizes by which the allocator decides, in bytes. Any values serve: the allocator cuts them to what a heap can
+/// hold.
+#[derive(Clone, Copy, Debug, PartialEq, Eq)]
+pub struct Config {
+    /// A request of this size or more gets a memory object of its own. A smaller value costs more objects, of which a
+    /// device allows few, and their making is slow.
+    pub dedicated_threshold: u64,
+
+    /// As `dedicated_threshold`, for requests that prefer an object of their own
+    /// ([`Dedicated::Preferred`](crate::Dedicated::Preferred)). The lesser of the two counts.
+    pub preferred_dedicated_threshold: u64,
+
+    /// As `dedicated_threshold`, for requests of transient use
+    /// ([`UsageFlags::TRANSIENT`](crate::UsageFlags::TRANSIENT)). The greater of the two counts.
+    pub transient_dedicated_threshold: u64,
+
+    /// The size of a free list's first memory object.
+    pub starting_free_list_chunk: u64,
+
+    /// The size that the memory objects of a free list grow to.
+    pub final_free_list_chunk: u64,
+
+    /// The size of the smallest block of a buddy allocator, rounded up to a power of two.
+    pub minimal_buddy_size: u64,
+
+    /// What decides the size of a buddy allocator's first memory object, rounded up to a power of two. Where it is
+    /// less than `minimal_buddy_size`, that counts.
+    pub initial_buddy_dedicated_size: u64,
+}
+
+impl Config {
+    /// Sizes to start with on a desktop GPU: those of [`i_am_potato`](Config::i_am_potato) 1,024 times.
+    ///
+    /// Their names say why they are no `Default`: the right sizes depend on the device and on what it is used for,
+    /// and these may not serve where heaps are small.
+    pub fn i_am_prototyping() -> Self {
+        let potato = Config::i_am_potato();
+        Config {
+            dedicated_threshold: potato.dedicated_threshold << 10,
+            preferred_dedicated_threshold: potato.preferred_dedicated_threshold << 10,
+            transient_dedicated_threshold: potato.transient_dedicated_threshold << 10,
+            starting_free_list_chunk: potato.starting_free_list_chunk << 10,
+            final_free_list_chunk: potato.final_free_list_chunk << 10,
+            minimal_buddy_size: potato.minimal_buddy_size << 10,
+            initial_buddy_dedicated_size: potato.initial_buddy_dedicated_size << 10,
+        }
+    }
+
+    /// Sizes for the smallest device.
+    pub fn i_am_potato() -> Self {
+        Config {
+            dedicated_threshold: 32 << 10,
+            preferred_dedicated_threshold: 1 << 10,
+            transient_dedicated_threshold: 128 << 10,
+            starting_free_list_chunk: 8 << 10,
+            final_free_list_chunk: 128 << 10,
+            minimal_buddy_size: 1,
+            initial_buddy_dedicated_size: 8 << 10,
+        }
+    }
+}

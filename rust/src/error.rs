@@ -1,0 +1,131 @@
+//! What is refused, and why.
+
+use crate::types::{DeviceMapError, OutOfMemory};
+use std::error::Error;
+use std::fmt::{Display, Formatter, Result};
+
+/// Why an allocation was refused. The allocator and the device then hold what they held before.
+#[derive(Clone, Copy, Debug, PartialEq, Eq, Hash)]
+pub enum AllocationError {
+    /// The device, or each heap that could serve, has too little memory left, or the request is larger than
+    /// [`DeviceProperties::max_memory_allocation_size`](crate::DeviceProperties::max_memory_allocation_size).
+    OutOfDeviceMemory,
+
+    /// The host has too little memory, for the device or for the allocator, or a new shared memory object could not
+    /// be mapped.
+    OutOfHostMemory,
+
+    /// No memory type of [`Request::memory_types`](crate::Request::memory_types) serves
+    /// [`Request::usage`](crate::Request::usage).
+    NoCompatibleMemoryTypes,
+
+    /// A new memory object is needed, and as many are held as the device allows. Where this comes with heaps nearly
+    /// empty, larger sizes in [`Config`](crate::Config) make fewer objects.
+    TooManyObjects,
+}
+
+impl From<OutOfMemory> for AllocationError {
+    fn from(error: OutOfMemory) -> Self {
+        match error {
+            OutOfMemory::OutOfDeviceMemory => AllocationError::OutOfDeviceMemory,
+            OutOfMemory::OutOfHostMemory => AllocationError::OutOfHostMemory,
+        }
+    }
+}
+
+impl Display for AllocationError {
+    fn fmt(&self, formatter: &mut Formatter<'_>) -> Result {
+        formatter.write_str(match self {
+            AllocationError::OutOfDeviceMemory => "too little device memory",
+            AllocationError::OutOfHostMemory => "too little host memory",
+            AllocationError::NoCompatibleMemoryTypes => "no permitted memory type serves the usage",
+            AllocationError::TooManyObjects => "as many memory objects are held as the device allows",
+        })
+    }
+}
+
+impl Error for AllocationError {}
+
+/// Why a block was not mapped, or its bytes were not written or read.
+#[derive(Clone, Copy, Debug, PartialEq, Eq, Hash)]
+pub enum MapError {
+    /// The device has too little memory.
+    OutOfDeviceMemory,
+
+    /// The host has too little memory.
+    OutOfHostMemory,
+
+    /// The host does not see the block's memory: its request lacked
+    /// [`UsageFlags::HOST_ACCESS`](crate::UsageFlags::HOST_ACCESS).
+    NonHostVisible,
+
+    /// The device failed for a reason of its own, such as no address space of that size.
+    MapFailed,
+
+    /// The block is mapped.
+    AlreadyMapped,
+}
+
+impl From<DeviceMapError> for MapError {
+    fn from(error: DeviceMapError) -> Self {
+        match error {
+            DeviceMapError::OutOfDeviceMemory => MapError::OutOfDeviceMemory,
+            DeviceMapError::OutOfHostMemory => MapError::OutOfHostMemory,
+            DeviceMapError::MapFailed => MapError::MapFailed,
+        }
+    }
+}
+
+impl From<OutOfMemory> for MapError {
+    fn from(error: OutOfMemory) -> Self {
+        match error {
+            OutOfMemory::OutOfDeviceMemory => MapError::OutOfDeviceMemory,
+            OutOfMemory::OutOfHostMemory => MapError::OutOfHostMemory,
+        }
+    }
+}
+
+impl Display for MapError {
+    fn fmt(&self, formatter: &mut Formatter<'_>) -> Result {
+        formatter.write_str(match self {
+            MapError::OutOfDeviceMemory => "too little device memory",
+            MapError::OutOfHostMemory => "too little host memory",
+            MapError::NonHostVisible => "the host does not see the block's memory",
+            MapError::MapFailed => "the device failed to map",
+            MapError::AlreadyMapped => "the block is mapped",
+        })
+    }
+}
+
+impl Error for MapError {}
+
+/// Why an allocator could not be made. Nothing is held then.
+#[derive(Clone, Copy, Debug, PartialEq, Eq, Hash)]
+#[non_exhaustive]
+pub enum NewError {
+    /// There are more than 32 memory types, one is of a heap that is not there, or
+    /// [`DeviceProperties::non_coherent_atom_size`](crate::DeviceProperties::non_coherent_atom_size) is no power of
+    /// two of at most 2^62.
+    BadProperties,
+
+    /// The host has too little memory.
+    OutOfHostMemory,
+
+    /// The library that was linked is of another version than this crate.
+    OtherVersion,
+}
+
+impl Display for NewError {
+    fn fmt(&self, formatter: &mut Formatter<'_>) -> Result {
+        formatter.write_str(match self {
+            NewError::BadProperties => {
+                "over 32 memory types, one of a heap that is not there, or a non-coherent atom that is no power of two \
+                 of at most 2^62"
+            }
+            NewError::OutOfHostMemory => "too little host memory",
+            NewError::OtherVersion => "libwallthyme.a is of another version than the crate wallthyme",
+        })
+    }
+}
+
+impl Error for NewError {}

@@ -1,0 +1,218 @@
+//! Sets of bits with names, with the calls and operators that users of `bitflags` types know.
+
+/// Makes a type of flags, each a bit of a `u8`.
+macro_rules! flags {
+    (
+        $(#[$outer:meta])*
+        pub struct $Name:ident {
+            $( $(#[$inner:meta])* const $FLAG:ident = $value:literal; )*
+        }
+    ) => {
+        $(#[$outer])*
+        #[derive(Clone, Copy, PartialEq, Eq, Hash, PartialOrd, Ord)]
+        pub struct $Name(u8);
+
+        impl $Name {
+            $( $(#[$inner])* pub const $FLAG: Self = Self($value); )*
+
+            const NAMED: &'static [(&'static str, Self)] = &[$( (stringify!($FLAG), Self::$FLAG) ),*];
+
+            /// No flag.
+            pub const fn empty() -> Self {
+                Self(0)
+            }
+
+            /// Each flag that has a name.
+            pub const fn all() -> Self {
+                Self(0 $( | $value )*)
+            }
+
+            /// The bits of these flags.
+            pub const fn bits(&self) -> u8 {
+                self.0
+            }
+
+            /// The flags of these bits; `None` where one of them has no name.
+            pub const fn from_bits(bits: u8) -> Option<Self> {
+                if bits & !Self::all().0 == 0 {
+                    Some(Self(bits))
+                } else {
+                    None
+                }
+            }
+
+            /// The flags of these bits, without those that have no name.
+            pub const fn from_bits_truncate(bits: u8) -> Self {
+                Self(bits & Self::all().0)
+            }
+
+            /// The flags of these bits, with those that have no name.
+            pub const fn from_bits_retain(bits: u8) -> Self {
+                Self(bits)
+            }
+
+            /// The flag of this name, written as its constant is.
+            pub fn from_name(name: &str) -> Option<Self> {
+                Self::NAMED.iter().find(|named| named.0 == name).map(|named| named.1)
+            }
+
+            /// Whether there is no flag.
+            pub const fn is_empty(&self) -> bool {
+                self.0 == 0
+            }
+
+            /// Whether each flag that has a name is here.
+            pub const fn is_all(&self) -> bool {
+                self.contains(Self::all())
+            }
+
+            /// Whether a flag is in both.
+            pub const fn intersects(&self, other: Self) -> bool {
+                self.0 & other.0 != 0
+            }
+
+            /// Whether each of the other flags is here.
+            pub const fn contains(&self, other: Self) -> bool {
+                self.0 & other.0 == other.0
+            }
+
+            /// Adds the other flags.
+            pub fn insert(&mut self, other: Self) {
+                self.0 |= other.0;
+            }
+
+            /// Takes the other flags away.
+            pub fn remove(&mut self, other: Self) {
+                self.0 &= !other.0;
+            }
+
+            /// Takes away those of the other flags that are here, and adds the rest of them.
+            pub fn toggle(&mut self, other: Self) {
+                self.0 ^= other.0;
+            }
+
+            /// Adds the other flags where `value`, and else takes them away.
+            pub fn set(&mut self, other: Self, value: bool) {
+                if value {
+                    self.insert(other);
+                } else {
+                    self.remove(other);
+                }
+            }
+
+            /// The flags that are in both.
+            #[must_use]
+            pub const fn intersection(self, other: Self) -> Self {
+                Self(self.0 & other.0)
+            }
+
+            /// The flags that are in either.
+            #[must_use]
+            pub const fn union(self, other: Self) -> Self {
+                Self(self.0 | other.0)
+            }
+
+            /// These flags without the other ones.
+            #[must_use]
+            pub const fn difference(self, other: Self) -> Self {
+                Self(self.0 & !other.0)
+            }
+
+            /// The flags that are in one of the two alone.
+            #[must_use]
+            pub const fn symmetric_difference(self, other: Self) -> Self {
+                Self(self.0 ^ other.0)
+            }
+
+            /// The flags with a name that are not here.
+            #[must_use]
+            pub const fn complement(self) -> Self {
+                Self(!self.0 & Self::all().0)
+            }
+
+            /// The flags that are here one by one, and then those without a name together.
+            pub fn iter(&self) -> impl Iterator<Item = Self> {
+                let flags = *self;
+                let unnamed = flags.difference(Self::all());
+                let named = flags.iter_names().map(|named| named.1);
+                named.chain((!unnamed.is_empty()).then_some(unnamed))
+            }
+
+            /// The flags that are here and have a name, with it.
+            pub fn iter_names(&self) -> impl Iterator<Item = (&'static str, Self)> {
+                let flags = *self;
+                Self::NAMED.iter().copied().filter(move |named| flags.contains(named.1))
+            }
+        }
+
+        flags!(@operator $Name, BitOr bitor union, BitOrAssign bitor_assign);
+        flags!(@operator $Name, BitAnd bitand intersection, BitAndAssign bitand_assign);
+        flags!(@operator $Name, BitXor bitxor symmetric_difference, BitXorAssign bitxor_assign);
+        flags!(@operator $Name, Sub sub difference, SubAssign sub_assign);
+        flags!(@format $Name, Binary Octal LowerHex UpperHex);
+
+        impl core::ops::Not for $Name {
+            type Output = Self;
+
+            fn not(self) -> Self {
+                self.complement()
+            }
+        }
+
+        impl core::fmt::Debug for $Name {
+            fn fmt(&self, formatter: &mut core::fmt::Formatter<'_>) -> core::fmt::Result {
+                write!(formatter, "{}(", stringify!($Name))?;
+                let mut separator = "";
+                for (name, _) in self.iter_names() {
+                    write!(formatter, "{separator}{name}")?;
+                    separator = " | ";
+                }
+                let unnamed = self.difference(Self::all());
+                if self.is_empty() || !unnamed.is_empty() {
+                    write!(formatter, "{separator}{:#x}", unnamed.0)?;
+                }
+                write!(formatter, ")")
+            }
+        }
+
+        impl Extend<$Name> for $Name {
+            fn extend<T: IntoIterator<Item = Self>>(&mut self, flags: T) {
+                flags.into_iter().for_each(|flag| self.insert(flag));
+            }
+        }
+
+        impl FromIterator<$Name> for $Name {
+            fn from_iter<T: IntoIterator<Item = Self>>(flags: T) -> Self {
+                flags.into_iter().fold(Self::empty(), Self::union)
+            }
+        }
+    };
+
+    (@operator $Name:ident, $Binary:ident $binary:ident $call:ident, $Assign:ident $assign:ident) => {
+        impl core::ops::$Binary for $Name {
+            type Output = Self;
+
+            fn $binary(self, other: Self) -> Self {
+                self.$call(other)
+            }
+        }
+
+        impl core::ops::$Assign for $Name {
+            fn $assign(&mut self, other: Self) {
+                *self = self.$call(other);
+            }
+        }
+    };
+
+    (@format $Name:ident, $($Format:ident)*) => {
+        $(
+            impl core::fmt::$Format for $Name {
+                fn fmt(&self, formatter: &mut core::fmt::Formatter<'_>) -> core::fmt::Result {
+                    core::fmt::$Format::fmt(&self.0, formatter)
+                }
+            }
+        )*
+    };
+}
+
+pub(crate) use flags;

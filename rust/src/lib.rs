@@ -1,0 +1,35 @@
+#![doc = include_str!("../README.md")]
+#![deny(unsafe_op_in_unsafe_fn)]
+#![deny(clippy::undocumented_unsafe_blocks)]
+#![warn(missing_docs)]
+
+#[cfg(all(wallthyme_missing, not(doc)))]
+compile_error!(
+    "The library libwallthyme.a was not found. Build it by `cd c && make` in Wallthyme's repository, and then either \
+     set WALLTHYME_LIB to the folder that it is in, or `make install` it, for pkg-config to find. \
+     (To check or document without it: set DOCS_RS=1.)"
+);
+
+mod allocator;
+mod block;
+mod config;
+mod error;
+mod ffi;
+mod flags;
+mod library;
+mod objects;
+mod report;
+mod request;
+mod types;
+mod usage;
+
+pub use allocator::GpuAllocator;
+pub use block::MemoryBlock;
+pub use config::Config;
+pub use error::{AllocationError, MapError, NewError};
+pub use request::{Dedicated, Request};
+pub use types::{
+    AllocationFlags, DeviceMapError, DeviceProperties, MappedMemoryRange, MemoryDevice, MemoryHeap,
+    MemoryPropertyFlags, MemoryType, OutOfMemory,
+};
+pub use usage::UsageFlags;

@@ -1,0 +1,188 @@
+//! The library behind a safe face: one open allocator of `wallthyme.h`.
+
+use crate::error::NewError;
+use crate::ffi;
+use crate::{Config, DeviceProperties};
+
+/// How many names one call reads at most.
+pub(crate) const ROOM: usize = 32;
+
+/// An open allocator, until it is closed.
+pub(crate) struct Library {
+    state: Box<State>,
+}
+
+/// What has to stay in its place: the handle, which is never copied while it is open. Beside it what a call needs for
+/// its questions and names, so that no call clears it.
+struct State {
+    handle: ffi::Allocator,
+    /// One more than are ever asked: each call tells where the next question may be written.
+    asked: [ffi::Question; ffi::MAX_QUESTIONS + 1],
+    names: [u64; ROOM],
+}
+
+// SAFETY: the handle points to memory of the library's own, which nothing else points to. The library keeps nothing by
+// thread, and nothing that two allocators share: it asks that one thread calls with a handle at a time. Each call here
+// takes `&mut self`, so that one does.
+unsafe impl Send for Library {}
+
+// SAFETY: no function takes `&self`, so that nothing can be done with a shared reference.
+unsafe impl Sync for Library {}
+
+impl Library {
+    pub(crate) fn open(config: &Config, props: &DeviceProperties<'_>) -> Result<Library, NewError> {
+        // SAFETY: it has no parameters. Only the patch level, its lower eight bits, may differ: the calls are then
+        // the same.
+        if (unsafe { ffi::wt_version() } ^ ffi::VERSION) >> 8 != 0 {
+            return Err(NewError::OtherVersion);
+        }
+        let types: Vec<ffi::MemoryType> = props
+            .memory_types
+            .iter()
+            .map(|memory_type| ffi::MemoryType { heap: memory_type.heap, props: memory_type.props.bits().into() })
+            .collect();
+        let heaps: Vec<u64> = props.memory_heaps.iter().map(|heap| heap.size).collect();
+        let mut state = Box::new(State {
+            handle: ffi::Allocator::CLOSED,
+            asked: [ffi::Question::default(); ffi::MAX_QUESTIONS + 1],
+            names: [0; ROOM],
+        });
+        // SAFETY: each pointer is to a value that lives until the call ends, or to as many as are told. The handle is
+        // zeroed.
+        let status = unsafe {
+            ffi::wt_open(
+                &mut state.handle,
+                types.as_ptr(),
+                types.len(),
+                heaps.as_ptr(),
+                heaps.len(),
+                &limits_of(props),
+                &sizes_of(config),
+            )
+        };
+        match status {
+            ffi::OK => Ok(Library { state }),
+            ffi::BAD_PROPERTIES => Err(NewError::BadProperties),
+            ffi::OUT_OF_HOST_MEMORY => Err(NewError::OutOfHostMemory),
+            status => unexpected("wt_open", status),
+        }
+    }
+
+    /// Allocates a block, with the device's answers to what is asked. Where it is refused the status tells why.
+    pub(crate) fn alloc(
+        &mut self,
+        request: &ffi::Request,
+        mut answer: impl FnMut(&ffi::Question) -> u32,
+    ) -> Result<ffi::Block, u32> {
+        let state = &mut *self.state;
+        let mut block = ffi::Block::default();
+        for count in 0..=ffi::MAX_QUESTIONS {
+            let asked = state.asked.as_mut_ptr();
+            // SAFETY: the handle is open, and each pointer is to a value that lives until the call ends. `count`
+            // questions of the array were written; the next one is in the array, which has one more than the highest
+            // count, and not among those.
+            let status =
+                unsafe { ffi::wt_alloc(&mut state.handle, request, asked, count, &mut block, asked.add(count)) };
+            match status {
+                ffi::OK => return Ok(block),
+                ffi::ASK => state.asked[count].answer = answer(&state.asked[count]),
+                status => return Err(status),
+            }
+        }
+        unexpected("wt_alloc", ffi::ASK)
+    }
+
+    /// Takes a range of an object of this size as a block. Where it is refused the status tells why.
+    pub(crate) fn import(&mut self, memory_type: u32, object: u64, offset: u64, size: u64) -> Result<ffi::Block, u32> {
+        let mut block = ffi::Block::default();
+        // SAFETY: the handle is open, and `block` lives until the call ends.
+        match unsafe { ffi::wt_import(&mut self.state.handle, memory_type, object, offset, size, &mut block) } {
+            ffi::OK => Ok(block),
+            status => Err(status),
+        }
+    }
+
+    /// Takes a block back.
+    pub(crate) fn free(&mut self, key: u64) {
+        // SAFETY: the handle is open.
+        expect("wt_free", unsafe { ffi::wt_free(&mut self.state.handle, key) });
+    }
+
+    /// Lets each object go that no block needs.
+    pub(crate) fn cleanup(&mut self) {
+        // SAFETY: the handle is open.
+        expect("wt_cleanup", unsafe { ffi::wt_cleanup(&mut self.state.handle) });
+    }
+
+    /// Names of objects that went: `ROOM` of them, or all where there are fewer.
+    pub(crate) fn gone(&mut self) -> &[u64] {
+        let state = &mut *self.state;
+        let mut count = 0;
+        // SAFETY: the handle is open, `names` has the room that is told, and both pointers are good until the call
+        // ends.
+        let status = unsafe { ffi::wt_gone(&mut state.handle, state.names.as_mut_ptr(), ROOM, &mut count) };
+        expect("wt_gone", status);
+        &state.names[..count]
+    }
+
+    pub(crate) fn counts(&mut self) -> ffi::Counts {
+        let mut counts = ffi::Counts::default();
+        // SAFETY: the handle is open, and `counts` lives until the call ends.
+        expect("wt_count", unsafe { ffi::wt_count(&mut self.state.handle, &mut counts) });
+        counts
+    }
+
+    /// Whether that many objects may be held beside those that are; else nothing is changed.
+    pub(crate) fn set_remaining(&mut self, remaining: u32) -> bool {
+        // SAFETY: the handle is open.
+        unsafe { ffi::wt_set_remaining(&mut self.state.handle, remaining) == ffi::OK }
+    }
+
+    /// Gives the library's memory back, once no object is held and all names were read. Else it stays where it is: the
+    /// blocks that are live say that it is needed.
+    pub(crate) fn close(&mut self) {
+        // SAFETY: the handle is open. It is not used after this: this is called by the drop of its owner alone.
+        unsafe { ffi::wt_close(&mut self.state.handle) };
+    }
+
+    #[cfg(test)]
+    pub(crate) fn range_of(&mut self, key: u64, offset: u64, size: u64) -> ffi::Range {
+        let mut range = ffi::Range::default();
+        // SAFETY: the handle is open, and `range` lives until the call ends.
+        expect("wt_range_of", unsafe { ffi::wt_range_of(&mut self.state.handle, key, offset, size, &mut range) });
+        range
+    }
+}
+
+fn limits_of(props: &DeviceProperties<'_>) -> ffi::Limits {
+    ffi::Limits {
+        max_memory_allocation_size: props.max_memory_allocation_size,
+        non_coherent_atom_size: props.non_coherent_atom_size,
+        max_memory_allocation_count: props.max_memory_allocation_count,
+        buffer_device_address: props.buffer_device_address.into(),
+    }
+}
+
+fn sizes_of(config: &Config) -> ffi::Config {
+    ffi::Config {
+        dedicated_threshold: config.dedicated_threshold,
+        preferred_dedicated_threshold: config.preferred_dedicated_threshold,
+        transient_dedicated_threshold: config.transient_dedicated_threshold,
+        starting_free_list_chunk: config.starting_free_list_chunk,
+        final_free_list_chunk: config.final_free_list_chunk,
+        minimal_buddy_size: config.minimal_buddy_size,
+        initial_buddy_dedicated_size: config.initial_buddy_dedicated_size,
+    }
+}
+
+fn expect(call: &str, status: u32) {
+    if status != ffi::OK {
+        unexpected(call, status);
+    }
+}
+
+/// A status that a call never has where it is made as it is here.
+#[cold]
+pub(crate) fn unexpected(call: &str, status: u32) -> ! {
+    panic!("{call} answered {status}, which it never should: a fault of this crate or of the library")
+}

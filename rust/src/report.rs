@@ -1,0 +1,12 @@
+//! Reports of what was dropped and should have been given back.
+
+use std::io::{stderr, Write};
+
+/// Prints a line on standard error. While the thread unwinds nothing is told: what is dropped then was not forgotten.
+#[cold]
+pub(crate) fn report(what: &str) {
+    if !std::thread::panicking() {
+        // A report that cannot be written is no reason to stop, least of all in a drop.
+        let _ = writeln!(stderr(), "wallthyme: {what}");
+    }
+}

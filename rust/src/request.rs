@@ -1,0 +1,50 @@
+//! What is asked for.
+
+use crate::ffi;
+use crate::usage::UsageFlags;
+
+/// What a block has to be.
+#[derive(Clone, Copy, Debug, PartialEq, Eq, Hash)]
+pub struct Request {
+    /// Its least size in bytes; 0 counts as 1. [`MemoryBlock::size`](crate::MemoryBlock::size) tells the one it got.
+    pub size: u64,
+
+    /// Its alignment in bytes less 1: one less than a power of two of at most 2^63.
+    pub align_mask: u64,
+
+    /// What it is to be used for.
+    pub usage: UsageFlags,
+
+    /// The permitted memory types: bit i for the type of index i (`VkMemoryRequirements::memoryTypeBits`).
+    /// [`MemoryBlock::memory_type`](crate::MemoryBlock::memory_type) tells the one it got.
+    pub memory_types: u32,
+}
+
+impl Request {
+    /// The request as the library takes it.
+    pub(crate) fn with(self, dedicated: Option<Dedicated>) -> ffi::Request {
+        ffi::Request {
+            size: self.size.max(1),
+            align_mask: self.align_mask,
+            usage: self.usage.bits().into(),
+            memory_types: self.memory_types,
+            dedicated: match dedicated {
+                None => ffi::SHARED,
+                Some(Dedicated::Preferred) => ffi::PREFERRED,
+                Some(Dedicated::Required) => ffi::REQUIRED,
+            },
+        }
+    }
+}
+
+/// Whether a block has to be a memory object of its own.
+#[derive(Clone, Copy, Debug, PartialEq, Eq, Hash)]
+#[non_exhaustive]
+pub enum Dedicated {
+    /// It has to, as where what is bound to it asks for that. Objects are few, and slow to make.
+    Required,
+
+    /// It should, where its size is at least
+    /// [`Config::preferred_dedicated_threshold`](crate::Config::preferred_dedicated_threshold).
+    Preferred,
+}

@@ -1,0 +1,164 @@
+//! What a device offers, and what is asked of it.
+
+use crate::flags::flags;
+use std::borrow::Cow;
+use std::ptr::NonNull;
+
+flags! {
+    /// The properties of a memory type, with the bits of `VkMemoryPropertyFlags`. Other bits are ignored.
+    pub struct MemoryPropertyFlags {
+        /// It lies with the device, which reaches it fastest.
+        const DEVICE_LOCAL = 0x01;
+
+        /// The host can map it.
+        const HOST_VISIBLE = 0x02;
+
+        /// The host's reads and writes need no flush and no invalidate.
+        const HOST_COHERENT = 0x04;
+
+        /// The host's reads and writes go through its cache.
+        const HOST_CACHED = 0x08;
+
+        /// It may be there only once the device writes it. The allocator serves no request from such a type.
+        const LAZILY_ALLOCATED = 0x10;
+
+        /// It is for protected content. The allocator serves no request from such a type.
+        const PROTECTED = 0x20;
+    }
+}
+
+flags! {
+    /// What a memory object has to be made with.
+    pub struct AllocationFlags {
+        /// The device address of what is bound to it can be fetched (`VK_MEMORY_ALLOCATE_DEVICE_ADDRESS_BIT`).
+        const DEVICE_ADDRESS = 0x01;
+    }
+}
+
+/// A memory type of a device.
+#[derive(Clone, Copy, Debug, PartialEq, Eq, Hash)]
+pub struct MemoryType {
+    /// The index of its heap in [`DeviceProperties::memory_heaps`].
+    pub heap: u32,
+
+    /// Its properties.
+    pub props: MemoryPropertyFlags,
+}
+
+/// A memory heap of a device.
+#[derive(Clone, Copy, Debug, PartialEq, Eq, Hash)]
+pub struct MemoryHeap {
+    /// Its size in bytes. The allocator never asks for more than is left of it.
+    pub size: u64,
+}
+
+/// What a device offers.
+#[derive(Clone, Debug)]
+pub struct DeviceProperties<'a> {
+    /// Its memory types, 32 at most.
+    pub memory_types: Cow<'a, [MemoryType]>,
+
+    /// Its memory heaps.
+    pub memory_heaps: Cow<'a, [MemoryHeap]>,
+
+    /// How many memory objects the allocator may hold: as many as the device allows
+    /// (`VkPhysicalDeviceLimits::maxMemoryAllocationCount`), less those that the program makes itself.
+    pub max_memory_allocation_count: u32,
+
+    /// The largest size of a request in bytes (`VkPhysicalDeviceMaintenance3Properties::maxMemoryAllocationSize`).
+    pub max_memory_allocation_size: u64,
+
+    /// The alignment in bytes of the ranges that are flushed and invalidated
+    /// (`VkPhysicalDeviceLimits::nonCoherentAtomSize`): a power of two of at most 2^62.
+    pub non_coherent_atom_size: u64,
+
+    /// Whether the feature `bufferDeviceAddress` is enabled. Each object is then made for it.
+    pub buffer_device_address: bool,
+}
+
+/// Why a device refused to make a memory object, to flush or to invalidate.
+#[derive(Clone, Copy, Debug, PartialEq, Eq, Hash)]
+pub enum OutOfMemory {
+    /// `VK_ERROR_OUT_OF_DEVICE_MEMORY`. An allocation goes on with the next memory type.
+    OutOfDeviceMemory,
+
+    /// `VK_ERROR_OUT_OF_HOST_MEMORY`. An allocation ends.
+    OutOfHostMemory,
+}
+
+/// Why a device refused to map.
+#[derive(Clone, Copy, Debug, PartialEq, Eq, Hash)]
+pub enum DeviceMapError {
+    /// `VK_ERROR_OUT_OF_DEVICE_MEMORY`.
+    OutOfDeviceMemory,
+
+    /// `VK_ERROR_OUT_OF_HOST_MEMORY`.
+    OutOfHostMemory,
+
+    /// `VK_ERROR_MEMORY_MAP_FAILED`.
+    MapFailed,
+}
+
+/// A range of a mapped memory object, in bytes.
+#[derive(Debug)]
+pub struct MappedMemoryRange<'a, M> {
+    /// The object.
+    pub memory: &'a M,
+
+    /// Where the range starts, counted from the object's start.
+    pub offset: u64,
+
+    /// How long it is.
+    pub size: u64,
+}
+
+/// A device that the allocator takes memory objects from, each a value of `M`.
+///
+/// The allocator keeps what Vulkan asks for of the calls: ranges are inside their objects; what is flushed and
+/// invalidated is whole atoms, or ends where its object ends, and is mapped; an object is mapped once at a time; and
+/// one that goes back was not given back before. A mapped object may go back: it needs no `unmap_memory` before.
+pub trait MemoryDevice<M> {
+    /// Makes a memory object of `size` bytes of a memory type.
+    ///
+    /// # Safety
+    ///
+    /// `memory_type` is the index of a memory type of the device, `size` is at least 1, and each flag is of a feature
+    /// that is enabled.
+    unsafe fn allocate_memory(&self, size: u64, memory_type: u32, flags: AllocationFlags) -> Result<M, OutOfMemory>;
+
+    /// Takes a memory object back, mapped or not.
+    ///
+    /// # Safety
+    ///
+    /// It is of this device, which is done with it.
+    unsafe fn deallocate_memory(&self, memory: M);
+
+    /// Maps a range of a memory object. The pointer is to the range's start, and valid for reads and writes of all
+    /// its bytes until the object is unmapped or given back.
+    ///
+    /// # Safety
+    ///
+    /// The object is of this device, host-visible and not mapped, and `offset .. offset + size` lies in it.
+    unsafe fn map_memory(&self, memory: &mut M, offset: u64, size: u64) -> Result<NonNull<u8>, DeviceMapError>;
+
+    /// Ends the mapping of a memory object.
+    ///
+    /// # Safety
+    ///
+    /// The object is of this device, and mapped.
+    unsafe fn unmap_memory(&self, memory: &mut M);
+
+    /// Makes what the device wrote into these ranges seen by the host.
+    ///
+    /// # Safety
+    ///
+    /// They are of mapped objects of this device, in what is mapped, and of whole atoms or up to the object's end.
+    unsafe fn invalidate_memory_ranges(&self, ranges: &[MappedMemoryRange<'_, M>]) -> Result<(), OutOfMemory>;
+
+    /// Makes what the host wrote into these ranges seen by the device.
+    ///
+    /// # Safety
+    ///
+    /// As for [`invalidate_memory_ranges`](MemoryDevice::invalidate_memory_ranges).
+    unsafe fn flush_memory_ranges(&self, ranges: &[MappedMemoryRange<'_, M>]) -> Result<(), OutOfMemory>;
+}
