@@ -16,6 +16,7 @@
 
 enum {
     MOST_ALIVE = 320,
+    TURN = 1200, /* steps */
     MOST_BYTES = 1 << 20, /* of a content */
     LEAST_HEAP = 4 << 20, /* drawn: up to eight times that */
     LEAST_OBJECTS = 16,   /* drawn: up to eight times that */
@@ -44,7 +45,7 @@ typedef struct table {
     uint32_t count;
     resource reader; /* where the device copies what the host compares */
     uint32_t most_alive;
-    uint64_t tried;
+    uint64_t steps, tried;
     uint64_t refusals[STATUSES]; /* of memory, by their status */
 } table;
 
@@ -65,7 +66,7 @@ static content drawn_content(run *r)
 /* The host sees each linear image, no optimal one, and half of the buffers. */
 static uint32_t open_drawn(run *r, resource *it, const content *bytes)
 {
-    kind drawn = bytes->width == 0 ? BUFFER : (kind)random_below(&r->random, 3);
+    enum kind drawn = bytes->width == 0 ? BUFFER : (enum kind)random_below(&r->random, 3);
     bool is_seen = drawn == LINEAR_IMAGE || (drawn == BUFFER && random_in_hundred(&r->random, 50));
     return resource_open(r, it, bytes, drawn, is_seen);
 }
@@ -142,10 +143,12 @@ static void rewrite(run *r, resource *it)
     resource_write(r, it);
 }
 
+/* Steps that mostly add take turns with steps that mostly take away. */
 static void step(run *r, table *t)
 {
-    uint32_t drawn = random_below(&r->random, 100);
-    if (t->count == 0 || (drawn < 52 && t->count < MOST_ALIVE))
+    uint32_t drawn = random_below(&r->random, 100), adds = t->steps / TURN % 2 == 0 ? 65 : 30;
+    t->steps++;
+    if (t->count == 0 || (drawn < adds && t->count < MOST_ALIVE))
         add(r, t);
     else if (drawn < 94)
         take_away(r, t, random_below(&r->random, t->count));
@@ -158,8 +161,10 @@ static void work(run *r, table *t, const arguments *told)
     const content most = {.length = MOST_BYTES};
     must(resource_open(r, &t->reader, &most, BUFFER, true) == WT_OK, "no memory to read from");
     r->memory->refused_percent = told->refused_percent;
-    while (t->tried < told->resources)
+    while (t->tried < told->resources) {
         step(r, t);
+        memory_check(r->memory);
+    }
     while (t->count > 0)
         take_away(r, t, t->count - 1);
     resource_close(r, &t->reader);

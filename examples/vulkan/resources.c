@@ -156,12 +156,12 @@ static uint32_t take_memory(run *r, resource *it)
 
 static void bind(run *r, const resource *it)
 {
-    VkDeviceMemory memory = memory_handle(r->memory, &it->block);
+    VkDeviceMemory handle = memory_handle(r->memory, &it->block);
     uint64_t offset = it->block.offset + (r->is_shifted ? 1 : 0);
     if (it->kind == BUFFER)
-        must(vkBindBufferMemory(r->device->handle, it->buffer, memory, offset) == VK_SUCCESS, "vkBindBufferMemory");
+        must(vkBindBufferMemory(r->device->handle, it->buffer, handle, offset) == VK_SUCCESS, "vkBindBufferMemory");
     else
-        must(vkBindImageMemory(r->device->handle, it->image, memory, offset) == VK_SUCCESS, "vkBindImageMemory");
+        must(vkBindImageMemory(r->device->handle, it->image, handle, offset) == VK_SUCCESS, "vkBindImageMemory");
     r->binds++;
     if (it->has_address) {
         VkBufferDeviceAddressInfo info = {.sType = VK_STRUCTURE_TYPE_BUFFER_DEVICE_ADDRESS_INFO, .buffer = it->buffer};
@@ -169,7 +169,7 @@ static void bind(run *r, const resource *it)
     }
 }
 
-uint32_t resource_open(run *r, resource *it, const content *bytes, kind kind, bool is_seen)
+uint32_t resource_open(run *r, resource *it, const content *bytes, enum kind kind, bool is_seen)
 {
     *it = (resource){.content = *bytes, .kind = kind, .is_seen = is_seen};
     if (kind == BUFFER)
@@ -188,7 +188,6 @@ void resource_close(run *r, resource *it)
 {
     unmake(r, it);
     memory_free(r->memory, &it->block);
-    memory_check(r->memory);
 }
 
 bool resources_share_a_page(const resource *one, const resource *other, uint64_t page)

@@ -13,11 +13,11 @@ typedef struct content {
     uint32_t length;        /* bytes */
 } content;
 
-typedef enum kind { BUFFER, LINEAR_IMAGE, OPTIMAL_IMAGE } kind;
+enum kind { BUFFER, LINEAR_IMAGE, OPTIMAL_IMAGE };
 
 typedef struct resource {
     content content;
-    kind kind;
+    enum kind kind;
     bool is_seen; /* the host writes and reads it */
     bool has_address;
     VkBuffer buffer;
@@ -39,7 +39,7 @@ typedef struct run {
 } run;
 
 /* Makes a resource and binds it to a block. Where its memory is refused, the resource is gone again. */
-uint32_t resource_open(run *r, resource *it, const content *bytes, kind kind, bool is_seen);
+uint32_t resource_open(run *r, resource *it, const content *bytes, enum kind kind, bool is_seen);
 
 void resource_close(run *r, resource *it);
 
