@@ -1,4 +1,4 @@
-/* The first Vulkan device, with one queue, one command buffer and one fence, under the validation layer where it is there. */
+/* The first Vulkan device, with a queue, a command buffer and a fence, under the validation layer where it is there. */
 #ifndef DEVICE_H
 #define DEVICE_H
 

@@ -1,4 +1,4 @@
-/* wallthyme over a Vulkan device: buffers and images in blocks of it, in random order, with each of their bytes compared.
+/* Wallthyme over a Vulkan device: buffers and images in its blocks, in random order, with each of their bytes compared.
 
        vulkan SEED RESOURCES REFUSED_PERCENT [--shift] [--incoherent]
 
@@ -174,17 +174,20 @@ static void report(const device *d, const memory *m, const run *r, const table *
 {
     if (!d->is_validated)
         fprintf(stderr, "vulkan: the validation layer is not there\n");
-    printf("%" PRIu64 " resources, refused for: device memory %" PRIu64 " (%" PRIu64 " of them unasked), host memory %" PRIu64
-           ", memory types %" PRIu64 ", objects %" PRIu64 "; at most %" PRIu32 " alive\n",
-           t->tried, t->refusals[WT_OUT_OF_DEVICE_MEMORY], m->refused_unasked, t->refusals[WT_OUT_OF_HOST_MEMORY],
-           t->refusals[WT_NO_COMPATIBLE_MEMORY_TYPES], t->refusals[WT_TOO_MANY_OBJECTS], t->most_alive);
-    printf("%" PRIu64 " imports, %" PRIu64 " mappings, %" PRIu64 " ranges flushed, %" PRIu64 " invalidated; told: heaps of %" PRIu64
-           " bytes, %" PRIu32 " objects\n",
-           r->imports, m->mapped, m->flushed, m->invalidated, m->cut.heap_size, m->max_objects);
-    printf("%s: %" PRIu64 " binds, %" PRIu64 " copies, %" PRIu64 " bytes compared, %" PRIu64 " questions asked, %" PRIu64
-           " refused, %" PRIu64 " objects made, %" PRIu64 " freed, %" PRIu64 " messages\n",
-           d->properties.deviceName, r->binds, r->copies, r->compared, m->asked, m->refused, m->objects_made,
-           m->objects_freed, d->messages);
+    printf("%" PRIu64 " resources, at most %" PRIu32 " alive; told: heaps of %" PRIu64 " bytes at most, %" PRIu32
+           " objects\n",
+           t->tried, t->most_alive, m->cut.heap_size, m->max_objects);
+    printf("refused for: device memory %" PRIu64 ", host memory %" PRIu64 ", memory types %" PRIu64 ", objects %" PRIu64
+           "; %" PRIu64 " unasked for a heap's budget\n",
+           t->refusals[WT_OUT_OF_DEVICE_MEMORY], t->refusals[WT_OUT_OF_HOST_MEMORY],
+           t->refusals[WT_NO_COMPATIBLE_MEMORY_TYPES], t->refusals[WT_TOO_MANY_OBJECTS], m->refused_unasked);
+    printf("%" PRIu64 " imports, %" PRIu64 " mappings, %" PRIu64 " ranges flushed, %" PRIu64 " invalidated\n",
+           r->imports, m->mapped, m->flushed, m->invalidated);
+    printf("%s: %" PRIu64 " binds, %" PRIu64 " copies, %" PRIu64 " bytes compared, ", d->properties.deviceName,
+           r->binds, r->copies, r->compared);
+    printf("%" PRIu64 " questions asked, %" PRIu64 " refused, %" PRIu64 " objects made, %" PRIu64 " freed, ", m->asked,
+           m->refused, m->objects_made, m->objects_freed);
+    printf("%" PRIu64 " messages\n", d->messages);
 }
 
 static bool number_of(const char *text, uint64_t most, uint64_t *number)

@@ -95,10 +95,12 @@ static uint32_t answer_to_map(memory *m, object *it, const wt_question *question
 
 static uint32_t drawn_refusal(memory *m)
 {
-    static const uint32_t refusals[] = {WT_NO_DEVICE_MEMORY, WT_NO_DEVICE_MEMORY, WT_NO_HOST_MEMORY, WT_DEVICE_MAP_FAILED};
+    static const uint32_t refusals[] = {WT_NO_DEVICE_MEMORY, WT_NO_HOST_MEMORY, WT_DEVICE_MAP_FAILED};
     if (!random_in_hundred(&m->random, m->refused_percent))
         return WT_GRANTED;
-    return refusals[random_below(&m->random, sizeof refusals / sizeof *refusals)];
+    if (random_in_hundred(&m->random, 50))
+        return WT_NO_DEVICE_MEMORY;
+    return refusals[random_below(&m->random, 3)];
 }
 
 /* Puts a question to the device. An object that a request asked for before the one it asks for now was given up. */
@@ -291,8 +293,9 @@ void memory_open(memory *m, const device *d, const cuts *cut, const wt_config *c
     m->max_objects = limits.max_memory_allocation_count;
     m->objects = calloc(m->max_objects, sizeof *m->objects);
     must(m->objects != NULL, "no memory for the objects");
-    must(wt_open(&m->allocator, types, offered->memoryTypeCount, heap_sizes, offered->memoryHeapCount, &limits, config) == WT_OK,
-         "wt_open");
+    uint32_t status = wt_open(&m->allocator, types, offered->memoryTypeCount, heap_sizes, offered->memoryHeapCount,
+                              &limits, config);
+    must(status == WT_OK, "wt_open");
 }
 
 void memory_close(memory *m)

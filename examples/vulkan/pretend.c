@@ -90,7 +90,7 @@ VKAPI_ATTR void VKAPI_CALL vkGetPhysicalDeviceMemoryProperties(VkPhysicalDevice 
     PFN_vkGetPhysicalDeviceMemoryProperties real;
     find(&real, "vkGetPhysicalDeviceMemoryProperties");
     real(physical, told);
-    must((told->memoryTypes[0].propertyFlags & (SEEN | COHERENT)) == (SEEN | COHERENT), "the host sees the first type");
+    must((told->memoryTypes[0].propertyFlags & SEEN) != 0, "the host does not see the first type");
     told->memoryTypeCount = TYPES_COUNT;
     told->memoryHeapCount = HEAPS_COUNT;
     memcpy(told->memoryTypes, TYPES, sizeof TYPES);
@@ -103,7 +103,8 @@ static void widen(VkMemoryRequirements2 *told)
     told->memoryRequirements.memoryTypeBits = (1u << TYPES_COUNT) - 1;
 }
 
-VKAPI_ATTR void VKAPI_CALL vkGetBufferMemoryRequirements2(VkDevice device, const VkBufferMemoryRequirementsInfo2 *buffer,
+VKAPI_ATTR void VKAPI_CALL vkGetBufferMemoryRequirements2(VkDevice device,
+                                                          const VkBufferMemoryRequirementsInfo2 *buffer,
                                                           VkMemoryRequirements2 *told)
 {
     PFN_vkGetBufferMemoryRequirements2 real;
@@ -158,8 +159,8 @@ VKAPI_ATTR void VKAPI_CALL vkFreeMemory(VkDevice device, VkDeviceMemory handle, 
     *it = (object){0};
 }
 
-VKAPI_ATTR VkResult VKAPI_CALL vkMapMemory(VkDevice device, VkDeviceMemory handle, VkDeviceSize offset, VkDeviceSize size,
-                                           VkMemoryMapFlags flags, void **host)
+VKAPI_ATTR VkResult VKAPI_CALL vkMapMemory(VkDevice device, VkDeviceMemory handle, VkDeviceSize offset,
+                                           VkDeviceSize size, VkMemoryMapFlags flags, void **host)
 {
     PFN_vkMapMemory real;
     object *it = object_of(handle);
@@ -205,7 +206,8 @@ static object *object_of_range(const VkMappedMemoryRange *range)
     return it;
 }
 
-VKAPI_ATTR VkResult VKAPI_CALL vkFlushMappedMemoryRanges(VkDevice device, uint32_t count, const VkMappedMemoryRange *ranges)
+VKAPI_ATTR VkResult VKAPI_CALL vkFlushMappedMemoryRanges(VkDevice device, uint32_t count,
+                                                         const VkMappedMemoryRange *ranges)
 {
     PFN_vkFlushMappedMemoryRanges real;
     for (uint32_t i = 0; i < count; i++) {
