@@ -1,0 +1,232 @@
+#include "device.h"
+
+#include <stdio.h>
+#include <stdlib.h>
+#include <string.h>
+
+#define LAYER "VK_LAYER_KHRONOS_validation"
+enum { SHOWN_MESSAGES = 5, MOST_LISTED = 64 };
+
+void must(bool holds, const char *what)
+{
+    if (!holds) {
+        fprintf(stderr, "vulkan: failed: %s\n", what);
+        exit(1);
+    }
+}
+
+static VKAPI_ATTR VkBool32 VKAPI_CALL message_came(VkDebugUtilsMessageSeverityFlagBitsEXT severity,
+                                                   VkDebugUtilsMessageTypeFlagsEXT types,
+                                                   const VkDebugUtilsMessengerCallbackDataEXT *data, void *user)
+{
+    uint64_t *messages = user;
+    (void)severity;
+    (void)types;
+    *messages += 1;
+    if (*messages <= SHOWN_MESSAGES)
+        fprintf(stderr, "message: %s\n", data->pMessage);
+    return VK_FALSE;
+}
+
+static VkDebugUtilsMessengerCreateInfoEXT messenger_of(device *d)
+{
+    return (VkDebugUtilsMessengerCreateInfoEXT){
+        .sType = VK_STRUCTURE_TYPE_DEBUG_UTILS_MESSENGER_CREATE_INFO_EXT,
+        .messageSeverity =
+            VK_DEBUG_UTILS_MESSAGE_SEVERITY_WARNING_BIT_EXT | VK_DEBUG_UTILS_MESSAGE_SEVERITY_ERROR_BIT_EXT,
+        .messageType =
+            VK_DEBUG_UTILS_MESSAGE_TYPE_VALIDATION_BIT_EXT | VK_DEBUG_UTILS_MESSAGE_TYPE_PERFORMANCE_BIT_EXT,
+        .pfnUserCallback = message_came,
+        .pUserData = &d->messages,
+    };
+}
+
+static bool layer_is_there(void)
+{
+    VkLayerProperties layers[MOST_LISTED];
+    uint32_t count = MOST_LISTED;
+    if (vkEnumerateInstanceLayerProperties(&count, layers) < 0)
+        return false;
+    for (uint32_t i = 0; i < count; i++)
+        if (strcmp(layers[i].layerName, LAYER) == 0)
+            return true;
+    return false;
+}
+
+/* With the layer it checks what commands wait for, too. */
+static void open_instance(device *d)
+{
+    static const char *const layers[] = {LAYER};
+    static const char *const extensions[] = {
+        VK_EXT_DEBUG_UTILS_EXTENSION_NAME,
+        VK_EXT_VALIDATION_FEATURES_EXTENSION_NAME,
+    };
+    static const VkValidationFeatureEnableEXT checks[] = {
+        VK_VALIDATION_FEATURE_ENABLE_SYNCHRONIZATION_VALIDATION_EXT,
+    };
+    VkDebugUtilsMessengerCreateInfoEXT messenger = messenger_of(d);
+    VkValidationFeaturesEXT features = {
+        .sType = VK_STRUCTURE_TYPE_VALIDATION_FEATURES_EXT,
+        .pNext = &messenger,
+        .enabledValidationFeatureCount = 1,
+        .pEnabledValidationFeatures = checks,
+    };
+    VkApplicationInfo program = {
+        .sType = VK_STRUCTURE_TYPE_APPLICATION_INFO,
+        .pApplicationName = "wallthyme over Vulkan",
+        .apiVersion = VK_API_VERSION_1_2,
+    };
+    VkInstanceCreateInfo info = {
+        .sType = VK_STRUCTURE_TYPE_INSTANCE_CREATE_INFO,
+        .pApplicationInfo = &program,
+    };
+    d->is_validated = layer_is_there();
+    if (d->is_validated) {
+        info.pNext = &features;
+        info.enabledLayerCount = 1;
+        info.ppEnabledLayerNames = layers;
+        info.enabledExtensionCount = 2;
+        info.ppEnabledExtensionNames = extensions;
+    }
+    must(vkCreateInstance(&info, NULL, &d->instance) == VK_SUCCESS, "vkCreateInstance");
+}
+
+static void open_messenger(device *d)
+{
+    VkDebugUtilsMessengerCreateInfoEXT info = messenger_of(d);
+    PFN_vkCreateDebugUtilsMessengerEXT create =
+        (PFN_vkCreateDebugUtilsMessengerEXT)vkGetInstanceProcAddr(d->instance, "vkCreateDebugUtilsMessengerEXT");
+    must(create != NULL, "vkCreateDebugUtilsMessengerEXT is not there");
+    must(create(d->instance, &info, NULL, &d->messenger) == VK_SUCCESS, "vkCreateDebugUtilsMessengerEXT");
+}
+
+static void close_messenger(device *d)
+{
+    PFN_vkDestroyDebugUtilsMessengerEXT destroy =
+        (PFN_vkDestroyDebugUtilsMessengerEXT)vkGetInstanceProcAddr(d->instance, "vkDestroyDebugUtilsMessengerEXT");
+    destroy(d->instance, d->messenger, NULL);
+}
+
+/* What it offers, before it is opened. */
+static void find_first(device *d)
+{
+    VkPhysicalDeviceBufferDeviceAddressFeatures addresses = {
+        .sType = VK_STRUCTURE_TYPE_PHYSICAL_DEVICE_BUFFER_DEVICE_ADDRESS_FEATURES,
+    };
+    VkPhysicalDeviceFeatures2 features = {.sType = VK_STRUCTURE_TYPE_PHYSICAL_DEVICE_FEATURES_2, .pNext = &addresses};
+    VkPhysicalDeviceMaintenance3Properties sizes = {
+        .sType = VK_STRUCTURE_TYPE_PHYSICAL_DEVICE_MAINTENANCE_3_PROPERTIES,
+    };
+    VkPhysicalDeviceProperties2 properties = {.sType = VK_STRUCTURE_TYPE_PHYSICAL_DEVICE_PROPERTIES_2, .pNext = &sizes};
+    uint32_t count = 1;
+    VkResult result = vkEnumeratePhysicalDevices(d->instance, &count, &d->physical);
+    must(result >= 0 && count == 1, "there is no Vulkan device");
+    vkGetPhysicalDeviceProperties(d->physical, &d->properties);
+    must(d->properties.apiVersion >= VK_API_VERSION_1_1, "the device has no Vulkan 1.1");
+    vkGetPhysicalDeviceProperties2(d->physical, &properties);
+    vkGetPhysicalDeviceMemoryProperties(d->physical, &d->memory);
+    d->max_allocation_size = sizes.maxMemoryAllocationSize;
+    if (d->properties.apiVersion >= VK_API_VERSION_1_2) {
+        vkGetPhysicalDeviceFeatures2(d->physical, &features);
+        d->has_addresses = addresses.bufferDeviceAddress == VK_TRUE;
+    }
+}
+
+static uint32_t copying_family(VkPhysicalDevice physical)
+{
+    VkQueueFamilyProperties families[MOST_LISTED];
+    uint32_t count = MOST_LISTED;
+    vkGetPhysicalDeviceQueueFamilyProperties(physical, &count, families);
+    for (uint32_t i = 0; i < count; i++)
+        if (families[i].queueFlags & (VK_QUEUE_GRAPHICS_BIT | VK_QUEUE_COMPUTE_BIT | VK_QUEUE_TRANSFER_BIT))
+            return i;
+    must(false, "no queue of the device copies");
+    return 0;
+}
+
+static void open_handle(device *d)
+{
+    VkPhysicalDeviceBufferDeviceAddressFeatures addresses = {
+        .sType = VK_STRUCTURE_TYPE_PHYSICAL_DEVICE_BUFFER_DEVICE_ADDRESS_FEATURES,
+        .bufferDeviceAddress = VK_TRUE,
+    };
+    float priority = 1;
+    VkDeviceQueueCreateInfo queue = {
+        .sType = VK_STRUCTURE_TYPE_DEVICE_QUEUE_CREATE_INFO,
+        .queueFamilyIndex = copying_family(d->physical),
+        .queueCount = 1,
+        .pQueuePriorities = &priority,
+    };
+    VkDeviceCreateInfo info = {
+        .sType = VK_STRUCTURE_TYPE_DEVICE_CREATE_INFO,
+        .pNext = d->has_addresses ? &addresses : NULL,
+        .queueCreateInfoCount = 1,
+        .pQueueCreateInfos = &queue,
+    };
+    must(vkCreateDevice(d->physical, &info, NULL, &d->handle) == VK_SUCCESS, "vkCreateDevice");
+    d->queue_family = queue.queueFamilyIndex;
+    vkGetDeviceQueue(d->handle, d->queue_family, 0, &d->queue);
+}
+
+static void open_commands(device *d)
+{
+    VkCommandPoolCreateInfo pool = {
+        .sType = VK_STRUCTURE_TYPE_COMMAND_POOL_CREATE_INFO,
+        .flags = VK_COMMAND_POOL_CREATE_RESET_COMMAND_BUFFER_BIT,
+        .queueFamilyIndex = d->queue_family,
+    };
+    VkCommandBufferAllocateInfo commands = {
+        .sType = VK_STRUCTURE_TYPE_COMMAND_BUFFER_ALLOCATE_INFO,
+        .level = VK_COMMAND_BUFFER_LEVEL_PRIMARY,
+        .commandBufferCount = 1,
+    };
+    VkFenceCreateInfo fence = {.sType = VK_STRUCTURE_TYPE_FENCE_CREATE_INFO};
+    must(vkCreateCommandPool(d->handle, &pool, NULL, &d->pool) == VK_SUCCESS, "vkCreateCommandPool");
+    commands.commandPool = d->pool;
+    must(vkAllocateCommandBuffers(d->handle, &commands, &d->commands) == VK_SUCCESS, "vkAllocateCommandBuffers");
+    must(vkCreateFence(d->handle, &fence, NULL, &d->fence) == VK_SUCCESS, "vkCreateFence");
+}
+
+void device_open(device *d)
+{
+    memset(d, 0, sizeof *d);
+    open_instance(d);
+    if (d->is_validated)
+        open_messenger(d);
+    find_first(d);
+    open_handle(d);
+    open_commands(d);
+}
+
+VkCommandBuffer device_begin(device *d)
+{
+    VkCommandBufferBeginInfo info = {
+        .sType = VK_STRUCTURE_TYPE_COMMAND_BUFFER_BEGIN_INFO,
+        .flags = VK_COMMAND_BUFFER_USAGE_ONE_TIME_SUBMIT_BIT,
+    };
+    must(vkBeginCommandBuffer(d->commands, &info) == VK_SUCCESS, "vkBeginCommandBuffer");
+    return d->commands;
+}
+
+void device_run(device *d)
+{
+    VkSubmitInfo info = {
+        .sType = VK_STRUCTURE_TYPE_SUBMIT_INFO,
+        .commandBufferCount = 1,
+        .pCommandBuffers = &d->commands,
+    };
+    must(vkEndCommandBuffer(d->commands) == VK_SUCCESS, "vkEndCommandBuffer");
+    must(vkQueueSubmit(d->queue, 1, &info, d->fence) == VK_SUCCESS, "vkQueueSubmit");
+    must(vkWaitForFences(d->handle, 1, &d->fence, VK_TRUE, UINT64_MAX) == VK_SUCCESS, "vkWaitForFences");
+    must(vkResetFences(d->handle, 1, &d->fence) == VK_SUCCESS, "vkResetFences");
+}
+
+void device_close(device *d)
+{
+    vkDestroyFence(d->handle, d->fence, NULL);
+    vkDestroyCommandPool(d->handle, d->pool, NULL);
+    vkDestroyDevice(d->handle, NULL);
+    if (d->is_validated)
+        close_messenger(d);
+    vkDestroyInstance(d->instance, NULL);
+}
