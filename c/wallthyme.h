@@ -17,8 +17,8 @@
  * were freed and wt_cleanup none is held.
  *
  * What the caller owes, and nothing checks: pointers are valid (a pointer to 0 elements may be null); a wt_allocator is
- * zeroed before its first use, then written by these calls alone, and never copied while it is open; one thread calls at
- * a time; and the answers are true.
+ * zeroed before its first use, then written by these calls alone, and never copied while it is open; one thread at a time
+ * calls with it; and the answers are true.
  *
  * Sizes, offsets and alignments are bytes. A status has a text: wt_text.
  */
@@ -56,7 +56,7 @@ enum {
                                           power of two of at most 2^62 */
     WT_UNKNOWN_KEY = 12,               /* no live block has this key: it was freed, or is none of this allocator's. (Keys of
                                           two allocators may be the same numbers.) */
-    WT_OTHER_QUESTION = 13,            /* an answer is to another question than is asked, or is left over */
+    WT_OTHER_QUESTION = 13,            /* an answer is to another question than is asked in its place */
     WT_BAD_ANSWER = 14,                /* an answer is none of WT_GRANTED .. WT_DEVICE_MAP_FAILED, or its question is none */
     WT_BAD_SIZE = 15,                  /* a size of 0 */
     WT_BAD_ALIGNMENT = 16,             /* align_mask + 1 is no power of two of at most 2^63 */
@@ -165,7 +165,7 @@ typedef struct wt_question {
     uint32_t answer;      /* the caller's to write */
 } wt_question;
 
-/* A block. Objects have names 1, 2, 3 and so on, none of them twice. */
+/* A block. Its key is never 0. Objects are named by numbers that rise, none of them twice. */
 typedef struct wt_block {
     uint64_t key;
     uint64_t object;
@@ -208,11 +208,13 @@ uint32_t wt_close(wt_allocator *a);
 
 /* Allocates a block.
    WT_OK: *block tells it. Where it is fresh, its object is the one that the last WT_GRANTED to WT_ALLOCATE made, which
-   has the name block->object from then on. Any other object that was made for this request is the caller's to free.
+   has the name block->object from then on. Any other object that was made for this request is the caller's to free: one
+   whose mapping failed, or one that is not needed any more since another call came between. Answers that are left over
+   count nowhere.
    WT_ASK: *question is the next one, to be answered and appended. It may lie behind the asked ones in their array.
    Any other status ends the request: the four refusals of an allocation; WT_NOT_OPEN, WT_BAD_SIZE, WT_BAD_ALIGNMENT,
    WT_BAD_USAGE, WT_BAD_DEDICATED, WT_NO_DEVICE_ADDRESS, WT_BAD_ANSWER, or WT_OTHER_QUESTION, as where another call came
-   between. Nothing is changed then, and each object that was made for this request is the caller's to free. */
+   between and something else is asked now. Nothing is changed then, and each object that was made for this request is the caller's to free. */
 uint32_t wt_alloc(wt_allocator *a, const wt_request *request, const wt_question *asked, size_t asked_len,
                   wt_block *block, wt_question *question);
 
@@ -270,6 +272,41 @@ uint32_t wt_set_remaining(wt_allocator *a, uint32_t remaining);
    WT_OUT_OF_HOST_MEMORY. */
 uint32_t wt_free_ranges(wt_allocator *a, uint32_t memory_type, size_t first, wt_range *ranges, size_t room,
                         size_t *count);
+
+/* What a status means, in a line with no full stop. */
+static inline const char *wt_text(uint32_t status) {
+    switch (status) {
+    case WT_OK: return "Done";
+    case WT_ASK: return "A question to the device has no answer yet";
+    case WT_OUT_OF_DEVICE_MEMORY: return "Device memory exhausted";
+    case WT_OUT_OF_HOST_MEMORY: return "Host memory exhausted";
+    case WT_NO_COMPATIBLE_MEMORY_TYPES: return "No permitted memory type serves the usage";
+    case WT_TOO_MANY_OBJECTS: return "As many memory objects are held as the device allows";
+    case WT_NON_HOST_VISIBLE: return "The host does not see the block's memory";
+    case WT_ALREADY_MAPPED: return "The block is mapped";
+    case WT_MAP_FAILED: return "The device failed to map";
+    case WT_NOT_OPEN: return "The allocator is closed";
+    case WT_ALREADY_OPEN: return "The allocator is open";
+    case WT_BAD_PROPERTIES: return "No device has such properties";
+    case WT_UNKNOWN_KEY: return "No live block has this key";
+    case WT_OTHER_QUESTION: return "An answer is to another question than is asked in its place";
+    case WT_BAD_ANSWER: return "An answer or its question is none";
+    case WT_BAD_SIZE: return "A size of 0";
+    case WT_BAD_ALIGNMENT: return "The alignment is no power of two of at most 2^63";
+    case WT_BAD_USAGE: return "The usage has bits without a name";
+    case WT_BAD_DEDICATED: return "No such wish for an object of its own";
+    case WT_NO_DEVICE_ADDRESS: return "The device does not offer buffer device addresses";
+    case WT_BAD_RANGE: return "The range passes the end of its block or object";
+    case WT_BAD_MEMORY_TYPE: return "No such memory type";
+    case WT_BAD_HEAP: return "No such heap";
+    case WT_BAD_IMPORT_END: return "The import ends neither on the atom nor where its object ends";
+    case WT_NO_REMAINING: return "No more objects may be held";
+    case WT_TOO_MANY_REMAINING: return "Remaining and held objects together are too many";
+    case WT_STILL_HELD: return "Objects are still held";
+    case WT_STILL_TOLD: return "Names of objects to free are still to be read";
+    default: return "No such status";
+    }
+}
 
 #ifdef __cplusplus
 }

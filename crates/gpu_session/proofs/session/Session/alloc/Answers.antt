@@ -15,7 +15,7 @@ returns-then-contains_key-clause-step g c =
 pub returns-in-Some-clause-step : goal.returns-in-Some-clause-step
 returns-in-Some-clause-step g c =
     let free = unnamed _ c.args.name (sym c.contains_key.ensures ∙ c.if-contains_key.false) in
-    rw (← c.self.view_is) ([], refl, (refl, inl (new_name _ _ free ∙ tested_request c.self.invariant c.args.request _ (sym c.fault_of.ensures ∙ c.in-Some.is), refl)))
+    rw (← c.self.view_is) ([], refl, (refl, inl (new_name _ _ free ∙ tested_request c.self.invariant c.args.request _ (sym c.request_fault.ensures ∙ c.in-Some.is), refl)))
 
 pub returns-then-is_err-clause-step : goal.returns-then-is_err-clause-step
 returns-then-is_err-clause-step g c =

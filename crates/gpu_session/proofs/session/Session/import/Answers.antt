@@ -21,13 +21,13 @@ returns-then-contains_key-clause-step g c =
     let there = named _ c.args.name (sym c.contains_key.ensures ∙ c.if-contains_key.true) in
     rw (← c.self.view_is) ([], refl, (refl, inl (in_use _ there.0 _ there.1, refl)))
 
-pub import_fault-requires : goal.import_fault-requires
-import_fault-requires g c = subst (λ p. IsOffer p c.self.inside.offer) c.self.invariant.sound.agrees.properties c.self.invariant.offer
+pub import_fault-fault-requires : goal.import_fault-fault-requires
+import_fault-fault-requires g c = subst (λ p. IsOffer p c.self.inside.offer) c.self.invariant.sound.agrees.properties c.self.invariant.offer
 
 pub returns-in-Some-clause-step : goal.returns-in-Some-clause-step
 returns-in-Some-clause-step g c =
     let free = unnamed _ c.args.name (sym c.contains_key.ensures ∙ c.if-contains_key.false) in
-    let good = sym c.import_fault.ensures ∙ c.in-Some.is in
+    let good = sym c.import_fault-fault.ensures ∙ c.in-Some.is in
     rw (← c.self.view_is) ([], refl, (refl, inl (new_name _ _ free ∙ good, refl)))
 
 pub returns-then-is_err-clause-step : goal.returns-then-is_err-clause-step
