@@ -1,9 +1,12 @@
 -- What a run makes of the names of objects that were given back.
-use Rattle.std.proofs.Common.{◌≡◌, ℕ, Bool, true, false, cond, List, [], ◌∷◌, ◌++◌, length, take, map, Result, Ok, Err, refl, sym, ◌∙◌, ap, subst}
+use Rattle.std.proofs.Common.{◌≡◌, ℕ, Bool, true, false, cond, List, [], ◌∷◌, ◌++◌, length, take, map, Result, Ok, Err, inl, inr, refl, sym, ◌∙◌, ap, subst}
 use Rattle.std.proofs.Math.Seq.{take-append_seam}
 use Rattle.gpu_alloc_types.specs.Device.{Chain, Event, Range}
 use Rattle.gpu_alloc_types.specs.Device.Event.{Allocated, Deallocated, Mapped, Unmapped, Flushed, Invalidated, BytesPut, BytesGot}
 use Rattle.gpu_alloc_types.specs.declared.types.DeviceMapError.{DeviceMapError}
+use Rattle.gpu_alloc.specs.Mapped.{IsMapRefused}
+use Rattle.gpu_alloc.specs.State.{Block}
+use Rattle.gpu_alloc.specs.Types.MapError.{MapError}
 use Rattle.gpu_answers.specs.Device.{IsStep, Names}
 use Rattle.gpu_answers.specs.DeviceState.{DeviceState}
 use Rattle.gpu_answers.specs.Held.{HeldState}
@@ -56,3 +59,10 @@ pub mapping_adds_none : (old : DeviceState) (shared : Bool) (r : Range) (answer 
     → Chain IsStep old (cond shared [] (Mapped r answer ∷ [])) new → new.held.gone ≡ old.held.gone
 mapping_adds_none old true r answer new run = ap (λ (s : DeviceState). s.held.gone) run
 mapping_adds_none old false r answer new run = ap (λ (s : DeviceState). s.held.gone) run.2 ∙ (run.1).names.1
+
+-- nor where a mapping is refused
+pub refused_adds_none : (old : DeviceState) (b : Block) (r : Range) (e : MapError) (es : List Event) (new : DeviceState)
+    → IsMapRefused b r e es → Chain IsStep old es new → new.held.gone ≡ old.held.gone
+refused_adds_none old b r e es new (inl itself) run = ap (λ (s : DeviceState). s.held.gone) (subst (λ xs. Chain IsStep old xs new) itself.1 run)
+refused_adds_none old b r e es new (inr device) run =
+    mapping_adds_none old false r (Err device.cause) new (subst (λ xs. Chain IsStep old xs new) device.asked run)

@@ -1,1 +1,2 @@
 pub mod GoneNames
+pub mod Kept

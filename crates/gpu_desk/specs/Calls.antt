@@ -124,7 +124,9 @@ AllocationDenied s r hint answers d =
 
 -- An import: the block is the given span of a new object, which the device holds so.
 pub record Imported (old : DeskState) (t object_size offset size : ℕ) (new : DeskState) (g : Grant) : Type 0 where
-  pub gives : Gives old g (imported_block old.allocator g.object t offset size) new
+  pub block : Block
+  pub gives : Gives old g block new
+  pub as_asked : block ≡ imported_block old.allocator g.object t offset size
   pub fresh : g.fresh ≡ true
   pub was_free : objects old g.object ≡ None
   pub held : HeldWith (objects new) g.object (λ o. (o.memory_type ≡ t) × (o.size ≡ object_size))

@@ -81,7 +81,7 @@ impl Desk {
         ensures empty { IfOk result IsEmpty }
     {
         let offer = Offer::of(alloc, &props)?;
-        let device = AnsweredDevice::new(alloc, props.clone()?)?;
+        let device = AnsweredDevice::new(alloc, again(&props))?;
         let Ok(allocator) = GpuAllocator::new(alloc, config, props) else {
             return Err(AllocError);
         };
@@ -115,5 +115,19 @@ impl Desk {
         } = self;
         blocks.destroy_empty();
         allocator.close();
+    }
+}
+
+/// The same properties once more.
+fn again<'a>(props: &DeviceProperties<'a>) -> DeviceProperties<'a>
+    ensures { properties_of result ≡ properties_of props.now }
+{
+    DeviceProperties {
+        memory_types: props.memory_types,
+        memory_heaps: props.memory_heaps,
+        max_memory_allocation_count: props.max_memory_allocation_count,
+        max_memory_allocation_size: props.max_memory_allocation_size,
+        non_coherent_atom_size: props.non_coherent_atom_size,
+        buffer_device_address: props.buffer_device_address,
     }
 }

@@ -108,9 +108,9 @@ impl Desk {
         if self.blocks.reserve().is_err() {
             return Err(Denial::Fault(Fault::NoMemory));
         }
-        if self.device.begin(answers).is_err() {
+        let Ok(()) = self.device.begin(answers) else {
             return Err(Denial::Fault(Fault::NoMemory));
-        }
+        };
         let held = self.allocator.held_objects();
         let told = self.device.gone().len();
         let answer = allocate(&mut self.allocator, &mut self.device, request, dedicated);
@@ -164,9 +164,9 @@ impl Desk {
             flags: flags.bits(),
         };
         let answer = Answer::Granted;
-        if self.device.begin(&[Answered { question, answer }]).is_err() {
+        let Ok(()) = self.device.begin(&[Answered { question, answer }]) else {
             return Err(Denial::Fault(Fault::NoMemory));
-        }
+        };
         let told = self.device.gone().len();
         let made = self.device.allocate_memory(object_size, memory_type, flags);
         made_objects_may_be_imported(&self.allocator, &self.device, &made);

@@ -1,15 +1,27 @@
 //! Calls that map blocks, and tell where they lie.
 
 ghost use Rattle.std.specs.Prelude.{◌≡◌, IfOk, IfErr, OnOk, OnErr};
-ghost use Rattle.gpu_desk.specs.Calls.{IsAsBefore, Keeps, MapDenied, Maps, RangeDenied, RangeTold, Told, Unmaps, IsUnknown};
+ghost use Rattle.gpu_desk.specs.Calls.{IsAsBefore, Keeps, MapDenied, Maps, RangeDenied, RangeTold, Told, Unmaps, IsUnknown, object_to_unmap};
 
 use super::Desk;
 use super::granting::grant_of;
 use crate::denial::denial_after;
 use crate::{Denial, Fault, Grant, MapError, MemoryPropertyFlags, ObjectRange};
+use gpu_alloc::MemoryBlock;
 use gpu_alloc_types::MemoryObject;
-use gpu_answers::Answered;
+use gpu_answers::{Answered, ObjectName};
 use gpu_session::passes_end;
+
+/// The object that is unmapped with a block: its own, where the block is mapped.
+fn object_to_unmap(block: &MemoryBlock<ObjectName>) -> Option<u64>
+    ensures { result ≡ object_to_unmap block.now }
+{
+    if block.is_mapped() && !block.kind().is_shared() {
+        Some(block.memory().object())
+    } else {
+        None
+    }
+}
 
 impl Desk {
     /// Tells where the block of a key lies. Denied is a key that has no live block, by `Fault::UnknownName`.
@@ -53,9 +65,9 @@ impl Desk {
         if passes_end(offset, size, block.size()) {
             return Err(Denial::Fault(Fault::BadRange));
         }
-        if self.device.begin(answers).is_err() {
+        let Ok(()) = self.device.begin(answers) else {
             return Err(Denial::Fault(Fault::NoMemory));
-        }
+        };
         let Some(block) = self.blocks.get_mut(key) else {
             unreachable!()
         };
@@ -84,12 +96,8 @@ impl Desk {
         let Some(block) = self.blocks.get_mut(key) else {
             return Err(Denial::Fault(Fault::UnknownName));
         };
-        let was_mapped = block.unmap(&mut self.device);
-        let object = if was_mapped && !block.kind().is_shared() {
-            Some(block.memory().object())
-        } else {
-            None
-        };
+        let object = object_to_unmap(block);
+        block.unmap(&mut self.device);
         Ok(object)
     }
 

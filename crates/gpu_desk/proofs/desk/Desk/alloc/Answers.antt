@@ -1,0 +1,93 @@
+use Rattle.std.proofs.Common.{◌≡◌, Some, None, length, take, refl, sym, ◌∙◌, ap, subst, inr, List, ℕ}
+use Rattle.std.specs.FinMap as map
+use Rattle.gpu_alloc_types.specs.Device.{Chain, Object}
+use Rattle.gpu_alloc.specs.State.{Block}
+use Rattle.gpu_answers.specs.Asking.{RunState, begun}
+use Rattle.gpu_answers.specs.Device.{IsStep, objects_of}
+use Rattle.gpu_answers.specs.Held.{HeldState}
+use Rattle.gpu_session.proofs.Conditions.{tested_request}
+use Rattle.gpu_session.proofs.Grants.{grant_is_kept}
+use Rattle.gpu_session.proofs.Returns.{kept_block}
+use Rattle.gpu_slots.specs.SlotMap.{SlotState}
+use Rattle.gpu_desk.specs.Calls.{denial_after}
+use Rattle.gpu_desk.specs.declared.denial.Denial.TheVariants.{Refused}
+use Rattle.gpu_desk.proofs.GoneNames.{names_of_before}
+use Rattle.gpu_desk.proofs.Kept.{begun_is, free_key, fresh_is, given_others, has_key, kept_over, same_objects}
+use Rattle.gpu_desk.proofs.desk.Desk.alloc.Goals as goal
+
+pub invariant_of-self-in-Ok-answer : goal.invariant_of-self-in-Ok-answer
+invariant_of-self-in-Ok-answer c =
+    let done = c.in-Ok-answer.ensures in
+    let lives : c.reserve.new.self.live ≡ c.self.inside.blocks.live = ap (λ (s : SlotState Block). s.live) c.reserve.ensures.kept in
+    let begins = kept_over c.self.inside.device c.begin.new.self c.begin.ensures.offers (ap (λ (h : HeldState). h.objects) c.begin.ensures.held) c.self.invariant in
+    let forgets = c.forget_gone_after.ensures in
+    let key = c.keep.ensures.kept in
+    rw (key.live, lives) (kept_over c.allocate-answer.new.device c.forget_gone_after.new.self forgets.offers forgets.objects (grant_is_kept begins (record {
+      free = sym (ap (λ (m : map.FinMap _ Block). map.get m c.keep.result.key) lives) ∙ free_key c.reserve.new.self c.keep.result.key key.new_key;
+      adds = done.added;
+      leaves = done.leaves;
+      owned = done.granted.owned;
+      ready = done.ready;
+      keeps = λ b owned. kept_block _ _ _ _ _ _ b done.keeps owned (done.leaves.owned b owned);
+      sound = done.sound;
+      agrees = done.agrees;
+    })))
+
+pub returns-in-Ok-answer-clause-granted : goal.returns-in-Ok-answer-clause-granted
+returns-in-Ok-answer-clause-granted c =
+    let b = c.in-Ok-answer.block in
+    let done = c.in-Ok-answer.ensures in
+    let mid = c.allocate-answer.new.device in
+    let now = c.forget_gone_after.new.self in
+    let forgets = c.forget_gone_after.ensures in
+    let key = c.keep.ensures.kept in
+    let begins = begun_is c.self.inside.device c.begin.new.self (begun c.args.answers.now) c.in-Ok.ensures.run c.begin.ensures.offers c.begin.ensures.held in
+    let shown_at_first = same_objects c.self.inside.device c.begin.new.self c.begin.ensures.offers (ap (λ (h : HeldState). h.objects) c.begin.ensures.held) in
+    let shown_at_last = same_objects mid now forgets.offers forgets.objects in
+    rw (← c.self.view_is) (record {
+      block = b;
+      gives = record {
+        tells = c.keep.ensures.tells;
+        key = has_key c.self.inside.blocks c.reserve.new.self _ _ b c.keep.new.blocks c.reserve.ensures.kept key;
+        names = forgets.gone ∙ ap (λ (xs : List ℕ). take (length xs) mid.held.gone) c.gone-told.ensures ∙ names_of_before c.begin.new.self done.decided.0 mid done.decided.1
+            ∙ ap (λ (h : HeldState). h.gone) c.begin.ensures.held;
+      };
+      as_asked = done.granted;
+      own = done.own;
+      run = (done.decided.0, mid, subst (λ d. Chain IsStep d done.decided.0 mid) begins done.decided.1, (done.decided.2, shown_at_last));
+      fresh = rw (c.keep.ensures.fresh, c.held_objects.ensures, c.held_objects-held.ensures) (fresh_is c.self.inside.allocator c.allocate-answer.new.allocator b done.added.held done.granted.owned);
+      others = λ q other. ap (λ (f : ℕ → _). f q) shown_at_last ∙ given_others _ _ _ b.object (objects_of c.begin.new.self) (objects_of mid) done.objects q other ∙ ap (λ (f : ℕ → _). f q) shown_at_first;
+    })
+
+pub returns-in-Err-clause-denied : goal.returns-in-Err-clause-denied
+returns-in-Err-clause-denied c =
+    let e = c.in-Err.refusal in
+    let done = c.in-Err.ensures in
+    let mid = c.allocate-answer.new.device in
+    let begins = begun_is c.self.inside.device c.begin.new.self (begun c.args.answers.now) c.in-Ok.ensures.run c.begin.ensures.offers c.begin.ensures.held in
+    let decided = rw done.refused at done.decided in
+    rw (← c.self.view_is) (inr (
+      tested_request c.self.invariant c.args.request None (sym c.in_default.ensures),
+      (
+        decided.0,
+        mid,
+        subst (λ d. Chain IsStep d decided.0 mid) begins decided.1,
+        (e, decided.2, c.denial_after.ensures ∙ ap (λ (r : RunState). denial_after r.stop (Refused e)) c.forget_gone_after.ensures.run),
+      ),
+    ))
+
+pub returns-in-Err-clause-unchanged : goal.returns-in-Err-clause-unchanged
+returns-in-Err-clause-unchanged c =
+    let done = c.in-Err.ensures in
+    let mid = c.allocate-answer.new.device in
+    let now = c.forget_gone_after.new.self in
+    let forgets = c.forget_gone_after.ensures in
+    let shown_at_first = same_objects c.self.inside.device c.begin.new.self c.begin.ensures.offers (ap (λ (h : HeldState). h.objects) c.begin.ensures.held) in
+    rw (← c.self.view_is) (record {
+      allocator = done.refused;
+      live = ap (λ (s : SlotState Block). s.live) c.reserve.ensures.kept;
+      keys = ap (λ (s : SlotState Block). s.generations) c.reserve.ensures.kept;
+      objects = same_objects mid now forgets.offers forgets.objects ∙ done.objects ∙ shown_at_first;
+      names = forgets.gone ∙ ap (λ (xs : List ℕ). take (length xs) mid.held.gone) c.gone-told.ensures ∙ names_of_before c.begin.new.self done.decided.0 mid done.decided.1
+          ∙ ap (λ (h : HeldState). h.gone) c.begin.ensures.held;
+    })

@@ -1,0 +1,19 @@
+use Rattle.std.proofs.Common.{refl}
+use Rattle.gpu_session.proofs.Returns.{cleanup_is_kept, nothing_held, nothing_live}
+use Rattle.gpu_desk.proofs.GoneNames.{returns_add}
+use Rattle.gpu_desk.proofs.desk.Desk.cleanup.Goals as goal
+
+pub invariant_of-self : goal.invariant_of-self
+invariant_of-self c =
+    let done = c.cleanup.ensures in
+    cleanup_is_kept c.self.invariant (record { leaves = done.leaves; rest = done.rest; keeps = done.keeps; sound = done.sound; agrees = done.agrees })
+
+pub returns-clause-cleaned : goal.returns-clause-cleaned
+returns-clause-cleaned c =
+    let done = c.cleanup.ensures in
+    rw (← c.self.view_is) (record {
+      cleaned = done.cleaned;
+      goes = record { back = done.gone; names = returns_add c.self.inside.device done.gone.gone c.cleanup.new.device done.gone.asked };
+      blocks = refl;
+      rest = λ empty. let ended = done.ends (nothing_live c.self.invariant.sound empty) in nothing_held _ _ done.total ended.0 ended.1;
+    })

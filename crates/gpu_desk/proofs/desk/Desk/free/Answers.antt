@@ -1,0 +1,25 @@
+use Rattle.std.proofs.Common.{◌≡◌, Some, sym, ◌∙◌}
+use Rattle.std.specs.FinMap as map
+use Rattle.gpu_session.proofs.Returns.{return_is_kept}
+use Rattle.gpu_desk.proofs.GoneNames.{returns_add}
+use Rattle.gpu_desk.proofs.desk.Desk.free.Goals as goal
+
+pub invariant_of-self : goal.invariant_of-self
+invariant_of-self c =
+    let at : map.get c.self.inside.blocks.live c.args.key ≡ Some c.in-Some.block = sym c.remove.ensures.value ∙ c.in-Some.is in
+    let done = c.dealloc.ensures in
+    rw (c.remove.ensures.live)
+    (return_is_kept c.self.invariant (record { named = at; removes = done.removed; keeps = done.keeps; sound = done.sound; agrees = done.agrees }))
+
+pub returns-in-Some-clause-freed : goal.returns-in-Some-clause-freed
+returns-in-Some-clause-freed c =
+    let at : map.get c.self.inside.blocks.live c.args.key ≡ Some c.in-Some.block = sym c.remove.ensures.value ∙ c.in-Some.is in
+    let done = c.dealloc.ensures in
+    rw (← c.self.view_is) (record {
+      block = c.in-Some.block;
+      at = at;
+      freed = done.freed;
+      goes = record { back = done.gone; names = returns_add c.self.inside.device done.gone.gone c.dealloc.new.device done.gone.asked };
+      live = c.remove.ensures.live;
+      refused = c.in-Some.ensures.refused;
+    })

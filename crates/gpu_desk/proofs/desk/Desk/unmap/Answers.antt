@@ -1,0 +1,17 @@
+use Rattle.std.proofs.Common.{refl, sym}
+use Rattle.gpu_session.proofs.Moves.{move_is_kept}
+use Rattle.gpu_desk.proofs.Kept.{gone_over_write}
+use Rattle.gpu_desk.proofs.desk.Desk.unmap.Goals as goal
+
+pub invariant_of-self-2 : goal.invariant_of-self-2
+invariant_of-self-2 c =
+    let done = c.unmap.ensures in
+    move_is_kept c.self.invariant (record { named = sym c.in-Some.ensures.value; same = done.same; ready = done.agrees; keeps = done.keeps; properties = done.properties })
+
+pub returns-clause-keeps : goal.returns-clause-keeps
+returns-clause-keeps c =
+    rw (← c.self.view_is) (record {
+      given = record { properties = refl; config = refl };
+      total = refl;
+      gone = gone_over_write c.self.inside.blocks c.args.key c.in-Some.block.now c.unmap.new.self (sym c.in-Some.ensures.value);
+    })
