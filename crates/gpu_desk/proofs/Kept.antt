@@ -1,5 +1,5 @@
 -- What the parts of a call keep of a desk.
-use Rattle.std.proofs.Common.{◌≡◌, ◌≢◌, ◌⊎◌, ◌↔◌, inl, inr, ℕ, ◌+◌, ◌<◌, ◌^◌, ◌/◌, nat_lt, arith, Option, Some, None, true, false, IsTrue, refl, sym, ◌∙◌, ap, subst}
+use Rattle.std.proofs.Common.{◌≡◌, ◌≢◌, ◌⊎◌, ◌↔◌, inl, inr, ℕ, ◌+◌, nat_lt, arith, Option, Some, None, true, false, IsTrue, refl, sym, ◌∙◌, ap, subst}
 use Rattle.std.proofs.lemmas.Bool.Decides.{nat_tests}
 use Rattle.std.specs.Option.{IsSome}
 use Rattle.std.specs.FinMap as map
@@ -12,18 +12,16 @@ use Rattle.gpu_alloc.specs.NewObject.{ObjectsGiven}
 use Rattle.gpu_alloc.specs.Owned.{HoldsWith}
 use Rattle.gpu_alloc.specs.State.{Block, HeldObject, State, IsOwned}
 use Rattle.gpu_alloc.specs.Types.Mapping.{Mapping}
-use Rattle.gpu_alloc_base.proofs.Names.{get_put-other, len_put, one_or_two}
+use Rattle.gpu_alloc_base.proofs.Names.{get_put-other, len_put}
 use Rattle.gpu_answers.specs.Asking.{RunState}
 use Rattle.gpu_answers.specs.Device.{all_shown, objects_of}
 use Rattle.gpu_answers.specs.DeviceState.{DeviceState}
-use Rattle.gpu_answers.specs.Held.{HeldState}
-use Rattle.gpu_answers.specs.declared.held.HeldObject.{HeldObject as KeptObject}
 use Rattle.gpu_session.specs.Books.{Books}
 use Rattle.gpu_session.specs.Sound.{IsKept}
 use Rattle.gpu_session.specs.declared.offer.Offer.{Offer}
 use Rattle.gpu_desk.specs.Calls.{HasKey}
 use Rattle.gpu_desk.specs.declared.told.ObjectRange.{ObjectRange}
-use Rattle.gpu_slots.specs.SlotMap.{IsGiven, IsGone, SlotState, StaysGone, generation_of, place_of, with_value}
+use Rattle.gpu_slots.specs.SlotMap.{IsGiven, SlotState, StaysGone, with_value}
 
 -- The device.
 

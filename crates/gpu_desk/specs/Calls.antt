@@ -1,6 +1,6 @@
 -- What the calls of a desk do.
-use Rattle.std.specs.Prelude.{◌≡◌, ◌≢◌, ◌⊎◌, ◌↔◌, ℕ, ◌+◌, ◌==◌, ◌&&◌, ◌≤◌, Bool, true, false, not, cond, List, []}
-use Rattle.std.specs.Prelude.{◌∷◌, ◌++◌, length, Option, Some, None, is_some, Result, Ok, Err, IsTrue}
+use Rattle.std.specs.Prelude.{◌≡◌, ◌≢◌, ◌⊎◌, ◌↔◌, ℕ, ◌+◌, ◌==◌, ◌&&◌, ◌≤◌, true, false, not, cond, List}
+use Rattle.std.specs.Prelude.{◌++◌, length, Option, Some, None, is_some, Ok, Err, IsTrue}
 use Rattle.std.specs.FinMap as map
 use Rattle.gpu_alloc_types.specs.Device.{Chain, Event, HeldWith}
 use Rattle.gpu_alloc_types.specs.Flags.{has_bit, host_visible}
@@ -31,7 +31,7 @@ use Rattle.gpu_session.specs.Sound.{HoldsNothing, KeepsGiven}
 use Rattle.gpu_session.specs.declared.command.Fault.{Fault as FaultCode}
 use Rattle.gpu_session.specs.declared.command.Fault.TheVariants.{BadSize, NoMemory, UnknownName}
 use Rattle.gpu_slots.specs.SlotMap.{IsGiven, IsGone, SlotState, StaysGone}
-use Rattle.gpu_desk.specs.Desk.{DeskState, OfKey, books, objects}
+use Rattle.gpu_desk.specs.Desk.{DeskState, OfKey, objects}
 use Rattle.gpu_desk.specs.declared.denial.Denial.{Denial}
 use Rattle.gpu_desk.specs.declared.denial.Denial.TheVariants.{Open, Strayed, Refused, MapRefused, Fault}
 use Rattle.gpu_desk.specs.declared.told.Counts.{Counts}

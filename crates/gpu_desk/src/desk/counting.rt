@@ -1,11 +1,9 @@
 //! Calls that tell and set counts.
 
-ghost use Rattle.std.specs.Prelude.{◌≡◌, ◌↔◌, ◌<◌, ◌≤◌, ◌+◌, ◌^◌, ◌++◌, ◌∷◌, [], None, length, IsNone, IfOk, IfErr, IfSome, OnOk, OnErr};
+ghost use Rattle.std.specs.Prelude.{◌≡◌, ◌↔◌, ◌≤◌, ◌+◌, ◌^◌, ◌++◌, ◌∷◌, [], None, length, IfOk, IfErr, IfSome, OnOk, OnErr};
 ghost use Rattle.std.specs.FinMap as map;
-ghost use Rattle.gpu_alloc.specs.Budget.{heap_budget};
-ghost use Rattle.gpu_alloc_block.specs.State.{ledger};
 ghost use Rattle.gpu_session.specs.Does.{IsEachFreeRange};
-ghost use Rattle.gpu_desk.specs.Calls.{CountsOf, HeapCountsOf, IsAsBefore, OnlyReads};
+ghost use Rattle.gpu_desk.specs.Calls.{CountsOf, HeapCountsOf, OnlyReads};
 
 use super::Desk;
 use crate::{Counts, Denial, Fault, FreeRange, HeapCounts};

@@ -1,7 +1,6 @@
 //! Calls that grant blocks and take them back.
 
-ghost use Rattle.std.specs.Prelude.{◌≡◌, ◌<◌, ◌↔◌, List, Some, IsTrue, IfOk, IfErr, OnOk, OnErr};
-ghost use Rattle.std.specs.FinMap as map;
+ghost use Rattle.std.specs.Prelude.{◌≡◌, ◌<◌, List, Some, IfOk, IfErr, OnOk, OnErr};
 ghost use Rattle.gpu_alloc_types.specs.Device.{Event, Chain};
 ghost use Rattle.gpu_alloc_block.specs.Agreement.{Agrees, BlockAgrees, KeepsBlocks};
 ghost use Rattle.gpu_alloc_block.specs.State.{total};
@@ -10,9 +9,8 @@ ghost use Rattle.gpu_alloc.specs.Owned.{Adds, Leaves};
 ghost use Rattle.gpu_alloc.specs.Request.{IsAskable};
 ghost use Rattle.gpu_alloc.specs.Sound as allocator_sound;
 ghost use Rattle.gpu_answers.specs.Device.{IsStep, objects_of};
-ghost use Rattle.gpu_slots.specs.SlotMap.{IsGone};
-ghost use Rattle.gpu_desk.specs.Calls.{AllocationDenied, Allocated, CleansUp, Gives, HasKey, ImportDenied, Imported, IsAsBefore, Keeps, Returns, Tells};
-ghost use Rattle.gpu_desk.specs.Calls.{IsUnknown};
+ghost use Rattle.gpu_desk.specs.Calls.{AllocationDenied, Allocated, CleansUp, HasKey, ImportDenied, Imported};
+ghost use Rattle.gpu_desk.specs.Calls.{IsAsBefore, IsUnknown, Keeps, Returns, Tells};
 
 use super::{Blocks, Desk};
 use crate::denial::denial_after;
@@ -178,7 +176,7 @@ impl Desk {
             .allocator
             .import_memory(memory, memory_type, props, offset, size)
         {
-            Ok(block) => { Ok(keep(&mut self.blocks, block, true)) }
+            Ok(block) => Ok(keep(&mut self.blocks, block, true)),
             Err(memory) => {
                 self.device.deallocate_memory(&memory);
                 objects_of_others_may_go(&self.allocator, &self.device);

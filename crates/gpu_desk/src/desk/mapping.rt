@@ -1,7 +1,8 @@
 //! Calls that map blocks, and tell where they lie.
 
-ghost use Rattle.std.specs.Prelude.{◌≡◌, IfOk, IfErr, OnOk, OnErr};
-ghost use Rattle.gpu_desk.specs.Calls.{IsAsBefore, Keeps, MapDenied, Maps, RangeDenied, RangeTold, Told, Unmaps, IsUnknown, object_to_unmap};
+ghost use Rattle.std.specs.Prelude.{◌≡◌, IfOk, IfErr, OnErr};
+ghost use Rattle.gpu_desk.specs.Calls.{IsAsBefore, IsUnknown, Keeps, MapDenied, Maps, RangeDenied, RangeTold, Told};
+ghost use Rattle.gpu_desk.specs.Calls.{Unmaps, object_to_unmap};
 
 use super::Desk;
 use super::granting::grant_of;

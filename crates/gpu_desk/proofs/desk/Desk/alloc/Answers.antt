@@ -1,6 +1,6 @@
-use Rattle.std.proofs.Common.{◌≡◌, Some, None, length, take, refl, sym, ◌∙◌, ap, subst, inr, List, ℕ}
+use Rattle.std.proofs.Common.{◌≡◌, None, length, take, sym, ◌∙◌, ap, subst, inr, List, ℕ}
 use Rattle.std.specs.FinMap as map
-use Rattle.gpu_alloc_types.specs.Device.{Chain, Object}
+use Rattle.gpu_alloc_types.specs.Device.{Chain}
 use Rattle.gpu_alloc.specs.State.{Block}
 use Rattle.gpu_answers.specs.Asking.{RunState, begun}
 use Rattle.gpu_answers.specs.Device.{IsStep, objects_of}

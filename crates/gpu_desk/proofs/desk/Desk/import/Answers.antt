@@ -1,4 +1,4 @@
-use Rattle.std.proofs.Common.{◌≡◌, ◌+◌, false, [], ◌∷◌, None, Some, Ok, length, take, refl, sym, ◌∙◌, ap, subst, List, ℕ}
+use Rattle.std.proofs.Common.{◌≡◌, ◌+◌, false, [], ◌∷◌, Some, Ok, length, take, refl, sym, ◌∙◌, ap, subst, List, ℕ}
 use Rattle.std.specs.FinMap as map
 use Rattle.gpu_alloc_types.specs.Device.{HeldWith}
 use Rattle.gpu_alloc_types.specs.Device.Event.{Allocated, Deallocated}

@@ -1,7 +1,6 @@
-use Rattle.std.proofs.Common.{◌≡◌, false, ◌+◌, ◌≤◌, [], ◌∷◌, cond, Some, None, Ok, Err, nat_lt, refl, sym, ◌∙◌, ap, subst, inr}
+use Rattle.std.proofs.Common.{◌≡◌, false, ◌+◌, Some, Ok, nat_lt, refl, sym, ◌∙◌, ap, subst, inr}
 use Rattle.std.specs.FinMap as map
 use Rattle.gpu_alloc_types.specs.Device.{Chain}
-use Rattle.gpu_alloc_types.specs.Device.Event.{Mapped}
 use Rattle.gpu_alloc.specs.Mapped.{mapping_of}
 use Rattle.gpu_alloc.specs.Ranges.{rounded}
 use Rattle.gpu_alloc.specs.State.{Block, is_shared}
