@@ -118,7 +118,7 @@ IsFaultOf missed d =
 abbrev pub fault_of_alloc : DeskState → Request → Option FaultCode
 fault_of_alloc s r = fault_of_request s.allocator.properties.buffer_device_address r
 
-abbrev pub AllocationDenied : DeskState → Request → Option Dedicated → List Answered → Denial → Type 0
+unfoldable pub AllocationDenied : DeskState → Request → Option Dedicated → List Answered → Denial → Type 0
 AllocationDenied s r hint answers d =
     IsFaultOf (fault_of_alloc s r) d ⊎ ((fault_of_alloc s r ≡ None) × RefusesIn s r hint answers d)
 
@@ -195,7 +195,7 @@ MapRefusedIn s key offset size answers d =
     OfKey s key (λ b. InRun s answers (λ es after. (e : MapError) × AsksToMap b offset size (Err e) es
     × (d ≡ denial_after after.run.stop (MapRefused e))))
 
-abbrev pub MapDenied : DeskState → (key offset size : ℕ) → List Answered → Denial → Type 0
+unfoldable pub MapDenied : DeskState → (key offset size : ℕ) → List Answered → Denial → Type 0
 MapDenied s key offset size answers d =
     IsFaultOf (fault_of_map s key offset size) d
     ⊎ ((fault_of_map s key offset size ≡ None) × MapRefusedIn s key offset size answers d)

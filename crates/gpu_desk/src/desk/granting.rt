@@ -89,6 +89,7 @@ impl Desk {
     /// Denied are: a request that is not askable, by the fault that it misses first; `Fault::NoMemory` for want of
     /// memory for the key or the answers; `Open`, with the question that has no answer; `Strayed`; and `Refused`, as
     /// the allocator refuses. Nothing has changed then.
+    #[tactic(auto, unfolding(crate::specs::Calls::AllocationDenied))]
     pub fn alloc(
         &mut self,
         request: Request,

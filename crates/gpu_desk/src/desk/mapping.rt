@@ -45,6 +45,7 @@ impl Desk {
     /// Denied are: `Fault::UnknownName`, `BadSize` for 0 bytes, `BadRange` for a range that passes the block's end, and
     /// `NoMemory` for want of memory for the answers; `Open`, with the question that has no answer; `Strayed`; and
     /// `MapRefused`, as the block refuses. Nothing has changed then.
+    #[tactic(auto, unfolding(crate::specs::Calls::MapDenied))]
     pub fn map(
         &mut self,
         key: u64,

@@ -9,7 +9,7 @@ use Rattle.gpu_session.proofs.Conditions.{tested_request}
 use Rattle.gpu_session.proofs.Grants.{grant_is_kept}
 use Rattle.gpu_session.proofs.Returns.{kept_block}
 use Rattle.gpu_slots.specs.SlotMap.{SlotState}
-use Rattle.gpu_desk.specs.Calls.{denial_after}
+use Rattle.gpu_desk.specs.Calls.{AllocationDenied, denial_after}
 use Rattle.gpu_desk.specs.declared.denial.Denial.TheVariants.{Refused}
 use Rattle.gpu_desk.proofs.GoneNames.{names_of_before}
 use Rattle.gpu_desk.proofs.Kept.{begun_is, free_key, fresh_is, given_others, has_key, kept_over, same_objects}
@@ -60,6 +60,7 @@ returns-in-Ok-answer-clause-granted c =
     })
 
 pub returns-in-Err-clause-denied : goal.returns-in-Err-clause-denied
+unfolding AllocationDenied
 returns-in-Err-clause-denied c =
     let e = c.in-Err.refusal in
     let done = c.in-Err.ensures in

@@ -10,6 +10,7 @@ use Rattle.gpu_answers.specs.Held.{HeldState}
 use Rattle.gpu_session.proofs.Conditions.{good_range, inside, of_block, some_bytes_then}
 use Rattle.gpu_session.proofs.Moves.{move_is_kept}
 use Rattle.gpu_session.proofs.Names.{put_again}
+use Rattle.gpu_desk.specs.Calls.{MapDenied}
 use Rattle.gpu_desk.proofs.GoneNames.{mapping_adds_none, refused_adds_none}
 use Rattle.gpu_desk.proofs.Kept.{begun_is, gone_over_write, kept_over, range_is, same_objects}
 use Rattle.gpu_desk.proofs.desk.Desk.map.Goals as goal
@@ -46,6 +47,7 @@ returns-clause-mapped c =
     ]
 
 pub returns-clause-denied : goal.returns-clause-denied
+unfolding MapDenied
 returns-clause-denied c =
     let b = c.in-Some-get_mut.block.now in
     let at : map.get c.self.inside.blocks.live c.args.key ≡ Some b = sym c.in-Some-get_mut.ensures.value in

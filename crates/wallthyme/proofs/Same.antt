@@ -1,0 +1,12 @@
+-- What holds of a desk that is left alone.
+use Rattle.std.proofs.Common.{refl}
+use Rattle.gpu_desk.specs.Calls.{IsAsBefore, Keeps}
+use Rattle.gpu_desk.specs.Desk.{DeskState}
+
+pub IsAsBefore-same : (s : DeskState) → IsAsBefore s s
+IsAsBefore-same s = record { allocator = refl; live = refl; keys = refl; objects = refl; names = refl }
+
+pub Keeps-same : (s : DeskState) → Keeps s s
+Keeps-same s = record { given = record { properties = refl; config = refl }; total = refl; gone = λ key gone. gone }
+
+pub ruleset same = (IsAsBefore-same, Keeps-same)

@@ -1,0 +1,11 @@
+-- The ranges before the index are told.
+use Rattle.std.proofs.Common.{◌≡◌, ◌≤◌, length, take}
+use Rattle.std.specs.Prelude.{map}
+use Rattle.wallthyme.specs.Layout.{free_range_of}
+use Rattle.wallthyme.proofs.objects.tell.Given as goal
+
+abbrev pub invariant-loop-index : goal.invariant-loop-index
+invariant-loop-index l = record {
+  told : take l.index l.ranges ≡ map free_range_of (take l.index l.found);
+  fits : l.index ≤ length l.found;
+}

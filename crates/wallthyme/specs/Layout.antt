@@ -1,0 +1,113 @@
+-- What the structs of C stand for.
+use Rattle.std.specs.Prelude.{◌+◌, ◌-◌, ◌*◌, ◌^◌, ◌==◌, ℕ, not, List, map, Option, Some, None, bit_and, if◌then◌else◌}
+use Rattle.gpu_alloc_base.specs.declared.config.Config as desk_config
+use Rattle.gpu_alloc_types.specs.Flags.{named_property_bits}
+use Rattle.gpu_alloc_types.specs.Properties.{Properties}
+use Rattle.gpu_alloc_types.specs.declared.types.FreeRange.{FreeRange}
+use Rattle.gpu_alloc_types.specs.declared.types.MemoryHeap.{MemoryHeap}
+use Rattle.gpu_alloc_types.specs.declared.types.MemoryType as desk_type
+use Rattle.gpu_answers.specs.declared.question.Answer.{Answer}
+use Rattle.gpu_answers.specs.declared.question.Answer.TheVariants.{Granted, OutOfDeviceMemory, OutOfHostMemory, MapFailed}
+use Rattle.gpu_answers.specs.declared.question.Answered.{Answered}
+use Rattle.gpu_answers.specs.declared.question.Question as desk_question
+use Rattle.gpu_answers.specs.declared.question.Question.TheVariants.{Allocate, MapMade, Map}
+use Rattle.gpu_alloc.specs.declared.request.Dedicated.{Dedicated}
+use Rattle.gpu_alloc.specs.declared.request.Dedicated.TheVariants.{Required, Preferred}
+use Rattle.gpu_alloc.specs.declared.request.Request as desk_request
+use Rattle.gpu_desk.specs.declared.told.Counts as desk_counts
+use Rattle.gpu_desk.specs.declared.told.Grant.{Grant}
+use Rattle.gpu_desk.specs.declared.told.HeapCounts as desk_heap
+use Rattle.gpu_desk.specs.declared.told.ObjectRange.{ObjectRange}
+use Rattle.wallthyme.specs.declared.layout.TheConstants as number
+use Rattle.wallthyme.specs.declared.layout.Block.{Block}
+use Rattle.wallthyme.specs.declared.layout.Config.{Config}
+use Rattle.wallthyme.specs.declared.layout.Counts.{Counts}
+use Rattle.wallthyme.specs.declared.layout.HeapCounts.{HeapCounts}
+use Rattle.wallthyme.specs.declared.layout.Limits.{Limits}
+use Rattle.wallthyme.specs.declared.layout.MemoryType.{MemoryType}
+use Rattle.wallthyme.specs.declared.layout.Question.{Question}
+use Rattle.wallthyme.specs.declared.layout.Range.{Range}
+use Rattle.wallthyme.specs.declared.layout.Request.{Request}
+
+-- What C hands over.
+
+-- a memory type, without the property bits that have no name
+abbrev pub memory_type_of : MemoryType → desk_type.MemoryType
+memory_type_of t = record { heap = t.heap; props = record { bits = bit_and t.props named_property_bits } }
+
+abbrev pub heap_of : ℕ → MemoryHeap
+heap_of size = record { size = size }
+
+abbrev pub properties_of : List MemoryType → List ℕ → Limits → Properties
+properties_of types heap_sizes limits = record {
+  memory_types = map memory_type_of types;
+  memory_heaps = map heap_of heap_sizes;
+  max_memory_allocation_count = limits.max_memory_allocation_count;
+  max_memory_allocation_size = limits.max_memory_allocation_size;
+  non_coherent_atom_size = limits.non_coherent_atom_size;
+  buffer_device_address = not (limits.buffer_device_address == 0);
+}
+
+abbrev pub config_of : Config → desk_config.Config
+config_of c = record {
+  dedicated_threshold = c.dedicated_threshold;
+  preferred_dedicated_threshold = c.preferred_dedicated_threshold;
+  transient_dedicated_threshold = c.transient_dedicated_threshold;
+  starting_free_list_chunk = c.starting_free_list_chunk;
+  final_free_list_chunk = c.final_free_list_chunk;
+  minimal_buddy_size = c.minimal_buddy_size;
+  initial_buddy_dedicated_size = c.initial_buddy_dedicated_size;
+}
+
+abbrev pub request_of : Request → desk_request.Request
+request_of r = record {
+  size = r.size;
+  align_mask = r.align_mask;
+  usage = record { bits = r.usage };
+  memory_types = r.memory_types;
+}
+
+-- a hint; any other number is refused
+abbrev pub hint_of : ℕ → Option Dedicated
+hint_of n = if n == number.SHARED then None else (if n == number.PREFERRED then Some Preferred else Some Required)
+
+-- a question; any other kind is refused
+abbrev pub question_of : Question → desk_question.Question
+question_of q =
+    if q.kind == number.ALLOCATE then Allocate q.size q.memory_type q.flags
+    else (if q.kind == number.MAP_MADE then MapMade q.offset q.size else Map q.object q.offset q.size)
+
+-- an answer; any other number is refused
+abbrev pub answer_of : ℕ → Answer
+answer_of n =
+    if n == number.GRANTED then Granted
+    else (if n == number.NO_DEVICE_MEMORY then OutOfDeviceMemory
+    else (if n == number.NO_HOST_MEMORY then OutOfHostMemory else MapFailed))
+
+abbrev pub answered_of : Question → Answered
+answered_of q = record { question = question_of q; answer = answer_of q.answer }
+
+-- What C is told.
+
+abbrev pub grant_of : Block → Grant
+grant_of b = record {
+  key = b.key;
+  object = b.object;
+  offset = b.offset;
+  size = b.size;
+  memory_type = b.memory_type;
+  fresh = b.fresh == 1;
+}
+
+abbrev pub range_of : Range → ObjectRange
+range_of r = record { object = r.object; offset = r.offset; size = r.size }
+
+-- a free range, as C is told it
+abbrev pub free_range_of : FreeRange → Range
+free_range_of r = record { object = r.object; offset = r.start; size = r.end - r.start }
+
+abbrev pub counts_of : Counts → desk_counts.Counts
+counts_of c = record { blocks = c.blocks; told = c.told; held = c.held; remaining = c.remaining }
+
+abbrev pub heap_counts_of : HeapCounts → desk_heap.HeapCounts
+heap_counts_of c = record { used = c.used + 2 ^ 64 * c.used_high; budget = c.budget }

@@ -1,0 +1,18 @@
+-- How a desk begins and ends.
+use Rattle.std.specs.Prelude.{◌≡◌, ℕ, []}
+use Rattle.std.specs.FinMap as map
+use Rattle.gpu_alloc_base.specs.declared.config.Config.{Config}
+use Rattle.gpu_alloc_types.specs.Properties.{Properties}
+use Rattle.gpu_alloc.specs.Opening.{opened}
+use Rattle.gpu_desk.specs.Desk.{DeskState, IsEmpty}
+
+-- a desk for such a device, with nothing held
+pub record IsOpened (config : Config) (properties : Properties) (s : DeskState) : Type 0 where
+  pub allocator : s.allocator ≡ opened config properties
+  pub empty : IsEmpty s
+
+-- no block is live, no object is held, and each name of an object that went was read
+pub record HasNothing (s : DeskState) : Type 0 where
+  pub blocks : map.len s.blocks.live ≡ 0
+  pub held : map.len s.allocator.held ≡ 0
+  pub names : s.device.held.gone ≡ []

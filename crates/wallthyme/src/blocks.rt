@@ -1,0 +1,159 @@
+//! The calls that give blocks out and take them back.
+
+ghost use Rattle.std.specs.Prelude.{◌≡◌, ◌≢◌, ◌↔◌, ◌⊎◌, IsNone, map};
+ghost use Rattle.gpu_desk.specs.Calls.{AllocationDenied, Allocated, ImportDenied, Imported, IsAsBefore, Keeps, Returns, Told};
+ghost use Rattle.wallthyme.specs.Handles.{KeepsSound, NoBlock, OnDesks, desk_of};
+ghost use Rattle.wallthyme.specs.Malformed.{IsMalformed};
+ghost use Rattle.wallthyme.specs.Status.{Denies};
+ghost use Rattle.wallthyme.specs.Layout.{answered_of, grant_of, hint_of, question_of, request_of};
+
+use crate::answers::{answers_of, denied_or_asked};
+use crate::handle::Handle;
+use crate::layout;
+use crate::status::{ASK, NOT_OPEN, OK, OUT_OF_HOST_MEMORY, denied};
+use gpu_desk::{Denial, Desk};
+use std::alloc::Global;
+
+#[unsafe(no_mangle)]
+pub extern "C" fn wt_alloc(
+    alloc: Global,
+    handle: &mut Handle,
+    request: &layout::Request,
+    asked: &[layout::Question],
+    block: &mut layout::Block,
+    question: &mut layout::Question,
+) -> u32
+    ensures closed { (result ≡ NOT_OPEN) ↔ IsNone (desk_of handle.old) }
+    ensures granted { result ≡ OK → OnDesks (λ old new. Allocated old (request_of request.now)
+        (hint_of request.now.dedicated) (map answered_of asked.now) new (grant_of block.new)) handle.old handle.new }
+    ensures asks { result ≡ ASK → OnDesks (λ old _. AllocationDenied old (request_of request.now)
+        (hint_of request.now.dedicated) (map answered_of asked.now) (Denial.Open (question_of question.new)))
+        handle.old handle.new }
+    ensures denied { result ≢ OK → result ≢ NOT_OPEN → result ≢ OUT_OF_HOST_MEMORY
+        → IsMalformed request.now asked.now result ⊎ OnDesks (λ old _. Denies (AllocationDenied old
+        (request_of request.now) (hint_of request.now.dedicated) (map answered_of asked.now)) result)
+        handle.old handle.new }
+    ensures unchanged { result ≢ OK → OnDesks IsAsBefore handle.old handle.new }
+    ensures keeps { OnDesks KeepsSound handle.old handle.new }
+{
+    let Some(mut kept) = handle.take(alloc) else {
+        return NOT_OPEN;
+    };
+    let status = allocate(alloc, &mut kept.desk, request, asked, block, question);
+    handle.put(kept);
+    status
+}
+
+#[tactic(auto, using(crate::proofs::Same::same))]
+fn allocate(
+    alloc: Global,
+    desk: &mut Desk,
+    request: &layout::Request,
+    asked: &[layout::Question],
+    block: &mut layout::Block,
+    question: &mut layout::Question,
+) -> u32
+    ensures is_open { result ≢ NOT_OPEN }
+    ensures granted { result ≡ OK → Allocated desk.old (request_of request.now) (hint_of request.now.dedicated)
+        (map answered_of asked.now) desk.new (grant_of block.new) }
+    ensures asks { result ≡ ASK → AllocationDenied desk.old (request_of request.now) (hint_of request.now.dedicated)
+        (map answered_of asked.now) (Denial.Open (question_of question.new)) }
+    ensures denied { result ≢ OK → result ≢ OUT_OF_HOST_MEMORY → IsMalformed request.now asked.now result
+        ⊎ Denies (AllocationDenied desk.old (request_of request.now) (hint_of request.now.dedicated)
+        (map answered_of asked.now)) result }
+    ensures unchanged { result ≢ OK → IsAsBefore desk.old desk.new }
+    ensures keeps { Keeps desk.old desk.new }
+{
+    let (request, dedicated) = match request.to_parts() {
+        Ok(parts) => parts,
+        Err(status) => return status,
+    };
+    let answers = match answers_of(alloc, asked) {
+        Ok(answers) => answers,
+        Err(status) => return status,
+    };
+    match desk.alloc(request, dedicated, &answers) {
+        Ok(grant) => {
+            *block = grant.into();
+            OK
+        }
+        Err(denial) => denied_or_asked(denial, question),
+    }
+}
+
+#[unsafe(no_mangle)]
+pub extern "C" fn wt_import(
+    alloc: Global,
+    handle: &mut Handle,
+    memory_type: u32,
+    object_size: u64,
+    offset: u64,
+    size: u64,
+    block: &mut layout::Block,
+) -> u32
+    ensures closed { (result ≡ NOT_OPEN) ↔ IsNone (desk_of handle.old) }
+    ensures granted { result ≡ OK → OnDesks (λ old new.
+        Imported old memory_type object_size offset size new (grant_of block.new)) handle.old handle.new }
+    ensures denied { result ≢ OK → result ≢ NOT_OPEN → OnDesks (λ old _.
+        Denies (ImportDenied old memory_type object_size offset size) result) handle.old handle.new }
+    ensures unchanged { result ≢ OK → OnDesks IsAsBefore handle.old handle.new }
+    ensures keeps { OnDesks KeepsSound handle.old handle.new }
+{
+    let Some(mut kept) = handle.take(alloc) else {
+        return NOT_OPEN;
+    };
+    let imported = kept.desk.import(memory_type, object_size, offset, size);
+    handle.put(kept);
+    match imported {
+        Ok(grant) => {
+            *block = grant.into();
+            OK
+        }
+        Err(denial) => denied(denial),
+    }
+}
+
+#[unsafe(no_mangle)]
+pub extern "C" fn wt_block_of(
+    alloc: Global,
+    handle: &mut Handle,
+    key: u64,
+    block: &mut layout::Block,
+) -> u32
+    ensures closed { (result ≡ NOT_OPEN) ↔ IsNone (desk_of handle.old) }
+    ensures told { result ≡ OK → OnDesks (λ old _. Told old key (grant_of block.new)) handle.old handle.new }
+    ensures unknown { result ≢ OK → OnDesks (λ old _. NoBlock old key) handle.old handle.new }
+    ensures same { desk_of handle.new ≡ desk_of handle.old }
+{
+    let Some(kept) = handle.take(alloc) else {
+        return NOT_OPEN;
+    };
+    let found = kept.desk.block(key);
+    handle.put(kept);
+    match found {
+        Ok(grant) => {
+            *block = grant.into();
+            OK
+        }
+        Err(denial) => denied(denial),
+    }
+}
+
+#[unsafe(no_mangle)]
+pub extern "C" fn wt_free(alloc: Global, handle: &mut Handle, key: u64) -> u32
+    ensures closed { (result ≡ NOT_OPEN) ↔ IsNone (desk_of handle.old) }
+    ensures freed { result ≡ OK → OnDesks (λ old new. Returns old key new) handle.old handle.new }
+    ensures unknown { result ≢ OK → OnDesks (λ old _. NoBlock old key) handle.old handle.new }
+    ensures unchanged { result ≢ OK → desk_of handle.new ≡ desk_of handle.old }
+    ensures keeps { OnDesks KeepsSound handle.old handle.new }
+{
+    let Some(mut kept) = handle.take(alloc) else {
+        return NOT_OPEN;
+    };
+    let freed = kept.desk.free(key);
+    handle.put(kept);
+    match freed {
+        Ok(()) => OK,
+        Err(denial) => denied(denial),
+    }
+}

@@ -1,0 +1,64 @@
+//! What C keeps between calls.
+
+ghost use Rattle.std.specs.Prelude.{◌≡◌, ◌==◌, ◌↔◌, Some, None, IsSome, IsNone, IsTrue, MatchOption, is_some};
+
+use crate::kept::KeptDesk;
+use crate::seal::Seal;
+use std::alloc::Global;
+
+/// A desk or none, in memory of C's own: `wt_allocator`. It is open while there is one.
+///
+/// C begins it as zeros, which is closed. From then on only the exports write it, one at a time, and C copies it nowhere
+/// while it is open.
+#[repr(C)]
+#[derive(Drop)]
+pub struct Handle {
+    full: u32,
+    seal: Seal,
+    ghost tells: { is_some seal.desk ≡ (full == 1) },
+}
+
+impl Handle {
+    ghost use Rattle.gpu_desk.specs.Desk.{IsSound};
+    ghost use Rattle.wallthyme.specs.Handles.{desk_of};
+
+    fn empty(alloc: Global) -> Handle
+        ensures { desk_of result ≡ None }
+    {
+        Handle {
+            full: 0,
+            seal: Seal::empty(alloc),
+        }
+    }
+
+    pub(crate) fn is_open(&self) -> bool
+        ensures { IsTrue result ↔ IsSome (desk_of self.now) }
+    {
+        self.full == 1
+    }
+
+    /// Takes the desk out, where there is one. Between this and [`put`](Handle::put) the handle is closed.
+    pub(crate) fn take(&mut self, alloc: Global) -> Option<Box<KeptDesk>>
+        ensures taken { MatchOption result (IsNone (desk_of self.old)) (λ desk. desk_of self.old ≡ Some desk.value) }
+        ensures closed { IsNone (desk_of self.new) }
+    {
+        if !self.is_open() {
+            return None;
+        }
+        let Handle { full: _, seal } = std::mem::replace(self, Handle::empty(alloc));
+        Some(seal.into_box())
+    }
+
+    /// Puts a desk in, where there is none.
+    pub(crate) fn put(&mut self, desk: Box<KeptDesk>)
+        requires { IsNone (desk_of self.old) }
+        ensures held { desk_of self.new ≡ Some desk.value }
+        ensures sound { IsSound desk.value }
+    {
+        desk.desk.keeps_sound();
+        *self = Handle {
+            full: 1,
+            seal: Seal::of(desk),
+        };
+    }
+}

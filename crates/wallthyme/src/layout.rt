@@ -1,0 +1,360 @@
+//! The structs of `c/wallthyme.h`, field for field, and what they are to a desk.
+
+ghost use Rattle.std.specs.Prelude.{◌≡◌, ◌≢◌, ◌⊎◌, None, false, IfErr, IfOk, IfSome};
+
+use crate::status::{ASK, BAD_DEDICATED, BAD_USAGE, NOT_OPEN, OK};
+use gpu_desk::{
+    Answer, Answered, Dedicated, FreeRange, Grant, MemoryPropertyFlags, ObjectRange, UsageFlags,
+};
+
+/// The property bits that have a name.
+const NAMED_PROPERTIES: u32 = 0x3f;
+
+/// A [`Question::kind`]: to make an object.
+pub(crate) const ALLOCATE: u32 = 1;
+
+/// A [`Question::kind`]: to map a range of the object that was made last.
+pub(crate) const MAP_MADE: u32 = 2;
+
+/// A [`Question::kind`]: to map a range of another object.
+pub(crate) const MAP: u32 = 3;
+
+/// A [`Question::answer`]: it was done.
+pub(crate) const GRANTED: u32 = 0;
+
+/// A [`Question::answer`]: the device's memory is exhausted.
+pub(crate) const NO_DEVICE_MEMORY: u32 = 1;
+
+/// A [`Question::answer`]: the host's memory is exhausted.
+pub(crate) const NO_HOST_MEMORY: u32 = 2;
+
+/// A [`Question::answer`]: the mapping failed for a reason of the device's own.
+pub(crate) const DEVICE_MAP_FAILED: u32 = 3;
+
+/// What stands in [`Question::answer`] before C writes it. Handed back so, the question is refused.
+const UNANSWERED: u32 = u32::MAX;
+
+/// A [`Request::dedicated`]: the block may share its object.
+pub(crate) const SHARED: u32 = 0;
+
+/// A [`Request::dedicated`]: the block would gain by an object of its own.
+pub(crate) const PREFERRED: u32 = 1;
+
+/// A [`Request::dedicated`]: the block must have an object of its own.
+pub(crate) const REQUIRED: u32 = 2;
+
+/// `wt_memory_type`.
+#[repr(C)]
+#[derive(Clone, Copy)]
+pub struct MemoryType {
+    pub heap: u32,
+    pub props: u32,
+}
+
+/// `wt_limits`.
+#[repr(C)]
+#[derive(Clone, Copy)]
+pub struct Limits {
+    pub max_memory_allocation_size: u64,
+    pub non_coherent_atom_size: u64,
+    pub max_memory_allocation_count: u32,
+    pub buffer_device_address: u32,
+}
+
+/// `wt_config`.
+#[repr(C)]
+#[derive(Clone, Copy)]
+pub struct Config {
+    pub dedicated_threshold: u64,
+    pub preferred_dedicated_threshold: u64,
+    pub transient_dedicated_threshold: u64,
+    pub starting_free_list_chunk: u64,
+    pub final_free_list_chunk: u64,
+    pub minimal_buddy_size: u64,
+    pub initial_buddy_dedicated_size: u64,
+}
+
+/// `wt_request`.
+#[repr(C)]
+#[derive(Clone, Copy)]
+pub struct Request {
+    pub size: u64,
+    pub align_mask: u64,
+    pub usage: u32,
+    pub memory_types: u32,
+    pub dedicated: u32,
+}
+
+/// `wt_question`.
+#[repr(C)]
+#[derive(Clone, Copy)]
+pub struct Question {
+    pub object: u64,
+    pub offset: u64,
+    pub size: u64,
+    pub kind: u32,
+    pub memory_type: u32,
+    pub flags: u32,
+    pub answer: u32,
+}
+
+/// `wt_block`.
+#[repr(C)]
+#[derive(Clone, Copy)]
+pub struct Block {
+    pub key: u64,
+    pub object: u64,
+    pub offset: u64,
+    pub size: u64,
+    pub memory_type: u32,
+    pub fresh: u32,
+}
+
+/// `wt_range`.
+#[repr(C)]
+#[derive(Clone, Copy)]
+pub struct Range {
+    pub object: u64,
+    pub offset: u64,
+    pub size: u64,
+}
+
+/// `wt_counts`.
+#[repr(C)]
+#[derive(Clone, Copy)]
+pub struct Counts {
+    pub blocks: u64,
+    pub told: u64,
+    pub held: u32,
+    pub remaining: u32,
+}
+
+/// `wt_heap_counts`.
+#[repr(C)]
+#[derive(Clone, Copy)]
+pub struct HeapCounts {
+    pub used: u64,
+    pub used_high: u64,
+    pub budget: u64,
+}
+
+impl From<MemoryType> for gpu_desk::MemoryType {
+    ghost use Rattle.wallthyme.specs.Layout.{memory_type_of};
+
+    ghost from_gives = { λ t made. made ≡ memory_type_of t };
+
+    fn from(t: MemoryType) -> gpu_desk::MemoryType {
+        gpu_desk::MemoryType {
+            heap: t.heap,
+            props: MemoryPropertyFlags::from_bits_truncate((t.props & NAMED_PROPERTIES) as u8),
+        }
+    }
+}
+
+impl From<Config> for gpu_desk::Config {
+    ghost use Rattle.wallthyme.specs.Layout.{config_of};
+
+    ghost from_gives = { λ config made. made ≡ config_of config };
+
+    fn from(config: Config) -> gpu_desk::Config {
+        gpu_desk::Config {
+            dedicated_threshold: config.dedicated_threshold,
+            preferred_dedicated_threshold: config.preferred_dedicated_threshold,
+            transient_dedicated_threshold: config.transient_dedicated_threshold,
+            starting_free_list_chunk: config.starting_free_list_chunk,
+            final_free_list_chunk: config.final_free_list_chunk,
+            minimal_buddy_size: config.minimal_buddy_size,
+            initial_buddy_dedicated_size: config.initial_buddy_dedicated_size,
+        }
+    }
+}
+
+impl Request {
+    ghost use Rattle.wallthyme.specs.Layout.{request_of, hint_of};
+    ghost use Rattle.wallthyme.specs.Malformed.{HasNoHint, HasUnnamedUsage};
+
+    /// What is asked of the desk, with the hint, or the status of bits and hints that it has no word for.
+    pub(crate) fn to_parts(self) -> Result<(gpu_desk::Request, Option<Dedicated>), u32>
+        ensures request { IfOk result (λ parts. parts.0 ≡ request_of self) }
+        ensures hint { IfOk result (λ parts. parts.1 ≡ hint_of self.dedicated) }
+        ensures malformed { IfErr result (λ status. ((status ≡ BAD_USAGE) × HasUnnamedUsage self)
+            ⊎ ((status ≡ BAD_DEDICATED) × HasNoHint self)) }
+        ensures failed { IfErr result (λ status. status ≢ OK) }
+        ensures unasked { IfErr result (λ status. status ≢ ASK) }
+        ensures is_open { IfErr result (λ status. status ≢ NOT_OPEN) }
+    {
+        let usage = match u8::try_from(self.usage) {
+            Ok(bits) => UsageFlags::from_bits(bits),
+            Err(_) => None,
+        };
+        let Some(usage) = usage else {
+            return Err(BAD_USAGE);
+        };
+        let dedicated = match self.dedicated {
+            SHARED => None,
+            PREFERRED => Some(Dedicated::Preferred),
+            REQUIRED => Some(Dedicated::Required),
+            _ => return Err(BAD_DEDICATED),
+        };
+        let request = gpu_desk::Request {
+            size: self.size,
+            align_mask: self.align_mask,
+            usage,
+            memory_types: self.memory_types,
+        };
+        Ok((request, dedicated))
+    }
+}
+
+impl Question {
+    ghost use Rattle.wallthyme.specs.Layout.{answered_of, question_of};
+    ghost use Rattle.wallthyme.specs.Malformed.{is_answered, is_question};
+
+    /// The question and its answer, if it is one and has one.
+    pub(crate) fn to_answered(self) -> Option<Answered>
+        ensures answered { IfSome result (λ answered. answered ≡ answered_of self) }
+        ensures none { result ≡ None → is_answered self ≡ false }
+    {
+        let question = self.to_question()?;
+        let answer = match self.answer {
+            GRANTED => Answer::Granted,
+            NO_DEVICE_MEMORY => Answer::OutOfDeviceMemory,
+            NO_HOST_MEMORY => Answer::OutOfHostMemory,
+            DEVICE_MAP_FAILED => Answer::MapFailed,
+            _ => return None,
+        };
+        Some(Answered { question, answer })
+    }
+
+    fn to_question(self) -> Option<gpu_desk::Question>
+        ensures question { IfSome result (λ question. question ≡ question_of self) }
+        ensures none { result ≡ None → is_question self ≡ false }
+    {
+        match self.kind {
+            ALLOCATE => Some(gpu_desk::Question::Allocate {
+                size: self.size,
+                memory_type: self.memory_type,
+                flags: u8::try_from(self.flags).ok()?,
+            }),
+            MAP_MADE => Some(gpu_desk::Question::MapMade {
+                offset: self.offset,
+                size: self.size,
+            }),
+            MAP => Some(gpu_desk::Question::Map {
+                object: self.object,
+                offset: self.offset,
+                size: self.size,
+            }),
+            _ => None,
+        }
+    }
+}
+
+impl From<gpu_desk::Question> for Question {
+    ghost use Rattle.wallthyme.specs.Layout.{question_of};
+
+    ghost from_gives = { λ question told. question_of told ≡ question };
+
+    fn from(question: gpu_desk::Question) -> Question {
+        let (kind, object, offset, size) = match question {
+            gpu_desk::Question::Allocate { size, .. } => (ALLOCATE, 0, 0, size),
+            gpu_desk::Question::MapMade { offset, size } => (MAP_MADE, 0, offset, size),
+            gpu_desk::Question::Map {
+                object,
+                offset,
+                size,
+            } => (MAP, object, offset, size),
+        };
+        let (memory_type, flags) = match question {
+            gpu_desk::Question::Allocate {
+                memory_type,
+                flags,
+                ..
+            } => (memory_type, u32::from(flags)),
+            _ => (0, 0),
+        };
+        Question {
+            object,
+            offset,
+            size,
+            kind,
+            memory_type,
+            flags,
+            answer: UNANSWERED,
+        }
+    }
+}
+
+impl From<Grant> for Block {
+    ghost use Rattle.wallthyme.specs.Layout.{grant_of};
+
+    ghost from_gives = { λ grant told. grant_of told ≡ grant };
+
+    fn from(grant: Grant) -> Block {
+        Block {
+            key: grant.key,
+            object: grant.object,
+            offset: grant.offset,
+            size: grant.size,
+            memory_type: grant.memory_type,
+            fresh: u32::from(grant.fresh),
+        }
+    }
+}
+
+impl From<ObjectRange> for Range {
+    ghost use Rattle.wallthyme.specs.Layout.{range_of};
+
+    ghost from_gives = { λ range told. range_of told ≡ range };
+
+    fn from(range: ObjectRange) -> Range {
+        Range {
+            object: range.object,
+            offset: range.offset,
+            size: range.size,
+        }
+    }
+}
+
+impl From<FreeRange> for Range {
+    ghost use Rattle.wallthyme.specs.Layout.{free_range_of};
+
+    ghost from_gives = { λ range told. told ≡ free_range_of range };
+
+    fn from(range: FreeRange) -> Range {
+        Range {
+            object: range.object,
+            offset: range.start,
+            size: range.end.saturating_sub(range.start),
+        }
+    }
+}
+
+impl From<gpu_desk::Counts> for Counts {
+    ghost use Rattle.wallthyme.specs.Layout.{counts_of};
+
+    ghost from_gives = { λ counts told. counts_of told ≡ counts };
+
+    fn from(counts: gpu_desk::Counts) -> Counts {
+        Counts {
+            blocks: counts.blocks,
+            told: counts.told,
+            held: counts.held,
+            remaining: counts.remaining,
+        }
+    }
+}
+
+impl From<gpu_desk::HeapCounts> for HeapCounts {
+    ghost use Rattle.wallthyme.specs.Layout.{heap_counts_of};
+
+    ghost from_gives = { λ counts told. heap_counts_of told ≡ counts };
+
+    fn from(counts: gpu_desk::HeapCounts) -> HeapCounts {
+        HeapCounts {
+            used: (counts.used % (1 << 64)) as u64,
+            used_high: (counts.used / (1 << 64)) as u64,
+            budget: counts.budget,
+        }
+    }
+}

@@ -1,0 +1,112 @@
+//! Sizes, offsets and constants as the library has them, for the test that compares the header's with them.
+
+use crate::handle::Handle;
+use crate::layout::{
+    ALLOCATE, Block, Config, Counts, DEVICE_MAP_FAILED, GRANTED, HeapCounts, Limits, MAP, MAP_MADE,
+    MemoryType, NO_DEVICE_MEMORY, NO_HOST_MEMORY, PREFERRED, Question, REQUIRED, Range, Request,
+    SHARED,
+};
+use crate::opening::VERSION;
+use crate::status;
+use gpu_alloc_types::AllocationFlags;
+use gpu_desk::{MemoryPropertyFlags, UsageFlags};
+
+/// The most questions that one call asks: an object of each of 32 memory types, and its mapping.
+const MAX_QUESTIONS: u32 = 64;
+
+/// What is answered to a number that is no row's.
+const END: u32 = u32::MAX;
+
+/// The numbers that are given out, in the order of `c/layout.h`.
+static NUMBERS: [u32; 40] = [
+    VERSION,
+    MAX_QUESTIONS,
+    status::OK,
+    status::ASK,
+    status::OUT_OF_DEVICE_MEMORY,
+    status::OUT_OF_HOST_MEMORY,
+    status::NO_COMPATIBLE_MEMORY_TYPES,
+    status::TOO_MANY_OBJECTS,
+    status::NON_HOST_VISIBLE,
+    status::ALREADY_MAPPED,
+    status::MAP_FAILED,
+    status::NOT_OPEN,
+    status::ALREADY_OPEN,
+    status::BAD_PROPERTIES,
+    status::UNKNOWN_KEY,
+    status::OTHER_QUESTION,
+    status::BAD_ANSWER,
+    status::BAD_SIZE,
+    status::BAD_ALIGNMENT,
+    status::BAD_USAGE,
+    status::BAD_DEDICATED,
+    status::NO_DEVICE_ADDRESS,
+    status::BAD_RANGE,
+    status::BAD_MEMORY_TYPE,
+    status::BAD_HEAP,
+    status::BAD_IMPORT_END,
+    status::NO_REMAINING,
+    status::TOO_MANY_REMAINING,
+    status::STILL_HELD,
+    status::STILL_TOLD,
+    GRANTED,
+    NO_DEVICE_MEMORY,
+    NO_HOST_MEMORY,
+    DEVICE_MAP_FAILED,
+    ALLOCATE,
+    MAP_MADE,
+    MAP,
+    SHARED,
+    PREFERRED,
+    REQUIRED,
+];
+
+/// The size of each struct, and the offsets of its fields. There is no `offset_of` here: an offset is the sum of the sizes
+/// before it, since fields lie in their order with no gap but the one in `Handle`, as C lays them out.
+#[rattlefmt::skip]
+static PLACES: [u32; 53] = [
+    size_of::<Handle>() as u32, 0, 8,
+    size_of::<MemoryType>() as u32, 0, 4,
+    size_of::<Limits>() as u32, 0, 8, 16, 20,
+    size_of::<Config>() as u32, 0, 8, 16, 24, 32, 40, 48,
+    size_of::<Request>() as u32, 0, 8, 16, 20, 24,
+    size_of::<Question>() as u32, 0, 8, 16, 24, 28, 32, 36,
+    size_of::<Block>() as u32, 0, 8, 16, 24, 32, 36,
+    size_of::<Range>() as u32, 0, 8, 16,
+    size_of::<Counts>() as u32, 0, 8, 16, 20,
+    size_of::<HeapCounts>() as u32, 0, 8, 16,
+];
+
+/// The bits of flags, which stand between the numbers and the places.
+fn flags() -> [u8; 13] {
+    [
+        AllocationFlags::DEVICE_ADDRESS.bits(),
+        UsageFlags::FAST_DEVICE_ACCESS.bits(),
+        UsageFlags::HOST_ACCESS.bits(),
+        UsageFlags::DOWNLOAD.bits(),
+        UsageFlags::UPLOAD.bits(),
+        UsageFlags::TRANSIENT.bits(),
+        UsageFlags::DEVICE_ADDRESS.bits(),
+        MemoryPropertyFlags::DEVICE_LOCAL.bits(),
+        MemoryPropertyFlags::HOST_VISIBLE.bits(),
+        MemoryPropertyFlags::HOST_COHERENT.bits(),
+        MemoryPropertyFlags::HOST_CACHED.bits(),
+        MemoryPropertyFlags::LAZILY_ALLOCATED.bits(),
+        MemoryPropertyFlags::PROTECTED.bits(),
+    ]
+}
+
+/// The value of a row of `c/layout.h`.
+#[unsafe(no_mangle)]
+pub extern "C" fn wt_layout(row: u32) -> u32 {
+    let row = row as usize;
+    let flags = flags();
+    if row < NUMBERS.len() {
+        return NUMBERS[row];
+    }
+    let row = row - NUMBERS.len();
+    if row < flags.len() {
+        return u32::from(flags[row]);
+    }
+    PLACES.get(row - flags.len()).copied().unwrap_or(END)
+}

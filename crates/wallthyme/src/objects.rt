@@ -1,0 +1,183 @@
+//! The calls on what is held: objects that go, counts, limits, free ranges.
+
+ghost use Rattle.std.specs.Prelude.{◌≡◌, ◌≢◌, ◌↔◌, ◌<◌, ◌≤◌, ◌+◌, ◌^◌, [], IsNone, List, drop, length, take};
+ghost use Rattle.std.specs.FinMap as map;
+ghost use Rattle.gpu_desk.specs.Calls.{CleansUp, CountsOf, HeapCountsOf};
+ghost use Rattle.gpu_alloc_types.specs.declared.types.FreeRange.{FreeRange};
+ghost use Rattle.gpu_session.specs.Does.{IsEachFreeRange};
+ghost use Rattle.wallthyme.specs.Handles.{KeepsSound, OnDesks, desk_of};
+ghost use Rattle.wallthyme.specs.Objects.{AreTold, Reads};
+ghost use Rattle.wallthyme.specs.Layout.{counts_of, heap_counts_of};
+
+use crate::handle::Handle;
+use crate::layout;
+use crate::status::{BAD_HEAP, BAD_MEMORY_TYPE, NOT_OPEN, OK, denied};
+use gpu_desk::{Desk, FreeRange};
+use std::alloc::Global;
+
+#[unsafe(no_mangle)]
+pub extern "C" fn wt_cleanup(alloc: Global, handle: &mut Handle) -> u32
+    ensures closed { (result ≡ NOT_OPEN) ↔ IsNone (desk_of handle.old) }
+    ensures cleaned { OnDesks CleansUp handle.old handle.new }
+    ensures keeps { OnDesks KeepsSound handle.old handle.new }
+{
+    let Some(mut kept) = handle.take(alloc) else {
+        return NOT_OPEN;
+    };
+    kept.desk.cleanup();
+    handle.put(kept);
+    OK
+}
+
+#[unsafe(no_mangle)]
+pub extern "C" fn wt_gone(
+    alloc: Global,
+    handle: &mut Handle,
+    names: &mut [u64],
+    count: &mut usize,
+) -> u32
+    ensures closed { (result ≡ NOT_OPEN) ↔ IsNone (desk_of handle.old) }
+    ensures fits { result ≡ OK → count.new ≤ length names.new }
+    ensures read { result ≡ OK → OnDesks (λ old new. Reads old (take count.new names.new) new) handle.old handle.new }
+    ensures all { result ≡ OK → count.new < length names.new
+        → OnDesks (λ _ new. new.device.held.gone ≡ []) handle.old handle.new }
+{
+    let Some(mut kept) = handle.take(alloc) else {
+        return NOT_OPEN;
+    };
+    *count = read_gone(&mut kept.desk, names);
+    handle.put(kept);
+    OK
+}
+
+/// Reads names of objects that go, as many as there are and as fit in. Answers how many.
+fn read_gone(desk: &mut Desk, names: &mut [u64]) -> usize
+    ensures fits { result ≤ length names.new }
+    ensures read { Reads desk.old (take result names.new) desk.new }
+    ensures all { result < length names.new → desk.new.device.held.gone ≡ [] }
+{
+    for (count, place) in names.iter_mut().enumerate() {
+        let Some(name) = desk.next_gone() else {
+            return count;
+        };
+        *place = name;
+    }
+    names.len()
+}
+
+#[unsafe(no_mangle)]
+pub extern "C" fn wt_count(alloc: Global, handle: &mut Handle, counts: &mut layout::Counts) -> u32
+    ensures closed { (result ≡ NOT_OPEN) ↔ IsNone (desk_of handle.old) }
+    ensures told { result ≡ OK → OnDesks (λ old _. CountsOf old (counts_of counts.new))
+        handle.old handle.new }
+    ensures same { desk_of handle.new ≡ desk_of handle.old }
+{
+    let Some(kept) = handle.take(alloc) else {
+        return NOT_OPEN;
+    };
+    *counts = kept.desk.counts().into();
+    handle.put(kept);
+    OK
+}
+
+#[unsafe(no_mangle)]
+pub extern "C" fn wt_heap(
+    alloc: Global,
+    handle: &mut Handle,
+    heap: u32,
+    counts: &mut layout::HeapCounts,
+) -> u32
+    ensures closed { (result ≡ NOT_OPEN) ↔ IsNone (desk_of handle.old) }
+    ensures told { result ≡ OK → OnDesks (λ old _. HeapCountsOf old heap (heap_counts_of counts.new))
+        handle.old handle.new }
+    ensures bad { result ≢ OK → OnDesks (λ old _. length old.allocator.properties.memory_heaps ≤ heap)
+        handle.old handle.new }
+    ensures same { desk_of handle.new ≡ desk_of handle.old }
+{
+    let Some(kept) = handle.take(alloc) else {
+        return NOT_OPEN;
+    };
+    let found = kept.desk.heap(heap);
+    handle.put(kept);
+    match found {
+        Some(found) => {
+            *counts = found.into();
+            OK
+        }
+        None => BAD_HEAP,
+    }
+}
+
+#[unsafe(no_mangle)]
+pub extern "C" fn wt_set_remaining(alloc: Global, handle: &mut Handle, remaining: u32) -> u32
+    ensures closed { (result ≡ NOT_OPEN) ↔ IsNone (desk_of handle.old) }
+    ensures set { result ≡ OK → OnDesks (λ old new.
+        new ≡ record old { allocator = record (old.allocator) { remaining = remaining } }) handle.old handle.new }
+    ensures too_many { result ≢ OK → OnDesks (λ old _. 2 ^ 32 ≤ remaining + map.len old.allocator.held)
+        handle.old handle.new }
+    ensures unchanged { result ≢ OK → desk_of handle.new ≡ desk_of handle.old }
+{
+    let Some(mut kept) = handle.take(alloc) else {
+        return NOT_OPEN;
+    };
+    let set = kept.desk.set_remaining(remaining);
+    handle.put(kept);
+    match set {
+        Ok(()) => OK,
+        Err(denial) => denied(denial),
+    }
+}
+
+#[unsafe(no_mangle)]
+pub extern "C" fn wt_free_ranges(
+    alloc: Global,
+    handle: &mut Handle,
+    memory_type: u32,
+    first: usize,
+    ranges: &mut [layout::Range],
+    count: &mut usize,
+) -> u32
+    ensures closed { (result ≡ NOT_OPEN) ↔ IsNone (desk_of handle.old) }
+    ensures told { result ≡ OK → OnDesks (λ old _. (found : List FreeRange)
+        × IsEachFreeRange old.allocator memory_type found × (count.new ≡ length found)
+        × AreTold (drop first found) ranges.new) handle.old handle.new }
+    ensures bad { result ≡ BAD_MEMORY_TYPE → OnDesks (λ old _.
+        length old.allocator.properties.memory_types ≤ memory_type) handle.old handle.new }
+    ensures same { desk_of handle.new ≡ desk_of handle.old }
+{
+    let Some(kept) = handle.take(alloc) else {
+        return NOT_OPEN;
+    };
+    let found = kept.desk.free_ranges(memory_type);
+    handle.put(kept);
+    match found {
+        Ok(found) => {
+            tell(rest_from(first, &found), ranges);
+            *count = found.len();
+            OK
+        }
+        Err(denial) => denied(denial),
+    }
+}
+
+/// Those from the one of number `first` on.
+fn rest_from(first: usize, found: &[FreeRange]) -> &[FreeRange]
+    ensures { result.now ≡ drop first found.now }
+{
+    match found.get(first..) {
+        Some(rest) => rest,
+        None => &[],
+    }
+}
+
+/// Tells free ranges, as many as fit in.
+fn tell(found: &[FreeRange], ranges: &mut [layout::Range])
+    ensures { AreTold found.now ranges.new }
+{
+    for (index, place) in ranges.iter_mut().enumerate() {
+        let Some(range) = found.get(index) else {
+            return;
+        };
+        *place = (*range).into();
+    }
+}
