@@ -127,7 +127,7 @@ pub record Imported (old : DeskState) (t object_size offset size : ℕ) (new : D
   pub block : Block
   pub gives : Gives old g block new
   pub as_asked : block ≡ imported_block old.allocator g.object t offset size
-  pub fresh : g.fresh ≡ true
+  pub fresh : g.fresh ≡ false
   pub was_free : objects old g.object ≡ None
   pub held : HeldWith (objects new) g.object (λ o. (o.memory_type ≡ t) × (o.size ≡ object_size))
 

@@ -18,7 +18,7 @@ pub struct Grant {
     /// The index of its memory type.
     pub memory_type: u32,
 
-    /// Whether its object was not held before the call that tells it.
+    /// Whether its object is new: the one that was made last for this grant. No import's is.
     pub fresh: bool,
 }
 

@@ -177,7 +177,7 @@ impl Desk {
             .allocator
             .import_memory(memory, memory_type, props, offset, size)
         {
-            Ok(block) => Ok(keep(&mut self.blocks, block, true)),
+            Ok(block) => Ok(keep(&mut self.blocks, block, false)),
             Err(memory) => {
                 self.device.deallocate_memory(&memory);
                 objects_of_others_may_go(&self.allocator, &self.device);
