@@ -51,3 +51,19 @@ def keep(place):
     for old in glob.glob(f"{OUT}/gpu_script-*"):
         if old != place:
             os.remove(old)
+
+
+def note_libraries():
+    """Tells later runs of rt that the libraries which the gate has just built are of the sources as they stand. The gate leaves them without that note, and
+    scripts/library would prove all of them again. With a kit that notes it otherwise nothing is written, and that is what happens."""
+    kit = os.path.dirname(subprocess.run(["rt", "doc"], stdin=subprocess.DEVNULL, stdout=subprocess.PIPE, text=True, check=True).stdout.strip())
+    sys.path.append(f"{kit}/bin")
+    try:
+        import rtlib
+
+        for crate in rtlib.crates_below(f"{ROOT}/crates"):
+            if os.path.isdir(crate.rlib) and not crate.is_built():
+                with open(f"{os.path.dirname(crate.rlib)}/stamp", "w", encoding="utf-8") as file:
+                    file.write(crate.stamp())
+    except (ImportError, AttributeError) as error:
+        say(f"what the gate built cannot be noted for this kit: {error}")
