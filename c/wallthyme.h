@@ -162,7 +162,7 @@ typedef struct wt_question {
     uint32_t kind;
     uint32_t memory_type; /* WT_ALLOCATE; else 0 */
     uint32_t flags;       /* WT_ALLOCATE; else 0 */
-    uint32_t answer;      /* the caller's to write */
+    uint32_t answer;      /* the caller's to write; told as one that is none, so that none is forgotten */
 } wt_question;
 
 /* A block. Its key is never 0. Objects are named by numbers that rise, none of them twice. */

@@ -1,5 +1,5 @@
 -- How a desk begins and ends.
-use Rattle.std.specs.Prelude.{◌≡◌, ℕ, []}
+use Rattle.std.specs.Prelude.{◌≡◌, []}
 use Rattle.std.specs.FinMap as map
 use Rattle.gpu_alloc_base.specs.declared.config.Config.{Config}
 use Rattle.gpu_alloc_types.specs.Properties.{Properties}
