@@ -58,9 +58,13 @@ impl Run {
         ensures ok { OnOk result (self.new ≡ begun answers.now) }
         ensures err { OnErr result (self.new ≡ self.old) }
     {
-        self.answers.reserve(answers.len())?;
-        self.answers.clear();
-        self.answers.extend_from_slice(answers).unwrap();
+        if answers.is_empty() {
+            self.answers.clear();
+        } else {
+            self.answers.reserve(answers.len())?;
+            self.answers.clear();
+            self.answers.extend_from_slice(answers).unwrap();
+        }
         self.used = 0;
         self.stop = None;
         self.made = None;

@@ -1,6 +1,6 @@
 //! Questions to the device, as they cross to C and come back.
 
-ghost use Rattle.std.specs.Prelude.{◌≡◌, ◌≢◌, ◌⊎◌, IfErr, IfOk, map};
+ghost use Rattle.std.specs.Prelude.{◌≡◌, ◌≢◌, ◌⊎◌, IfErr, OnOk, map};
 ghost use Rattle.wallthyme.specs.Layout.{answered_of, question_of};
 ghost use Rattle.wallthyme.specs.Malformed.{HasNoAnswer};
 ghost use Rattle.wallthyme.specs.Status.{status_of};
@@ -8,18 +8,18 @@ ghost use Rattle.wallthyme.specs.Status.{status_of};
 use crate::layout;
 use crate::status::{ASK, BAD_ANSWER, NOT_OPEN, OK, OUT_OF_HOST_MEMORY, denied};
 use gpu_desk::{Answered, Denial};
-use std::alloc::Global;
 
-/// The answers that C gave so far, or the status of one that is none. No answers take no memory.
-pub(crate) fn answers_of(alloc: Global, asked: &[layout::Question]) -> Result<Vec<Answered>, u32>
-    ensures answers { IfOk result (λ answers. answers.items ≡ map answered_of asked.now) }
+/// Reads the answers that C gave so far into `answers`, or tells the status of one that is none. It takes memory where
+/// there are more than ever before.
+pub(crate) fn answers_of(answers: &mut Vec<Answered>, asked: &[layout::Question]) -> Result<(), u32>
+    ensures answers { OnOk result (answers.new.items ≡ map answered_of asked.now) }
     ensures malformed { IfErr result (λ status. ((status ≡ BAD_ANSWER) × HasNoAnswer asked.now)
         ⊎ (status ≡ OUT_OF_HOST_MEMORY)) }
     ensures failed { IfErr result (λ status. status ≢ OK) }
     ensures unasked { IfErr result (λ status. status ≢ ASK) }
     ensures is_open { IfErr result (λ status. status ≢ NOT_OPEN) }
 {
-    let mut answers = Vec::new(alloc);
+    answers.clear();
     for question in asked {
         let Some(answered) = question.to_answered() else {
             return Err(BAD_ANSWER);
@@ -28,7 +28,7 @@ pub(crate) fn answers_of(alloc: Global, asked: &[layout::Question]) -> Result<Ve
             return Err(OUT_OF_HOST_MEMORY);
         }
     }
-    Ok(answers)
+    Ok(())
 }
 
 /// The status of what a desk denies. A question that has no answer yet is told.

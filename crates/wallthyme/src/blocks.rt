@@ -9,9 +9,10 @@ ghost use Rattle.wallthyme.specs.Layout.{answered_of, grant_of, hint_of, questio
 
 use crate::answers::{answers_of, denied_or_asked};
 use crate::handle::Handle;
+use crate::kept::KeptDesk;
 use crate::layout;
 use crate::status::{ASK, NOT_OPEN, OK, OUT_OF_HOST_MEMORY, denied};
-use gpu_desk::{Denial, Desk};
+use gpu_desk::{Answered, Denial, Desk};
 use std::alloc::Global;
 
 #[unsafe(no_mangle)]
@@ -39,14 +40,22 @@ pub extern "C" fn wt_alloc(
     let Some(mut kept) = handle.take(alloc) else {
         return NOT_OPEN;
     };
-    let status = allocate(alloc, &mut kept.desk, request, asked, block, question);
+    let open: &mut KeptDesk = &mut kept;
+    let status = allocate(
+        &mut open.answers,
+        &mut open.desk,
+        request,
+        asked,
+        block,
+        question,
+    );
     handle.put(kept);
     status
 }
 
 #[tactic(auto, using(crate::proofs::Same::same))]
 fn allocate(
-    alloc: Global,
+    answers: &mut Vec<Answered>,
     desk: &mut Desk,
     request: &layout::Request,
     asked: &[layout::Question],
@@ -68,11 +77,10 @@ fn allocate(
         Ok(parts) => parts,
         Err(status) => return status,
     };
-    let answers = match answers_of(alloc, asked) {
-        Ok(answers) => answers,
-        Err(status) => return status,
-    };
-    match desk.alloc(request, dedicated, &answers) {
+    if let Err(status) = answers_of(answers, asked) {
+        return status;
+    }
+    match desk.alloc(request, dedicated, answers) {
         Ok(grant) => {
             *block = grant.into();
             OK

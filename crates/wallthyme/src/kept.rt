@@ -2,7 +2,8 @@
 
 ghost use Rattle.std.specs.Prelude.{◌≡◌};
 
-use gpu_desk::Desk;
+use gpu_desk::{Answered, Desk};
+use std::alloc::Global;
 use std::marker::Model;
 use std::mem::ManuallyDrop;
 
@@ -13,6 +14,9 @@ use std::mem::ManuallyDrop;
 #[derive(Drop)]
 pub(crate) struct KeptDesk {
     pub(crate) desk: ManuallyDrop<Desk>,
+
+    /// The answers of a call, kept for their memory alone.
+    pub(crate) answers: Vec<Answered>,
 }
 
 impl Model for KeptDesk {
@@ -27,13 +31,16 @@ impl Model for KeptDesk {
 }
 
 impl KeptDesk {
-    pub(crate) fn new(desk: Desk) -> KeptDesk
+    pub(crate) fn new(alloc: Global, desk: Desk) -> KeptDesk
         ensures { result ≡ desk }
     {
         // What is wrapped has to be closed all the same. Both places that let a kept desk go do so: `wt_close`, and
         // `wt_open` where it finds no memory.
         let desk = unsafe { ManuallyDrop::new_unchecked(desk) };
-        KeptDesk { desk }
+        KeptDesk {
+            desk,
+            answers: Vec::new(alloc),
+        }
     }
 
     pub(crate) fn into_desk(self) -> Desk

@@ -90,7 +90,7 @@ fn boxed(alloc: Global, desk: Desk) -> Result<Box<KeptDesk>, OpenError>
     ensures same { IfOk result (λ kept. kept.value ≡ desk) }
     ensures refused { IfErr result (λ error. error ≡ OpenError.OutOfHostMemory) }
 {
-    match Box::new(alloc, KeptDesk::new(desk)) {
+    match Box::new(alloc, KeptDesk::new(alloc, desk)) {
         Ok(kept) => Ok(kept),
         Err(failed) => {
             failed.value.into_desk().close();

@@ -9,9 +9,10 @@ ghost use Rattle.wallthyme.specs.Layout.{answered_of, question_of, range_of};
 
 use crate::answers::{answers_of, denied_or_asked};
 use crate::handle::Handle;
+use crate::kept::KeptDesk;
 use crate::layout;
 use crate::status::{ASK, BAD_ANSWER, NOT_OPEN, OK, OUT_OF_HOST_MEMORY, denied};
-use gpu_desk::{Denial, Desk};
+use gpu_desk::{Answered, Denial, Desk};
 use std::alloc::Global;
 
 /// No object: objects have names from 1 on.
@@ -43,7 +44,15 @@ pub extern "C" fn wt_map(
         return NOT_OPEN;
     };
     let part = BlockPart { key, offset, size };
-    let status = map_part(alloc, &mut kept.desk, part, asked, mapped, question);
+    let open: &mut KeptDesk = &mut kept;
+    let status = map_part(
+        &mut open.answers,
+        &mut open.desk,
+        part,
+        asked,
+        mapped,
+        question,
+    );
     handle.put(kept);
     status
 }
@@ -60,7 +69,7 @@ struct BlockPart {
 
 #[tactic(auto, using(crate::proofs::Same::same))]
 fn map_part(
-    alloc: Global,
+    answers: &mut Vec<Answered>,
     desk: &mut Desk,
     part: BlockPart,
     asked: &[layout::Question],
@@ -77,11 +86,10 @@ fn map_part(
     ensures unchanged { result ≢ OK → IsAsBefore desk.old desk.new }
     ensures keeps { Keeps desk.old desk.new }
 {
-    let answers = match answers_of(alloc, asked) {
-        Ok(answers) => answers,
-        Err(status) => return status,
-    };
-    match desk.map(part.key, part.offset, part.size, &answers) {
+    if let Err(status) = answers_of(answers, asked) {
+        return status;
+    }
+    match desk.map(part.key, part.offset, part.size, answers) {
         Ok(range) => {
             *mapped = range.into();
             OK
