@@ -21,7 +21,7 @@ static uint32_t answer(const wt_question *question) {
 }
 
 static uint32_t allocate(wt_allocator *a, const wt_request *request, wt_block *block) {
-    wt_question asked[WT_MAX_QUESTIONS];
+    wt_question asked[WT_MAX_QUESTIONS + 1];
     uint32_t status;
     for (size_t n = 0; (status = wt_alloc(a, request, asked, n, block, &asked[n])) == WT_ASK; n++)
         asked[n].answer = answer(&asked[n]);

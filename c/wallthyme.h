@@ -4,7 +4,7 @@
  * It never calls back, and never touches a device. A call that needs the device answers WT_ASK with a question: the
  * caller puts it to its device, writes the answer into it, and makes the same call again with the questions so far:
  *
- *     wt_question asked[WT_MAX_QUESTIONS];
+ *     wt_question asked[WT_MAX_QUESTIONS + 1];
  *     size_t n = 0;
  *     while ((status = wt_alloc(&a, &request, asked, n, &block, &asked[n])) == WT_ASK) {
  *         asked[n].answer = my_device_answers(&asked[n]);
@@ -52,8 +52,8 @@ enum {
     /* Misuses. Nothing was changed. */
     WT_NOT_OPEN = 9,                   /* the allocator is closed */
     WT_ALREADY_OPEN = 10,              /* the allocator is open */
-    WT_BAD_PROPERTIES = 11,            /* over 32 memory types, one of a heap that is not there, or an atom that is no
-                                          power of two of at most 2^62 */
+    WT_BAD_PROPERTIES = 11,            /* over 32 memory types, one of a heap that is not there, 2^32 heaps or more, or an
+                                          atom that is no power of two of at most 2^62 */
     WT_UNKNOWN_KEY = 12,               /* no live block has this key: it was freed, or is none of this allocator's. (Keys of
                                           two allocators may be the same numbers.) */
     WT_OTHER_QUESTION = 13,            /* an answer is to another question than is asked in its place */
@@ -207,10 +207,10 @@ uint32_t wt_open(wt_allocator *a, const wt_memory_type *types, size_t types_len,
 uint32_t wt_close(wt_allocator *a);
 
 /* Allocates a block.
-   WT_OK: *block tells it. Where it is fresh, its object is the one that the last WT_GRANTED to WT_ALLOCATE made, which
-   has the name block->object from then on. Any other object that was made for this request is the caller's to free: one
-   whose mapping failed, or one that is not needed any more since another call came between. Answers that are left over
-   count nowhere.
+   WT_OK: *block tells it. Where it is fresh, its object is the one that the last WT_GRANTED to WT_ALLOCATE that counts
+   made, which has the name block->object from then on. Any other object that was made for this request is the caller's
+   to free: one whose mapping failed, or one that is not needed any more since another call came between. Answers that
+   are left over count nowhere, but have to be answers.
    WT_ASK: *question is the next one, to be answered and appended. It may lie behind the asked ones in their array.
    Any other status ends the request: the four refusals of an allocation; WT_NOT_OPEN, WT_BAD_SIZE, WT_BAD_ALIGNMENT,
    WT_BAD_USAGE, WT_BAD_DEDICATED, WT_NO_DEVICE_ADDRESS, WT_BAD_ANSWER, or WT_OTHER_QUESTION, as where another call came
@@ -219,7 +219,8 @@ uint32_t wt_alloc(wt_allocator *a, const wt_request *request, const wt_question 
                   wt_block *block, wt_question *question);
 
 /* Takes a range of an object of the caller's as a block. The object has object_size bytes and is not mapped; it is the
-   allocator's from then on, under the name block->object, and told by wt_gone once the block was freed.
+   allocator's from then on, under the name block->object, and told by wt_gone once the block was freed. Its heap counts
+   the block's size for it, and not the object's.
    WT_NOT_OPEN, WT_BAD_MEMORY_TYPE, WT_BAD_SIZE, WT_BAD_RANGE, WT_BAD_IMPORT_END, WT_NO_REMAINING,
    WT_OUT_OF_HOST_MEMORY: nothing is changed, and the object stays the caller's. */
 uint32_t wt_import(wt_allocator *a, uint32_t memory_type, uint64_t object_size, uint64_t offset, uint64_t size,
@@ -230,8 +231,8 @@ uint32_t wt_block_of(wt_allocator *a, uint64_t key, wt_block *block);
 
 /* Maps size bytes of a block from offset on, counted from its start.
    WT_OK: *mapped tells where they lie in the object. A block of a shared object asks nothing, as that was mapped whole
-   when it was made (WT_MAP_MADE). Where asked (WT_ASK, as of wt_alloc), the range of the question covers them in whole
-   atoms. WT_NOT_OPEN, WT_UNKNOWN_KEY, WT_BAD_SIZE, WT_BAD_RANGE, WT_NON_HOST_VISIBLE, WT_ALREADY_MAPPED,
+   when it was made (WT_MAP_MADE). Where asked (WT_ASK, as of wt_alloc), the range of the question covers them, where the
+   memory is not coherent in whole atoms, cut at the block's end. WT_NOT_OPEN, WT_UNKNOWN_KEY, WT_BAD_SIZE, WT_BAD_RANGE, WT_NON_HOST_VISIBLE, WT_ALREADY_MAPPED,
    WT_BAD_ANSWER, WT_OTHER_QUESTION, and what the device answered: nothing is changed, and what was mapped for it is the
    caller's to unmap. */
 uint32_t wt_map(wt_allocator *a, uint64_t key, uint64_t offset, uint64_t size, const wt_question *asked,

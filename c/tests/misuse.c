@@ -193,6 +193,14 @@ static uint32_t answer_badly(world *w, const test_case *c) {
     return answer_begun(w, c);
 }
 
+/* The question as it was told, with no answer written into it. */
+static uint32_t answer_nothing(world *w, const test_case *c) {
+    wt_block block;
+    expect(wt_alloc(&w->allocator, &c->request, NULL, 0, &block, &w->talk.asked[0]) == WT_ASK, "nothing is asked");
+    w->talk.len = 1;
+    return answer_begun(w, c);
+}
+
 static uint32_t map_with(world *w, size_t of, uint64_t offset, uint64_t size, answering *answer) {
     questions talk;
     wt_range mapped;
@@ -438,6 +446,7 @@ static const test_case cases[] = {
     { "an answer about another size maps", WT_OTHER_QUESTION, NULL, map_with_another_field, OF_OWN, NULL, 2 },
     { "an answer of another kind maps", WT_OTHER_QUESTION, NULL, map_with_another_field, OF_OWN, NULL, 3 },
 
+    { "a question that nobody answered is taken", WT_BAD_ANSWER, NULL, answer_nothing, OF_OWN, NULL, 0 },
     { "an answer of 4 is taken", WT_BAD_ANSWER, begin_request, answer_badly, OF_OWN, NULL, 0 },
     { "the largest number is taken as an answer", WT_BAD_ANSWER, begin_request, answer_badly, OF_OWN, NULL, 1 },
     { "an answer to a question of kind 0 is taken", WT_BAD_ANSWER, begin_request, answer_badly, OF_OWN, NULL, 2 },

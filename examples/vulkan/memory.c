@@ -130,7 +130,7 @@ static bool is_refusal(uint32_t status)
 
 uint32_t memory_allocate(memory *m, const wt_request *request, wt_block *block)
 {
-    wt_question asked[WT_MAX_QUESTIONS];
+    wt_question asked[WT_MAX_QUESTIONS + 1];
     size_t n = 0;
     uint32_t status;
     while ((status = wt_alloc(&m->allocator, request, asked, n, block, &asked[n])) == WT_ASK) {
@@ -174,7 +174,7 @@ VkDeviceMemory memory_handle(const memory *m, const wt_block *block)
 
 unsigned char *memory_map(memory *m, const wt_block *block, uint64_t offset, uint64_t size)
 {
-    wt_question asked[WT_MAX_QUESTIONS];
+    wt_question asked[WT_MAX_QUESTIONS + 1];
     wt_range mapped;
     size_t n = 0;
     uint32_t status;

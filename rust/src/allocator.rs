@@ -130,7 +130,8 @@ impl<M> GpuAllocator<M> {
     ///
     /// * The object is of the device of all calls of this allocator and its blocks, is of that memory type, not
     ///   mapped, and no other's to give back.
-    /// * `props` are the properties of the memory type, or fewer.
+    /// * `props` are the properties of the memory type, or fewer. (`HOST_COHERENT` is taken from the type: what is
+    ///   coherent is never flushed.)
     /// * `offset .. offset + size` lies in the object. Where the memory is host-visible and not host-coherent, it
     ///   ends at a multiple of [`DeviceProperties::non_coherent_atom_size`], or where the object ends.
     #[track_caller]
@@ -150,7 +151,8 @@ impl<M> GpuAllocator<M> {
             Err(status) => no_import(status),
         };
         self.count();
-        self.block(block, props, Memory::Own(memory))
+        let coherent = self.memory_types[memory_type as usize].props & MemoryPropertyFlags::HOST_COHERENT;
+        self.block(block, props | coherent, Memory::Own(memory))
     }
 
     /// Takes a block back, mapped or not. Memory objects that no block needs go back to the device, but for the last

@@ -117,6 +117,9 @@ pub struct MappedMemoryRange<'a, M> {
 /// The allocator keeps what Vulkan asks for of the calls: ranges are inside their objects; what is flushed and
 /// invalidated is whole atoms, or ends where its object ends, and is mapped; an object is mapped once at a time; and
 /// one that goes back was not given back before. A mapped object may go back: it needs no `unmap_memory` before.
+///
+/// A call that panics may lose objects to the device: those that were made for the request, or that go back with the
+/// block. The allocator may be used and dropped after that.
 pub trait MemoryDevice<M> {
     /// Makes a memory object of `size` bytes of a memory type.
     ///

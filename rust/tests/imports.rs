@@ -71,6 +71,23 @@ fn props_of_the_caller_count() {
     assert_eq!(device.held(), 0);
 }
 
+/// What is coherent is not flushed, whatever the caller says: such a range need not end on the atom.
+#[test]
+fn coherent_imports_are_never_flushed() {
+    let device = Device::new();
+    let mut allocator = allocator(3);
+    let memory = device.make(512, 1);
+    let seen = MemoryPropertyFlags::HOST_VISIBLE;
+    // SAFETY: the object is the device's, of that type, whose properties are these and more.
+    let mut block = unsafe { allocator.import_memory(memory, 1, seen, 0, 100) };
+    // SAFETY: there is one device, which does not use the block meanwhile.
+    unsafe { block.write_bytes(&device, 90, &[9; 10]) }.unwrap();
+    assert_eq!(device.flushes(), 0);
+    // SAFETY: the block is this allocator's, and there is one device.
+    unsafe { allocator.dealloc(&device, block) };
+    assert_eq!(device.held(), 0);
+}
+
 fn imported(memory_type: u32, offset: u64, size: u64, count: u32) {
     let device = Device::new();
     let memory = device.make(512, 0);
