@@ -1,5 +1,5 @@
 -- What C hands over that a desk has no word for.
-use Rattle.std.specs.Prelude.{◌≡◌, ◌⊎◌, ◌==◌, ◌<◌, ◌&&◌, ◌||◌, ℕ, Bool, false, nat_lt, IsTrue, List, Any}
+use Rattle.std.specs.Prelude.{◌≡◌, ◌≢◌, ◌⊎◌, ◌==◌, ◌<◌, ◌≤◌, ◌&&◌, ◌||◌, ℕ, Bool, true, false, nat_lt, IsTrue, List, All, Any}
 use Rattle.gpu_alloc_types.specs.Flags.{has_all_bits, named_usage_bits}
 use Rattle.wallthyme.specs.declared.layout.TheConstants as number
 use Rattle.wallthyme.specs.declared.layout.Question.{Question}
@@ -24,6 +24,29 @@ is_answered q = is_question q && nat_lt q.answer 4
 
 abbrev pub HasNoAnswer : List Question → Type 0
 HasNoAnswer asked = Any (λ q. is_answered q ≡ false) asked
+
+-- each usage bit has a name, and the hint is one of the three
+pub record HasNames (r : Request) : Type 0 where
+  pub usage : IsTrue (has_all_bits named_usage_bits r.usage)
+  pub hint : r.dedicated ≤ number.REQUIRED
+
+-- each is a question with an answer
+abbrev pub AreAnswered : List Question → Type 0
+AreAnswered asked = All (λ q. is_answered q ≡ true) asked
+
+-- the request and its answers are some
+pub record IsWellFormed (r : Request) (asked : List Question) : Type 0 where
+  pub request : HasNames r
+  pub answers : AreAnswered asked
+
+-- a question as it is told: one that nobody answered, with 0 wherever it has nothing to tell
+pub record IsAsked (q : Question) : Type 0 where
+  pub question : is_question q ≡ true
+  pub unanswered : q.answer ≡ number.UNANSWERED
+  pub object : q.kind ≢ number.MAP → q.object ≡ 0
+  pub offset : q.kind ≡ number.ALLOCATE → q.offset ≡ 0
+  pub memory_type : q.kind ≢ number.ALLOCATE → q.memory_type ≡ 0
+  pub flags : q.kind ≢ number.ALLOCATE → q.flags ≡ 0
 
 -- the request or its answers are none, and the status says which
 abbrev pub IsMalformed : Request → List Question → ℕ → Type 0

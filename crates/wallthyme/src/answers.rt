@@ -2,7 +2,7 @@
 
 ghost use Rattle.std.specs.Prelude.{◌≡◌, ◌≢◌, ◌⊎◌, IfErr, OnOk, map};
 ghost use Rattle.wallthyme.specs.Layout.{answered_of, question_of};
-ghost use Rattle.wallthyme.specs.Malformed.{HasNoAnswer};
+ghost use Rattle.wallthyme.specs.Malformed.{AreAnswered, HasNoAnswer, IsAsked};
 ghost use Rattle.wallthyme.specs.Status.{status_of};
 
 use crate::layout;
@@ -13,6 +13,7 @@ use gpu_desk::{Answered, Denial};
 /// there are more than ever before.
 pub(crate) fn answers_of(answers: &mut Vec<Answered>, asked: &[layout::Question]) -> Result<(), u32>
     ensures answers { OnOk result (answers.new.items ≡ map answered_of asked.now) }
+    ensures formed { OnOk result (AreAnswered asked.now) }
     ensures malformed { IfErr result (λ status. ((status ≡ BAD_ANSWER) × HasNoAnswer asked.now)
         ⊎ (status ≡ OUT_OF_HOST_MEMORY)) }
     ensures failed { IfErr result (λ status. status ≢ OK) }
@@ -34,6 +35,7 @@ pub(crate) fn answers_of(answers: &mut Vec<Answered>, asked: &[layout::Question]
 /// The status of what a desk denies. A question that has no answer yet is told.
 pub(crate) fn denied_or_asked(denial: Denial, question: &mut layout::Question) -> u32
     ensures status { result ≡ status_of denial }
+    ensures unanswered { result ≡ ASK → IsAsked question.new }
     ensures asked { result ≡ ASK → denial ≡ Denial.Open (question_of question.new) }
     ensures failed { result ≢ OK }
     ensures is_open { result ≢ NOT_OPEN }

@@ -1,9 +1,9 @@
 //! The calls that give blocks out and take them back.
 
-ghost use Rattle.std.specs.Prelude.{◌≡◌, ◌≢◌, ◌↔◌, ◌⊎◌, IsNone, map};
+ghost use Rattle.std.specs.Prelude.{◌≡◌, ◌≢◌, ◌↔◌, ◌⊎◌, ◌≤◌, IsNone, map};
 ghost use Rattle.gpu_desk.specs.Calls.{AllocationDenied, Allocated, ImportDenied, Imported, IsAsBefore, Keeps, Returns, Told};
 ghost use Rattle.wallthyme.specs.Handles.{KeepsSound, NoBlock, OnDesks, desk_of};
-ghost use Rattle.wallthyme.specs.Malformed.{IsMalformed};
+ghost use Rattle.wallthyme.specs.Malformed.{IsAsked, IsMalformed, IsWellFormed};
 ghost use Rattle.wallthyme.specs.Status.{Denies};
 ghost use Rattle.wallthyme.specs.Layout.{answered_of, grant_of, hint_of, question_of, request_of};
 
@@ -11,7 +11,7 @@ use crate::answers::{answers_of, denied_or_asked};
 use crate::handle::Handle;
 use crate::kept::KeptDesk;
 use crate::layout;
-use crate::status::{ASK, NOT_OPEN, OK, OUT_OF_HOST_MEMORY, denied};
+use crate::status::{ASK, NOT_OPEN, OK, OUT_OF_HOST_MEMORY, UNKNOWN_KEY, denied};
 use gpu_desk::{Answered, Denial, Desk};
 use std::alloc::Global;
 
@@ -34,6 +34,9 @@ pub extern "C" fn wt_alloc(
         → IsMalformed request.now asked.now result ⊎ OnDesks (λ old _. Denies (AllocationDenied old
         (request_of request.now) (hint_of request.now.dedicated) (map answered_of asked.now)) result)
         handle.old handle.new }
+    ensures formed { (result ≡ OK) ⊎ (result ≡ ASK) → IsWellFormed request.now asked.now }
+    ensures flag { result ≡ OK → block.new.fresh ≤ 1 }
+    ensures unanswered { result ≡ ASK → IsAsked question.new }
     ensures unchanged { result ≢ OK → OnDesks IsAsBefore handle.old handle.new }
     ensures keeps { OnDesks KeepsSound handle.old handle.new }
 {
@@ -70,6 +73,9 @@ fn allocate(
     ensures denied { result ≢ OK → result ≢ OUT_OF_HOST_MEMORY → IsMalformed request.now asked.now result
         ⊎ Denies (AllocationDenied desk.old (request_of request.now) (hint_of request.now.dedicated)
         (map answered_of asked.now)) result }
+    ensures formed { (result ≡ OK) ⊎ (result ≡ ASK) → IsWellFormed request.now asked.now }
+    ensures flag { result ≡ OK → block.new.fresh ≤ 1 }
+    ensures unanswered { result ≡ ASK → IsAsked question.new }
     ensures unchanged { result ≢ OK → IsAsBefore desk.old desk.new }
     ensures keeps { Keeps desk.old desk.new }
 {
@@ -129,6 +135,7 @@ pub extern "C" fn wt_block_of(
     block: &mut layout::Block,
 ) -> u32
     ensures closed { (result ≡ NOT_OPEN) ↔ IsNone (desk_of handle.old) }
+    ensures status { (result ≡ OK) ⊎ ((result ≡ NOT_OPEN) ⊎ (result ≡ UNKNOWN_KEY)) }
     ensures told { result ≡ OK → OnDesks (λ old _. Told old key (grant_of block.new)) handle.old handle.new }
     ensures unknown { result ≢ OK → OnDesks (λ old _. NoBlock old key) handle.old handle.new }
     ensures same { desk_of handle.new ≡ desk_of handle.old }
@@ -150,6 +157,7 @@ pub extern "C" fn wt_block_of(
 #[unsafe(no_mangle)]
 pub extern "C" fn wt_free(alloc: Global, handle: &mut Handle, key: u64) -> u32
     ensures closed { (result ≡ NOT_OPEN) ↔ IsNone (desk_of handle.old) }
+    ensures status { (result ≡ OK) ⊎ ((result ≡ NOT_OPEN) ⊎ (result ≡ UNKNOWN_KEY)) }
     ensures freed { result ≡ OK → OnDesks (λ old new. Returns old key new) handle.old handle.new }
     ensures unknown { result ≢ OK → OnDesks (λ old _. NoBlock old key) handle.old handle.new }
     ensures unchanged { result ≢ OK → desk_of handle.new ≡ desk_of handle.old }

@@ -1,6 +1,6 @@
 //! The structs of `c/wallthyme.h`, field for field, and what they are to a desk.
 
-ghost use Rattle.std.specs.Prelude.{◌≡◌, ◌≢◌, ◌⊎◌, None, false, IfErr, IfOk, IfSome};
+ghost use Rattle.std.specs.Prelude.{◌≡◌, ◌≢◌, ◌⊎◌, None, true, false, IfErr, IfOk, OnOk, IfSome};
 
 use crate::status::{ASK, BAD_DEDICATED, BAD_USAGE, NOT_OPEN, OK};
 use gpu_desk::{
@@ -171,12 +171,13 @@ impl From<Config> for gpu_desk::Config {
 
 impl Request {
     ghost use Rattle.wallthyme.specs.Layout.{request_of, hint_of};
-    ghost use Rattle.wallthyme.specs.Malformed.{HasNoHint, HasUnnamedUsage};
+    ghost use Rattle.wallthyme.specs.Malformed.{HasNames, HasNoHint, HasUnnamedUsage};
 
     /// What is asked of the desk, with the hint, or the status of bits and hints that it has no word for.
     pub(crate) fn to_parts(self) -> Result<(gpu_desk::Request, Option<Dedicated>), u32>
         ensures request { IfOk result (λ parts. parts.0 ≡ request_of self) }
         ensures hint { IfOk result (λ parts. parts.1 ≡ hint_of self.dedicated) }
+        ensures formed { OnOk result (HasNames self) }
         ensures malformed { IfErr result (λ status. ((status ≡ BAD_USAGE) × HasUnnamedUsage self)
             ⊎ ((status ≡ BAD_DEDICATED) × HasNoHint self)) }
         ensures failed { IfErr result (λ status. status ≢ OK) }
@@ -213,6 +214,7 @@ impl Question {
     /// The question and its answer, if it is one and has one.
     pub(crate) fn to_answered(self) -> Option<Answered>
         ensures answered { IfSome result (λ answered. answered ≡ answered_of self) }
+        ensures some { result ≢ None → is_answered self ≡ true }
         ensures none { result ≡ None → is_answered self ≡ false }
     {
         let question = self.to_question()?;
@@ -228,6 +230,7 @@ impl Question {
 
     fn to_question(self) -> Option<gpu_desk::Question>
         ensures question { IfSome result (λ question. question ≡ question_of self) }
+        ensures some { result ≢ None → is_question self ≡ true }
         ensures none { result ≡ None → is_question self ≡ false }
     {
         match self.kind {
@@ -252,8 +255,9 @@ impl Question {
 
 impl From<gpu_desk::Question> for Question {
     ghost use Rattle.wallthyme.specs.Layout.{question_of};
+    ghost use Rattle.wallthyme.specs.Malformed.{IsAsked};
 
-    ghost from_gives = { λ question told. question_of told ≡ question };
+    ghost from_gives = { λ question told. (question_of told ≡ question) × IsAsked told };
 
     fn from(question: gpu_desk::Question) -> Question {
         let (kind, object, offset, size) = match question {
@@ -287,8 +291,9 @@ impl From<gpu_desk::Question> for Question {
 
 impl From<Grant> for Block {
     ghost use Rattle.wallthyme.specs.Layout.{grant_of};
+    ghost use Rattle.std.specs.Prelude.{◌≡◌, ◌≤◌};
 
-    ghost from_gives = { λ grant told. grant_of told ≡ grant };
+    ghost from_gives = { λ grant told. (grant_of told ≡ grant) × (told.fresh ≤ 1) };
 
     fn from(grant: Grant) -> Block {
         Block {

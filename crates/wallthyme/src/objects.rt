@@ -1,6 +1,6 @@
 //! The calls on what is held: objects that go, counts, limits, free ranges.
 
-ghost use Rattle.std.specs.Prelude.{◌≡◌, ◌≢◌, ◌↔◌, ◌<◌, ◌≤◌, ◌+◌, ◌^◌, [], IsNone, List, drop, length, take};
+ghost use Rattle.std.specs.Prelude.{◌≡◌, ◌≢◌, ◌↔◌, ◌⊎◌, ◌<◌, ◌≤◌, ◌+◌, ◌^◌, [], IsNone, List, drop, length, take};
 ghost use Rattle.std.specs.FinMap as map;
 ghost use Rattle.gpu_desk.specs.Calls.{CleansUp, CountsOf, HeapCountsOf};
 ghost use Rattle.gpu_alloc_types.specs.declared.types.FreeRange.{FreeRange};
@@ -11,13 +11,14 @@ ghost use Rattle.wallthyme.specs.Layout.{counts_of, heap_counts_of};
 
 use crate::handle::Handle;
 use crate::layout;
-use crate::status::{BAD_HEAP, BAD_MEMORY_TYPE, NOT_OPEN, OK, denied};
+use crate::status::{BAD_HEAP, BAD_MEMORY_TYPE, NOT_OPEN, OK, TOO_MANY_REMAINING, denied};
 use gpu_desk::{Desk, FreeRange};
 use std::alloc::Global;
 
 #[unsafe(no_mangle)]
 pub extern "C" fn wt_cleanup(alloc: Global, handle: &mut Handle) -> u32
     ensures closed { (result ≡ NOT_OPEN) ↔ IsNone (desk_of handle.old) }
+    ensures status { (result ≡ OK) ⊎ (result ≡ NOT_OPEN) }
     ensures cleaned { OnDesks CleansUp handle.old handle.new }
     ensures keeps { OnDesks KeepsSound handle.old handle.new }
 {
@@ -37,6 +38,8 @@ pub extern "C" fn wt_gone(
     count: &mut usize,
 ) -> u32
     ensures closed { (result ≡ NOT_OPEN) ↔ IsNone (desk_of handle.old) }
+    ensures status { (result ≡ OK) ⊎ (result ≡ NOT_OPEN) }
+    ensures unchanged { result ≢ OK → desk_of handle.new ≡ desk_of handle.old }
     ensures fits { result ≡ OK → count.new ≤ length names.new }
     ensures read { result ≡ OK → OnDesks (λ old new. Reads old (take count.new names.new) new) handle.old handle.new }
     ensures all { result ≡ OK → count.new < length names.new
@@ -68,6 +71,7 @@ fn read_gone(desk: &mut Desk, names: &mut [u64]) -> usize
 #[unsafe(no_mangle)]
 pub extern "C" fn wt_count(alloc: Global, handle: &mut Handle, counts: &mut layout::Counts) -> u32
     ensures closed { (result ≡ NOT_OPEN) ↔ IsNone (desk_of handle.old) }
+    ensures status { (result ≡ OK) ⊎ (result ≡ NOT_OPEN) }
     ensures told { result ≡ OK → OnDesks (λ old _. CountsOf old (counts_of counts.new))
         handle.old handle.new }
     ensures same { desk_of handle.new ≡ desk_of handle.old }
@@ -88,6 +92,7 @@ pub extern "C" fn wt_heap(
     counts: &mut layout::HeapCounts,
 ) -> u32
     ensures closed { (result ≡ NOT_OPEN) ↔ IsNone (desk_of handle.old) }
+    ensures status { (result ≡ OK) ⊎ ((result ≡ NOT_OPEN) ⊎ (result ≡ BAD_HEAP)) }
     ensures told { result ≡ OK → OnDesks (λ old _. HeapCountsOf old heap (heap_counts_of counts.new))
         handle.old handle.new }
     ensures bad { result ≢ OK → OnDesks (λ old _. length old.allocator.properties.memory_heaps ≤ heap)
@@ -111,6 +116,7 @@ pub extern "C" fn wt_heap(
 #[unsafe(no_mangle)]
 pub extern "C" fn wt_set_remaining(alloc: Global, handle: &mut Handle, remaining: u32) -> u32
     ensures closed { (result ≡ NOT_OPEN) ↔ IsNone (desk_of handle.old) }
+    ensures status { (result ≡ OK) ⊎ ((result ≡ NOT_OPEN) ⊎ (result ≡ TOO_MANY_REMAINING)) }
     ensures set { result ≡ OK → OnDesks (λ old new.
         new ≡ record old { allocator = record (old.allocator) { remaining = remaining } }) handle.old handle.new }
     ensures too_many { result ≢ OK → OnDesks (λ old _. 2 ^ 32 ≤ remaining + map.len old.allocator.held)

@@ -1,6 +1,6 @@
 //! The calls that open an allocator and close it.
 
-ghost use Rattle.std.specs.Prelude.{◌≡◌, ◌≢◌, ◌↔◌, ◌+◌, [], None, map, IfErr, IfOk, IsNone, IsSome, IsSomeAnd};
+ghost use Rattle.std.specs.Prelude.{◌≡◌, ◌≢◌, ◌↔◌, ◌⊎◌, ◌+◌, [], None, map, IfErr, IfOk, OnOk, IsNone, IsSome, IsSomeAnd};
 ghost use Rattle.std.specs.FinMap as finite;
 ghost use Rattle.gpu_alloc_types.specs.Properties.{IsUsable};
 ghost use Rattle.gpu_desk.specs.Desk.{IsEmpty};
@@ -12,7 +12,8 @@ use crate::handle::Handle;
 use crate::kept::KeptDesk;
 use crate::layout;
 use crate::status::{
-    ALREADY_OPEN, BAD_PROPERTIES, NOT_OPEN, OK, STILL_HELD, STILL_TOLD, not_opened,
+    ALREADY_OPEN, BAD_PROPERTIES, NOT_OPEN, OK, OUT_OF_HOST_MEMORY, STILL_HELD, STILL_TOLD,
+    not_opened,
 };
 use gpu_desk::{Desk, DeviceProperties, MemoryHeap, MemoryType, OpenError};
 use std::alloc::{AllocError, Global};
@@ -39,6 +40,8 @@ pub extern "C" fn wt_open(
     ensures already { (result ≡ ALREADY_OPEN) ↔ IsSome (desk_of handle.old) }
     ensures opened { result ≡ OK → IsSomeAnd (desk_of handle.new)
         (IsOpened (config_of config.now) (properties_of types.now heap_sizes.now limits.now)) }
+    ensures usable { result ≡ OK → IsUsable (properties_of types.now heap_sizes.now limits.now) }
+    ensures status { (result ≡ OK) ⊎ ((result ≡ ALREADY_OPEN) ⊎ ((result ≡ BAD_PROPERTIES) ⊎ (result ≡ OUT_OF_HOST_MEMORY))) }
     ensures bad { result ≡ BAD_PROPERTIES → IsUsable (properties_of types.now heap_sizes.now limits.now) → ⊥ }
     ensures refused { result ≢ OK → desk_of handle.new ≡ desk_of handle.old }
 {
@@ -63,6 +66,7 @@ fn opened(
 ) -> Result<Box<KeptDesk>, OpenError>
     ensures opened { IfOk result (λ kept.
         IsOpened (config_of config.now) (properties_of types.now heap_sizes.now limits.now) kept.value) }
+    ensures usable { OnOk result (IsUsable (properties_of types.now heap_sizes.now limits.now)) }
     ensures bad { result ≡ Err OpenError.BadProperties
         → IsUsable (properties_of types.now heap_sizes.now limits.now) → ⊥ }
 {
@@ -117,6 +121,7 @@ fn memory_heaps(alloc: Global, heap_sizes: &[u64]) -> Result<Vec<MemoryHeap>, Al
 #[unsafe(no_mangle)]
 pub extern "C" fn wt_close(alloc: Global, handle: &mut Handle) -> u32
     ensures closed { (result ≡ NOT_OPEN) ↔ IsNone (desk_of handle.old) }
+    ensures status { (result ≡ OK) ⊎ ((result ≡ NOT_OPEN) ⊎ ((result ≡ STILL_HELD) ⊎ (result ≡ STILL_TOLD))) }
     ensures ended { result ≡ OK → desk_of handle.new ≡ None }
     ensures held_nothing { result ≡ OK → IsSomeAnd (desk_of handle.old) HasNothing }
     ensures still_held { result ≡ STILL_HELD → IsSomeAnd (desk_of handle.old)

@@ -3,7 +3,7 @@
 ghost use Rattle.std.specs.Prelude.{◌≡◌, ◌≢◌, ◌↔◌, ◌⊎◌, IsNone, None, Some, map};
 ghost use Rattle.gpu_desk.specs.Calls.{IsAsBefore, Keeps, MapDenied, Maps, RangeDenied, RangeTold, Unmaps};
 ghost use Rattle.wallthyme.specs.Handles.{KeepsSound, NoBlock, OnDesks, desk_of};
-ghost use Rattle.wallthyme.specs.Malformed.{HasNoAnswer};
+ghost use Rattle.wallthyme.specs.Malformed.{AreAnswered, HasNoAnswer, IsAsked};
 ghost use Rattle.wallthyme.specs.Status.{Denies};
 ghost use Rattle.wallthyme.specs.Layout.{answered_of, question_of, range_of};
 
@@ -11,7 +11,7 @@ use crate::answers::{answers_of, denied_or_asked};
 use crate::handle::Handle;
 use crate::kept::KeptDesk;
 use crate::layout;
-use crate::status::{ASK, BAD_ANSWER, NOT_OPEN, OK, OUT_OF_HOST_MEMORY, denied};
+use crate::status::{ASK, BAD_ANSWER, NOT_OPEN, OK, OUT_OF_HOST_MEMORY, UNKNOWN_KEY, denied};
 use gpu_desk::{Answered, Denial, Desk};
 use std::alloc::Global;
 
@@ -37,6 +37,8 @@ pub extern "C" fn wt_map(
     ensures denied { result ≢ OK → result ≢ NOT_OPEN → result ≢ OUT_OF_HOST_MEMORY
         → ((result ≡ BAD_ANSWER) × HasNoAnswer asked.now) ⊎ OnDesks (λ old _.
         Denies (MapDenied old key offset size (map answered_of asked.now)) result) handle.old handle.new }
+    ensures formed { (result ≡ OK) ⊎ (result ≡ ASK) → AreAnswered asked.now }
+    ensures unanswered { result ≡ ASK → IsAsked question.new }
     ensures unchanged { result ≢ OK → OnDesks IsAsBefore handle.old handle.new }
     ensures keeps { OnDesks KeepsSound handle.old handle.new }
 {
@@ -83,6 +85,8 @@ fn map_part(
         (Denial.Open (question_of question.new)) }
     ensures denied { result ≢ OK → result ≢ OUT_OF_HOST_MEMORY → ((result ≡ BAD_ANSWER) × HasNoAnswer asked.now)
         ⊎ Denies (MapDenied desk.old part.key part.offset part.size (map answered_of asked.now)) result }
+    ensures formed { (result ≡ OK) ⊎ (result ≡ ASK) → AreAnswered asked.now }
+    ensures unanswered { result ≡ ASK → IsAsked question.new }
     ensures unchanged { result ≢ OK → IsAsBefore desk.old desk.new }
     ensures keeps { Keeps desk.old desk.new }
 {
@@ -101,6 +105,7 @@ fn map_part(
 #[unsafe(no_mangle)]
 pub extern "C" fn wt_unmap(alloc: Global, handle: &mut Handle, key: u64, object: &mut u64) -> u32
     ensures closed { (result ≡ NOT_OPEN) ↔ IsNone (desk_of handle.old) }
+    ensures status { (result ≡ OK) ⊎ ((result ≡ NOT_OPEN) ⊎ (result ≡ UNKNOWN_KEY)) }
     ensures unmapped { result ≡ OK → OnDesks (λ old new.
         Unmaps old key new (Some object.new) ⊎ (Unmaps old key new None × (object.new ≡ NO_OBJECT)))
         handle.old handle.new }
