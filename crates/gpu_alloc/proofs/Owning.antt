@@ -16,7 +16,6 @@ use Rattle.gpu_alloc.specs.declared.request.Dedicated.{Dedicated}
 use Rattle.gpu_alloc.specs.declared.request.Request.{Request}
 use Rattle.gpu_alloc_base.specs.declared.error.AllocationError.{AllocationError}
 use Rattle.gpu_alloc.proofs.Decisions.{allocates_kept}
-use Rattle.gpu_alloc_block.specs.InHand.{ShareNoObject}
 use Rattle.gpu_alloc_block.specs.State.{HeldObject, State, Block, Span, span_of, span_cmp, AreApart, IsLive, IsOwned, is_shared}
 use Rattle.gpu_alloc.proofs.Changes.{Grows, allocates_grow, granted_kept, apart_differ, apart_back, still_owned}
 use Rattle.gpu_alloc_block.proofs.LiveSpans.{span_total, live_new, live_still, live_kept, not_live, put_taken, taken_before}
@@ -24,11 +23,13 @@ use Rattle.gpu_alloc_block.proofs.LiveSpans.{span_total, live_new, live_still, l
 -- Two blocks.
 
 pub two_back : (b c : Block) → AreTwo b c → AreTwo c b
-unfolding ShareNoObject
 two_back b c two = record {
   apart = apart_back (span_of b) (span_of c) two.apart;
   differ = λ same. two.differ (sym same);
-  objects = (λ alone same. two.objects.1 alone (sym same), λ alone same. two.objects.0 alone (sym same));
+  objects = record {
+    first = λ alone same. two.objects.second alone (sym same);
+    second = λ alone same. two.objects.first alone (sym same);
+  };
 }
 
 -- a block with an object of its own is of another object than each other live span
@@ -38,14 +39,13 @@ other_object s b span sound owned live differ own same =
 
 -- two owned blocks of different spans share no byte
 pub differ_two : (s : State) (b c : Block) → IsSound s → IsOwned s b → IsOwned s c → span_of b ≢ span_of c → AreTwo b c
-unfolding ShareNoObject
 differ_two s b c sound owned also differ = record {
   apart = sound.apart (span_of b) (span_of c) owned.live also.live differ;
   differ = differ;
-  objects = (
-    other_object s b (span_of c) sound owned also.live differ,
-    λ alone same. other_object s c (span_of b) sound also owned.live (λ is. differ (sym is)) alone (sym same),
-  );
+  objects = record {
+    first = other_object s b (span_of c) sound owned also.live differ;
+    second = λ alone same. other_object s c (span_of b) sound also owned.live (λ is. differ (sym is)) alone (sym same);
+  };
 }
 
 -- All blocks of a list.

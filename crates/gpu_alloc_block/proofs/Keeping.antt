@@ -9,7 +9,7 @@ use Rattle.gpu_alloc_types.specs.Objects.{put-same, put-other}
 use Rattle.gpu_alloc_block.proofs.Changes.{some_same, changed_there}
 use Rattle.gpu_alloc_block.specs.Agreement.{IsMappedWhole, IsInside, IsCounted, IsThere, Agrees, IsOfBlock, IsBeneath, IsHeldFor, BlockAgrees, KeepsAgreement}
 use Rattle.gpu_alloc_block.specs.Bytes.{HasOnlyOtherBytes}
-use Rattle.gpu_alloc_block.specs.InHand.{ShareNoObject, AreTwo, IsBeside, AreOwned, IsSameBlock}
+use Rattle.gpu_alloc_block.specs.InHand.{AreTwo, IsBeside, AreOwned, IsSameBlock}
 use Rattle.gpu_alloc_block.specs.Ranges.{own_mapping}
 use Rattle.gpu_alloc_block.specs.State.{HeldObject, State, Span, Block, IsOwned, is_shared}
 use Rattle.gpu_alloc_block.specs.declared.block.Kind.{Kind}
@@ -115,13 +115,13 @@ module _ (b : Block) (p : Properties) (f g : ℕ → Option Object) (c : Changes
 
   -- what such a change keeps
   pub keeps : (q : Properties) → q ≡ p → KeepsAgreement b p f q g
-  unfolding BlockAgrees ShareNoObject
+  unfolding BlockAgrees
   keeps q same = rw same (record {
     owner = owner_still;
     stranger = λ s none. agrees_still s (λ h o new is shape known. absurd (none_some (map.get s.held b.object) h none is));
     others = another_still;
-    two = λ d two. two_still d (is_shared b.kind) refl two.objects.0;
-    two_back = λ d two. two_still d (is_shared b.kind) refl (λ own same. two.objects.1 own (sym same));
+    two = λ d two. two_still d (is_shared b.kind) refl two.objects.first;
+    two_back = λ d two. two_still d (is_shared b.kind) refl (λ own same. two.objects.second own (sym same));
     shared_owner = λ s shared. agrees_still s (λ h o new is shape known. there_still s h o new (λ _. shape.same_mapping shared) shape known);
     shared_others = λ d shared. shared_still d shared;
   })
@@ -192,7 +192,6 @@ owned_remapped s b new owned first second (c ∷ cs) ds all = (all.0, beside_rem
 
 -- the block with another mapping, or none, is the same block
 pub same_block : (b : Block) (m : Option Mapping) → IsSameBlock b (record b { mapping = m })
-unfolding ShareNoObject
 same_block b m = record {
   same = refl;
   owned = owned;
@@ -205,7 +204,7 @@ same_block b m = record {
     owned s is = record { live = is.live; held = is.held }
 
     two : (c : Block) → AreTwo b c → AreTwo (record b { mapping = m }) c
-    two c is = record { apart = is.apart; differ = is.differ; objects = is.objects }
+    two c is = record { apart = is.apart; differ = is.differ; objects = record { first = is.objects.first; second = is.objects.second } }
 
     two_back : (c : Block) → AreTwo c b → AreTwo c (record b { mapping = m })
-    two_back c is = record { apart = is.apart; differ = is.differ; objects = is.objects }
+    two_back c is = record { apart = is.apart; differ = is.differ; objects = record { first = is.objects.first; second = is.objects.second } }

@@ -3,9 +3,9 @@ use Rattle.std.specs.Prelude.{◌≡◌, ◌≢◌, false, List, [], ◌∷◌, 
 use Rattle.gpu_alloc_block.specs.State.{State, Block, span_of, AreApart, IsOwned, is_shared}
 
 -- two blocks are of two objects where one of them has its own
-unfoldable pub ShareNoObject : Block → Block → Type 0
-ShareNoObject b c =
-    (is_shared b.kind ≡ false → b.object ≢ c.object) × (is_shared c.kind ≡ false → b.object ≢ c.object)
+pub record ShareNoObject (b c : Block) : Type 0 where
+  pub first : is_shared b.kind ≡ false → b.object ≢ c.object
+  pub second : is_shared c.kind ≡ false → b.object ≢ c.object
 
 -- two blocks that share no byte, and so are of two spans
 pub record AreTwo (b c : Block) : Type 0 where

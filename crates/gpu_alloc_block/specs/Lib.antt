@@ -2,7 +2,9 @@ pub mod Agreement
 pub mod ByteCalls
 pub mod Bytes
 pub mod Codes
+pub mod Contents
 pub mod InHand
+pub mod Kept
 pub mod Mapped
 pub mod Ranges
 pub mod State

@@ -13,7 +13,7 @@ use Rattle.gpu_alloc.specs.Allocation.{IsAsCounted}
 use Rattle.gpu_alloc.specs.Bytes.{EndsRead, EndsWrite, ReadsWithin, WritesWithin}
 use Rattle.gpu_alloc.specs.Mapped.{IsClosed, IsOpened}
 use Rattle.gpu_alloc.specs.NewObject.{ObjectsGiven}
-use Rattle.gpu_alloc_block.specs.InHand.{AreTwo, ShareNoObject}
+use Rattle.gpu_alloc_block.specs.InHand.{AreTwo}
 use Rattle.gpu_alloc.specs.Ranges.{rounded}
 use Rattle.gpu_alloc.specs.Release.{GoesBack}
 use Rattle.gpu_alloc.specs.State.{Block, HeldObject, State, is_shared}
@@ -100,8 +100,7 @@ closed_leaves false f g b c changes =
 -- Two blocks that share no byte: what lies in the one, or is flushed of it, lies outside the other.
 module _ (b c : Block) (two : AreTwo b c) where
   own_object : c.object ≡ b.object → b.kind ≢ Imported
-  unfolding ShareNoObject
-  own_object same is = two.objects.0 (ap is_shared is) (sym same)
+  own_object same is = two.objects.first (ap is_shared is) (sym same)
 
   pub outside_range : (r : Range) → LiesInBlock b r → c.object ≡ b.object → (k : ℕ) → c.offset ≤ k → k < c.offset + c.size → IsOutside r.offset r.size k
   outside_range r lies same k low high = elim two.apart [
