@@ -1,29 +1,25 @@
 -- What calls leave of blocks in hand, of their bytes, and of what the device has beside the allocator's objects.
 use Rattle.std.proofs.Common.{◌≡◌, ◌≢◌, ◌⊎◌, inl, inr, ℕ, List, [], ◌∷◌, ◌++◌, append-nil, Option, Some, None, cond, is_some, true, false, Result, Ok, Err, IfOk, OnErr, IsSome, refl, sym, ◌∙◌, ap, subst, Contains}
 use Rattle.std.specs.FinMap as map
+use Rattle.std.specs.Ordering.{nat_cmp}
 use Rattle.gpu_alloc_types.specs.Device.{Event, Object}
 use Rattle.gpu_alloc_types.specs.Objects.{put-other}
 use Rattle.gpu_alloc_types.specs.Properties.{Properties}
 use Rattle.gpu_alloc_base.proofs.Names.{get_put-other, here, is_there, one_or_two}
 use Rattle.gpu_alloc_base.specs.NewObject.{ObjectsGiven}
 use Rattle.gpu_alloc_base.specs.declared.error.AllocationError.{AllocationError}
+use Rattle.gpu_alloc_block.proofs.Contents.{same_object}
 use Rattle.gpu_alloc_block.specs.Agreement.{Agrees, BlockAgrees, KeepsBlocks}
-use Rattle.gpu_alloc_block.specs.Contents.{HasSameBytes, host_at, device_at}
 use Rattle.gpu_alloc_block.specs.InHand.{AreTwo, AreOwned}
 use Rattle.gpu_alloc_block.specs.Kept.{AreReady, AreKept, ChangesAt, outside, IsSameOutside, LeavesInHand, AddsInHand, RemovesInHand}
 use Rattle.gpu_alloc_block.specs.State.{Block, HeldObject, State, IsOwned}
 use Rattle.gpu_alloc.specs.Allocation.{IsAsCounted, IsGranted, ObjectsAfter}
-use Rattle.gpu_alloc.specs.Owned.{Adds, HoldsWith, Leaves, Removes}
+use Rattle.gpu_alloc.specs.Owned.{Adds, HoldsWith, IsAllOutside, Leaves, Removes}
 use Rattle.gpu_alloc.specs.Release.{GoesBack, without_all}
 use Rattle.gpu_alloc.specs.declared.request.Request.{Request}
 use Rattle.gpu_alloc.proofs.Changes.{gone_or_kept}
 use Rattle.gpu_alloc.proofs.FreeLists.Gone.{kept_was}
 use Rattle.gpu_alloc.proofs.Ledgers.{Held}
-
--- a block's bytes are as before where its object is
-pub same_bytes : (b : Block) (f g : ℕ → Option Object) → g b.object ≡ f b.object → HasSameBytes b f g
-unfolding HasSameBytes
-same_bytes b f g same = λ k low high. (ap (λ o. host_at o k) same, ap (λ o. device_at o k) same)
 
 -- A name beside the allocator's.
 
@@ -38,6 +34,13 @@ none_not_outside s f name none = elim (is_some (map.get s.held name)) as (λ t. 
 pub same_outside : (s new : State) (f g : ℕ → Option Object) (name : ℕ) → map.get new.held name ≡ map.get s.held name → g name ≡ f name → outside new g name ≡ outside s f name
 unfolding outside
 same_outside s new f g name held same = rw (held, same) refl
+
+-- an allocator that holds nothing has none of them
+pub all_outside : (s : State) → s.held ≡ map.empty → IsAllOutside s
+unfolding outside
+all_outside s empty = λ objects name.
+    ap (λ (m : Held). cond (is_some (map.get m name)) None (objects name)) empty
+    ∙ ap (λ (h : Option HeldObject). cond (is_some h) None (objects name)) (map.get-empty nat_cmp name)
 
 -- Blocks that stay owned.
 
@@ -62,12 +65,12 @@ module _ (s : State) (p : Properties) (f : ℕ → Option Object) (new : State) 
     }
 
     pub leaves_in_hand : ((b : Block) → IsOwned s b → g b.object ≡ f b.object) → IsSameOutside s f new g → LeavesInHand s p f new q g
-    leaves_in_hand same beside = record { bytes = λ b owned. same_bytes b f g (same b owned); outside = beside; ready = all_ready; kept = all_kept }
+    leaves_in_hand same beside = record { bytes = λ b owned. same_object b f g (same b owned); outside = beside; ready = all_ready; kept = all_kept }
 
   -- one block goes
   pub removes_in_hand : (b : Block) → Removes s b new → ((c : Block) → IsOwned new c → g c.object ≡ f c.object) → IsSameOutside s f new g → RemovesInHand s p f b new q g
   removes_in_hand b removes same beside = record {
-    bytes = λ c owned. same_bytes c f g (same c owned);
+    bytes = λ c owned. same_object c f g (same c owned);
     outside = beside;
     first = λ cs owned are. all [] cs owned (removes.first cs owned) are;
     last = λ cs owned are. subst (AreReady q g) (append-nil cs) (all cs [] owned (removes.any cs [] owned) are);
