@@ -25,6 +25,7 @@ ghost use Rattle.gpu_alloc_block.specs.State.{HeldObject, Span, IsLive, IsOwned,
 
 mod by_type;
 mod importing;
+mod listing;
 mod ranges;
 mod returning;
 mod rows;
