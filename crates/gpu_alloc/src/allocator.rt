@@ -27,6 +27,7 @@ ghost use Rattle.gpu_alloc_block.specs.State.{HeldObject, Span, IsLive, IsOwned,
 mod by_type;
 mod choosing;
 mod importing;
+mod listing;
 mod ranges;
 mod returning;
 mod rows;

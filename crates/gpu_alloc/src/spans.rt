@@ -9,6 +9,8 @@ ghost use Rattle.gpu_alloc.specs.Spans.{span_at, span_in, place_in, held_of, obj
 ghost use Rattle.gpu_alloc.specs.Spans.{IsUnder, IsNowhere};
 ghost use Rattle.indexmap.specs.IndexMap.{spare};
 
+mod listing;
+
 use gpu_alloc_block::Kind;
 use indexmap::IndexMap;
 use slab::Slab;

@@ -10,6 +10,7 @@ pub mod Names
 pub mod Openings
 pub mod Others
 pub mod Returns
+pub mod Rows
 pub mod Runs
 pub mod Seen
 pub mod Totals

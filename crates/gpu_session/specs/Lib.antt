@@ -2,6 +2,7 @@ pub mod Books
 pub mod Does
 pub mod Faults
 pub mod Isolation
+pub mod Listing
 pub mod Offer
 pub mod Run
 pub mod Sound

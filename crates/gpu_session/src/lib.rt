@@ -13,5 +13,5 @@ pub use command::{Command, Fault, Reply};
 pub use faults::{import_fault, passes_end, request_fault};
 pub use items::{Bytes, Items, Ledgers, Ranges};
 pub use offer::Offer;
-pub use session::{Session, SessionOpenError};
+pub use session::{NamedSpan, Session, SessionOpenError};
 pub use written::values_of;

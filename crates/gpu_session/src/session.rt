@@ -12,6 +12,7 @@ ghost use Rattle.gpu_session.specs.Sound.{IsSound, Keeps, KeepsGiven, HasWholeOb
 
 mod allocating;
 mod counting;
+mod listing;
 mod moving;
 
 use crate::offer::Offer;
@@ -19,6 +20,7 @@ use crate::{Command, Reply};
 use gpu_alloc::{Config, DeviceProperties, GpuAllocator, MemoryBlock};
 use gpu_alloc_types::{MemoryDevice, MemoryObject};
 use indexmap::IndexMap;
+pub use listing::NamedSpan;
 use std::alloc::{AllocError, Allocator, Global};
 use std::hash::{BuildHasherDefault, FoldHasher};
 use std::marker::Model;
