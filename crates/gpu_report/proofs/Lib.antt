@@ -1,0 +1,2 @@
+mod Spans
+mod Tiles

@@ -1,0 +1,5 @@
+pub mod Free
+pub mod Held
+pub mod Live
+pub mod Places
+pub mod Report

@@ -1,6 +1,15 @@
 //! What an allocator holds, object by object, for whoever prints or draws it.
 #![tactic(auto)]
 
+mod error;
+mod held;
+mod kind;
+mod live;
+mod part;
+mod places;
 mod report;
+mod sums;
 
+pub use error::ReportError;
+pub use live::LiveBlock;
 pub use report::{HeapReport, KindReport, ObjectKind, ObjectReport, Place, Report};

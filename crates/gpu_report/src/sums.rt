@@ -1,0 +1,59 @@
+//! Sums over sizes.
+
+ghost use Rattle.std.specs.Prelude.{◌≡◌, ◌≤◌, ◌*◌, ◌+◌, ◌<◌, ◌^◌, sum, length};
+ghost use Rattle.gpu_report.specs.Free.{largest, scattered, shorter, thousandths};
+
+/// The sum of sizes.
+pub(crate) fn total(sizes: &[u64]) -> u128
+    ensures { result ≡ sum sizes.now }
+{
+    let mut total: u128 = 0;
+    for size in sizes {
+        total += u128::from(*size);
+    }
+    total
+}
+
+/// The greatest of sizes, 0 where there is none.
+pub(crate) fn greatest(sizes: &[u64]) -> u64
+    ensures { result ≡ largest sizes.now }
+{
+    let mut greatest = 0;
+    for size in sizes {
+        greatest = greatest.max(*size);
+    }
+    greatest
+}
+
+/// The sum of the sizes that are less than half of `most`.
+fn short(sizes: &[u64], most: u64) -> u128
+    ensures { result ≡ sum (shorter most sizes.now) }
+{
+    let mut total: u128 = 0;
+    for size in sizes {
+        if 2 * u128::from(*size) < u128::from(most) {
+            total += u128::from(*size);
+        }
+    }
+    total
+}
+
+/// The share of the bytes that lie in sizes less than half of the greatest one, in thousandths.
+pub(crate) fn scattered(sizes: &[u64]) -> u64
+    ensures { result ≡ scattered sizes.now }
+{
+    let whole = total(sizes);
+    let part = short(sizes, greatest(sizes));
+    thousandths(part, whole)
+}
+
+/// The share of a part in a whole, in thousandths.
+fn thousandths(part: u128, whole: u128) -> u64
+    requires part { part ≤ whole }
+    ensures { result ≡ thousandths part whole }
+{
+    if whole == 0 {
+        return 0;
+    }
+    (1000 * part / whole) as u64
+}
