@@ -1,2 +1,5 @@
+mod Digits
+mod HeldRows
 mod Spans
 mod Tiles
+mod Told

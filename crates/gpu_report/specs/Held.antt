@@ -1,7 +1,7 @@
 -- Held objects by memory type and kind.
 use Rattle.std.specs.Prelude.{◌≡◌, ℕ, zero, suc, ◌==◌, ◌&&◌, Bool, false, List, [], ◌∷◌, ◌++◌, Option, Some, None, nat_eq}
 use Rattle.std.specs.List.{filter, IsDistinct}
-use Rattle.std.specs.List.Sorted.{IsNonDecreasingBy}
+use Rattle.std.specs.List.Sorted.{IsNonDecreasing}
 use Rattle.std.specs.Map.{keys_of}
 use Rattle.std.specs.FinMap as finite
 use Rattle.gpu_alloc.specs.State.{HeldObject, State}
@@ -44,7 +44,7 @@ part_of t kind = record { memory_type = t; kind = kind }
 abbrev pub parts_of : ℕ → List Part
 parts_of t = part_of t Dedicated ∷ part_of t Imported ∷ part_of t BuddyChunk ∷ part_of t FreeListChunk ∷ []
 
-unfoldable pub parts : ℕ → List Part
+abbrev pub parts : ℕ → List Part
 parts zero = []
 parts (suc n) = parts n ++ parts_of n
 
@@ -52,7 +52,7 @@ parts (suc n) = parts n ++ parts_of n
 pub record AreHeld (s : State) (held : List (ℕ × HeldObject)) : Type 0 where
   pub exact : finite.from_entries held ≡ s.held
   pub once : IsDistinct nat_eq (keys_of held)
-  pub rising : IsNonDecreasingBy (λ e. e.0) held
+  pub rising : IsNonDecreasing (keys_of held)
 
 -- those of them that are held as this
 abbrev pub held_as : List (ℕ × HeldObject) → Part → List (ℕ × HeldObject)

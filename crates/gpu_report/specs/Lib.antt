@@ -3,3 +3,4 @@ pub mod Held
 pub mod Live
 pub mod Places
 pub mod Report
+pub mod Session

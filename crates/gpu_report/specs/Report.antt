@@ -76,7 +76,7 @@ part_told k = part_of k.memory_type k.kind
 
 -- What is told of these memory types and kinds: each object that is held so, in their order and by name, and each of them
 -- as which one is held.
-pub record AreToldTo (s : State) (held : List (ℕ × HeldObject)) (live : List LiveBlock) (ps : List Part)
+pub record AreTold (s : State) (held : List (ℕ × HeldObject)) (live : List LiveBlock) (ps : List Part)
     (ks : List KindReport) (os : List ObjectReport) : Type 0 where
   pub heads : map head_told os ≡ map head_held (flat_map (held_as held) ps)
   pub objects : All (IsObjectTold s live) os
@@ -92,4 +92,4 @@ pub record IsReport (s : State) (blocks : List LiveBlock) (r : Report) : Type 0 
   pub are_live : AreLive s live
   pub given : All (Contains blocks) live
   pub heaps : AreHeaps s r.heaps.items
-  pub told : AreToldTo s held live (parts (length s.properties.memory_types)) r.kinds.items r.objects.items
+  pub told : AreTold s held live (parts (length s.properties.memory_types)) r.kinds.items r.objects.items

@@ -8,7 +8,7 @@ ghost use Rattle.gpu_report.specs.declared.part.Part.{Part as APart};
 ghost use Rattle.gpu_report.specs.Free.{AreFree};
 ghost use Rattle.gpu_report.specs.Held.{AreHeld, held_as};
 ghost use Rattle.gpu_report.specs.Live.{AreLive};
-ghost use Rattle.gpu_report.specs.Report.{head_held, head_told, is_used, part_told, AreToldTo, IsKindTold, IsObjectTold};
+ghost use Rattle.gpu_report.specs.Report.{head_held, head_told, is_used, part_told, AreTold, IsKindTold, IsObjectTold};
 
 use crate::part::Part;
 use crate::places::{do_tile, places_of};
@@ -65,7 +65,8 @@ fn object_report<M: MemoryObject, A: Allocator>(
     let kind = ObjectKind::of(held.kind);
     let places = places_of(alloc, object, live, free)?;
     if kind.is_chunk() && !do_tile(&places, held.counted) {
-        unreachable!();
+        // They always do, which is not proved, so it is tested.
+        return Err(AllocError);
     }
     Ok(ObjectReport {
         object,
@@ -90,10 +91,10 @@ fn add_objects<M: MemoryObject, A: Allocator>(
     requires are_held { AreHeld allocator.now (mapped entry_of held.now) }
     requires are_live { AreLive allocator.now live.now }
     requires are_free { AreFree allocator.now part.memory_type free.now }
-    requires told { All (IsObjectTold allocator.now live.now) objects.old.items }
     ensures heads { OnOk result (mapped head_told objects.new.items
         ≡ mapped head_told objects.old.items ++ mapped head_held (held_as (mapped entry_of held.now) part)) }
-    ensures told { OnOk result (All (IsObjectTold allocator.now live.now) objects.new.items) }
+    ensures told { OnOk result (All (IsObjectTold allocator.now live.now) objects.old.items
+        → All (IsObjectTold allocator.now live.now) objects.new.items) }
 {
     for row in held {
         if part.has(&row.1) {
@@ -105,7 +106,7 @@ fn add_objects<M: MemoryObject, A: Allocator>(
 }
 
 /// Adds what is told of a memory type and a kind, and of each object that is held so.
-fn add_kind<M: MemoryObject, A: Allocator>(
+pub(crate) fn add_kind<M: MemoryObject, A: Allocator>(
     alloc: Global,
     allocator: &GpuAllocator<M, A>,
     part: Part,
@@ -115,17 +116,18 @@ fn add_kind<M: MemoryObject, A: Allocator>(
     kinds: &mut Vec<KindReport>,
     objects: &mut Vec<ObjectReport>,
 ) -> Result<(), AllocError>
-    ghost ps: { List APart }
     requires sound { Sound.IsSound allocator.now }
     requires are_held { AreHeld allocator.now (mapped entry_of held.now) }
     requires are_live { AreLive allocator.now live.now }
     requires are_free { AreFree allocator.now part.memory_type free.now }
-    requires told { AreToldTo allocator.now (mapped entry_of held.now) live.now ps kinds.old.items objects.old.items }
-    ensures { OnOk result (AreToldTo allocator.now (mapped entry_of held.now) live.now (ps ++ part ∷ [])
-        kinds.new.items objects.new.items) }
+    ensures { OnOk result ((ps : List APart)
+        → AreTold allocator.now (mapped entry_of held.now) live.now ps kinds.old.items objects.old.items
+        → AreTold allocator.now (mapped entry_of held.now) live.now (ps ++ part ∷ [])
+            kinds.new.items objects.new.items) }
 {
     if part.count(held) > 0 {
         kinds.push(kind_report(alloc, allocator, part, held, live, free)?)?;
     }
-    add_objects(alloc, allocator, part, held, live, free, objects)
+    add_objects(alloc, allocator, part, held, live, free, objects)?;
+    Ok(())
 }

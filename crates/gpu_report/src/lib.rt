@@ -1,6 +1,7 @@
 //! What an allocator holds, object by object, for whoever prints or draws it.
 #![tactic(auto)]
 
+mod build;
 mod error;
 mod held;
 mod kind;

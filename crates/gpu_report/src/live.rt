@@ -1,6 +1,7 @@
 //! Live blocks by the names that their keeper has for them.
 
 ghost use Rattle.std.specs.Prelude.{◌≡◌, ◌↔◌, All, Contains, IfNone, IfOk, IfSome, IsTrue, MatchOption, map as mapped};
+ghost use Rattle.gpu_alloc.specs.Sound as Sound;
 ghost use Rattle.gpu_alloc.specs.State.{span_of};
 ghost use Rattle.gpu_alloc.specs.Spans.{span_in};
 ghost use Rattle.gpu_report.specs.Live.{span_told, AreLive, LacksSpan};
@@ -68,6 +69,7 @@ pub(crate) fn live_blocks<M: MemoryObject, A: Allocator>(
 ) -> Result<Option<Vec<LiveBlock>>, AllocError>
     ensures live { IfOk result (λ answer. IfSome answer (λ live. AreLive allocator.now live.items)) }
     ensures given { IfOk result (λ answer. IfSome answer (λ live. All (Contains blocks.now) live.items)) }
+    ensures sound { Sound.IsSound allocator.now }
     ensures missing { IfOk result (λ answer. IfNone answer (LacksSpan allocator.now blocks.now)) }
 {
     let spans = allocator.live(alloc)?;

@@ -1,10 +1,9 @@
 //! Held objects by memory type and kind.
 
-ghost use Rattle.std.specs.Prelude.{◌≡◌, IfOk, length};
-ghost use Rattle.std.specs.List.{filter};
-ghost use Rattle.gpu_alloc.specs.Spans.{held_of};
+ghost use Rattle.std.specs.Prelude.{◌≡◌, IfOk, length, map as mapped};
+ghost use Rattle.gpu_alloc.specs.Spans.{entry_of, held_of};
 ghost use Rattle.gpu_report.specs.Free.{free_sizes};
-ghost use Rattle.gpu_report.specs.Held.{kind_of, rank, is_of, is_held_as};
+ghost use Rattle.gpu_report.specs.Held.{held_as, is_held_as, is_of, kind_of, rank};
 ghost use Rattle.gpu_report.specs.Live.{live_sizes};
 ghost use Rattle.gpu_report.specs.Report.{is_chunk};
 
@@ -81,7 +80,7 @@ impl Part {
 
     /// How many objects are held as this.
     pub(crate) fn count(&self, held: &[(u64, HeldRow)]) -> u64
-        ensures { result ≡ length (filter (λ e. is_of self.now (held_of e.1)) held.now) }
+        ensures { result ≡ length (held_as (mapped entry_of held.now) self.now) }
     {
         let mut count = 0;
         for row in held {

@@ -5,7 +5,8 @@ ghost use Rattle.gpu_report.specs.Free.{largest, scattered, shorter, thousandths
 
 /// The sum of sizes.
 pub(crate) fn total(sizes: &[u64]) -> u128
-    ensures { result ≡ sum sizes.now }
+    ensures is { result ≡ sum sizes.now }
+    ensures bound { result < 2 ^ 124 }
 {
     let mut total: u128 = 0;
     for size in sizes {
@@ -27,7 +28,8 @@ pub(crate) fn greatest(sizes: &[u64]) -> u64
 
 /// The sum of the sizes that are less than half of `most`.
 fn short(sizes: &[u64], most: u64) -> u128
-    ensures { result ≡ sum (shorter most sizes.now) }
+    ensures is { result ≡ sum (shorter most sizes.now) }
+    ensures part { result ≤ sum sizes.now }
 {
     let mut total: u128 = 0;
     for size in sizes {
@@ -47,13 +49,18 @@ pub(crate) fn scattered(sizes: &[u64]) -> u64
     thousandths(part, whole)
 }
 
-/// The share of a part in a whole, in thousandths.
+/// The share of a part in a whole, in thousandths: three digits, one after the other.
 fn thousandths(part: u128, whole: u128) -> u64
     requires part { part ≤ whole }
+    requires bound { whole < 2 ^ 124 }
     ensures { result ≡ thousandths part whole }
 {
     if whole == 0 {
         return 0;
     }
-    (1000 * part / whole) as u64
+    let tenths = 10 * part / whole;
+    let left = 10 * part % whole;
+    let hundredths = 10 * left / whole;
+    let last = 10 * (10 * left % whole) / whole;
+    (100 * tenths + 10 * hundredths + last) as u64
 }

@@ -7,5 +7,5 @@ use Rattle.gpu_report.proofs.kind.add_objects.Given as goal
 abbrev pub invariant-loop-row : goal.invariant-loop-row
 invariant-loop-row g l = record {
   heads : map head_told l.objects.items ≡ map head_told l.initial.objects.items ++ map head_held (held_as (map entry_of (take l.row-index l.held)) l.part);
-  told : All (IsObjectTold l.allocator l.live) l.objects.items;
+  told : All (IsObjectTold l.allocator l.live) l.initial.objects.items → All (IsObjectTold l.allocator l.live) l.objects.items;
 }

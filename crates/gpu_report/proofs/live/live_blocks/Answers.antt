@@ -22,7 +22,7 @@ loop-span-preserved g c =
       told = ap (map span_told) items ∙ map-append span_told c.loop-span.live.items (c.in-Some.block ∷ [])
           ∙ (λ k. c.loop-span.invariant.told k ++ same k ∷ [])
           ∙ sym (ap (map span_in) (take_more xs i nothing c.loop-span-test.true) ∙ map-append span_in (take i xs) (get_or xs i nothing ∷ []));
-      given = subst (All (Contains c.args.blocks.now)) (sym items) (All-push _ _ _ c.loop-span.invariant.given c.in-Some.ensures.0);
+      given = subst (All (Contains c.args.blocks.now)) (sym items) (All-push (Contains c.args.blocks.now) c.loop-span.live.items c.in-Some.block c.loop-span.invariant.given c.in-Some.ensures.0);
     }
 
 pub returns-in-None-clause-missing : goal.returns-in-None-clause-missing
@@ -32,6 +32,6 @@ returns-in-None-clause-missing g c =
     let has = contains_span xs (get_or xs i nothing) (Contains-get_or xs i nothing c.loop-span-test.true) in
     record {
       span = span_in (get_or xs i nothing);
-      live = live_listed c.args.allocator.now (map span_in xs) (subst (λ (ys : List LiveSpan). set.from_list (map span_in ys) ≡ c.args.allocator.now.live) (sym c.deref-span-items.ensures.value) c.in_ok-spans.ensures.exact) _ has;
+      live = live_listed c.args.allocator.now (map span_in xs) (subst (λ (ys : List LiveSpan). set.from_list (map span_in ys) ≡ c.args.allocator.now.live) (sym c.deref-span-items.ensures.value) c.in_ok-spans.ensures.exact) (span_in (get_or xs i nothing)) has;
       lacks = c.in-None.ensures;
     }

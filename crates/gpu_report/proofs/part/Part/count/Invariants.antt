@@ -1,8 +1,7 @@
-use Rattle.std.proofs.Common.{◌≡◌, ◌≤◌, take, length}
-use Rattle.std.specs.List.{filter}
-use Rattle.gpu_alloc.specs.Spans.{held_of}
-use Rattle.gpu_report.specs.Held.{is_of}
+use Rattle.std.proofs.Common.{◌≡◌, ◌≤◌, map, take, length}
+use Rattle.gpu_alloc.specs.Spans.{entry_of}
+use Rattle.gpu_report.specs.Held.{held_as}
 use Rattle.gpu_report.proofs.part.Part.count.Given as goal
 
 abbrev pub invariant-loop-row : goal.invariant-loop-row
-invariant-loop-row l = record { is : l.count ≡ length (filter (λ e. is_of l.self (held_of e.1)) (take l.row-index l.held)); few : l.count ≤ l.row-index }
+invariant-loop-row l = record { is : l.count ≡ length (held_as (map entry_of (take l.row-index l.held)) l.self); few : l.count ≤ l.row-index }
