@@ -1,5 +1,5 @@
 -- Places that tile a range.
-use Rattle.std.proofs.Common.{◌≡◌, ℕ, suc, ◌+◌, ◌<◌, ◌≤◌, List, [], ◌∷◌, length, drop, get_or, drop-cons, subst, arith}
+use Rattle.std.proofs.Common.{ℕ, suc, ◌+◌, ◌<◌, ◌≤◌, List, [], ◌∷◌, length, drop, get_or, drop-cons, subst, arith}
 use Rattle.gpu_report.specs.Places.{Tile}
 use Rattle.gpu_report.specs.declared.report.Place.{Place}
 

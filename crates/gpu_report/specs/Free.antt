@@ -1,5 +1,5 @@
 -- Free ranges: how many bytes they have, and how scattered these are.
-use Rattle.std.specs.Prelude.{◌≡◌, ◌↔◌, ℕ, ◌-◌, ◌*◌, ◌/◌, ◌==◌, List, [], ◌∷◌, map, Contains, cond, max, nat_lt, sum}
+use Rattle.std.specs.Prelude.{◌↔◌, ℕ, ◌-◌, ◌*◌, ◌/◌, ◌==◌, List, [], ◌∷◌, map, Contains, cond, max, nat_lt, sum}
 use Rattle.std.specs.List.{filter}
 use Rattle.gpu_alloc.specs.FreeRanges.{IsFreeRangeOf}
 use Rattle.gpu_alloc.specs.RangeOrder.{AreInOrder}

@@ -93,7 +93,15 @@ fn report_of<M: MemoryObject, A: Allocator + Copy>(
     let mut kinds = Vec::new(alloc);
     let mut objects = Vec::new(alloc);
     for memory_type in 0..allocator.type_count() {
-        add_type(alloc, allocator, memory_type, &held, &live, &mut kinds, &mut objects)?;
+        add_type(
+            alloc,
+            allocator,
+            memory_type,
+            &held,
+            &live,
+            &mut kinds,
+            &mut objects,
+        )?;
     }
     Ok(Some(Report {
         heaps,
@@ -119,19 +127,23 @@ fn add_type<M: MemoryObject, A: Allocator + Copy>(
     ensures { OnOk result ((ps : List APart)
         → AreTold allocator.now (mapped entry_of held.now) live.now ps kinds.old.items objects.old.items
         → AreTold allocator.now (mapped entry_of held.now) live.now (ps ++ parts_of memory_type)
-            kinds.new.items objects.new.items) }
+        kinds.new.items objects.new.items) }
 {
     let free = free_of(allocator, memory_type)?;
     let dedicated = Part {
         memory_type,
         kind: ObjectKind::Dedicated,
     };
-    add_kind(alloc, allocator, dedicated, held, live, &free, kinds, objects)?;
+    add_kind(
+        alloc, allocator, dedicated, held, live, &free, kinds, objects,
+    )?;
     let imported = Part {
         memory_type,
         kind: ObjectKind::Imported,
     };
-    add_kind(alloc, allocator, imported, held, live, &free, kinds, objects)?;
+    add_kind(
+        alloc, allocator, imported, held, live, &free, kinds, objects,
+    )?;
     let buddies = Part {
         memory_type,
         kind: ObjectKind::BuddyChunk,

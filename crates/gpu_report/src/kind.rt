@@ -123,7 +123,7 @@ pub(crate) fn add_kind<M: MemoryObject, A: Allocator>(
     ensures { OnOk result ((ps : List APart)
         → AreTold allocator.now (mapped entry_of held.now) live.now ps kinds.old.items objects.old.items
         → AreTold allocator.now (mapped entry_of held.now) live.now (ps ++ part ∷ [])
-            kinds.new.items objects.new.items) }
+        kinds.new.items objects.new.items) }
 {
     if part.count(held) > 0 {
         kinds.push(kind_report(alloc, allocator, part, held, live, free)?)?;

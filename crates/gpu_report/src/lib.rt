@@ -5,6 +5,7 @@ mod build;
 mod error;
 mod held;
 mod kind;
+pub mod laws;
 mod live;
 mod part;
 mod places;

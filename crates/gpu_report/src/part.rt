@@ -60,8 +60,7 @@ impl Part {
     pub(crate) fn has(&self, row: &HeldRow) -> bool
         ensures { result ≡ is_of self.now (held_of row.now) }
     {
-        row.memory_type == self.memory_type
-            && ObjectKind::of(row.kind).rank() == self.kind.rank()
+        row.memory_type == self.memory_type && ObjectKind::of(row.kind).rank() == self.kind.rank()
     }
 
     /// Whether the object of a name is held as this.

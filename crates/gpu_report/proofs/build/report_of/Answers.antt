@@ -1,4 +1,4 @@
-use Rattle.std.proofs.Common.{◌≡◌, ℕ, ◌+◌, ◌++◌, refl, add-one, arith}
+use Rattle.std.proofs.Common.{◌≡◌, ℕ, ◌+◌, ◌++◌, refl, add-one}
 use Rattle.gpu_report.specs.Held.{parts, parts_of}
 use Rattle.gpu_report.proofs.build.report_of.Goals as goal
 

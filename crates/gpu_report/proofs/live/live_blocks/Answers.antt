@@ -1,9 +1,8 @@
-use Rattle.std.proofs.Common.{◌≡◌, ◌∙◌, ◌+◌, ◌++◌, [], ◌∷◌, List, map, take, get_or, Contains, All, sym, ap, subst}
+use Rattle.std.proofs.Common.{◌≡◌, ◌∙◌, ◌++◌, [], ◌∷◌, List, map, take, get_or, Contains, All, sym, ap, subst}
 use Rattle.std.proofs.lemmas.List.{take_more, map-append}
 use Rattle.std.proofs.lemmas.List.Elements.{All-push, Contains-get_or}
 use Rattle.std.specs.FinSet as set
 use Rattle.gpu_alloc.specs.Spans.{span_in}
-use Rattle.gpu_alloc.specs.State.{Span}
 use Rattle.gpu_alloc.specs.declared.spans.LiveSpan.{LiveSpan}
 use Rattle.gpu_report.specs.Live.{span_told}
 use Rattle.gpu_report.proofs.Spans.{live_listed, contains_span}

@@ -1,5 +1,4 @@
-use Rattle.std.proofs.Common.{◌≡◌, ◌+◌, ◌<◌, ◌^◌, ◌≤◌, ◌∷◌, None, drop, get_or, drop-cons, arith}
-use Rattle.gpu_report.specs.Places.{Tile}
+use Rattle.std.proofs.Common.{None, arith}
 use Rattle.gpu_report.specs.declared.report.Place.{Place}
 use Rattle.gpu_report.proofs.Tiles.{tile-le, tile-drop}
 use Rattle.gpu_report.proofs.places.do_tile.Goals as goal
