@@ -34,10 +34,7 @@ pub fn run_script<R: Read, W: Write, A: Allocator + Copy>(
 }
 
 /// Writes what a script answers, or why there is no answer. The status is that of [`run_script`].
-pub fn write_answer<W: Write, A: Allocator>(
-    output: &mut W,
-    answer: Result<String<A>, Stop>,
-) -> u8
+pub fn write_answer<W: Write, A: Allocator>(output: &mut W, answer: Result<String<A>, Stop>) -> u8
     ensures { result ≤ 3 }
 {
     let (status, written) = match answer {
