@@ -1,0 +1,6 @@
+mod Digits
+mod HeldRows
+mod Sessions
+mod Spans
+mod Tiles
+mod Told

@@ -1,0 +1,6 @@
+pub mod Free
+pub mod Held
+pub mod Live
+pub mod Places
+pub mod Report
+pub mod Session

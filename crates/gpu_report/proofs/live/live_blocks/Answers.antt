@@ -1,0 +1,36 @@
+use Rattle.std.proofs.Common.{◌≡◌, ◌∙◌, ◌++◌, [], ◌∷◌, List, map, take, get_or, Contains, All, sym, ap, subst}
+use Rattle.std.proofs.lemmas.List.{take_more, map-append}
+use Rattle.std.proofs.lemmas.List.Elements.{All-push, Contains-get_or}
+use Rattle.std.specs.FinSet as set
+use Rattle.gpu_alloc.specs.Spans.{span_in}
+use Rattle.gpu_alloc.specs.declared.spans.LiveSpan.{LiveSpan}
+use Rattle.gpu_report.specs.Live.{span_told}
+use Rattle.gpu_report.proofs.Spans.{live_listed, contains_span}
+use Rattle.gpu_report.proofs.live.live_blocks.Goals as goal
+
+abbrev nothing : LiveSpan
+nothing = record { object = 0; offset = 0; size = 0; chunk = 0; index = 0 }
+
+pub loop-span-preserved : goal.loop-span-preserved
+loop-span-preserved g c =
+    let xs = c.deref-span-items.result.now in
+    let i = c.loop-span.span-index in
+    let items = c.in_ok-push-in-Some.ensures.items in
+    let same : span_told c.in-Some.block ≡ span_in (get_or xs i nothing) = c.in-Some.ensures.1 in
+    record {
+      told = ap (map span_told) items ∙ map-append span_told c.loop-span.live.items (c.in-Some.block ∷ [])
+          ∙ (λ k. c.loop-span.invariant.told k ++ same k ∷ [])
+          ∙ sym (ap (map span_in) (take_more xs i nothing c.loop-span-test.true) ∙ map-append span_in (take i xs) (get_or xs i nothing ∷ []));
+      given = subst (All (Contains c.args.blocks.now)) (sym items) (All-push (Contains c.args.blocks.now) c.loop-span.live.items c.in-Some.block c.loop-span.invariant.given c.in-Some.ensures.0);
+    }
+
+pub returns-in-None-clause-missing : goal.returns-in-None-clause-missing
+returns-in-None-clause-missing g c =
+    let xs = c.deref-span-items.result.now in
+    let i = c.loop-span.span-index in
+    let has = contains_span xs (get_or xs i nothing) (Contains-get_or xs i nothing c.loop-span-test.true) in
+    record {
+      span = span_in (get_or xs i nothing);
+      live = live_listed c.args.allocator.now (map span_in xs) (subst (λ (ys : List LiveSpan). set.from_list (map span_in ys) ≡ c.args.allocator.now.live) (sym c.deref-span-items.ensures.value) c.in_ok-spans.ensures.exact) (span_in (get_or xs i nothing)) has;
+      lacks = c.in-None.ensures;
+    }

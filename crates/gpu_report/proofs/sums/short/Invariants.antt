@@ -1,0 +1,11 @@
+use Rattle.std.proofs.Common.{◌≡◌, ◌≤◌, ◌*◌, ◌^◌, take}
+use Rattle.std.specs.List.{sum}
+use Rattle.gpu_report.specs.Free.{shorter}
+use Rattle.gpu_report.proofs.sums.short.Given as goal
+
+abbrev pub invariant-loop-size : goal.invariant-loop-size
+invariant-loop-size l = record {
+  is : l.total ≡ sum (shorter l.most (take l.size-index l.sizes));
+  part : l.total ≤ sum (take l.size-index l.sizes);
+  most : l.total ≤ l.size-index * 2 ^ 64;
+}

@@ -1,0 +1,27 @@
+-- Live blocks by the names that their keeper has for them.
+use Rattle.std.specs.Prelude.{◌≡◌, ℕ, List, map, Contains}
+use Rattle.std.specs.List.{filter}
+use Rattle.std.specs.FinSet as set
+use Rattle.gpu_alloc.specs.Listing.{AreOnce}
+use Rattle.gpu_alloc.specs.State.{Span, State, IsLive}
+use Rattle.gpu_report.specs.declared.part.Part.{Part}
+use Rattle.gpu_report.specs.declared.live.LiveBlock.{LiveBlock}
+use Rattle.gpu_report.specs.Held.{is_held_as}
+
+abbrev pub span_told : LiveBlock → Span
+span_told b = record { object = b.object; offset = b.offset; size = b.size }
+
+-- these are all that are live, each once
+pub record AreLive (s : State) (live : List LiveBlock) : Type 0 where
+  pub exact : set.from_list (map span_told live) ≡ s.live
+  pub once : AreOnce (map span_told live)
+
+-- a live span that none of the blocks has
+pub record LacksSpan (s : State) (blocks : List LiveBlock) : Type 0 where
+  pub span : Span
+  pub live : IsLive s span
+  pub lacks : Contains (map span_told blocks) span → ⊥
+
+-- the sizes of the live blocks in objects that are held as this
+abbrev pub live_sizes : State → Part → List LiveBlock → List ℕ
+live_sizes s p live = map (λ b. b.size) (filter (λ b. is_held_as s p b.object) live)

@@ -1,0 +1,41 @@
+//! The held objects by name, and the heaps.
+
+ghost use Rattle.std.specs.Prelude.{◌≡◌, IfOk, map as mapped};
+ghost use Rattle.gpu_alloc.specs.Spans.{entry_of};
+ghost use Rattle.gpu_report.specs.Held.{AreHeld};
+ghost use Rattle.gpu_report.specs.Report.{AreHeaps};
+
+use crate::HeapReport;
+use gpu_alloc::spans::HeldRow;
+use gpu_alloc::{GpuAllocator, MemoryObject};
+use std::alloc::{AllocError, Allocator, Global};
+
+/// The held objects by name.
+pub(crate) fn held_by_name<M: MemoryObject, A: Allocator>(
+    alloc: Global,
+    allocator: &GpuAllocator<M, A>,
+) -> Result<Vec<(u64, HeldRow)>, AllocError>
+    ensures { IfOk result (λ rows. AreHeld allocator.now (mapped entry_of rows.items)) }
+{
+    let mut rows = allocator.objects(alloc)?;
+    rows.sort_unstable_by_key(|row| row.0);
+    Ok(rows)
+}
+
+/// What is told of each heap.
+pub(crate) fn heap_reports<M: MemoryObject, A: Allocator>(
+    alloc: Global,
+    allocator: &GpuAllocator<M, A>,
+) -> Result<Vec<HeapReport>, AllocError>
+    ensures { IfOk result (λ heaps. AreHeaps allocator.now heaps.items) }
+{
+    let mut heaps = Vec::new(alloc);
+    for heap in 0..allocator.heap_count() {
+        heaps.push(HeapReport {
+            size: allocator.heap_bytes(heap),
+            used: allocator.heap_used(heap),
+            budget: allocator.heap_budget(heap),
+        })?;
+    }
+    Ok(heaps)
+}

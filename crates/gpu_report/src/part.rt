@@ -1,0 +1,128 @@
+//! Held objects by memory type and kind.
+
+ghost use Rattle.std.specs.Prelude.{◌≡◌, IfOk, length, map as mapped};
+ghost use Rattle.gpu_alloc.specs.Spans.{entry_of, held_of};
+ghost use Rattle.gpu_report.specs.Free.{free_sizes};
+ghost use Rattle.gpu_report.specs.Held.{held_as, is_held_as, is_of, kind_of, rank};
+ghost use Rattle.gpu_report.specs.Live.{live_sizes};
+ghost use Rattle.gpu_report.specs.Report.{is_chunk};
+
+use crate::{LiveBlock, ObjectKind};
+use gpu_alloc::spans::HeldRow;
+use gpu_alloc::{FreeRange, GpuAllocator, Kind, MemoryObject};
+use std::alloc::{AllocError, Allocator, Global};
+
+impl ObjectKind {
+    /// What an object is reported to be held for.
+    pub fn of(kind: Kind) -> ObjectKind
+        ensures { result ≡ kind_of kind }
+    {
+        match kind {
+            Kind::Dedicated => ObjectKind::Dedicated,
+            Kind::Imported => ObjectKind::Imported,
+            Kind::BuddyChunk => ObjectKind::BuddyChunk,
+            Kind::FreeListChunk(_) => ObjectKind::FreeListChunk,
+        }
+    }
+
+    /// Whether many blocks may lie in an object of the kind.
+    pub fn is_chunk(self) -> bool
+        ensures { result ≡ is_chunk self }
+    {
+        match self {
+            ObjectKind::Dedicated | ObjectKind::Imported => false,
+            ObjectKind::BuddyChunk | ObjectKind::FreeListChunk => true,
+        }
+    }
+
+    /// Its place in the order of kinds.
+    fn rank(self) -> u8
+        ensures { result ≡ rank self }
+    {
+        match self {
+            ObjectKind::Dedicated => 0,
+            ObjectKind::Imported => 1,
+            ObjectKind::BuddyChunk => 2,
+            ObjectKind::FreeListChunk => 3,
+        }
+    }
+}
+
+/// A memory type, and what objects of it are held for.
+#[derive(Clone, Copy)]
+pub(crate) struct Part {
+    pub(crate) memory_type: u32,
+    pub(crate) kind: ObjectKind,
+}
+
+impl Part {
+    /// Whether an object is held as this.
+    pub(crate) fn has(&self, row: &HeldRow) -> bool
+        ensures { result ≡ is_of self.now (held_of row.now) }
+    {
+        row.memory_type == self.memory_type && ObjectKind::of(row.kind).rank() == self.kind.rank()
+    }
+
+    /// Whether the object of a name is held as this.
+    fn holds<M: MemoryObject, A: Allocator>(
+        &self,
+        allocator: &GpuAllocator<M, A>,
+        object: u64,
+    ) -> bool
+        ensures { result ≡ is_held_as allocator.now self.now object }
+    {
+        match allocator.held(object) {
+            Some(row) => self.has(&row),
+            None => false,
+        }
+    }
+
+    /// How many objects are held as this.
+    pub(crate) fn count(&self, held: &[(u64, HeldRow)]) -> u64
+        ensures { result ≡ length (held_as (mapped entry_of held.now) self.now) }
+    {
+        let mut count = 0;
+        for row in held {
+            if self.has(&row.1) {
+                count += 1;
+            }
+        }
+        count
+    }
+
+    /// The sizes of the live blocks in objects that are held as this.
+    pub(crate) fn live_sizes<M: MemoryObject, A: Allocator>(
+        &self,
+        alloc: Global,
+        allocator: &GpuAllocator<M, A>,
+        live: &[LiveBlock],
+    ) -> Result<Vec<u64>, AllocError>
+        ensures { IfOk result (λ sizes. sizes.items ≡ live_sizes allocator.now self.now live.now) }
+    {
+        let mut sizes = Vec::new(alloc);
+        for block in live {
+            if self.holds(allocator, block.object) {
+                sizes.push(block.size)?;
+            }
+        }
+        Ok(sizes)
+    }
+
+    /// The lengths of the free ranges in objects that are held as this.
+    pub(crate) fn free_sizes<M: MemoryObject, A: Allocator>(
+        &self,
+        alloc: Global,
+        allocator: &GpuAllocator<M, A>,
+        free: &[FreeRange],
+    ) -> Result<Vec<u64>, AllocError>
+        ensures { IfOk result (λ sizes. sizes.items ≡ free_sizes allocator.now self.now free.now) }
+    {
+        let mut sizes = Vec::new(alloc);
+        for range in free {
+            if self.holds(allocator, range.object) {
+                sizes.push(range.end.saturating_sub(range.start))?;
+            }
+        }
+        Ok(sizes)
+    }
+}
