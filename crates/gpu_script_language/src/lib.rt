@@ -13,5 +13,5 @@ mod setup;
 pub use line::LineError;
 pub use parser::{Script, Stop, parse};
 pub use print::print_reply;
-pub use run::{SimSession, open, run_script};
+pub use run::{SimSession, open, parse_usable, read_all, run_script, write_answer};
 pub use setup::{Refusal, Setup};

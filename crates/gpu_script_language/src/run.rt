@@ -29,7 +29,15 @@ pub fn run_script<R: Read, W: Write, A: Allocator + Copy>(
 ) -> u8
     ensures { result ≤ 3 }
 {
-    let (status, written) = match answer(alloc, input) {
+    let answered = answer(alloc, input);
+    write_answer(output, answered)
+}
+
+/// Writes what a script answers, or why there is no answer. The status is that of [`run_script`].
+pub fn write_answer<W: Write, A: Allocator>(output: &mut W, answer: Result<String<A>, Stop>) -> u8
+    ensures { result ≤ 3 }
+{
+    let (status, written) = match answer {
         Ok(text) => (0, output.write_all(text.as_bytes())),
         Err(Stop::BadLine(number, error)) => (2, writeln!(output, "line {number}: {error}")),
         Err(Stop::Memory) => (3, output.write_all(b"out of memory\n")),
@@ -44,24 +52,28 @@ pub fn run_script<R: Read, W: Write, A: Allocator + Copy>(
 /// What a script answers.
 fn answer<R: Read, A: Allocator + Copy>(alloc: A, input: &mut R) -> Result<String<A>, Stop> {
     let text = read_all(alloc, input)?;
-    let script = parse(alloc, text.as_slice())?;
-    let printed = answer_to(alloc, &script);
+    let script = parse_usable(alloc, text.as_slice())?;
+    let printed = run(alloc, &script);
     // By a call, as each device below, so that its parts are taken apart in `drop` and not here.
     drop(script);
-    printed
+    Ok(printed?)
 }
 
-/// What a script answers whose lines are good.
-fn answer_to<A: Allocator + Copy>(alloc: A, script: &Script<A>) -> Result<String<A>, Stop> {
+/// The script that these bytes are, as [`parse`] gives it, if its device can be used. If not, `Stop::BadLine` tells the
+/// line after the last one.
+pub fn parse_usable<A: Allocator + Copy>(alloc: A, text: &[u8]) -> Result<Script<A>, Stop>
+    ensures usable { IfOk result (λ script. IsUsable (offered script.setup)) }
+{
+    let script = parse(alloc, text)?;
     if !script.setup.properties().is_usable() {
         let after = script.lines.saturating_add(1);
         return Err(Stop::BadLine(after, LineError::BadProperties));
     }
-    Ok(run(alloc, script)?)
+    Ok(script)
 }
 
-/// The bytes of a reader.
-fn read_all<R: Read, A: Allocator + Copy>(alloc: A, input: &mut R) -> Result<Vec<u8, A>, Stop> {
+/// The bytes of a reader. `Stop::Read` tells that a read failed, `Stop::Memory` that memory for them was refused.
+pub fn read_all<R: Read, A: Allocator + Copy>(alloc: A, input: &mut R) -> Result<Vec<u8, A>, Stop> {
     let mut text = Vec::new(alloc);
     let mut buffer = [0u8; 4096];
     // Bounded, so that it ends for every reader.

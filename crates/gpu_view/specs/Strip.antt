@@ -1,0 +1,9 @@
+-- Where the ranges of a strip lie.
+use Rattle.std.specs.Prelude.{ℕ, ◌+◌, ◌*◌, ◌-◌}
+use Rattle.gpu_view.specs.Rows.{on_line}
+use Rattle.gpu_view.specs.declared.rows.Strip.{Strip}
+use Rattle.gpu_view.specs.declared.rows.TheConstants.{LEAST}
+
+-- each range before it has the least length, and the rest of the strip is to scale
+abbrev pub edge_of : Strip → ℕ → ℕ → ℕ
+edge_of strip index offset = index * LEAST + on_line offset strip.size (strip.length - LEAST * strip.count)

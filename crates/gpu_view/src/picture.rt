@@ -1,0 +1,275 @@
+//! The picture: the heaps one below another, under each its memory types, and under each type what it holds.
+//!
+//! All that is written in it are words of this crate and numbers, in which nothing has to be escaped.
+
+ghost use Rattle.std.specs.Prelude.{◌<◌, ◌^◌};
+
+use crate::drawing::{Drawing, LEFT, LINE, MARGIN, Set};
+use crate::rows::{ROW, Span, Strip, start_of};
+use crate::words::{Amount, Count, FREE, NOTE, PROPERTIES, Share, Title, fill, ink, name};
+use gpu_alloc::MemoryType;
+use gpu_report::{HeapReport, KindReport, ObjectReport, Report};
+use std::alloc::{AllocError, Global};
+
+/// How many rows the objects of a kind and type take to scale, at most; what the least lengths add is beside that.
+const ROWS: u128 = 6;
+
+/// The picture of a report, as an SVG. `types` are the device's memory types, and `after` the line of the script after
+/// which the report was made, if not after the last one. Only want of memory is refused.
+pub fn picture(
+    alloc: Global,
+    report: &Report,
+    types: &[MemoryType],
+    after: Option<u64>,
+) -> Result<String, AllocError> {
+    let drawing = Drawing::new(alloc);
+    let mut page = Page {
+        drawing,
+        alloc,
+        report,
+        types,
+    };
+    match after {
+        Some(line) => {
+            let heading = format!(in alloc; "GPU memory after line {line}")?;
+            page.drawing.head(heading.as_str())?;
+        }
+        None => page.drawing.head("GPU memory after the last command")?,
+    }
+    for (index, heap) in report.heaps.iter().enumerate() {
+        page.draw_heap(index as u64, heap)?;
+    }
+    page.drawing.leave(26);
+    page.drawing.write(LEFT + ROW, Set::Before, NOTE)?;
+    let Page { drawing, .. } = page;
+    drawing.finish(alloc)
+}
+
+/// What is drawn so far, and of what.
+#[derive(Drop)]
+struct Page<'r, 't> {
+    drawing: Drawing,
+    alloc: Global,
+    report: &'r Report,
+    types: &'t [MemoryType],
+}
+
+impl Page<'_, '_> {
+    /// A heap, with its memory types.
+    fn draw_heap(&mut self, index: u64, heap: &HeapReport) -> Result<(), AllocError> {
+        self.drawing.leave(14);
+        self.drawing.divide()?;
+        self.drawing.leave(26);
+        let heading = format!(in self.alloc; "Heap {index}")?;
+        self.drawing.write(MARGIN, Set::Heading, heading.as_str())?;
+        let size = Amount(u128::from(heap.size));
+        let used = Amount(heap.used);
+        let budget = Amount(u128::from(heap.budget));
+        let told = format!(in self.alloc; "{used} of {size} held, budget left {budget}")?;
+        self.drawing.write(LEFT, Set::Plain, told.as_str())?;
+        self.drawing.leave(8);
+        self.draw_ledger(index, heap)?;
+        self.drawing.leave(LINE);
+        for (number, memory_type) in self.types.iter().enumerate() {
+            if u64::from(memory_type.heap) == index {
+                self.draw_type(number as u64, memory_type)?;
+            }
+        }
+        Ok(())
+    }
+
+    /// A heap's bar: what the objects of each type and kind count, and what is left.
+    fn draw_ledger(&mut self, index: u64, heap: &HeapReport) -> Result<(), AllocError> {
+        let report = self.report;
+        let whole = as_u64(heap.used.max(u128::from(heap.size)));
+        let strip = Strip::new(whole, count_of(report.kinds.len().saturating_add(1)), whole);
+        let mut at = 0u128;
+        let mut count = 0u64;
+        for kind in &report.kinds {
+            if heap_of(self.types, kind.memory_type) == Some(index) && count < strip.count {
+                let bytes = kind.live_bytes.saturating_add(kind.free_bytes);
+                let span = strip.span(count, as_u64(at), as_u64(bytes));
+                let title = Title::Held(kind.kind, kind.memory_type, bytes);
+                self.drawing.range(span, fill(kind.kind), title)?;
+                at = at.saturating_add(bytes);
+                count += 1;
+            }
+        }
+        let start = strip.edge(count, as_u64(at));
+        let rest = Span { start, end: ROW };
+        self.drawing.range(rest, FREE, Title::Budget(heap.budget))
+    }
+
+    /// A memory type, with what it holds.
+    fn draw_type(&mut self, number: u64, memory_type: &MemoryType) -> Result<(), AllocError> {
+        self.drawing.leave(24);
+        let heading = format!(in self.alloc; "Type {number}")?;
+        self.drawing.write(MARGIN, Set::Name, heading.as_str())?;
+        let mut told = String::new(self.alloc);
+        for (property, word) in PROPERTIES {
+            if memory_type.props.contains(property) {
+                told.push_str(if told.is_empty() { "" } else { ", " })?;
+                told.push_str(word)?;
+            }
+        }
+        self.drawing.write(LEFT, Set::Plain, told.as_str())?;
+        let report = self.report;
+        for kind in &report.kinds {
+            if u64::from(kind.memory_type) == number {
+                self.draw_kind(kind)?;
+            }
+        }
+        Ok(())
+    }
+
+    /// What is told of a kind's objects of a type, and the objects.
+    fn draw_kind(&mut self, kind: &KindReport) -> Result<(), AllocError> {
+        self.drawing.leave(20);
+        self.drawing.sample(LEFT, fill(kind.kind))?;
+        let objects = Count(kind.objects, "object");
+        let blocks = Count(kind.live_blocks, "block");
+        let live = Amount(kind.live_bytes);
+        let name = name(kind.kind);
+        let mut told = format!(in self.alloc; "{name}: {objects}, {blocks}, {live} live")?;
+        if kind.free_bytes > 0 {
+            let free = Amount(kind.free_bytes);
+            let largest = Amount(u128::from(kind.largest_free));
+            let scattered = Share(kind.scattered);
+            write!(
+                told,
+                ", {free} free (largest {largest}, scattered {scattered})"
+            )?;
+        }
+        self.drawing.write(LEFT + 16, Set::Plain, told.as_str())?;
+        let full = full_row(self.report, kind);
+        let scale = format!(in self.alloc; "a row is {}", Amount(u128::from(full)))?;
+        self.drawing.write(LEFT + ROW, Set::Before, scale.as_str())?;
+        self.drawing.leave(7);
+        self.draw_objects(kind, full)
+    }
+
+    /// The objects of a kind and type, as strips in rows.
+    fn draw_objects(&mut self, kind: &KindReport, full: u64) -> Result<(), AllocError> {
+        let report = self.report;
+        let mut at = 0u64;
+        let mut label = Label::default();
+        for object in &report.objects {
+            if is_of(object, kind) {
+                let strip = Strip::new(object.size, count_of(object.places.len()), full);
+                let start = start_of(at, strip.length);
+                if start / ROW != label.row {
+                    self.draw_label(label)?;
+                    label = Label {
+                        row: start / ROW,
+                        ..Label::default()
+                    };
+                }
+                label.take(object);
+                self.draw_places(object, strip, start)?;
+                at = start.saturating_add(strip.length);
+            }
+        }
+        self.draw_label(label)?;
+        self.drawing.leave(at.div_ceil(ROW).saturating_mul(LINE));
+        Ok(())
+    }
+
+    /// The blocks and free ranges of an object, on its strip.
+    fn draw_places(
+        &mut self,
+        object: &ObjectReport,
+        strip: Strip,
+        start: u64,
+    ) -> Result<(), AllocError> {
+        // An import counts from its block on.
+        let base = object.places.first().map_or(0, |place| place.offset);
+        for (index, place) in object.places.iter().enumerate() {
+            let index = index as u64;
+            if index < strip.count {
+                let offset = place.offset.saturating_sub(base);
+                let span = strip.span(index, offset, place.size).moved(start);
+                let title = Title::Place(*place, object.memory_type);
+                match place.block {
+                    Some(block) => {
+                        self.drawing.range(span, fill(object.kind), title)?;
+                        self.drawing.number(span, ink(object.kind), block)?;
+                    }
+                    None => self.drawing.range(span, FREE, title)?,
+                }
+            }
+        }
+        Ok(())
+    }
+
+    /// What is said beside a row.
+    fn draw_label(&mut self, label: Label) -> Result<(), AllocError> {
+        let Label {
+            row,
+            first,
+            last,
+            size,
+        } = label;
+        let text = match (first, last) {
+            (Some(first), Some(last)) => format!(in self.alloc; "objects {first} to {last}")?,
+            (Some(first), None) => format!(in self.alloc; "object {first}, {size}")?,
+            _ => return Ok(()),
+        };
+        self.drawing.aside(row, text.as_str())
+    }
+}
+
+/// Which objects start in a row.
+#[derive(Clone, Copy, Default)]
+struct Label {
+    row: u64,
+    first: Option<u64>,
+    last: Option<u64>,
+    size: Amount,
+}
+
+impl Label {
+    /// Says that this object starts in the row too.
+    fn take(&mut self, object: &ObjectReport) {
+        match self.first {
+            Some(_) => self.last = Some(object.object),
+            None => self.first = Some(object.object),
+        }
+        self.size = Amount(u128::from(object.size));
+    }
+}
+
+/// How many bytes a row stands for where the objects of a kind and type are drawn: as many as the largest of them has,
+/// or more, where they would take too many rows.
+fn full_row(report: &Report, kind: &KindReport) -> u64 {
+    let mut largest = 1u64;
+    let mut total = 0u128;
+    for object in &report.objects {
+        if is_of(object, kind) {
+            largest = largest.max(object.size);
+            total = total.saturating_add(u128::from(object.size));
+        }
+    }
+    largest.max(as_u64(total / ROWS))
+}
+
+/// Whether an object is one of those of a kind and type.
+fn is_of(object: &ObjectReport, kind: &KindReport) -> bool {
+    object.memory_type == kind.memory_type && object.kind == kind.kind
+}
+
+/// The heap of a memory type, if there is that type.
+fn heap_of(types: &[MemoryType], number: u32) -> Option<u64> {
+    Some(u64::from(types.get(number as usize)?.heap))
+}
+
+/// A number, cut to 64 bits.
+fn as_u64(number: u128) -> u64 {
+    u64::try_from(number).unwrap_or(u64::MAX)
+}
+
+/// How many ranges are drawn of so many.
+fn count_of(ranges: usize) -> u64
+    ensures { result < 2 ^ 32 }
+{
+    (ranges as u64).min(u64::from(u32::MAX))
+}

@@ -1,0 +1,40 @@
+//! What the program is asked for.
+
+/// What is made of a script.
+#[derive(Clone, Copy, Debug, PartialEq, Eq)]
+pub enum Form {
+    /// The report, as JSON.
+    Report,
+
+    /// The picture, as an SVG.
+    Picture,
+}
+
+/// What is made of a script, and after which of its lines, if not after all.
+#[derive(Clone, Copy, Debug, PartialEq, Eq)]
+pub struct Wanted {
+    /// What is made.
+    pub form: Form,
+
+    /// How many lines count: the commands on later ones are not run.
+    pub after: Option<u64>,
+}
+
+impl Wanted {
+    /// What these words ask for: `report` or `picture`, and behind it nothing, or `--after` and a number.
+    pub fn of(words: &[String]) -> Option<Wanted> {
+        let (form, after) = match words {
+            [form] => (form, None),
+            [form, option, line] if option.as_str() == "--after" => {
+                (form, Some(line.as_str().parse::<u64>().ok()?))
+            }
+            _ => return None,
+        };
+        let form = match form.as_str() {
+            "report" => Form::Report,
+            "picture" => Form::Picture,
+            _ => return None,
+        };
+        Some(Wanted { form, after })
+    }
+}

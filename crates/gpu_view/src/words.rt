@@ -1,0 +1,155 @@
+//! What the picture says, and in which colours.
+
+use gpu_alloc::MemoryPropertyFlags;
+use gpu_report::{ObjectKind, Place};
+use std::fmt;
+
+/// The kinds, in the order of the legend.
+pub const KINDS: [ObjectKind; 4] = [
+    ObjectKind::Dedicated,
+    ObjectKind::Imported,
+    ObjectKind::BuddyChunk,
+    ObjectKind::FreeListChunk,
+];
+
+/// The properties of memory types that are told, by name.
+pub const PROPERTIES: [(MemoryPropertyFlags, &str); 6] = [
+    (MemoryPropertyFlags::DEVICE_LOCAL, "device-local"),
+    (MemoryPropertyFlags::HOST_VISIBLE, "host-visible"),
+    (MemoryPropertyFlags::HOST_COHERENT, "coherent"),
+    (MemoryPropertyFlags::HOST_CACHED, "cached"),
+    (MemoryPropertyFlags::LAZILY_ALLOCATED, "lazily allocated"),
+    (MemoryPropertyFlags::PROTECTED, "protected"),
+];
+
+/// The hatching of imported blocks and the dots of those of free lists, over colours that the colour-blind tell apart,
+/// as dark blue and orange are; so each kind differs in print too.
+pub const PATTERNS: &str = "\
+<defs>\
+<pattern id=\"imported\" width=\"6\" height=\"6\" patternUnits=\"userSpaceOnUse\" patternTransform=\"rotate(45)\">\
+<rect width=\"6\" height=\"6\" fill=\"#cc79a7\"/><rect width=\"2\" height=\"6\" fill=\"#f6e4ee\"/></pattern>\
+<pattern id=\"listed\" width=\"5\" height=\"5\" patternUnits=\"userSpaceOnUse\">\
+<rect width=\"5\" height=\"5\" fill=\"#009e73\"/><circle cx=\"2.5\" cy=\"2.5\" r=\"1\" fill=\"#d5f2e8\"/></pattern>\
+</defs>\n";
+
+/// What is said below the picture.
+pub const NOTE: &str = "Rows are to scale, but each range is long enough to be seen. \
+On hovering a block tells its name, offset, size and type.";
+
+/// The colour of free bytes.
+pub const FREE: &str = "#e6e6e6";
+
+/// The colour of a kind's blocks.
+pub fn fill(kind: ObjectKind) -> &'static str {
+    match kind {
+        ObjectKind::Dedicated => "#0072b2",
+        ObjectKind::Imported => "url(#imported)",
+        ObjectKind::BuddyChunk => "#e69f00",
+        ObjectKind::FreeListChunk => "url(#listed)",
+    }
+}
+
+/// How a block's name is written on it, so that it is read on the pattern too.
+pub fn ink(kind: ObjectKind) -> &'static str {
+    match kind {
+        ObjectKind::Dedicated => "fill=\"#fff\"",
+        ObjectKind::BuddyChunk => "fill=\"#000\"",
+        ObjectKind::Imported | ObjectKind::FreeListChunk => {
+            "fill=\"#000\" stroke=\"#fff\" stroke-width=\"3\" paint-order=\"stroke\""
+        }
+    }
+}
+
+/// What a kind's objects are called.
+pub fn name(kind: ObjectKind) -> &'static str {
+    match kind {
+        ObjectKind::Dedicated => "dedicated",
+        ObjectKind::Imported => "imported",
+        ObjectKind::BuddyChunk => "buddy chunks",
+        ObjectKind::FreeListChunk => "free-list chunks",
+    }
+}
+
+/// How many of something there are.
+#[derive(Clone, Copy)]
+pub struct Count(pub u64, pub &'static str);
+
+impl fmt::Display for Count {
+    fn fmt<W: fmt::Write>(&self, f: &mut fmt::Formatter<W>) -> fmt::Result {
+        let Count(count, what) = *self;
+        if count == 1 {
+            write!(f, "1 {what}")
+        } else {
+            write!(f, "{count} {what}s")
+        }
+    }
+}
+
+/// A number of bytes, in the largest unit of which there is one, with a tenth where it isn't whole.
+#[derive(Clone, Copy, Default)]
+pub struct Amount(pub u128);
+
+impl fmt::Display for Amount {
+    fn fmt<W: fmt::Write>(&self, f: &mut fmt::Formatter<W>) -> fmt::Result {
+        let mut whole = self.0;
+        let mut tenths = 0;
+        let mut is_whole = true;
+        let mut unit = "B";
+        for next in ["KiB", "MiB", "GiB", "TiB", "PiB", "EiB"] {
+            if whole < 1024 {
+                break;
+            }
+            is_whole = is_whole && whole % 1024 == 0;
+            tenths = whole % 1024 * 10 / 1024;
+            whole /= 1024;
+            unit = next;
+        }
+        if is_whole {
+            write!(f, "{whole} {unit}")
+        } else {
+            write!(f, "{whole}.{tenths} {unit}")
+        }
+    }
+}
+
+/// A share in thousandths, as a percentage.
+#[derive(Clone, Copy)]
+pub struct Share(pub u64);
+
+impl fmt::Display for Share {
+    fn fmt<W: fmt::Write>(&self, f: &mut fmt::Formatter<W>) -> fmt::Result {
+        write!(f, "{}.{} %", self.0 / 10, self.0 % 10)
+    }
+}
+
+/// What is said of a range on hovering.
+#[derive(Clone, Copy)]
+pub enum Title {
+    /// A live block or free bytes, in an object of this memory type.
+    Place(Place, u32),
+
+    /// How many bytes a kind's objects of a memory type count.
+    Held(ObjectKind, u32, u128),
+
+    /// How many bytes are left of a heap.
+    Budget(u64),
+}
+
+impl fmt::Display for Title {
+    fn fmt<W: fmt::Write>(&self, f: &mut fmt::Formatter<W>) -> fmt::Result {
+        match *self {
+            Title::Place(place, memory_type) => {
+                match place.block {
+                    Some(block) => write!(f, "block {block}")?,
+                    None => write!(f, "free")?,
+                }
+                let Place { offset, size, .. } = place;
+                write!(f, ": offset {offset}, size {size}, type {memory_type}")
+            }
+            Title::Held(kind, memory_type, bytes) => {
+                write!(f, "{}, type {memory_type}: {bytes} bytes", name(kind))
+            }
+            Title::Budget(bytes) => write!(f, "budget left: {bytes} bytes"),
+        }
+    }
+}

@@ -1,0 +1,166 @@
+"""What scripts/run, scripts/report and scripts/picture have in common: a program of the repository that runs on a script.
+
+A kept program that was proved from exactly these sources is run at once. Else the program is compiled without proof, which takes under a minute; where that run can
+give no answer, since it writes at most 1 MiB, the program is proved first. Standard output has what the program prints alone. The exit status is the program's: 0 ran,
+1 a read or a write failed, 2 a line is wrong, 3 want of memory. Where no program ran to its end it is 64 or more, and nothing is printed.
+"""
+import os
+import re
+import shutil
+import signal
+import subprocess
+import sys
+import tempfile
+import time
+
+import proved
+from proved import say
+
+NAME = f"scripts/{os.path.basename(sys.argv[0])}"
+USAGE, NO_INPUT, NO_TOOLCHAIN, NOT_BUILT, NOT_WRITABLE, INTERRUPTED = 64, 66, 69, 70, 73, 130
+# Scripts of this many bytes have about 1 MiB of replies, and of picture.
+LARGEST = {proved.SCRIPT: 600_000, proved.VIEW: 200_000}
+ENDED = re.compile(r"run=ended status=([0-3]) .*proved=no")
+
+
+def stop(status, why):
+    say(why)
+    sys.exit(status)
+
+
+def copied(name):
+    """The script's text, in a file that can be read twice."""
+    script = tempfile.TemporaryFile()
+    try:
+        with open(0 if name == "-" else name, "rb", closefd=name != "-") as source:
+            shutil.copyfileobj(source, script)
+    except OSError as error:
+        stop(NO_INPUT, f"{name} cannot be read: {error.strerror}")
+    return script
+
+
+def run(command, script, replies, **how):
+    """Runs a command on the script. Returns its status and what it said, if that is asked for. It ends where this run is ended."""
+    script.seek(0)
+    with subprocess.Popen(command, stdin=script, stdout=replies, text=True, errors="replace", **how) as ran:
+        try:
+            said = ran.communicate()[1]
+        except BaseException:
+            ran.terminate()
+            raise
+    return ran.returncode, said
+
+
+def unproved(program, words, script, replies):
+    """Runs the program on the script without proof. Returns the program's status, or nothing where that run gave no answer."""
+    say(f"this build is not proved, and keeps nothing: {NAME} --proved or scripts/test proves the program and keeps it")
+    status, said = run(["rt", "try", "--", *words], script, replies, cwd=program.crate, stderr=subprocess.PIPE)
+    verdict = said.rstrip("\n").rpartition("\n")[2]
+    ended = ENDED.fullmatch(verdict)
+    if ended and status == int(ended[1]):
+        return status
+    if not verdict.startswith("run=no-answer"):
+        print(said, end="", file=sys.stderr, flush=True)
+        stop(NOT_BUILT, f"the program did not run (rt try ended with status {status}): the lines above say why")
+    why = re.findall(r"^checked: no-answer: (.*)", said, re.M)
+    say(f"that run gave no answer{': ' + why[-1] if why else ''}; so the program is proved first")
+    replies.seek(0)
+    replies.truncate()
+    return None
+
+
+def prove(program, words):
+    """Returns where the proved program is kept, after its proof where it isn't."""
+    if os.path.exists(program.place()):
+        return program.place()
+    with proved.alone():
+        place = program.place()
+        if os.path.exists(place):
+            return place
+        log, begun, last = f"{proved.OUT}/{program.name}.log", time.monotonic(), ""
+        say(f"proves the program and the crates below it, a quarter of an hour or more the first time; {os.path.relpath(log)} has all that is said")
+        # (Run on an empty script: what it prints then is no reply.)
+        how = {"cwd": program.crate, "stdin": subprocess.DEVNULL, "stdout": subprocess.DEVNULL, "stderr": subprocess.PIPE, "text": True, "errors": "replace"}
+        with open(log, "w", encoding="utf-8") as file, subprocess.Popen(["rt", "run", "--", *words], **how) as ran:
+            try:
+                for line in ran.stderr:
+                    file.write(line)
+                    file.flush()
+                    found = re.match(r"crate (\w+): ", line)
+                    last = found[1] if found else last
+                    if line.startswith("logic=proved"):
+                        say(f"{last} is proved, after {time.monotonic() - begun:.0f} s")
+            except BaseException:
+                ran.terminate()
+                raise
+        if ran.returncode:
+            with open(log, encoding="utf-8") as file:
+                print(*file.read().splitlines()[-20:], sep="\n", file=sys.stderr)
+            stop(NOT_BUILT, f"the program is not proved: {log} says why")
+        if program.place() != place:
+            stop(NOT_BUILT, "the sources changed during the proof, so nothing is kept: run it again")
+        program.keep(place)
+        return place
+
+
+def answer(program, words, script, replies, wants_proof):
+    """Runs the program on the script as the first of these can: the kept one, one without proof, one that is proved now."""
+    place = program.place()
+    if not os.path.exists(place) and not wants_proof:
+        size = os.fstat(script.fileno()).st_size
+        if size <= LARGEST[program]:
+            status = unproved(program, words, script, replies)
+            if status is not None:
+                return status
+        else:
+            say(f"a script of {size} bytes is too long for a run without proof, so the program is proved first")
+    status, _ = run([place if os.path.exists(place) else prove(program, words), *words], script, replies)
+    if status not in range(4):
+        stop(NOT_BUILT, f"the program ended with {status}")
+    return status
+
+
+def main(program, words, options, asked):
+    names, numbers, wants_proof = [], {}, False
+    asked = iter(asked)
+    for word in asked:
+        number = next(asked, "") if word in options else None
+        if number is not None and re.fullmatch("[0-9]{1,18}", number):
+            numbers[word] = number
+        elif word == "--proved":
+            wants_proof = True
+        else:
+            names.append(word)
+    if len(names) > 1 or not (names or wants_proof) or any(it.startswith("-") and it != "-" for it in names):
+        takes = "".join(f" [{it} N]" for it in options)
+        stop(USAGE, f"usage: {NAME}{takes} FILE | {NAME} --proved{takes} [FILE]  (- is standard input)")
+    words = [*words, *(it for pair in numbers.items() for it in pair)]
+    if not names:
+        print(prove(program, words))
+        return 0
+    with copied(names[0]) as script, tempfile.TemporaryFile() as replies:
+        script.flush()
+        status = answer(program, words, script, replies, wants_proof)
+        replies.seek(0)
+        try:
+            with open(1, "wb", closefd=False) as out:
+                shutil.copyfileobj(replies, out)
+        except OSError as error:
+            say(f"the replies cannot be written: {error.strerror}")
+            return 1
+    return status
+
+
+def start(program, words=(), options=()):
+    """Runs the program, with these words, on the script that this run is asked for; `options` are those that it takes, each with a number."""
+    signal.signal(signal.SIGTERM, lambda *_: sys.exit(INTERRUPTED))
+    try:
+        sys.exit(main(program, words, options, sys.argv[1:]))
+    except KeyboardInterrupt:
+        sys.exit(INTERRUPTED)
+    except FileNotFoundError as error:
+        stop(NO_TOOLCHAIN, f"{error.filename}: {error.strerror}" + (": put the toolchain's folder of programs on the path" if error.filename == "rt" else ""))
+    except OSError as error:
+        stop(NOT_WRITABLE, f"{error.filename}: {error.strerror}")
+    except Exception as error:
+        stop(NOT_BUILT, repr(error))
