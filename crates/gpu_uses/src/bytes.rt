@@ -134,6 +134,22 @@ fn return_third<M: MemoryObject, D: MemoryDevice<M>>(
     allocator.dealloc(device, third);
 }
 
+/// Returns two blocks, in the order in which they came.
+fn return_both<M: MemoryObject, D: MemoryDevice<M>>(
+    allocator: &mut GpuAllocator<M>,
+    device: &mut D,
+    first: MemoryBlock<M>,
+    second: MemoryBlock<M>,
+)
+    requires agrees { Agrees allocator.old (D.properties device.old) (D.objects device.old) }
+    requires owned { AreOwned allocator.old (first ∷ second ∷ []) }
+    ensures agrees { Agrees allocator.new (D.properties device.new) (D.objects device.new) }
+    ensures count { set.len allocator.new.live + 2 ≡ set.len allocator.old.live }
+{
+    allocator.dealloc(device, first);
+    allocator.dealloc(device, second);
+}
+
 /// Takes a block with an object of its own beside two others, uses the bytes of all three, and returns it.
 fn with_third<M: MemoryObject, D: MemoryDevice<M>>(
     allocator: &mut GpuAllocator<M>,
@@ -180,8 +196,7 @@ pub fn three_blocks<M: MemoryObject, D: MemoryDevice<M>>(
         Ok(mut second) => {
             kept_blocks_agree();
             let answer = with_third(allocator, device, request, &mut first, &mut second, bytes);
-            allocator.dealloc(device, first);
-            allocator.dealloc(device, second);
+            return_both(allocator, device, first, second);
             answer
         }
         Err(refusal) => {
