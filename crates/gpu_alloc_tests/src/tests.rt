@@ -18,4 +18,5 @@ mod runs;
 mod same;
 mod sim;
 mod sim_bytes;
+mod staging;
 mod usage;

@@ -47,19 +47,20 @@ module _ {D : Type 0} where
   AreApart pool =
       (j key : ℕ) (b c : Block) → buffer_at pool j ≡ Some b → buffer_at pool key ≡ Some c → j ≢ key → AreTwo b c
 
-  module _ (objects : D → ℕ → Option Object) where
-    -- what the device has beside the pool's objects
-    abbrev pub beside : PoolState D → ℕ → Option Object
-    beside pool name = outside pool.allocator (objects pool.device) name
+  -- what the device has beside the pool's objects
+  abbrev pub beside : (D → ℕ → Option Object) → PoolState D → ℕ → Option Object
+  beside objects pool name = outside pool.allocator (objects pool.device) name
 
+  module _ (offers : D → Properties) (objects : D → ℕ → Option Object) where
     -- that is as it was, and so is each byte of each buffer under these keys that was there and is there
     pub record Keeps (old new : PoolState D) (Key : ℕ → Type 0) : Type 0 where
       pub bytes : (key : ℕ) (b : Block) → Key key → buffer_at old key ≡ Some b → buffer_at new key ≡ Some b
           → HasSameBytes b (objects old.device) (objects new.device)
-      pub beside : (name : ℕ) → beside new name ≡ beside old name
+      pub beside : (name : ℕ) → beside objects new name ≡ beside objects old name
+      pub properties : offers new.device ≡ offers old.device
 
-  -- What always holds: allocator and device agree, each buffer is live and ready, and nothing else is live.
-  pub record IsKept (properties : D → Properties) (objects : D → ℕ → Option Object) (pool : PoolState D) : Type 0 where
-    pub agrees : Agrees pool.allocator (properties pool.device) (objects pool.device)
-    pub kept : AreKept pool.allocator (properties pool.device) (objects pool.device) (buffer_at pool)
-    pub count : set.len pool.allocator.live ≡ length pool.buffers
+    -- What always holds: allocator and device agree, each buffer is live and ready, and nothing else is live.
+    pub record IsKept (pool : PoolState D) : Type 0 where
+      pub agrees : Agrees pool.allocator (offers pool.device) (objects pool.device)
+      pub kept : AreKept pool.allocator (offers pool.device) (objects pool.device) (buffer_at pool)
+      pub count : set.len pool.allocator.live ≡ length pool.buffers

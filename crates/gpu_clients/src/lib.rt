@@ -2,3 +2,4 @@
 #![tactic(auto)]
 
 pub mod staging;
+pub mod uses;

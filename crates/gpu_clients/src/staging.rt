@@ -1,6 +1,6 @@
 //! Staging buffers, in which bytes go from the host to the device and back.
 
-ghost use Rattle.std.specs.Prelude.{◌≡◌, ◌≢◌, ⊤, ℕ, ◌+◌, ◌<◌, ◌≤◌, Some, None, is_some, length, nat_eq, IfOk, IfErr, OnOk, OnErr, Err, option_copied, true};
+ghost use Rattle.std.specs.Prelude.{◌≡◌, ◌≢◌, ⊤, ℕ, ◌+◌, ◌<◌, ◌≤◌, Some, None, is_some, length, nat_eq, IfOk, IfErr, OnOk, OnErr, Err, IfSome, IfNone, IsTrue, [], option_copied, true};
 ghost use Rattle.indexmap.specs.IndexMap.{get, spare, index_map_len};
 ghost use Rattle.gpu_alloc_types.specs.Properties.{IsUsable, properties_of};
 ghost use Rattle.gpu_alloc_block.specs.Contents.{HasSameDeviceBytes, Stores};
@@ -154,7 +154,6 @@ impl<M: MemoryObject, D: MemoryDevice<M>, A: Allocator + Copy> StagingPool<M, D,
     /// `memory_types` (those whose bit is set). There has to be at least 1 byte. Each byte of every other buffer stays,
     /// for host and device, whatever the device refuses. After a refusal (`NotAskable`, `KeyInUse`, `NoMemory`,
     /// `NoAccess`) there are the buffers of before.
-    #[tactic(auto, using(crate::proofs::Pools::keeps_none))]
     pub fn upload(
         &mut self,
         bytes: &[u8],
@@ -165,7 +164,7 @@ impl<M: MemoryObject, D: MemoryDevice<M>, A: Allocator + Copy> StagingPool<M, D,
         ensures stored { IfOk result (λ key. OfBuffer self.new key
             (λ b. SetsBuffer self.old self.new key (Some b) × Stores b 0 bytes.now (D.objects self.new.device))) }
         ensures refused { OnErr result (SameBuffers self.old self.new) }
-        ensures keeps { Keeps D.objects self.old self.new (λ _. ⊤) }
+        ensures keeps { Keeps D.properties D.objects self.old self.new (λ _. ⊤) }
     {
         let request = Request {
             size: bytes.len() as u64,
@@ -188,7 +187,7 @@ impl<M: MemoryObject, D: MemoryDevice<M>, A: Allocator + Copy> StagingPool<M, D,
     ///
     /// Refused are: `UnknownKey`, `BadRange` where the range passes the buffer's end, and `NoAccess`; `bytes` are then
     /// as before.
-    #[tactic(auto, using(crate::proofs::Pools::keeps_none, crate::proofs::Pools::none_moved))]
+    #[tactic(auto, using(crate::proofs::Pools::none_moved))]
     pub fn download(
         &mut self,
         key: u64,
@@ -201,7 +200,7 @@ impl<M: MemoryObject, D: MemoryDevice<M>, A: Allocator + Copy> StagingPool<M, D,
         ensures unknown { buffer_at self.old key ≡ None → result ≡ Err StagingError.UnknownKey }
         ensures buffers { SameBuffers self.old self.new }
         ensures unmoved { (c : Block) → HasSameDeviceBytes c (D.objects self.old.device) (D.objects self.new.device) }
-        ensures keeps { Keeps D.objects self.old self.new (λ other. other ≢ key) }
+        ensures keeps { Keeps D.properties D.objects self.old self.new (λ other. other ≢ key) }
     {
         self.has_range(key, offset, bytes.len() as u64)?;
         match self.fetch(key, offset, bytes) {
@@ -211,11 +210,11 @@ impl<M: MemoryObject, D: MemoryDevice<M>, A: Allocator + Copy> StagingPool<M, D,
     }
 
     /// Gives a buffer back, and tells whether there was one under the key.
-    #[tactic(auto, using(crate::proofs::Pools::keeps_none))]
     pub fn retire(&mut self, key: u64) -> bool
         ensures known { result ≡ is_some (buffer_at self.old key) }
         ensures gone { SetsBuffer self.old self.new key None }
-        ensures keeps { Keeps D.objects self.old self.new (λ _. ⊤) }
+        ensures fewer { IsTrue result → length self.new.buffers + 1 ≡ length self.old.buffers }
+        ensures keeps { Keeps D.properties D.objects self.old self.new (λ _. ⊤) }
     {
         if !self.buffers.contains_key(&key) {
             return false;
@@ -242,19 +241,39 @@ impl<M: MemoryObject, D: MemoryDevice<M>, A: Allocator + Copy> StagingPool<M, D,
 
     /// Gives all buffers back, and then the device, which has what it had beside the pool. It takes no memory and cannot
     /// fail.
-    pub fn end(self) -> D
+    pub fn end(mut self) -> D
+        ensures returned { (name : ℕ) → D.objects result name ≡ beside D.objects self name }
+        ensures properties { D.properties result ≡ D.properties self.device }
+    {
+        while let Some(key) = self.some_key() {
+            self.retire(key);
+        }
+        self.close()
+    }
+
+    /// A key that has a buffer, if there is one.
+    fn some_key(&self) -> Option<u64>
+        ensures known { IfSome result (λ key. is_some (buffer_at self.now key) ≡ true) }
+        ensures none { IfNone result (self.now.buffers ≡ []) }
+    {
+        match self.buffers.get_index(0) {
+            Some((key, _)) => Some(*key),
+            None => None,
+        }
+    }
+
+    /// Ends a pool without buffers.
+    fn close(self) -> D
+        requires none { self.buffers ≡ [] }
         ensures returned { (name : ℕ) → D.objects result name ≡ beside D.objects self name }
         ensures properties { D.properties result ≡ D.properties self.device }
     {
         let StagingPool {
             mut allocator,
             mut device,
-            mut buffers,
+            buffers,
             next_key: _,
         } = self;
-        while let Some((_, buffer)) = buffers.pop() {
-            allocator.dealloc(&mut device, buffer);
-        }
         buffers.destroy_empty();
         allocator.cleanup(&mut device);
         allocator.close();
@@ -277,13 +296,12 @@ impl<M: MemoryObject, D: MemoryDevice<M>, A: Allocator + Copy> StagingPool<M, D,
     }
 
     /// Makes a buffer as a request asks, and tells its key.
-    #[tactic(auto, using(crate::proofs::Pools::keeps_none))]
     fn make(&mut self, request: Request) -> Result<u64, StagingError>
         ensures was_free { IfOk result (λ key. buffer_at self.old key ≡ None) }
         ensures made { IfOk result (λ key. OfBuffer self.new key
             (λ b. SetsBuffer self.old self.new key (Some b) × (request.size ≤ b.size))) }
         ensures refused { OnErr result (SameBuffers self.old self.new) }
-        ensures keeps { Keeps D.objects self.old self.new (λ _. ⊤) }
+        ensures keeps { Keeps D.properties D.objects self.old self.new (λ _. ⊤) }
     {
         if !request.is_askable(false) {
             return Err(StagingError::NotAskable);
@@ -310,7 +328,7 @@ impl<M: MemoryObject, D: MemoryDevice<M>, A: Allocator + Copy> StagingPool<M, D,
         requires { OfBuffer self.old key (λ b. length bytes.now ≤ b.size) }
         ensures stored { OnOk result (OfBuffer self.old key (λ b. Stores b 0 bytes.now (D.objects self.new.device))) }
         ensures buffers { SameBuffers self.old self.new }
-        ensures keeps { Keeps D.objects self.old self.new (λ other. other ≢ key) }
+        ensures keeps { Keeps D.properties D.objects self.old self.new (λ other. other ≢ key) }
     {
         match self.buffers.get_mut(&key) {
             Some(buffer) => buffer.write_bytes(&mut self.device, 0, bytes),
@@ -326,7 +344,7 @@ impl<M: MemoryObject, D: MemoryDevice<M>, A: Allocator + Copy> StagingPool<M, D,
         ensures refused { OnErr result (bytes.new ≡ bytes.old) }
         ensures buffers { SameBuffers self.old self.new }
         ensures unmoved { (c : Block) → HasSameDeviceBytes c (D.objects self.old.device) (D.objects self.new.device) }
-        ensures keeps { Keeps D.objects self.old self.new (λ other. other ≢ key) }
+        ensures keeps { Keeps D.properties D.objects self.old self.new (λ other. other ≢ key) }
     {
         match self.buffers.get_mut(&key) {
             Some(buffer) => {

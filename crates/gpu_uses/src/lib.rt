@@ -12,5 +12,4 @@ pub mod opening;
 pub mod returning;
 pub mod session;
 pub mod shared;
-pub mod staging;
 pub mod upload;

@@ -1,4 +1,5 @@
 use Rattle.std.proofs.Common.{arith}
+use Rattle.gpu_clients.proofs.Pools.{keeps_none}
 use Rattle.gpu_clients.proofs.staging.StagingPool.retire.Goals as goal
 
 pub dealloc-requires-clause-owned : goal.dealloc-requires-clause-owned
@@ -14,4 +15,7 @@ invariant_of-self g c = record {
 pub returns-clause-keeps : goal.returns-clause-keeps
 returns-clause-keeps g c =
     let kept = c.dealloc.ensures.in_hand.kept _ _ c.args.key c.self.invariant.kept c.take-buffer.ensures.had c.take-buffer.ensures.taken in
-    rw (← c.self.view_is) (record { bytes = λ key b _ _ now. c.dealloc.ensures.in_hand.bytes b (kept.owned key b now); beside = c.dealloc.ensures.in_hand.outside })
+    rw (← c.self.view_is) (record { bytes = λ key b _ _ now. c.dealloc.ensures.in_hand.bytes b (kept.owned key b now); beside = c.dealloc.ensures.in_hand.outside; properties = c.dealloc.ensures.properties })
+
+pub returns-then-not-contains_key-clause-keeps : goal.returns-then-not-contains_key-clause-keeps
+returns-then-not-contains_key-clause-keeps g c = keeps_none _
