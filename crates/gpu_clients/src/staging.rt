@@ -187,7 +187,7 @@ impl<M: MemoryObject, D: MemoryDevice<M>, A: Allocator + Copy> StagingPool<M, D,
     ///
     /// Refused are: `UnknownKey`, `BadRange` where the range passes the buffer's end, and `NoAccess`; `bytes` are then
     /// as before.
-    #[tactic(auto, using(crate::proofs::Pools::none_moved))]
+    #[tactic(auto, unfolding(gpu_alloc_block::specs::Contents::HasSameDeviceBytes))]
     pub fn download(
         &mut self,
         key: u64,
@@ -202,6 +202,7 @@ impl<M: MemoryObject, D: MemoryDevice<M>, A: Allocator + Copy> StagingPool<M, D,
         ensures unmoved { (c : Block) → HasSameDeviceBytes c (D.objects self.old.device) (D.objects self.new.device) }
         ensures keeps { Keeps D.properties D.objects self.old self.new (λ other. other ≢ key) }
     {
+        bytes_stay();
         self.has_range(key, offset, bytes.len() as u64)?;
         match self.fetch(key, offset, bytes) {
             Ok(()) => Ok(()),
@@ -216,6 +217,7 @@ impl<M: MemoryObject, D: MemoryDevice<M>, A: Allocator + Copy> StagingPool<M, D,
         ensures fewer { IsTrue result → length self.new.buffers + 1 ≡ length self.old.buffers }
         ensures keeps { Keeps D.properties D.objects self.old self.new (λ _. ⊤) }
     {
+        bytes_stay();
         if !self.buffers.contains_key(&key) {
             return false;
         }
@@ -303,6 +305,7 @@ impl<M: MemoryObject, D: MemoryDevice<M>, A: Allocator + Copy> StagingPool<M, D,
         ensures refused { OnErr result (SameBuffers self.old self.new) }
         ensures keeps { Keeps D.properties D.objects self.old self.new (λ _. ⊤) }
     {
+        bytes_stay();
         if !request.is_askable(false) {
             return Err(StagingError::NotAskable);
         }

@@ -2,7 +2,6 @@ use Rattle.std.proofs.Common.{arith, ap, subst, sym, ◌∙◌}
 use Rattle.std.specs.FinSet as set
 use Rattle.gpu_alloc_block.specs.State.{State}
 use Rattle.gpu_clients.specs.Staging.{IsKept}
-use Rattle.gpu_clients.proofs.Pools.{keeps_none}
 use Rattle.gpu_clients.proofs.staging.StagingPool.make.Goals as goal
 
 pub invariant_of-self-in-Ok : goal.invariant_of-self-in-Ok
@@ -15,11 +14,3 @@ invariant_of-self-in-Err g c =
     let was = subst (λ es. IsKept g.D.MemoryDevice.properties g.D.MemoryDevice.objects (record { allocator = c.self.inside.allocator; device = c.self.inside.device; buffers = es })) (sym c.reserve.ensures.entries) c.self.invariant in
     record { agrees = c.alloc.ensures.agrees; kept = c.alloc.ensures.in_hand.kept _ was.kept; count = ap (λ (s : State). set.len s.live) c.in-Err.ensures.refused ∙ was.count }
 
-pub returns-then-not-is_askable-clause-keeps : goal.returns-then-not-is_askable-clause-keeps
-returns-then-not-is_askable-clause-keeps g c = keeps_none _
-
-pub returns-then-contains_key-clause-keeps : goal.returns-then-contains_key-clause-keeps
-returns-then-contains_key-clause-keeps g c = keeps_none _
-
-pub returns-then-is_err-clause-keeps : goal.returns-then-is_err-clause-keeps
-returns-then-is_err-clause-keeps g c = rw (← c.self.view_is, c.reserve.ensures.entries) (keeps_none _)
