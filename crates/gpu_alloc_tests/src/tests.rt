@@ -14,6 +14,7 @@ mod offers;
 mod pair;
 mod pieces;
 mod ranges;
+mod report;
 mod runs;
 mod same;
 mod sim;

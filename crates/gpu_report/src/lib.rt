@@ -11,6 +11,7 @@ mod part;
 mod places;
 mod report;
 mod sums;
+pub mod uses;
 
 pub use error::ReportError;
 pub use live::LiveBlock;
