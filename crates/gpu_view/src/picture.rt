@@ -82,7 +82,7 @@ impl Page<'_, '_> {
     fn draw_ledger(&mut self, index: u64, heap: &HeapReport) -> Result<(), AllocError> {
         let report = self.report;
         let whole = as_u64(heap.used.max(u128::from(heap.size)));
-        let strip = Strip::new(whole, count_of(report.kinds.len().saturating_add(1)), whole);
+        let strip = Strip::new(whole, ranges_of(report, self.types, index, heap), whole);
         let mut at = 0u128;
         let mut count = 0u64;
         for kind in &report.kinds {
@@ -96,8 +96,9 @@ impl Page<'_, '_> {
             }
         }
         let start = strip.edge(count, as_u64(at));
-        let rest = Span { start, end: ROW };
-        self.drawing.range(rest, FREE, Title::Budget(heap.budget))
+        let end = if heap.budget > 0 { strip.length } else { start };
+        self.drawing
+            .range(Span { start, end }, FREE, Title::Budget(heap.budget))
     }
 
     /// A memory type, with what it holds.
@@ -260,6 +261,19 @@ fn is_of(object: &ObjectReport, kind: &KindReport) -> bool {
 /// The heap of a memory type, if there is that type.
 fn heap_of(types: &[MemoryType], number: u32) -> Option<u64> {
     Some(u64::from(types.get(number as usize)?.heap))
+}
+
+/// How many ranges a heap's bar has: one for each type and kind that it holds, and one for what is left, if that is some.
+fn ranges_of(report: &Report, types: &[MemoryType], index: u64, heap: &HeapReport) -> u64
+    ensures { result < 2 ^ 32 }
+{
+    let mut ranges = usize::from(heap.budget > 0);
+    for kind in &report.kinds {
+        if heap_of(types, kind.memory_type) == Some(index) {
+            ranges = ranges.saturating_add(1);
+        }
+    }
+    count_of(ranges)
 }
 
 /// A number, cut to 64 bits.

@@ -15,7 +15,7 @@ pub const LEAST: u64 = 3;
 pub const EACH: u64 = 5;
 
 /// How far two strips lie apart.
-pub const GAP: u64 = 8;
+pub const GAP: u64 = 6;
 
 /// How far into a line of `length` that lies which is `part` into `whole`, rounded down. What is past the whole lies at
 /// the line's end, and of nothing all lies at its start.
