@@ -6,7 +6,8 @@ use gpu_script_language::{open, parse};
 use std::test::Fail;
 
 /// Two blocks of one buddy chunk of 8192 bytes, and an object of 100.
-const SCRIPT: &str = "heap 1048576\ntype 0 2\natom 64\nalloc 1 100 0 2 1\nalloc 2 10 0 2 1\nrequired 3 100 0 2 1";
+const SCRIPT: &str =
+    "heap 1048576\ntype 0 2\natom 64\nalloc 1 100 0 2 1\nalloc 2 10 0 2 1\nrequired 3 100 0 2 1";
 
 /// 64 + 256 + 512 + 1024 + 2048 + 4096 bytes are free, the first four of them in ranges below 2048.
 const REPORT: &str = concat!(
