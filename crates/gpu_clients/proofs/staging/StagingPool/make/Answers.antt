@@ -13,4 +13,3 @@ pub invariant_of-self-in-Err : goal.invariant_of-self-in-Err
 invariant_of-self-in-Err g c =
     let was = subst (λ es. IsKept g.D.MemoryDevice.properties g.D.MemoryDevice.objects (record { allocator = c.self.inside.allocator; device = c.self.inside.device; buffers = es })) (sym c.reserve.ensures.entries) c.self.invariant in
     record { agrees = c.alloc.ensures.agrees; kept = c.alloc.ensures.in_hand.kept _ was.kept; count = ap (λ (s : State). set.len s.live) c.in-Err.ensures.refused ∙ was.count }
-
