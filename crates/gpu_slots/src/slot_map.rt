@@ -6,7 +6,7 @@ ghost use Rattle.std.specs.Borrow.{sem};
 ghost use Rattle.std.specs.FinMap as map;
 ghost use Rattle.gpu_slots.specs.SlotMap.{generation_of, IsGiven, IsGone, StaysGone};
 
-use std::alloc::{AllocError, Global};
+use std::alloc::{AllocError, Allocator, Global};
 use std::marker::Model;
 use std::mem;
 
@@ -42,14 +42,14 @@ impl<T> Place<T> {
 /// generations are used up is never used again. Each call takes a number of steps that hangs on no count, but where
 /// `reserve` moves the values to more memory.
 #[derive(Drop)]
-pub struct SlotMap<T> {
-    places: Vec<Place<T>>,
+pub struct SlotMap<T, A: Allocator = Global> {
+    places: Vec<Place<T>, A>,
     // The places that have no value and a generation left.
-    free: Vec<u32>,
+    free: Vec<u32, A>,
     len: usize,
 }
 
-impl<T> Model for SlotMap<T> {
+impl<T, A: Allocator> Model for SlotMap<T, A> {
     ghost use Rattle.gpu_slots.specs.SlotMap.{SlotState, slots_code};
 
     ghost Value = { SlotState T };
@@ -68,11 +68,9 @@ impl<T> Model for SlotMap<T> {
     ghost invariant = { λ s. IsSound s.places.items s.free.items s.len (vec_capacity s.free) };
 }
 
-impl<T> SlotMap<T> {
-    ghost use Rattle.gpu_slots.specs.Lends.{lends_get, lends_value};
-
+impl<T, A: Allocator + Copy> SlotMap<T, A> {
     /// No value. `alloc` gives the memory of the values, of which this call takes none.
-    pub fn new(alloc: Global) -> SlotMap<T>
+    pub fn new(alloc: A) -> SlotMap<T, A>
         ensures live { result.live ≡ map.empty }
         ensures generations { result.generations ≡ [] }
     {
@@ -82,6 +80,10 @@ impl<T> SlotMap<T> {
             len: 0,
         }
     }
+}
+
+impl<T, A: Allocator> SlotMap<T, A> {
+    ghost use Rattle.gpu_slots.specs.Lends.{lends_get, lends_value};
 
     /// How many values there are.
     pub fn len(&self) -> usize
@@ -155,7 +157,7 @@ impl<T> SlotMap<T> {
 
     /// The value under a key for writing, or `None` where the key is not live.
     pub fn get_mut(&mut self, key: u64) -> Option<&mut T>
-        ensures* writes_back { sem 𝓛 (lends_get T.row key self.entry result) }
+        ensures* writes_back { sem 𝓛 (lends_get T.row A.row A.Allocator self.entry key result) }
         ensures value { option_copied_mut result ≡ map.get self.old.live key }
     {
         if self.get(key).is_some() {
@@ -167,7 +169,7 @@ impl<T> SlotMap<T> {
 
     fn value_mut(&mut self, key: u64) -> &mut T
         requires { IsSome (map.get self.old.live key) }
-        ensures* writes_back { sem 𝓛 (lends_value T.row key self.entry result) }
+        ensures* writes_back { sem 𝓛 (lends_value T.row A.row A.Allocator self.entry key result) }
         ensures value { map.get self.old.live key ≡ Some result.now }
     {
         self.places[(key % SPAN) as usize].value_mut()
