@@ -1,5 +1,5 @@
 -- What a contract sees of a `SlotMap`.
-use Rattle.std.specs.Prelude.{◌≡◌, ◌⊎◌, ℕ, ◌/◌, ◌%◌, ◌^◌, ◌<◌, List, None, IsSome, slice_index, refl}
+use Rattle.std.specs.Prelude.{◌≡◌, ◌≢◌, ◌⊎◌, ℕ, ◌+◌, ◌/◌, ◌%◌, ◌^◌, ◌<◌, List, Some, None, IsSome, slice_index, refl}
 use Rattle.std.specs.Coded.{Coded, code_by, coded×, coded_ℕ, coded_list}
 use Rattle.std.specs.FinMap as map
 use Rattle.std.specs.FinMap.{FinMap}
@@ -44,3 +44,11 @@ IsGone s key = IsGiven s key × (map.get s.live key ≡ None)
 -- each key that was gone is gone still
 abbrev pub StaysGone : {T : Type 0} → SlotState T → SlotState T → Type 0
 StaysGone old new = (key : ℕ) → IsGone old key → IsGone new key
+
+-- Of the values by key one is taken: its key has none from then on, and each other key what it had.
+pub record TakesOne {T : Type 0} (old : FinMap nat_cmp T) (value : T) (new : FinMap nat_cmp T) : Type 0 where
+  pub key : ℕ
+  pub taken : map.get old key ≡ Some value
+  pub gone : map.get new key ≡ None
+  pub others : (other : ℕ) → other ≢ key → map.get new other ≡ map.get old other
+  pub count : map.len old ≡ map.len new + 1

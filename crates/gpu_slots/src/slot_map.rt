@@ -1,10 +1,10 @@
 //! Values under keys with generations.
 
-ghost use Rattle.std.specs.Prelude.{◌≡◌, ◌≢◌, ℕ, ◌+◌, ◌^◌, ◌<◌, ◌≤◌, ◌==◌, ◌↔◌, ◌⊎◌, [], OnOk, IsOk, OnSome, IsSome, Some, option_copied};
+ghost use Rattle.std.specs.Prelude.{◌≡◌, ◌≢◌, ℕ, ◌+◌, ◌^◌, ◌<◌, ◌≤◌, ◌==◌, ◌↔◌, ◌⊎◌, [], OnOk, IsOk, OnSome, IfSome, IsSome, Some, None, option_copied};
 ghost use Rattle.std.specs.Option.{option_copied_mut};
 ghost use Rattle.std.specs.Borrow.{sem};
 ghost use Rattle.std.specs.FinMap as map;
-ghost use Rattle.gpu_slots.specs.SlotMap.{generation_of, IsGiven, IsGone, StaysGone};
+ghost use Rattle.gpu_slots.specs.SlotMap.{generation_of, IsGiven, IsGone, StaysGone, TakesOne};
 
 use std::alloc::{AllocError, Allocator, Global};
 use std::marker::Model;
@@ -202,15 +202,75 @@ impl<T, A: Allocator> SlotMap<T, A> {
         value
     }
 
-    /// Ends a map that has no value (`is_empty` tells). A map of values that can't be dropped ends so alone.
-    pub fn destroy_empty(self)
-        requires { map.len self.live ≡ 0 }
+    /// Ends the map, and gives its values one after another.
+    pub fn into_values(self) -> Values<T, A>
+        ensures { result ≡ self.live }
     {
         let SlotMap {
-            mut places,
+            places,
             free: _,
             len: _,
         } = self;
+        Values { places }
+    }
+
+    /// Ends a map that has no value (`is_empty` tells). A map of values that can't be dropped ends so, or by
+    /// [`into_values`](SlotMap::into_values).
+    pub fn destroy_empty(self)
+        requires { map.len self.live ≡ 0 }
+    {
+        self.into_values().destroy_empty();
+    }
+}
+
+/// The values of a map that has ended, in no order that is told. Contracts see them by the keys that they had.
+#[derive(Drop)]
+pub struct Values<T, A: Allocator = Global> {
+    places: Vec<Place<T>, A>,
+}
+
+impl<T, A: Allocator> Model for Values<T, A> {
+    ghost use Rattle.std.specs.Prelude.{◌^◌, ◌≤◌, length};
+    ghost use Rattle.std.specs.FinMap as map;
+    ghost use Rattle.std.specs.Ordering.{nat_cmp};
+    ghost use Rattle.std.specs.Coded.{coded_ℕ};
+
+    ghost Value = { map.FinMap nat_cmp T };
+
+    ghost coded = { map.code coded_ℕ T.code };
+
+    ghost use Rattle.gpu_slots.specs.Places.{live_in};
+
+    ghost view = { λ v. live_in v.places.items };
+
+    ghost invariant = { λ v. length v.places.items ≤ 2 ^ 32 };
+}
+
+impl<T, A: Allocator> Values<T, A> {
+    /// One of the values, or `None` where there is none. The places of all together are gone through once.
+    pub fn next(&mut self) -> Option<T>
+        ensures taken { IfSome result (λ value. TakesOne self.old value self.new) }
+        ensures ended { result ≡ None → map.len self.old ≡ 0 }
+        ensures stays { result ≡ None → self.new ≡ self.old }
+    {
+        while let Some(place) = self.places.pop() {
+            let Place {
+                generation: _,
+                value,
+            } = place;
+            match value {
+                Some(value) => return Some(value),
+                None => continue,
+            }
+        }
+        None
+    }
+
+    /// Ends them once there is none.
+    pub fn destroy_empty(self)
+        requires { map.len self ≡ 0 }
+    {
+        let Values { mut places } = self;
         while let Some(place) = places.pop() {
             let Place {
                 generation: _,
