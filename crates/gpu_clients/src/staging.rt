@@ -1,0 +1,1 @@
+//! Staging buffers, in which the host hands bytes to the device.
