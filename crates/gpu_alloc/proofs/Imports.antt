@@ -1,5 +1,5 @@
 -- What an import adds, and that allocator, block and device agree after it.
-use Rattle.std.proofs.Common.{◌≡◌, ◌≢◌, ◌⊎◌, ◌↔◌, inl, inr, ℕ, ◌+◌, ◌-◌, ◌%◌, ◌<◌, ◌≤◌, Bool, true, false, cond, Option, Some, None, IfSome, Result, Ok, Err, IfOk, OnErr, refl, sym, ◌∙◌, ap, subst, arith}
+use Rattle.std.proofs.Common.{◌≡◌, ◌≢◌, ◌⊎◌, ◌↔◌, inl, inr, ℕ, ◌+◌, ◌-◌, ◌%◌, ◌<◌, ◌≤◌, Bool, true, false, cond, Option, Some, None, IfSome, is_some, Result, Ok, Err, IfOk, OnErr, refl, sym, ◌∙◌, ap, subst, arith}
 use Rattle.std.proofs.Math.Nat.{mod-one}
 use Rattle.std.specs.FinMap as map
 use Rattle.std.specs.Result.{result_map_both}
@@ -11,14 +11,15 @@ use Rattle.gpu_alloc_types.specs.Properties.{Properties, atom_of, is_non_coheren
 use Rattle.gpu_alloc_block.specs.Agreement.{Agrees, BlockAgrees, IsHeldFor, IsInside, IsThere}
 use Rattle.gpu_alloc_block.specs.State.{AreApart, Block, HeldObject, IsLive, IsOwned, Span, State, span_of, total}
 use Rattle.gpu_alloc.specs.Candidates.{holding}
-use Rattle.gpu_alloc.specs.Importing.{ImportAgrees, Imports, IsImportable, MayBeImported, imported_block, imported_object}
+use Rattle.gpu_alloc.specs.Importing.{ImportAgrees, Imports, ImportsInHand, IsImportable, MayBeImported, imported_block, imported_object}
 use Rattle.gpu_alloc.specs.Owned.{Adds, Leaves}
 use Rattle.gpu_alloc.specs.Sound.{IsSound}
 use Rattle.gpu_alloc_base.proofs.Maps.{own_inserted}
-use Rattle.gpu_alloc_base.proofs.Names.{len_put}
+use Rattle.gpu_alloc_base.proofs.Names.{get_put-other, len_put}
 use Rattle.gpu_alloc.proofs.Agreeing.{IsOlder, agrees_kept, agrees_more, not_held, older_but}
 use Rattle.gpu_alloc.proofs.BlocksAgreed.{block_kept}
 use Rattle.gpu_alloc.proofs.Changes.{Grows, holds_one_more}
+use Rattle.gpu_alloc.proofs.InHand.{held_not_outside, more_in_hand, same_outside, unasked_kept}
 use Rattle.gpu_alloc.proofs.Owning.{grant_adds, grant_leaves, left_as_it_was}
 use Rattle.gpu_alloc_block.proofs.LiveSpans.{live_before, live_new}
 
@@ -143,6 +144,21 @@ module _ {E : Type 0} (s : State) (object memory_type offset size : ℕ) (new : 
   pub answer_agrees : (answer : Result Block E) → IfOk answer (Imports s object memory_type offset size new) → IsSound s → IfOk answer (ImportAgrees s object memory_type offset size new)
   answer_agrees (Ok b) is sound = imports_agree s object memory_type offset size new b is sound free
   answer_agrees (Err e) is sound = tt
+
+  pub answer_in_hand : (answer : Result Block E) → IfOk answer (Imports s object memory_type offset size new) → IfOk answer (ImportAgrees s object memory_type offset size new) → IfOk answer (Adds s new) → Leaves s new
+      → IfOk answer (ImportsInHand s object memory_type offset size new)
+  unfolding ImportAgrees
+  answer_in_hand (Ok b) is agrees adds leaves =
+      let named = ap (λ (x : Block). x.object) is.block in
+      record {
+        kept = unasked_kept s new leaves;
+        joins = λ p objects old may. more_in_hand s p objects new p objects (λ bs owned are. are) (unasked_kept s new leaves p objects) b is.owned (agrees p objects old may).1 adds;
+        taken = λ objects. held_not_outside new objects object (ap is_some (ap (map.get new.held) (sym named) ∙ is.owned.held.1));
+        others = λ objects name other.
+            same_outside s new objects objects name
+            (ap (λ (t : State). map.get t.held name) is.state ∙ get_put-other s.held b.object (imported_object memory_type size) name (λ same. other (same ∙ named))) refl;
+      }
+  answer_in_hand (Err e) is agrees adds leaves = tt
 
 -- A device made an object for its caller.
 module _ (p q : Properties) (old new : ℕ → Option Object) (name memory_type size : ℕ) (same : q ≡ p) (free : old name ≡ None) (o : Object) (fresh : IsFresh size memory_type o) (more : new ≡ put old name (Some o)) where

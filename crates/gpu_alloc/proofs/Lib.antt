@@ -16,6 +16,7 @@ pub mod Grants
 pub mod HandedOn
 pub mod HeapLists
 pub mod Imports
+pub mod InHand
 pub mod Ledgers
 pub mod NewObjects
 pub mod Opened

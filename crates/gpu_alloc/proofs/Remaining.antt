@@ -7,6 +7,7 @@ use Rattle.gpu_alloc_block.specs.Agreement.{Agrees, IsThere}
 use Rattle.gpu_alloc_block.specs.State.{Block, HeldObject, IsOwned, State}
 use Rattle.gpu_alloc.specs.Owned.{AreOwned, Leaves, StaysAgreed}
 use Rattle.gpu_alloc.proofs.Agreeing.{there_kept}
+use Rattle.gpu_alloc.proofs.InHand.{unasked_in_hand}
 
 module _ (s : State) (remaining : ℕ) where
   abbrev now : State
@@ -33,4 +34,4 @@ pub remaining_leaves : (s new : State) (remaining : ℕ) → new ≡ record s { 
 remaining_leaves s new remaining is = subst (Leaves s) (sym is) (leaves s remaining)
 
 pub remaining_agrees : (s new : State) (remaining : ℕ) → new ≡ record s { remaining = remaining } → StaysAgreed s new
-remaining_agrees s new remaining is = subst (StaysAgreed s) (sym is) (record { each = agrees s remaining })
+remaining_agrees s new remaining is = subst (StaysAgreed s) (sym is) (record { each = agrees s remaining; in_hand = λ p objects. unasked_in_hand s (now s remaining) (leaves s remaining) p objects refl })

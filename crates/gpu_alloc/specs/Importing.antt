@@ -1,5 +1,5 @@
 -- What an import adds, and when allocator and device agree afterwards.
-use Rattle.std.specs.Prelude.{◌≡◌, ◌⊎◌, ◌↔◌, ℕ, ◌+◌, ◌%◌, ◌≤◌, true, Option, None, Result, IfOk}
+use Rattle.std.specs.Prelude.{◌≡◌, ◌≢◌, ◌⊎◌, ◌↔◌, ℕ, ◌+◌, ◌%◌, ◌≤◌, true, Option, None, Result, IfOk}
 use Rattle.std.specs.FinMap as map
 use Rattle.std.specs.Result.{result_map_both}
 use Rattle.gpu_alloc_types.specs.declared.types.OutOfMemory.{OutOfMemory}
@@ -7,6 +7,7 @@ use Rattle.gpu_alloc_types.specs.Device.{Object, Event, HeldWith}
 use Rattle.gpu_alloc_types.specs.Device.Event.{Allocated, Deallocated}
 use Rattle.gpu_alloc_types.specs.Properties.{Properties, is_non_coherent}
 use Rattle.gpu_alloc_block.specs.Agreement.{Agrees, BlockAgrees}
+use Rattle.gpu_alloc_block.specs.Kept.{AddsInHand, AreKept, outside}
 use Rattle.gpu_alloc_block.specs.State.{HeldObject, Block, State, granted_block, IsOwned}
 use Rattle.gpu_alloc_block.specs.declared.block.Kind.TheVariants.{Imported}
 use Rattle.gpu_alloc.specs.Candidates.{holding}
@@ -54,6 +55,17 @@ pub record ImportsAgree : Type 0 where
   pub block : (s new : State) (b : Block) (object memory_type offset size : ℕ) (p : Properties)
       (objects : ℕ → Option Object) → ImportAgrees s object memory_type offset size new b → Agrees s p objects
       → MayBeImported p objects object memory_type offset size → BlockAgrees b p objects
+
+-- Whatever the device, of which no byte changes: blocks in hand stay so, and where it agreed with the allocator and held
+-- such an object, the block joins them. Of what was outside the allocator it takes the object, and nothing else.
+pub record ImportsInHand (s : State) (object memory_type offset size : ℕ) (new : State) (b : Block) : Type 0 where
+  pub kept : (p : Properties) (objects : ℕ → Option Object) (at : ℕ → Option Block) → AreKept s p objects at
+      → AreKept new p objects at
+  pub joins : (p : Properties) (objects : ℕ → Option Object) → Agrees s p objects
+      → MayBeImported p objects object memory_type offset size → AddsInHand s p objects new p objects b
+  pub taken : (objects : ℕ → Option Object) → outside new objects object ≡ None
+  pub others : (objects : ℕ → Option Object) (name : ℕ) → name ≢ object
+      → outside new objects name ≡ outside s objects name
 
 -- Which objects may be imported: exactly these. Where the range starts is left open, so one that ends where another
 -- does may be imported as that one may, and so may one that ends before it on the atom.

@@ -41,6 +41,8 @@ pub use Rattle.gpu_alloc_base.specs.Wanted
 pub use Rattle.gpu_alloc_block.specs.Agreement
 pub use Rattle.gpu_alloc_block.specs.ByteCalls
 pub use Rattle.gpu_alloc_block.specs.Bytes
+pub use Rattle.gpu_alloc_block.specs.Contents
+pub use Rattle.gpu_alloc_block.specs.Kept
 pub use Rattle.gpu_alloc_block.specs.Mapped
 pub use Rattle.gpu_alloc_block.specs.Ranges
 pub use Rattle.gpu_alloc_block.specs.State

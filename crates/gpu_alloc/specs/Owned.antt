@@ -6,6 +6,7 @@ use Rattle.gpu_alloc_types.specs.Device.{Object}
 use Rattle.gpu_alloc_types.specs.Properties.{Properties}
 use Rattle.gpu_alloc_block.specs.Agreement.{Agrees}
 pub use Rattle.gpu_alloc_block.specs.InHand.{AreTwo, ShareNoObject, IsBeside, AreOwned, IsSameBlock}
+use Rattle.gpu_alloc_block.specs.Kept.{LeavesInHand}
 use Rattle.gpu_alloc_block.specs.State.{HeldObject, State, Block, span_of, IsOwned}
 
 -- What a call leaves that takes no block back: what was given to `new`, and each block that was owned.
@@ -61,6 +62,8 @@ pub record LeavesNoRest (s new : State) : Type 0 where
   pub live : new.live ≡ s.live
   pub held : set.len s.live ≡ 0 → map.len new.held ≡ 0
 
--- Whatever the device: where it agreed with the allocator before a call that asks no device, it does so afterwards.
+-- Whatever the device: where it agreed with the allocator before a call that asks no device, it does so afterwards, and
+-- blocks in hand stay so.
 pub record StaysAgreed (s new : State) : Type 0 where
   pub each : (p : Properties) (objects : ℕ → Option Object) → Agrees s p objects → Agrees new p objects
+  pub in_hand : (p : Properties) (objects : ℕ → Option Object) → LeavesInHand s p objects new p objects

@@ -8,6 +8,7 @@ ghost use Rattle.gpu_alloc_types.specs.Properties.{IsUsable, properties_of, heap
 ghost use Rattle.gpu_alloc_types.specs.Flags.{has_bit, usage_bits};
 ghost use Rattle.gpu_alloc_types.specs.Device.{Event, Chain};
 ghost use Rattle.gpu_alloc_block.specs.Agreement.{Agrees, BlockAgrees, KeepsBlocks};
+ghost use Rattle.gpu_alloc_block.specs.Kept.{LeavesInHand, AddsInHand, RemovesInHand};
 ghost use Rattle.gpu_alloc.specs.Allocation.{passing, strategy, unhinted, fits_a_chunk, Tries, TriesBy, TriesAll};
 ghost use Rattle.gpu_alloc_usage.specs.Ranking.{implied, named, ranking};
 ghost use Rattle.gpu_alloc.specs.Allocation.{Allocates, ObjectsAfter, ObjectsTried, IsGranted, candidates_of};
@@ -205,6 +206,11 @@ impl<M: MemoryObject, A: Allocator> GpuAllocator<M, A> {
         ensures leaves { Leaves self.old self.new }
         ensures keeps { KeepsBlocks self.old (D.properties device.old) (D.objects device.old)
             self.new (D.properties device.new) (D.objects device.new) }
+        ensures in_hand { LeavesInHand self.old (D.properties device.old) (D.objects device.old)
+            self.new (D.properties device.new) (D.objects device.new) }
+        ensures joins { IfOk result (AddsInHand self.old (D.properties device.old) (D.objects device.old)
+            self.new (D.properties device.new) (D.objects device.new)) }
+        ensures properties { D.properties device.new ≡ D.properties device.old }
         ensures total { total self.new ≡ total self.old }
         ensures sound { Sound.IsSound self.new }
     {
@@ -245,6 +251,11 @@ impl<M: MemoryObject, A: Allocator> GpuAllocator<M, A> {
         ensures leaves { Leaves self.old self.new }
         ensures keeps { KeepsBlocks self.old (D.properties device.old) (D.objects device.old)
             self.new (D.properties device.new) (D.objects device.new) }
+        ensures in_hand { LeavesInHand self.old (D.properties device.old) (D.objects device.old)
+            self.new (D.properties device.new) (D.objects device.new) }
+        ensures joins { IfOk result (AddsInHand self.old (D.properties device.old) (D.objects device.old)
+            self.new (D.properties device.new) (D.objects device.new)) }
+        ensures properties { D.properties device.new ≡ D.properties device.old }
         ensures total { total self.new ≡ total self.old }
         ensures sound { Sound.IsSound self.new }
     {
@@ -642,6 +653,9 @@ impl<M: MemoryObject, A: Allocator> GpuAllocator<M, A> {
         ensures removed { Removes self.old block self.new }
         ensures keeps { KeepsBlocks self.old (D.properties device.old) (D.objects device.old)
             self.new (D.properties device.new) (D.objects device.new) }
+        ensures in_hand { RemovesInHand self.old (D.properties device.old) (D.objects device.old) block
+            self.new (D.properties device.new) (D.objects device.new) }
+        ensures properties { D.properties device.new ≡ D.properties device.old }
         ensures total { total self.new ≡ total self.old }
         ensures sound { Sound.IsSound self.new }
     {
@@ -664,6 +678,9 @@ impl<M: MemoryObject, A: Allocator> GpuAllocator<M, A> {
         ensures leaves { Leaves self.old self.new }
         ensures keeps { KeepsBlocks self.old (D.properties device.old) (D.objects device.old)
             self.new (D.properties device.new) (D.objects device.new) }
+        ensures in_hand { LeavesInHand self.old (D.properties device.old) (D.objects device.old)
+            self.new (D.properties device.new) (D.objects device.new) }
+        ensures properties { D.properties device.new ≡ D.properties device.old }
         ensures rest { LeavesNoRest self.old self.new }
         ensures total { total self.new ≡ total self.old }
         ensures left { (object : ℕ) (h : HeldObject) → map.get self.new.held object ≡ Some h

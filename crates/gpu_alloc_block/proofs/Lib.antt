@@ -1,8 +1,10 @@
 pub mod Between
 pub mod ByteCalls
 pub mod Changes
+pub mod Contents
 pub mod Copies
 pub mod Keeping
+pub mod Kept
 pub mod LiveSpans
 pub mod Moving
 pub mod Opened

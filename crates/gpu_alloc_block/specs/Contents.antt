@@ -20,6 +20,10 @@ AreSame old new k = (host_at new k ≡ host_at old k) × (device_at new k ≡ de
 unfoldable pub HasSameBytes : Block → (old new : ℕ → Option Object) → Type 0
 HasSameBytes b old new = (k : ℕ) → b.offset ≤ k → k < b.offset + b.size → AreSame (old b.object) (new b.object) k
 
+-- Of the block's object the device has each byte as it had it.
+unfoldable pub HasSameDeviceBytes : Block → (old new : ℕ → Option Object) → Type 0
+HasSameDeviceBytes b old new = (k : ℕ) → device_at (new b.object) k ≡ device_at (old b.object) k
+
 -- The device has these bytes in the block, the first of them at this offset from the block's start.
 unfoldable pub Stores : Block → (offset : ℕ) → List ℕ → (ℕ → Option Object) → Type 0
 Stores b offset bytes objects =
@@ -32,3 +36,5 @@ pub record BytesStay : Type 0 where
       → HasSameBytes b old new
   pub stored : (b : Block) (offset : ℕ) (bytes : List ℕ) (old new : ℕ → Option Object) → offset + length bytes ≤ b.size
       → Stores b offset bytes old → HasSameBytes b old new → Stores b offset bytes new
+  pub device : (b : Block) (offset : ℕ) (bytes : List ℕ) (old new : ℕ → Option Object) → Stores b offset bytes old
+      → HasSameDeviceBytes b old new → Stores b offset bytes new

@@ -12,11 +12,13 @@ ghost use Rattle.gpu_alloc_block.specs.Agreement.{BlockAgrees, KeepsAgreement};
 ghost use Rattle.gpu_alloc_block.specs.Bytes.{AsksToWrite, EndsWrite, IsWrittenThrough, IsPartlyWritten, WritesWithin};
 ghost use Rattle.gpu_alloc_block.specs.Bytes.{AsksToRead, EndsRead, IsReadThrough, IsPartlyRead, ReadsWithin};
 ghost use Rattle.gpu_alloc_block.specs.Bytes.{ChangesBytes, IsOpen, putting, getting, invalidate_fails, where_non_coherent};
+ghost use Rattle.gpu_alloc_block.specs.Contents.{HasSameBytes, HasSameDeviceBytes, Stores};
 ghost use Rattle.gpu_alloc_block.specs.InHand.{IsSameBlock};
+ghost use Rattle.gpu_alloc_block.specs.Kept.{KeepsInHand};
 ghost use Rattle.gpu_alloc_block.specs.Mapped.{AsksToMap, ObjectsMapped, ObjectsUnmapped, IsClosed, mapping_of, of_own};
 ghost use Rattle.gpu_alloc_block.specs.Mapped.{refusal, unmapping};
 ghost use Rattle.gpu_alloc_block.specs.Ranges.{HasEnd, atom_end, rounded};
-ghost use Rattle.gpu_alloc_block.specs.State.{is_shared};
+ghost use Rattle.gpu_alloc_block.specs.State.{Block, is_shared};
 
 use gpu_alloc_base::MapError;
 use gpu_alloc_types::{
@@ -236,6 +238,9 @@ impl<M: MemoryObject> MemoryBlock<M> {
         ensures keeps { KeepsAgreement self.old (D.properties device.old) (D.objects device.old)
             (D.properties device.new) (D.objects device.new) }
         ensures same { IsSameBlock self.old self.new }
+        ensures bytes { (block : Block) → HasSameBytes block (D.objects device.old) (D.objects device.new) }
+        ensures in_hand { KeepsInHand self.old (D.properties device.old) (D.objects device.old) self.new
+            (D.properties device.new) (D.objects device.new) }
     {
         if let Some(refusal) = self.refusal() {
             return Err(refusal);
@@ -269,6 +274,9 @@ impl<M: MemoryObject> MemoryBlock<M> {
         ensures keeps { KeepsAgreement self.old (D.properties device.old) (D.objects device.old)
             (D.properties device.new) (D.objects device.new) }
         ensures same { IsSameBlock self.old self.new }
+        ensures bytes { (block : Block) → HasSameBytes block (D.objects device.old) (D.objects device.new) }
+        ensures in_hand { KeepsInHand self.old (D.properties device.old) (D.objects device.old) self.new
+            (D.properties device.new) (D.objects device.new) }
     {
         if self.mapping.is_none() {
             return false;
@@ -303,6 +311,7 @@ impl<M: MemoryObject> MemoryBlock<M> {
         ensures asked { OnOk result (Asked D.step device.old device.new (AsksToWrite self.old offset bytes.now)) }
         ensures written { OnOk result (ChangesBytes self.old (length bytes.now)
             (IsWrittenThrough self.old offset bytes.now) (D.objects device.old) (D.objects device.new)) }
+        ensures stored { OnOk result (Stores self.old offset bytes.now (D.objects device.new)) }
         ensures refused { IfErr result (λ e. Asked D.step device.old device.new
             (EndsWrite self.old offset bytes.now e (D.objects device.old) (D.objects device.new))) }
         ensures within { Changes (WritesWithin self.old offset (length bytes.now)) (D.objects device.old)
@@ -316,24 +325,11 @@ impl<M: MemoryObject> MemoryBlock<M> {
         ensures keeps { KeepsAgreement self.old (D.properties device.old) (D.objects device.old)
             (D.properties device.new) (D.objects device.new) }
         ensures same { IsSameBlock self.old self.new }
+        ensures in_hand { KeepsInHand self.old (D.properties device.old) (D.objects device.old) self.new
+            (D.properties device.new) (D.objects device.new) }
     {
-        if let Some(refusal) = self.refusal() {
-            return Err(refusal);
-        }
-        if bytes.is_empty() {
-            return Ok(());
-        }
-        match self.open(device, offset, bytes.len() as u64) {
-            Ok(()) => {
-                let answer = self.put(device, offset, bytes);
-                self.close(device);
-                match answer {
-                    Ok(()) => Ok(()),
-                    Err(cause) => Err(MapError::from(cause)),
-                }
-            }
-            Err(cause) => Err(MapError::from(cause)),
-        }
+        self.keeps_end();
+        self.write(device, offset, bytes)
     }
 
     /// Reads bytes of the block from `offset` on, in bytes from its start, as the device sees them: where the memory is
@@ -358,11 +354,13 @@ impl<M: MemoryObject> MemoryBlock<M> {
         ensures asked { OnOk result (Asked D.step device.old device.new (AsksToRead self.old offset bytes.new)) }
         ensures read { OnOk result (ChangesBytes self.old (length bytes.old)
             (IsReadThrough self.old offset bytes.new) (D.objects device.old) (D.objects device.new)) }
+        ensures told { OnOk result (Stores self.old offset bytes.new (D.objects device.old)) }
         ensures refused { IfErr result (λ e. Asked D.step device.old device.new
             (EndsRead self.old offset (length bytes.old) e (D.objects device.old) (D.objects device.new))) }
         ensures bytes { OnErr result (bytes.new ≡ bytes.old) }
         ensures within { Changes (ReadsWithin self.old offset (length bytes.old)) (D.objects device.old)
             self.old.object (D.objects device.new) }
+        ensures unmoved { HasSameDeviceBytes self.old (D.objects device.old) (D.objects device.new) }
         ensures empty { refusal self.old ≡ None → length bytes.old ≡ 0 → IsOk result }
         ensures sure { refusal self.old ≡ None → is_shared self.old.kind ≡ true
             → are_non_coherent self.old.props ≡ false → IsOk result }
@@ -372,25 +370,11 @@ impl<M: MemoryObject> MemoryBlock<M> {
         ensures keeps { KeepsAgreement self.old (D.properties device.old) (D.objects device.old)
             (D.properties device.new) (D.objects device.new) }
         ensures same { IsSameBlock self.old self.new }
+        ensures in_hand { KeepsInHand self.old (D.properties device.old) (D.objects device.old) self.new
+            (D.properties device.new) (D.objects device.new) }
     {
-        if let Some(refusal) = self.refusal() {
-            return Err(refusal);
-        }
-        let len = bytes.len() as u64;
-        if len == 0 {
-            return Ok(());
-        }
-        match self.open(device, offset, len) {
-            Ok(()) => {
-                let answer = self.get(device, offset, bytes);
-                self.close(device);
-                match answer {
-                    Ok(()) => Ok(()),
-                    Err(cause) => Err(MapError::from(cause)),
-                }
-            }
-            Err(cause) => Err(MapError::from(cause)),
-        }
+        self.keeps_end();
+        self.read(device, offset, bytes)
     }
 
     /// What its object is held for. It is public for the crate above.
@@ -424,6 +408,88 @@ impl<M: MemoryObject> MemoryBlock<M> {
             Some(MapError::AlreadyMapped)
         } else {
             None
+        }
+    }
+
+    /// Writes bytes: of the call's contract what tells how it went.
+    fn write<D: MemoryDevice<M>>(
+        &self,
+        device: &mut D,
+        offset: u64,
+        bytes: &[u8],
+    ) -> Result<(), MapError>
+        requires inside { offset + length bytes.now ≤ self.now.size }
+        requires agrees { BlockAgrees self.now (D.properties device.old) (D.objects device.old) }
+        ensures asked { OnOk result (Asked D.step device.old device.new (AsksToWrite self.now offset bytes.now)) }
+        ensures written { OnOk result (ChangesBytes self.now (length bytes.now)
+            (IsWrittenThrough self.now offset bytes.now) (D.objects device.old) (D.objects device.new)) }
+        ensures refused { IfErr result (λ e. Asked D.step device.old device.new
+            (EndsWrite self.now offset bytes.now e (D.objects device.old) (D.objects device.new))) }
+        ensures within { Changes (WritesWithin self.now offset (length bytes.now)) (D.objects device.old)
+            self.now.object (D.objects device.new) }
+        ensures empty { refusal self.now ≡ None → length bytes.now ≡ 0 → IsOk result }
+        ensures sure { refusal self.now ≡ None → is_shared self.now.kind ≡ true
+            → are_non_coherent self.now.props ≡ false → IsOk result }
+        ensures properties { D.properties device.new ≡ D.properties device.old }
+    {
+        if let Some(refusal) = self.refusal() {
+            return Err(refusal);
+        }
+        if bytes.is_empty() {
+            return Ok(());
+        }
+        match self.open(device, offset, bytes.len() as u64) {
+            Ok(()) => {
+                let answer = self.put(device, offset, bytes);
+                self.close(device);
+                match answer {
+                    Ok(()) => Ok(()),
+                    Err(cause) => Err(MapError::from(cause)),
+                }
+            }
+            Err(cause) => Err(MapError::from(cause)),
+        }
+    }
+
+    /// Reads bytes: of the call's contract what tells how it went.
+    fn read<D: MemoryDevice<M>>(
+        &self,
+        device: &mut D,
+        offset: u64,
+        bytes: &mut [u8],
+    ) -> Result<(), MapError>
+        requires inside { offset + length bytes.old ≤ self.now.size }
+        requires agrees { BlockAgrees self.now (D.properties device.old) (D.objects device.old) }
+        ensures asked { OnOk result (Asked D.step device.old device.new (AsksToRead self.now offset bytes.new)) }
+        ensures read { OnOk result (ChangesBytes self.now (length bytes.old)
+            (IsReadThrough self.now offset bytes.new) (D.objects device.old) (D.objects device.new)) }
+        ensures refused { IfErr result (λ e. Asked D.step device.old device.new
+            (EndsRead self.now offset (length bytes.old) e (D.objects device.old) (D.objects device.new))) }
+        ensures bytes { OnErr result (bytes.new ≡ bytes.old) }
+        ensures within { Changes (ReadsWithin self.now offset (length bytes.old)) (D.objects device.old)
+            self.now.object (D.objects device.new) }
+        ensures empty { refusal self.now ≡ None → length bytes.old ≡ 0 → IsOk result }
+        ensures sure { refusal self.now ≡ None → is_shared self.now.kind ≡ true
+            → are_non_coherent self.now.props ≡ false → IsOk result }
+        ensures properties { D.properties device.new ≡ D.properties device.old }
+    {
+        if let Some(refusal) = self.refusal() {
+            return Err(refusal);
+        }
+        let len = bytes.len() as u64;
+        if len == 0 {
+            return Ok(());
+        }
+        match self.open(device, offset, len) {
+            Ok(()) => {
+                let answer = self.get(device, offset, bytes);
+                self.close(device);
+                match answer {
+                    Ok(()) => Ok(()),
+                    Err(cause) => Err(MapError::from(cause)),
+                }
+            }
+            Err(cause) => Err(MapError::from(cause)),
         }
     }
 

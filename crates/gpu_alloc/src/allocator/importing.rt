@@ -4,7 +4,7 @@ ghost use Rattle.std.specs.Prelude.{◌≡◌, ◌+◌, ◌^◌, ◌<◌, None, 
 ghost use Rattle.std.specs.FinMap as map;
 ghost use Rattle.gpu_alloc_types.specs.Flags.{property_bits};
 ghost use Rattle.gpu_alloc_types.specs.Properties.{props_at};
-ghost use Rattle.gpu_alloc.specs.Importing.{Imports, ImportAgrees};
+ghost use Rattle.gpu_alloc.specs.Importing.{Imports, ImportAgrees, ImportsInHand};
 ghost use Rattle.gpu_alloc.specs.Owned.{Leaves, Adds};
 ghost use Rattle.gpu_alloc.specs.Sound as Sound;
 ghost use Rattle.gpu_alloc_block.specs.State.{total};
@@ -53,6 +53,7 @@ impl<M: MemoryObject, A: Allocator> GpuAllocator<M, A> {
         // What follows from it.
         ensures agrees { IfOk result (ImportAgrees self.old (M.object memory) memory_type offset size self.new) }
         ensures added { IfOk result (Adds self.old self.new) }
+        ensures in_hand { IfOk result (ImportsInHand self.old (M.object memory) memory_type offset size self.new) }
         ensures leaves { Leaves self.old self.new }
         ensures total { total self.new ≡ total self.old }
         ensures sound { Sound.IsSound self.new }

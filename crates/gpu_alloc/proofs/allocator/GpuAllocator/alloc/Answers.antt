@@ -3,6 +3,7 @@ use Rattle.gpu_alloc.proofs.Agreed.{allocates_agrees, chain_keeps}
 use Rattle.gpu_alloc.proofs.BlocksAgreed.{allocates_agrees_block, allocation_keeps_blocks}
 use Rattle.gpu_alloc.proofs.Decisions.{allocates_kept, allocates_total}
 use Rattle.gpu_alloc.proofs.Granted.{allocates_granted}
+use Rattle.gpu_alloc.proofs.InHand.{adds_in_hand, allocation_in_hand}
 use Rattle.gpu_alloc.proofs.Owning.{allocates_add, allocates_leave}
 use Rattle.gpu_alloc.proofs.allocator.GpuAllocator.alloc.Goals as goal
 
@@ -15,11 +16,13 @@ returns-clause-total g c = allocates_total c.args.self.now c.args.request None _
 pub returns-clause-granted : goal.returns-clause-granted
 returns-clause-granted g c = allocates_granted c.args.self.now c.args.request c.keeps_sound.ensures.sound c.keeps_sound.ensures.atoms c.requires.askable None _ _ _ c.allocate-answer.ensures.decided.2
 
+pub returns-clause-properties : goal.returns-clause-properties
+returns-clause-properties g c = chain_keeps g.D.ObjectDevice.step g.D.ObjectDevice.properties g.met.D.ObjectDevice.keeps_properties _ _ _ c.allocate-answer.ensures.decided.1
+
 pub returns-clause-agrees : goal.returns-clause-agrees
 returns-clause-agrees g c =
     let decided = c.allocate-answer.ensures.decided in
-    let properties = chain_keeps g.D.ObjectDevice.step g.D.ObjectDevice.properties g.met.D.ObjectDevice.keeps_properties _ _ _ decided.1 in
-    allocates_agrees c.args.self.now _ _ _ c.requires.agrees _ c.args.request None _ _ _ properties decided.2 c.allocate-answer.ensures.objects
+    allocates_agrees c.args.self.now _ _ _ c.requires.agrees _ c.args.request None _ _ _ (returns-clause-properties g c) decided.2 c.allocate-answer.ensures.objects
 
 pub returns-clause-leaves : goal.returns-clause-leaves
 returns-clause-leaves g c = allocates_leave c.args.self.now c.args.request None _ _ _ c.allocate-answer.ensures.decided.2
@@ -31,6 +34,10 @@ pub returns-clause-ready : goal.returns-clause-ready
 returns-clause-ready g c = allocates_agrees_block c.args.self.now c.args.request None _ _ _ _ _ _ c.keeps_sound-2.ensures.sound (returns-clause-agrees g c) c.allocate-answer.ensures.decided.2 (returns-clause-granted g c) c.allocate-answer.ensures.objects
 
 pub returns-clause-keeps : goal.returns-clause-keeps
-returns-clause-keeps g c =
-    let properties = chain_keeps g.D.ObjectDevice.step g.D.ObjectDevice.properties g.met.D.ObjectDevice.keeps_properties _ _ _ c.allocate-answer.ensures.decided.1 in
-    allocation_keeps_blocks c.args.self.now _ _ _ _ properties _ _ c.allocate-answer.ensures.objects
+returns-clause-keeps g c = allocation_keeps_blocks c.args.self.now _ _ _ _ (returns-clause-properties g c) _ _ c.allocate-answer.ensures.objects
+
+pub returns-clause-in_hand : goal.returns-clause-in_hand
+returns-clause-in_hand g c = allocation_in_hand c.args.self.now _ _ c.requires.agrees _ _ _ _ (returns-clause-refused g c) (returns-clause-leaves g c) (returns-clause-keeps g c) (returns-clause-added g c) c.allocate-answer.ensures.objects
+
+pub returns-clause-joins : goal.returns-clause-joins
+returns-clause-joins g c = adds_in_hand c.args.self.now _ _ _ _ _ c.args.request _ (returns-clause-in_hand g c) (returns-clause-granted g c) (returns-clause-ready g c) (returns-clause-added g c)

@@ -5,6 +5,7 @@ use Rattle.gpu_alloc.proofs.Agreed.{chain_keeps}
 use Rattle.gpu_alloc.proofs.BlocksAgreed.{cleanup_keeps_blocks}
 use Rattle.gpu_alloc.proofs.FreeLists.Cleanups.{cleaning_goes_on, all_gone, left_is}
 use Rattle.gpu_alloc.proofs.GoneBack.{cleanup_goes_back}
+use Rattle.gpu_alloc.proofs.InHand.{cleanup_in_hand}
 use Rattle.gpu_alloc.proofs.Owning.{cleans_leave, none_live}
 use Rattle.gpu_alloc_block.specs.State.{HeldObject, State}
 use Rattle.std.specs.FinMap as map
@@ -72,13 +73,18 @@ returns-clause-rest g c = record {
   held = λ none. ap map.len (returns-clause-ends g c (none_live c.args.self.now.live none)).0 ∙ map.len-empty nat_cmp HeldObject;
 }
 
+pub returns-clause-properties : goal.returns-clause-properties
+returns-clause-properties g c = chain_keeps g.D.ObjectDevice.step g.D.ObjectDevice.properties g.met.D.ObjectDevice.keeps_properties _ _ _ c.loop-memory_type.invariant.2
+
 pub returns-clause-keeps : goal.returns-clause-keeps
 returns-clause-keeps g c =
     let cleaned = returns-clause-cleaned g c in
-    let properties = chain_keeps g.D.ObjectDevice.step g.D.ObjectDevice.properties g.met.D.ObjectDevice.keeps_properties _ _ _ cleaned.1 in
-    cleanup_keeps_blocks c.args.self.now _ _ _ _ properties cleaned.0 _ cleaned.2 (returns-clause-objects g c)
+    cleanup_keeps_blocks c.args.self.now _ _ _ _ (returns-clause-properties g c) cleaned.0 _ cleaned.2 (returns-clause-objects g c)
 
 pub returns-clause-gone : goal.returns-clause-gone
 returns-clause-gone g c =
     let cleaned = returns-clause-cleaned g c in
     cleanup_goes_back g.D.ObjectDevice.step g.D.ObjectDevice.objects c.args.self.now _ _ _ (returns-clause-total g c) cleaned.0 cleaned.1 cleaned.2 (returns-clause-objects g c)
+
+pub returns-clause-in_hand : goal.returns-clause-in_hand
+returns-clause-in_hand g c = cleanup_in_hand g.D.ObjectDevice.step g.D.ObjectDevice.objects c.args.self.now _ _ _ (returns-clause-gone g c) _ _ (returns-clause-keeps g c) (returns-clause-leaves g c)

@@ -1,4 +1,4 @@
-use Rattle.gpu_alloc.proofs.Imports.{answer_adds, answer_agrees, answer_leaves, answer_total}
+use Rattle.gpu_alloc.proofs.Imports.{answer_adds, answer_agrees, answer_in_hand, answer_leaves, answer_total}
 use Rattle.gpu_alloc.proofs.allocator.GpuAllocator.import_memory.Goals as goal
 
 pub returns-clause-agrees : goal.returns-clause-agrees
@@ -12,3 +12,6 @@ returns-clause-leaves g c = answer_leaves c.args.self.now _ _ _ _ _ c.requires.u
 
 pub returns-clause-total : goal.returns-clause-total
 returns-clause-total g c = answer_total c.args.self.now _ _ _ _ _ c.requires.unheld _ c.take_over-answer.ensures.imported c.take_over-answer.ensures.refused c.requires.remains
+
+pub returns-clause-in_hand : goal.returns-clause-in_hand
+returns-clause-in_hand g c = answer_in_hand c.args.self.now _ _ _ _ _ c.requires.unheld _ c.take_over-answer.ensures.imported (returns-clause-agrees g c) (returns-clause-added g c) (returns-clause-leaves g c)

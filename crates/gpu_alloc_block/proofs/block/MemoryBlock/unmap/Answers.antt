@@ -1,8 +1,12 @@
-use Rattle.std.proofs.Common.{None, sym, subst}
+use Rattle.std.proofs.Common.{None, refl, sym, subst}
 use Rattle.gpu_alloc_block.proofs.Between.{unmapped_so, keeps_remapped}
+use Rattle.gpu_alloc_block.proofs.Contents.{closed_leaves, same_objects}
 use Rattle.gpu_alloc_block.proofs.Keeping.{agrees_remapped, same_block}
+use Rattle.gpu_alloc_block.proofs.Kept.{nothing_in_hand, remapped_in_hand}
 use Rattle.gpu_alloc_block.specs.Agreement.{BlockAgrees}
 use Rattle.gpu_alloc_block.specs.InHand.{IsSameBlock}
+use Rattle.gpu_alloc_block.specs.Kept.{KeepsInHand}
+use Rattle.gpu_alloc_block.specs.State.{is_shared}
 use Rattle.gpu_alloc_block.proofs.block.MemoryBlock.unmap.Goals as goal
 
 pub returns-clause-agrees : goal.returns-clause-agrees
@@ -29,3 +33,28 @@ pub returns-clause-same : goal.returns-clause-same
 unfolding BlockAgrees
 returns-clause-same g c =
     subst (λ x. IsSameBlock c.args.self.now (record x { mapping = None })) (sym c.self.view_is) (same_block c.args.self.now None)
+
+pub returns-then-is_none-clause-bytes : goal.returns-then-is_none-clause-bytes
+returns-then-is_none-clause-bytes g c = λ d. same_objects d (g.D.ObjectDevice.objects c.args.device.now) (g.D.ObjectDevice.objects c.args.device.now) refl
+
+pub returns-then-is_none-clause-in_hand : goal.returns-then-is_none-clause-in_hand
+returns-then-is_none-clause-in_hand g c =
+    nothing_in_hand c.args.self.now (g.D.ObjectDevice.properties c.args.device.now) (g.D.ObjectDevice.properties c.args.device.now) (g.D.ObjectDevice.objects c.args.device.now) (g.D.ObjectDevice.objects c.args.device.now) refl refl c.requires
+
+pub returns-clause-bytes : goal.returns-clause-bytes
+returns-clause-bytes g c = λ d.
+    let b = c.args.self.now in
+    closed_leaves (is_shared b.kind) (g.D.ObjectDevice.objects c.args.device.now) (g.D.ObjectDevice.objects c.close.new.device) b d c.close.ensures.objects
+
+pub returns-clause-in_hand : goal.returns-clause-in_hand
+unfolding BlockAgrees
+returns-clause-in_hand g c =
+    let b = c.args.self.now in
+    let p = g.D.ObjectDevice.properties c.args.device.now in
+    let q = g.D.ObjectDevice.properties c.close.new.device in
+    let f = g.D.ObjectDevice.objects c.args.device.now in
+    let closed = g.D.ObjectDevice.objects c.close.new.device in
+    let so = unmapped_so p b f closed c.requires c.close.ensures.objects in
+    subst (λ x. KeepsInHand b p f (record x { mapping = None }) q closed) (sym c.self.view_is)
+    (remapped_in_hand b None p q f closed c.close.ensures.properties so (agrees_remapped b None p q f closed c.close.ensures.properties tt (λ some. absurd (cc)) so c.requires)
+    (λ d. closed_leaves (is_shared b.kind) f closed b d c.close.ensures.objects))

@@ -1,212 +1,47 @@
-use Rattle.std.proofs.Common.{◌≡◌, true, None, Ok, OnOk, OnErr, [], ◌∷◌, length, inr, refl, sym, ◌∙◌, ap, subst}
-use Rattle.gpu_alloc_types.specs.Properties.{are_non_coherent}
-use Rattle.gpu_alloc_types.specs.Device.{Changes, HeldWith, Asked}
-use Rattle.gpu_alloc_types.specs.Device.Event.{Mapped}
-use Rattle.gpu_alloc_block.specs.Agreement.{BlockAgrees}
-use Rattle.gpu_alloc_block.proofs.Between.{asked_around, some_asked, some_bytes, either_way, still_mapped, through, not_changed, changes_some, agrees_with_other_bytes, keeps_with_other_bytes}
-use Rattle.gpu_alloc_block.proofs.Changes.{changes_told}
-use Rattle.gpu_alloc_block.proofs.Moving.{not_written, written_within, partly_written_within, written_between, partly_written_between}
-use Rattle.gpu_alloc_block.specs.Bytes.{HasOnlyOtherBytes, IsOpen, IsWrittenThrough, IsPartlyWritten, WritesWithin, AsksToWrite, EndsWrite, putting, flush_fails}
-use Rattle.gpu_alloc_block.specs.Mapped.{refusal, of_own, ObjectsMapped}
-use Rattle.gpu_alloc_block.specs.Ranges.{rounded}
+use Rattle.std.proofs.Common.{length}
+use Rattle.gpu_alloc_block.specs.Bytes.{ChangesBytes, IsWrittenThrough, WritesWithin}
+use Rattle.gpu_alloc_block.specs.Contents.{Stores}
+use Rattle.gpu_alloc_block.proofs.Between.{keeps_with_other_bytes}
+use Rattle.gpu_alloc_block.proofs.Contents.{on_success, write_leaves, written_stored}
+use Rattle.gpu_alloc_block.proofs.Kept.{agrees_moving, moving_in_hand}
+use Rattle.gpu_alloc_block.proofs.Rounded.{lies_in_block}
 use Rattle.gpu_alloc_block.proofs.block.MemoryBlock.write_bytes.Goals as goal
 
-pub returns-in-Some-clause-within : goal.returns-in-Some-clause-within
-unfolding BlockAgrees
-returns-in-Some-clause-within g c =
-    let b = c.args.self.now in
-    not_changed (g.D.MemoryDevice.properties c.args.device.now) b (g.D.MemoryDevice.objects c.args.device.now) (WritesWithin b c.args.offset (length c.args.bytes.now)) (not_written b c.args.offset (length c.args.bytes.now)) c.requires.agrees
-
-pub returns-then-is_empty-clause-within : goal.returns-then-is_empty-clause-within
-unfolding BlockAgrees
-returns-then-is_empty-clause-within g c =
-    let b = c.args.self.now in
-    not_changed (g.D.MemoryDevice.properties c.args.device.now) b (g.D.MemoryDevice.objects c.args.device.now) (WritesWithin b c.args.offset (length c.args.bytes.now)) (not_written b c.args.offset (length c.args.bytes.now)) c.requires.agrees
-
-pub close-requires : goal.close-requires
-unfolding BlockAgrees
-close-requires g c = λ own.
+pub returns-clause-stored : goal.returns-clause-stored
+returns-clause-stored g c =
     let b = c.args.self.now in
     let bytes = c.args.bytes.now in
-    let opened = g.D.MemoryDevice.objects c.open.new.device in
-    let moved = g.D.MemoryDevice.objects c.put-answer.new.device in
-    let ready = subst (λ answer. OnOk answer (HeldWith opened b.object (IsOpen (g.D.MemoryDevice.properties c.open.new.device) b (rounded b c.args.offset (length bytes))))) c.in-Ok.is c.open.ensures.ready in
-    still_mapped (g.D.MemoryDevice.properties c.open.new.device) b (rounded b c.args.offset (length bytes)) opened moved ready
-    (either_way (IsWrittenThrough b c.args.offset bytes) (IsPartlyWritten b c.args.offset bytes) HasOnlyOtherBytes opened moved b.object c.put-answer.result (λ o new w. w.rest) (λ o new w. w.rest) c.put-answer.ensures.written c.put-answer.ensures.refused)
+    let f = g.D.MemoryDevice.objects c.args.device.now in
+    let moved = g.D.MemoryDevice.objects c.write.new.device in
+    on_success c.write.result (ChangesBytes b (length bytes) (IsWrittenThrough b c.args.offset bytes) f moved) (Stores b c.args.offset bytes moved)
+    (written_stored b c.args.offset bytes f moved c.keeps_end.ensures.some c.requires.inside) c.write.ensures.written
 
-pub returns-in-Ok-answer-clause-asked : goal.returns-in-Ok-answer-clause-asked
-unfolding BlockAgrees
-returns-in-Ok-answer-clause-asked g c =
+pub returns-clause-agrees : goal.returns-clause-agrees
+returns-clause-agrees g c =
     let b = c.args.self.now in
-    let bytes = c.args.bytes.now in
-    let r = rounded b c.args.offset (length bytes) in
-    let able : refusal b ≡ None = sym c.refusal.ensures ∙ c.in_default.is in
-    let some = some_bytes (length bytes) c.is_empty.result c.is_empty.ensures c.if-is_empty.false in
-    let first = subst (λ answer. Asked g.D.MemoryDevice.step c.args.device.now c.open.new.device (λ es. es ≡ of_own b (Mapped r answer ∷ []))) c.in-Ok.is c.open.ensures.asked in
-    let middle = subst (λ answer. Asked g.D.MemoryDevice.step c.open.new.device c.put-answer.new.device (λ es. es ≡ putting b c.args.offset bytes answer)) c.in-Ok-answer.is c.put-answer.ensures.asked in
-    asked_around g.D.MemoryDevice.step c.args.device.now c.open.new.device c.put-answer.new.device c.close.new.device b r (AsksToWrite b c.args.offset bytes) (putting b c.args.offset bytes (Ok tt)) (able, some_asked (length bytes) _ some) first middle c.close.ensures.asked
-
-pub returns-in-Ok-answer-clause-written : goal.returns-in-Ok-answer-clause-written
-unfolding BlockAgrees
-returns-in-Ok-answer-clause-written g c =
-    let b = c.args.self.now in
-    let bytes = c.args.bytes.now in
     let p = g.D.MemoryDevice.properties c.args.device.now in
+    let q = g.D.MemoryDevice.properties c.write.new.device in
     let f = g.D.MemoryDevice.objects c.args.device.now in
-    let opened = g.D.MemoryDevice.objects c.open.new.device in
-    let moved = g.D.MemoryDevice.objects c.put-answer.new.device in
-    let closed = g.D.MemoryDevice.objects c.close.new.device in
-    let able : refusal b ≡ None = sym c.refusal.ensures ∙ c.in_default.is in
-    let is_open = subst (λ answer. ObjectsMapped b (rounded b c.args.offset (length bytes)) answer f opened) c.in-Ok.is c.open.ensures.objects in
-    let written = subst (λ answer. OnOk answer (Changes (IsWrittenThrough b c.args.offset bytes) opened b.object moved)) c.in-Ok-answer.is c.put-answer.ensures.written in
-    let change : Changes (IsWrittenThrough b c.args.offset bytes) f b.object closed =
-    through p b c.args.offset (length bytes) able f c.requires.agrees opened moved closed (IsWrittenThrough b c.args.offset bytes)
-    (λ o held changed new none over w done. written_between (rounded b c.args.offset (length bytes)) o held changed new none over done b c.args.offset bytes w) is_open c.close.ensures.objects written in
-    let some = some_bytes (length bytes) c.is_empty.result c.is_empty.ensures c.if-is_empty.false in
-    changes_some b (length bytes) (IsWrittenThrough b c.args.offset bytes) f closed some change
+    let moved = g.D.MemoryDevice.objects c.write.new.device in
+    agrees_moving b p q f moved (WritesWithin b c.args.offset (length c.args.bytes.now)) (λ o new w. w.rest) c.write.ensures.properties c.write.ensures.within c.requires.agrees
 
-pub returns-in-Ok-answer-clause-within : goal.returns-in-Ok-answer-clause-within
-unfolding BlockAgrees
-returns-in-Ok-answer-clause-within g c =
+pub returns-clause-keeps : goal.returns-clause-keeps
+returns-clause-keeps g c =
     let b = c.args.self.now in
-    let bytes = c.args.bytes.now in
     let p = g.D.MemoryDevice.properties c.args.device.now in
+    let q = g.D.MemoryDevice.properties c.write.new.device in
     let f = g.D.MemoryDevice.objects c.args.device.now in
-    let opened = g.D.MemoryDevice.objects c.open.new.device in
-    let moved = g.D.MemoryDevice.objects c.put-answer.new.device in
-    let closed = g.D.MemoryDevice.objects c.close.new.device in
-    let able : refusal b ≡ None = sym c.refusal.ensures ∙ c.in_default.is in
-    let is_open = subst (λ answer. ObjectsMapped b (rounded b c.args.offset (length bytes)) answer f opened) c.in-Ok.is c.open.ensures.objects in
-    let written = subst (λ answer. OnOk answer (Changes (IsWrittenThrough b c.args.offset bytes) opened b.object moved)) c.in-Ok-answer.is c.put-answer.ensures.written in
-    let change : Changes (IsWrittenThrough b c.args.offset bytes) f b.object closed =
-    through p b c.args.offset (length bytes) able f c.requires.agrees opened moved closed (IsWrittenThrough b c.args.offset bytes)
-    (λ o held changed new none over w done. written_between (rounded b c.args.offset (length bytes)) o held changed new none over done b c.args.offset bytes w) is_open c.close.ensures.objects written in
-    changes_told f b.object (IsWrittenThrough b c.args.offset bytes) (WritesWithin b c.args.offset (length bytes)) closed (λ o new w. written_within b c.args.offset bytes o new w) change
+    let moved = g.D.MemoryDevice.objects c.write.new.device in
+    keeps_with_other_bytes b p q f moved (WritesWithin b c.args.offset (length c.args.bytes.now)) (λ o new w. w.rest) c.write.ensures.properties c.write.ensures.within
 
-pub returns-in-Ok-answer-clause-agrees : goal.returns-in-Ok-answer-clause-agrees
-unfolding BlockAgrees
-returns-in-Ok-answer-clause-agrees g c =
+pub returns-clause-in_hand : goal.returns-clause-in_hand
+returns-clause-in_hand g c =
     let b = c.args.self.now in
-    let bytes = c.args.bytes.now in
     let p = g.D.MemoryDevice.properties c.args.device.now in
+    let q = g.D.MemoryDevice.properties c.write.new.device in
     let f = g.D.MemoryDevice.objects c.args.device.now in
-    let opened = g.D.MemoryDevice.objects c.open.new.device in
-    let moved = g.D.MemoryDevice.objects c.put-answer.new.device in
-    let closed = g.D.MemoryDevice.objects c.close.new.device in
-    let able : refusal b ≡ None = sym c.refusal.ensures ∙ c.in_default.is in
-    let is_open = subst (λ answer. ObjectsMapped b (rounded b c.args.offset (length bytes)) answer f opened) c.in-Ok.is c.open.ensures.objects in
-    let written = subst (λ answer. OnOk answer (Changes (IsWrittenThrough b c.args.offset bytes) opened b.object moved)) c.in-Ok-answer.is c.put-answer.ensures.written in
-    let change : Changes (IsWrittenThrough b c.args.offset bytes) f b.object closed =
-    through p b c.args.offset (length bytes) able f c.requires.agrees opened moved closed (IsWrittenThrough b c.args.offset bytes)
-    (λ o held changed new none over w done. written_between (rounded b c.args.offset (length bytes)) o held changed new none over done b c.args.offset bytes w) is_open c.close.ensures.objects written in
-    let same = c.close.ensures.properties ∙ c.put-answer.ensures.properties ∙ c.open.ensures.properties in
-    agrees_with_other_bytes b p (g.D.MemoryDevice.properties c.close.new.device) f closed (IsWrittenThrough b c.args.offset bytes) (λ o new w. w.rest) same change c.requires.agrees
-
-pub returns-in-Ok-answer-clause-keeps : goal.returns-in-Ok-answer-clause-keeps
-unfolding BlockAgrees
-returns-in-Ok-answer-clause-keeps g c =
-    let b = c.args.self.now in
-    let bytes = c.args.bytes.now in
-    let p = g.D.MemoryDevice.properties c.args.device.now in
-    let f = g.D.MemoryDevice.objects c.args.device.now in
-    let opened = g.D.MemoryDevice.objects c.open.new.device in
-    let moved = g.D.MemoryDevice.objects c.put-answer.new.device in
-    let closed = g.D.MemoryDevice.objects c.close.new.device in
-    let able : refusal b ≡ None = sym c.refusal.ensures ∙ c.in_default.is in
-    let is_open = subst (λ answer. ObjectsMapped b (rounded b c.args.offset (length bytes)) answer f opened) c.in-Ok.is c.open.ensures.objects in
-    let written = subst (λ answer. OnOk answer (Changes (IsWrittenThrough b c.args.offset bytes) opened b.object moved)) c.in-Ok-answer.is c.put-answer.ensures.written in
-    let change : Changes (IsWrittenThrough b c.args.offset bytes) f b.object closed =
-    through p b c.args.offset (length bytes) able f c.requires.agrees opened moved closed (IsWrittenThrough b c.args.offset bytes)
-    (λ o held changed new none over w done. written_between (rounded b c.args.offset (length bytes)) o held changed new none over done b c.args.offset bytes w) is_open c.close.ensures.objects written in
-    let same = c.close.ensures.properties ∙ c.put-answer.ensures.properties ∙ c.open.ensures.properties in
-    keeps_with_other_bytes b p (g.D.MemoryDevice.properties c.close.new.device) f closed (IsWrittenThrough b c.args.offset bytes) (λ o new w. w.rest) same change
-
-pub returns-in-Err-answer-clause-refused : goal.returns-in-Err-answer-clause-refused
-unfolding BlockAgrees
-returns-in-Err-answer-clause-refused g c =
-    let b = c.args.self.now in
-    let bytes = c.args.bytes.now in
-    let p = g.D.MemoryDevice.properties c.args.device.now in
-    let f = g.D.MemoryDevice.objects c.args.device.now in
-    let opened = g.D.MemoryDevice.objects c.open.new.device in
-    let moved = g.D.MemoryDevice.objects c.put-answer.new.device in
-    let closed = g.D.MemoryDevice.objects c.close.new.device in
-    let able : refusal b ≡ None = sym c.refusal.ensures ∙ c.in_default.is in
-    let is_open = subst (λ answer. ObjectsMapped b (rounded b c.args.offset (length bytes)) answer f opened) c.in-Ok.is c.open.ensures.objects in
-    let failed = subst (λ answer. OnErr answer (Changes (IsPartlyWritten b c.args.offset bytes) opened b.object moved)) c.in-Err-answer.is c.put-answer.ensures.refused in
-    let change : Changes (IsPartlyWritten b c.args.offset bytes) f b.object closed =
-    through p b c.args.offset (length bytes) able f c.requires.agrees opened moved closed (IsPartlyWritten b c.args.offset bytes)
-    (λ o held changed new none over w done. partly_written_between (rounded b c.args.offset (length bytes)) o held changed new none over done b c.args.offset bytes w) is_open c.close.ensures.objects failed in
-    let r = rounded b c.args.offset (length bytes) in
-    let cause = c.in-Err-answer.cause in
-    let first = subst (λ answer. Asked g.D.MemoryDevice.step c.args.device.now c.open.new.device (λ es. es ≡ of_own b (Mapped r answer ∷ []))) c.in-Ok.is c.open.ensures.asked in
-    let middle = subst (λ answer. Asked g.D.MemoryDevice.step c.open.new.device c.put-answer.new.device (λ es. es ≡ putting b c.args.offset bytes answer)) c.in-Err-answer.is c.put-answer.ensures.asked in
-    let apart = subst (λ answer. OnErr answer (are_non_coherent b.props ≡ true)) c.in-Err-answer.is c.put-answer.ensures.cause in
-    asked_around g.D.MemoryDevice.step c.args.device.now c.open.new.device c.put-answer.new.device c.close.new.device b r (EndsWrite b c.args.offset bytes c.from.result f closed) (flush_fails b c.args.offset bytes cause)
-    (inr (record { able = able; non_coherent = apart; cause = cause; like = c.from.ensures; asked = refl }, change)) first middle c.close.ensures.asked
-
-pub returns-in-Err-answer-clause-within : goal.returns-in-Err-answer-clause-within
-unfolding BlockAgrees
-returns-in-Err-answer-clause-within g c =
-    let b = c.args.self.now in
-    let bytes = c.args.bytes.now in
-    let p = g.D.MemoryDevice.properties c.args.device.now in
-    let f = g.D.MemoryDevice.objects c.args.device.now in
-    let opened = g.D.MemoryDevice.objects c.open.new.device in
-    let moved = g.D.MemoryDevice.objects c.put-answer.new.device in
-    let closed = g.D.MemoryDevice.objects c.close.new.device in
-    let able : refusal b ≡ None = sym c.refusal.ensures ∙ c.in_default.is in
-    let is_open = subst (λ answer. ObjectsMapped b (rounded b c.args.offset (length bytes)) answer f opened) c.in-Ok.is c.open.ensures.objects in
-    let failed = subst (λ answer. OnErr answer (Changes (IsPartlyWritten b c.args.offset bytes) opened b.object moved)) c.in-Err-answer.is c.put-answer.ensures.refused in
-    let change : Changes (IsPartlyWritten b c.args.offset bytes) f b.object closed =
-    through p b c.args.offset (length bytes) able f c.requires.agrees opened moved closed (IsPartlyWritten b c.args.offset bytes)
-    (λ o held changed new none over w done. partly_written_between (rounded b c.args.offset (length bytes)) o held changed new none over done b c.args.offset bytes w) is_open c.close.ensures.objects failed in
-    changes_told f b.object (IsPartlyWritten b c.args.offset bytes) (WritesWithin b c.args.offset (length bytes)) closed (λ o new w. partly_written_within b c.args.offset bytes o new w) change
-
-pub returns-in-Err-answer-clause-agrees : goal.returns-in-Err-answer-clause-agrees
-unfolding BlockAgrees
-returns-in-Err-answer-clause-agrees g c =
-    let b = c.args.self.now in
-    let bytes = c.args.bytes.now in
-    let p = g.D.MemoryDevice.properties c.args.device.now in
-    let f = g.D.MemoryDevice.objects c.args.device.now in
-    let opened = g.D.MemoryDevice.objects c.open.new.device in
-    let moved = g.D.MemoryDevice.objects c.put-answer.new.device in
-    let closed = g.D.MemoryDevice.objects c.close.new.device in
-    let able : refusal b ≡ None = sym c.refusal.ensures ∙ c.in_default.is in
-    let is_open = subst (λ answer. ObjectsMapped b (rounded b c.args.offset (length bytes)) answer f opened) c.in-Ok.is c.open.ensures.objects in
-    let failed = subst (λ answer. OnErr answer (Changes (IsPartlyWritten b c.args.offset bytes) opened b.object moved)) c.in-Err-answer.is c.put-answer.ensures.refused in
-    let change : Changes (IsPartlyWritten b c.args.offset bytes) f b.object closed =
-    through p b c.args.offset (length bytes) able f c.requires.agrees opened moved closed (IsPartlyWritten b c.args.offset bytes)
-    (λ o held changed new none over w done. partly_written_between (rounded b c.args.offset (length bytes)) o held changed new none over done b c.args.offset bytes w) is_open c.close.ensures.objects failed in
-    let same = c.close.ensures.properties ∙ c.put-answer.ensures.properties ∙ c.open.ensures.properties in
-    agrees_with_other_bytes b p (g.D.MemoryDevice.properties c.close.new.device) f closed (IsPartlyWritten b c.args.offset bytes) (λ o new w. w.rest) same change c.requires.agrees
-
-pub returns-in-Err-answer-clause-keeps : goal.returns-in-Err-answer-clause-keeps
-unfolding BlockAgrees
-returns-in-Err-answer-clause-keeps g c =
-    let b = c.args.self.now in
-    let bytes = c.args.bytes.now in
-    let p = g.D.MemoryDevice.properties c.args.device.now in
-    let f = g.D.MemoryDevice.objects c.args.device.now in
-    let opened = g.D.MemoryDevice.objects c.open.new.device in
-    let moved = g.D.MemoryDevice.objects c.put-answer.new.device in
-    let closed = g.D.MemoryDevice.objects c.close.new.device in
-    let able : refusal b ≡ None = sym c.refusal.ensures ∙ c.in_default.is in
-    let is_open = subst (λ answer. ObjectsMapped b (rounded b c.args.offset (length bytes)) answer f opened) c.in-Ok.is c.open.ensures.objects in
-    let failed = subst (λ answer. OnErr answer (Changes (IsPartlyWritten b c.args.offset bytes) opened b.object moved)) c.in-Err-answer.is c.put-answer.ensures.refused in
-    let change : Changes (IsPartlyWritten b c.args.offset bytes) f b.object closed =
-    through p b c.args.offset (length bytes) able f c.requires.agrees opened moved closed (IsPartlyWritten b c.args.offset bytes)
-    (λ o held changed new none over w done. partly_written_between (rounded b c.args.offset (length bytes)) o held changed new none over done b c.args.offset bytes w) is_open c.close.ensures.objects failed in
-    let same = c.close.ensures.properties ∙ c.put-answer.ensures.properties ∙ c.open.ensures.properties in
-    keeps_with_other_bytes b p (g.D.MemoryDevice.properties c.close.new.device) f closed (IsPartlyWritten b c.args.offset bytes) (λ o new w. w.rest) same change
-
-pub returns-in-Err-clause-within : goal.returns-in-Err-clause-within
-unfolding BlockAgrees
-returns-in-Err-clause-within g c =
-    let b = c.args.self.now in
-    let f = g.D.MemoryDevice.objects c.args.device.now in
-    let opened = g.D.MemoryDevice.objects c.open.new.device in
-    let same : opened ≡ f = subst (λ answer. ObjectsMapped b (rounded b c.args.offset (length c.args.bytes.now)) answer f opened) c.in-Err.is c.open.ensures.objects in
-    subst (λ objects. Changes (WritesWithin b c.args.offset (length c.args.bytes.now)) f b.object objects) (sym same)
-    (not_changed (g.D.MemoryDevice.properties c.args.device.now) b f (WritesWithin b c.args.offset (length c.args.bytes.now)) (not_written b c.args.offset (length c.args.bytes.now)) c.requires.agrees)
+    let moved = g.D.MemoryDevice.objects c.write.new.device in
+    let len = length c.args.bytes.now in
+    let lies = lies_in_block b p f c.args.offset len c.keeps_end.ensures.some c.requires.agrees c.requires.inside in
+    moving_in_hand b p q f moved (WritesWithin b c.args.offset len) (λ o new w. w.rest) c.write.ensures.properties c.write.ensures.within c.requires.agrees
+    (λ d two. write_leaves b d two c.args.offset len f moved c.requires.inside lies c.write.ensures.within)
