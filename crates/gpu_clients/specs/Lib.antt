@@ -1,1 +1,2 @@
+pub mod Resources
 pub mod Staging

@@ -1,4 +1,5 @@
 //! Programs that keep a device's memory, each over any device and any allocator of host memory.
 #![tactic(auto)]
 
+pub mod resources;
 pub mod staging;
