@@ -33,23 +33,16 @@ use Rattle.gpu_alloc.proofs.Ledgers.{Held}
 
 -- What a grant makes.
 
--- the block is of no import, and where it has an object of its own, that is new
-pub record IsOfNewOrShared (s : State) (b : Block) : Type 0 where
-  pub no_import : b.kind ≢ Imported
-  pub new_object : is_shared b.kind ≡ false → map.get s.held b.object ≡ None
-
-of_new : (s : State) (b : Block) → b.kind ≡ DedicatedObject → map.get s.held b.object ≡ None → IsOfNewOrShared s b
-of_new s b own free = record { no_import = λ import. absurd (let same = sym own ∙ import in cc); new_object = λ _. free }
+-- where the block has an object of its own, that is new
+abbrev pub IsOfNewOrShared : State → Block → Type 0
+IsOfNewOrShared s b = is_shared b.kind ≡ false → map.get s.held b.object ≡ None
 
 of_shared : (s : State) (b : Block) → is_shared b.kind ≡ true → IsOfNewOrShared s b
-of_shared s b shared = record {
-  no_import = λ import. absurd (let same = sym shared ∙ ap is_shared import in cc);
-  new_object = λ own. absurd (let same = sym shared ∙ own in cc);
-}
+of_shared s b shared own = absurd (let same = sym shared ∙ own in cc)
 
 given_object : (w : Strategy) (s : State) (r : Request) (t : ℕ) (es : List Event) (b : Block) (new : State) → case.Decides (candidate w s r t) es (Ok b) new → IsOfNewOrShared s b
 given_object OwnObject s r t es b new (inl gives) = absurd gives.place
-given_object OwnObject s r t es b new (inr gives) = of_new s b (ap (λ (x : Block). x.kind) gives.place.is) gives.place.was_free
+given_object OwnObject s r t es b new (inr gives) = λ own. gives.place.was_free
 given_object InBuddyChunk s r t es b new (inl gives) = of_shared s b (ap (λ (x : Block). is_shared x.kind) gives.place.is)
 given_object InBuddyChunk s r t es b new (inr gives) = of_shared s b (ap (λ (x : Block). is_shared x.kind) gives.place.is)
 given_object InFreeList s r t es b new (inl gives) = of_shared s b (ap (λ (x : Block). is_shared x.kind) gives.place.is)
@@ -89,7 +82,7 @@ ends (FreeListChunk number) n offset size end no_import whole atoms = inl (let i
 module _ (s new : State) (r : Request) (b : Block) (q : Properties) (f g : ℕ → Option Object) (sound : IsSound new) (agrees : Agrees new q g) (same : new.properties ≡ s.properties) (granted : IsGranted s r new b) (made : IsOfNewOrShared s b) (objects : ObjectsWith s b new f g) where
   own_unmapped : (h : HeldObject) (o : Object) → map.get new.held b.object ≡ Some h → h.kind ≡ b.kind → g b.object ≡ Some o → is_shared b.kind ≡ false → o.mapped ≡ None
   own_unmapped h o held kind there own =
-      let free = made.new_object own in
+      let free = made own in
       let more : HasOneMore (IsAsCounted s.properties) (map.get new.held b.object) b.object f g = rw free at objects in
       let is : o ≡ more.made = one_value _ o more.made there (ap (λ (x : ℕ → Option Object). x b.object) more.now ∙ put-same f b.object (Some more.made)) in
       let counted : more.counted ≡ h = one_value _ more.counted h more.is_counted held in
@@ -128,7 +121,7 @@ module _ (s new : State) (r : Request) (b : Block) (q : Properties) (f g : ℕ �
             shared = λ shared. subst (λ p. IsMappedWhole p o) (sym agrees.properties) (shared_mapped h.kind new b.object h.counted o (ap is_shared kind ∙ shared) there.2.of_size);
             own = λ own. own_unmapped h o lies.1 kind there.1 own ∙ ap (option_map (mapped_range b)) (sym granted.unmapped);
             atoms = λ shared. ((atoms shared).0, sum_whole b.atom b.offset b.size (atoms shared).0 (atoms shared).1);
-            finish = ends b.kind b.atom b.offset b.size o.size made.no_import whole atoms;
+            finish = ends b.kind b.atom b.offset b.size o.size granted.made whole atoms;
           },
         );
       }

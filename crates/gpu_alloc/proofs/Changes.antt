@@ -170,11 +170,6 @@ apart_differ x y (inl other) some same = other (ap (λ (z : Span). z.object) sam
 apart_differ x y (inr (inl before)) some same = absurd (omega (arith, before, some, ap (λ (z : Span). z.offset) same))
 apart_differ x y (inr (inr after)) some same = absurd (omega (arith, after, some, ap (λ (z : Span). z.offset) same, ap (λ (z : Span). z.size) same))
 
-pub apart_back : (x y : Span) → AreApart x y → AreApart y x
-apart_back x y (inl other) = inl (λ same. other (sym same))
-apart_back x y (inr (inl before)) = inr (inr before)
-apart_back x y (inr (inr after)) = inr (inl after)
-
 -- where objects went, a block whose span is live still is owned as before
 pub still_owned : (s new : State) (gone : List ℕ) (c : Block) → IsSound new → new.held ≡ without_all s.held gone → IsOwned s c → IsLive new (span_of c) → IsOwned new c
 still_owned s new gone c sound held owned live =

@@ -1,5 +1,5 @@
 -- What a caller may know of a granted block follows from the decision, by the way in which its candidate is served.
-use Rattle.std.proofs.Common.{◌≡◌, inl, inr, ℕ, ◌+◌, ◌*◌, ◌-◌, ◌%◌, ◌^◌, ◌<◌, ◌≤◌, true, List, length, Option, Some, None, Result, Ok, Err, IsTrue, refl, sym, ◌∙◌, ap, subst, arith}
+use Rattle.std.proofs.Common.{◌≡◌, ◌≢◌, inl, inr, ℕ, ◌+◌, ◌*◌, ◌-◌, ◌%◌, ◌^◌, ◌<◌, ◌≤◌, true, List, length, Option, Some, None, Result, Ok, Err, IsTrue, refl, sym, ◌∙◌, ap, subst, arith}
 use Rattle.std.specs.Prelude.{IfOk, max}
 use Rattle.std.proofs.lemmas.Bool.{cases_eq, cases_lt}
 use Rattle.std.proofs.lemmas.Bool.Decides.{nat_tests}
@@ -32,7 +32,7 @@ use Rattle.gpu_alloc_block.specs.State.{Block, HeldObject, Span, State, granted_
 use Rattle.gpu_alloc.specs.declared.allocator.Strategy.{Strategy}
 use Rattle.gpu_alloc.specs.declared.allocator.Strategy.TheVariants.{OwnObject, InBuddyChunk, InFreeList}
 use Rattle.gpu_alloc_block.specs.declared.block.Kind.{Kind}
-use Rattle.gpu_alloc_block.specs.declared.block.Kind.TheVariants.{Dedicated as DedicatedObject, BuddyChunk, FreeListChunk}
+use Rattle.gpu_alloc_block.specs.declared.block.Kind.TheVariants.{Dedicated as DedicatedObject, Imported, BuddyChunk, FreeListChunk}
 use Rattle.gpu_alloc.specs.declared.request.Dedicated.{Dedicated}
 use Rattle.gpu_alloc.specs.declared.request.Dedicated.TheVariants.{Required}
 use Rattle.gpu_alloc.specs.declared.request.Request.{Request}
@@ -51,6 +51,8 @@ module _ (s : State) (r : Request) (sound : IsSound s) where
       pub aligned : span.offset % (r.align_mask + 1) ≡ 0
       pub whole_atoms : is_shared kind ≡ true → (span.offset % atom_of s.properties t ≡ 0) × (span.size % atom_of s.properties t ≡ 0)
       pub buddy : kind ≡ BuddyChunk → IsPowerOfTwo span.size × IsMultipleOf span.size span.offset
+      pub made : kind ≢ Imported
+      pub some_atom : 0 < atom_of s.properties t
       pub candidate : IsCandidate s r t
 
     -- its bytes were free
@@ -64,6 +66,8 @@ module _ (s : State) (r : Request) (sound : IsSound s) where
           buddy = sized.buddy;
           inside = (last.chunk, last.held, omega (arith, some, last.inside));
           unmapped = refl;
+          made = sized.made;
+          some_atom = sized.some_atom;
           candidate = sized.candidate;
           props = refl;
           atom = refl;
@@ -87,6 +91,8 @@ module _ (s : State) (r : Request) (sound : IsSound s) where
           buddy = sized.buddy;
           inside = (h, found, fits);
           unmapped = refl;
+          made = sized.made;
+          some_atom = sized.some_atom;
           candidate = sized.candidate;
           props = refl;
           atom = refl;
@@ -112,6 +118,8 @@ module _ (s : State) (r : Request) (sound : IsSound s) where
       aligned = zero-mod (r.align_mask + 1);
       whole_atoms = λ shared. absurd (cc);
       buddy = λ chunk. absurd (cc);
+      made = λ import. absurd (cc);
+      some_atom = some_atom;
       candidate = chosen;
     }
 
@@ -133,6 +141,8 @@ module _ (s : State) (r : Request) (sound : IsSound s) where
           mod_from_multiple atom span.size (multiple_of_lower atom (buddy_size s r t) span.size (atoms.atom t) rounded.0 (omega (arith, rounded.1)) (1, of_size ∙ sym (one-mul (buddy_size s r t)))),
         );
         buddy = λ _. subst (λ n. IsPowerOfTwo n × IsMultipleOf n span.offset) (sym of_size) (rounded.0, multiple);
+        made = λ import. absurd (cc);
+        some_atom = some_atom;
         candidate = chosen;
       }
 
@@ -160,6 +170,8 @@ module _ (s : State) (r : Request) (sound : IsSound s) where
           aligned = mod_from_multiple (r.align_mask + 1) span.offset (multiple_of_lower (r.align_mask + 1) alignment span.offset align greater (omega arith) starts);
           whole_atoms = λ _. (mod_from_multiple atom span.offset first, mod_from_multiple atom span.size (multiple_rest atom span.offset span.size first (subst (IsMultipleOf atom) (sym ends) whole)));
           buddy = λ chunk. absurd (cc);
+          made = λ import. absurd (cc);
+          some_atom = some_atom;
           candidate = chosen;
         }
 

@@ -7,8 +7,8 @@ use Rattle.gpu_alloc_types.specs.Properties.{Properties}
 use Rattle.gpu_alloc_base.proofs.Names.{get_put-other, here, is_there, one_or_two}
 use Rattle.gpu_alloc_base.specs.NewObject.{ObjectsGiven}
 use Rattle.gpu_alloc_base.specs.declared.error.AllocationError.{AllocationError}
+use Rattle.gpu_alloc_block.proofs.Contents.{same_object}
 use Rattle.gpu_alloc_block.specs.Agreement.{Agrees, BlockAgrees, KeepsBlocks}
-use Rattle.gpu_alloc_block.specs.Contents.{HasSameBytes, host_at, device_at}
 use Rattle.gpu_alloc_block.specs.InHand.{AreTwo, AreOwned}
 use Rattle.gpu_alloc_block.specs.Kept.{AreReady, AreKept, ChangesAt, outside, IsSameOutside, LeavesInHand, AddsInHand, RemovesInHand}
 use Rattle.gpu_alloc_block.specs.State.{Block, HeldObject, State, IsOwned}
@@ -19,11 +19,6 @@ use Rattle.gpu_alloc.specs.declared.request.Request.{Request}
 use Rattle.gpu_alloc.proofs.Changes.{gone_or_kept}
 use Rattle.gpu_alloc.proofs.FreeLists.Gone.{kept_was}
 use Rattle.gpu_alloc.proofs.Ledgers.{Held}
-
--- a block's bytes are as before where its object is
-pub same_bytes : (b : Block) (f g : ℕ → Option Object) → g b.object ≡ f b.object → HasSameBytes b f g
-unfolding HasSameBytes
-same_bytes b f g same = λ k low high. (ap (λ o. host_at o k) same, ap (λ o. device_at o k) same)
 
 -- A name beside the allocator's.
 
@@ -62,12 +57,12 @@ module _ (s : State) (p : Properties) (f : ℕ → Option Object) (new : State) 
     }
 
     pub leaves_in_hand : ((b : Block) → IsOwned s b → g b.object ≡ f b.object) → IsSameOutside s f new g → LeavesInHand s p f new q g
-    leaves_in_hand same beside = record { bytes = λ b owned. same_bytes b f g (same b owned); outside = beside; ready = all_ready; kept = all_kept }
+    leaves_in_hand same beside = record { bytes = λ b owned. same_object b f g (same b owned); outside = beside; ready = all_ready; kept = all_kept }
 
   -- one block goes
   pub removes_in_hand : (b : Block) → Removes s b new → ((c : Block) → IsOwned new c → g c.object ≡ f c.object) → IsSameOutside s f new g → RemovesInHand s p f b new q g
   removes_in_hand b removes same beside = record {
-    bytes = λ c owned. same_bytes c f g (same c owned);
+    bytes = λ c owned. same_object c f g (same c owned);
     outside = beside;
     first = λ cs owned are. all [] cs owned (removes.first cs owned) are;
     last = λ cs owned are. subst (AreReady q g) (append-nil cs) (all cs [] owned (removes.any cs [] owned) are);

@@ -17,20 +17,11 @@ use Rattle.gpu_alloc.specs.declared.request.Request.{Request}
 use Rattle.gpu_alloc_base.specs.declared.error.AllocationError.{AllocationError}
 use Rattle.gpu_alloc.proofs.Decisions.{allocates_kept}
 use Rattle.gpu_alloc_block.specs.State.{HeldObject, State, Block, Span, span_of, span_cmp, AreApart, IsLive, IsOwned, is_shared}
-use Rattle.gpu_alloc.proofs.Changes.{Grows, allocates_grow, granted_kept, apart_differ, apart_back, still_owned}
+use Rattle.gpu_alloc.proofs.Changes.{Grows, allocates_grow, granted_kept, apart_differ, still_owned}
+use Rattle.gpu_alloc_block.proofs.Kept.{two_back}
 use Rattle.gpu_alloc_block.proofs.LiveSpans.{span_total, live_new, live_still, live_kept, not_live, put_taken, taken_before}
 
 -- Two blocks.
-
-pub two_back : (b c : Block) → AreTwo b c → AreTwo c b
-two_back b c two = record {
-  apart = apart_back (span_of b) (span_of c) two.apart;
-  differ = λ same. two.differ (sym same);
-  objects = record {
-    first = λ alone same. two.objects.second alone (sym same);
-    second = λ alone same. two.objects.first alone (sym same);
-  };
-}
 
 -- a block with an object of its own is of another object than each other live span
 other_object : (s : State) (b : Block) (span : Span) → IsSound s → IsOwned s b → IsLive s span → span_of b ≢ span → is_shared b.kind ≡ false → b.object ≢ span.object

@@ -7,7 +7,7 @@ use Rattle.gpu_alloc_types.specs.Properties.{Properties, atom_of, is_non_coheren
 use Rattle.gpu_alloc_buddy.specs.BuddyState.{Buddy, IsLiveLeaf}
 use Rattle.gpu_alloc_base.specs.Chunks.{Chunk}
 use Rattle.gpu_alloc_freelist.specs.FreeListState.{Listing, IsLiveSlot}
-use Rattle.gpu_alloc_base.specs.FreeSpace.{IsIn, IsMultipleOf}
+use Rattle.gpu_alloc_base.specs.FreeSpace.{IsIn, IsMultipleOf, IsPowerOfTwo}
 use Rattle.gpu_alloc.specs.Atoms.{KeepsAtoms, IsNextListChunk}
 use Rattle.gpu_alloc.specs.FreeListSharing.{IsListChunk, latest_number, next_list_chunk}
 use Rattle.gpu_alloc.specs.FirstTypes.{first_types, first_type_state}
@@ -75,6 +75,12 @@ module _ {c : Config} {p : Properties} {t : Table} {b : Buddy} {object : ℕ} {h
       let key = is.sound.space.one_object place.chunk by_key.0 lies.chunk (chunk_at object h) lies.held by_key.1 (sym lies.object ∙ named) in
       let same : lies.chunk ≡ chunk_at object h = one_value _ lies.chunk (chunk_at object h) lies.held (ap (λ k. map.get b.chunks k) key ∙ by_key.1) in
       (key, omega (arith, lies.inside, ap (λ (x : Chunk). x.size) same), omega (arith, lies.power.1, pow_pos lies.power.0))
+
+  buddy_size : (span : Span) → IsLiveIn t span → span.object ≡ object → IsPowerOfTwo span.size × IsMultipleOf span.size span.offset
+  buddy_size span live named =
+      let leaf = leaf_of span live named in
+      let lies = is.sound.space.inside (leaf_at span leaf.0) leaf.1 in
+      (lies.power, lies.aligned)
 
   buddy_inside : (span : Span) → IsLiveIn t span → span.object ≡ object → span.offset + span.size ≤ h.counted
   buddy_inside span live named =
@@ -289,6 +295,7 @@ sound_is l heaps buddies lists t remaining is = record {
   nonempty = λ span live. (is.books.spans span live).nonempty;
   inside = lies_inside is;
   alone = is_alone is;
+  buddy = λ span h live held kind. buddy_size (buddy_at is span.object h held).1 held kind span live refl;
   apart = are_apart is;
   used = λ object. each_used is object (map.get t.held object) refl;
   numbers = λ index number a b. one_object l heaps buddies lists t remaining is index number a b;

@@ -1,6 +1,6 @@
 -- How an allocation is decided: what is asked of the device for each candidate, and what the first one that is not
 -- passed answers.
-use Rattle.std.specs.Prelude.{◌≡◌, ◌⊎◌, ℕ, ◌+◌, ◌%◌, ◌/◌, ◌<◌, ◌≤◌, ◌==◌, Bool, true, ◌&&◌, List, [], ◌∷◌, ◌++◌, length}
+use Rattle.std.specs.Prelude.{◌≡◌, ◌≢◌, ◌⊎◌, ℕ, ◌+◌, ◌%◌, ◌/◌, ◌<◌, ◌≤◌, ◌==◌, Bool, true, ◌&&◌, List, [], ◌∷◌, ◌++◌, length}
 use Rattle.std.specs.Prelude.{Option, Some, None, Result, Ok, Err, cond, min, nat_lt, nat_le, nat_eq, MatchBool}
 use Rattle.std.specs.Int.{bit_at}
 use Rattle.std.specs.List.{Contains}
@@ -21,7 +21,7 @@ use Rattle.gpu_alloc.specs.Request.{is_required}
 use Rattle.gpu_alloc_block.specs.State.{HeldObject, Span, Block, span_of, State, IsLive, IsOwned, AreApart, is_shared}
 use Rattle.gpu_alloc.specs.declared.allocator.Strategy.{Strategy}
 use Rattle.gpu_alloc.specs.declared.allocator.Strategy.TheVariants.{OwnObject, InBuddyChunk, InFreeList}
-use Rattle.gpu_alloc_block.specs.declared.block.Kind.TheVariants.{BuddyChunk}
+use Rattle.gpu_alloc_block.specs.declared.block.Kind.TheVariants.{Imported, BuddyChunk}
 use Rattle.gpu_alloc.specs.declared.request.Request.{Request}
 use Rattle.gpu_alloc.specs.declared.request.Dedicated.{Dedicated}
 use Rattle.gpu_alloc.specs.declared.request.Dedicated.TheVariants.{Required, Preferred}
@@ -157,9 +157,12 @@ pub record IsGranted (s : State) (r : Request) (new : State) (b : Block) : Type 
   -- the block lies inside its object
   pub inside : (h : HeldObject) × (map.get new.held b.object ≡ Some h) × (b.offset + b.size ≤ h.counted)
   pub unmapped : b.mapping ≡ None
+  -- its object is the allocator's own, and no import
+  pub made : b.kind ≢ Imported
   -- its memory type is one of the request's candidates, whose property bits and atom the block has
   pub candidate : IsCandidate s r b.memory_type
   pub props : b.props ≡ props_at s.properties b.memory_type
   pub atom : b.atom ≡ atom_of s.properties b.memory_type
+  pub some_atom : 0 < b.atom
   pub owned : IsOwned new b
   pub was_free : (span : Span) → IsLive s span → AreApart span (span_of b)

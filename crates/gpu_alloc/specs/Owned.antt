@@ -61,6 +61,7 @@ pub record HoldsNothing (p : Properties) (s : State) : Type 0 where
 pub record LeavesNoRest (s new : State) : Type 0 where
   pub live : new.live ≡ s.live
   pub held : set.len s.live ≡ 0 → map.len new.held ≡ 0
+  pub none : set.len s.live ≡ 0 → new.held ≡ map.empty
 
 -- Whatever the device: where it agreed with the allocator before a call that asks no device, it does so afterwards, and
 -- blocks in hand stay so.

@@ -1,6 +1,7 @@
 -- What holds of an allocator between calls.
 use Rattle.std.specs.Prelude.{◌≡◌, ◌≢◌, ℕ, ◌+◌, ◌<◌, ◌≤◌, Bool, true, false, Some, IfSome}
 use Rattle.std.specs.FinMap as map
+use Rattle.gpu_alloc_base.specs.FreeSpace.{IsMultipleOf, IsPowerOfTwo}
 use Rattle.gpu_alloc_block.specs.declared.block.Kind.{Kind}
 use Rattle.gpu_alloc_block.specs.declared.block.Kind.TheVariants.{Dedicated, Imported, BuddyChunk, FreeListChunk}
 use Rattle.gpu_alloc.specs.Budget.{IsWithinHeaps}
@@ -35,6 +36,9 @@ pub record IsSound (s : State) : Type 0 where
   -- in an object of one block it is alone
   pub alone : (object : ℕ) (h : HeldObject) → map.get s.held object ≡ Some h → is_shared h.kind ≡ false
       → (x y : Span) → IsLive s x → IsLive s y → x.object ≡ object → y.object ≡ object → x ≡ y
+  -- in a buddy chunk it has a power of two of bytes and begins at a multiple of its size
+  pub buddy : (span : Span) (h : HeldObject) → IsLive s span → map.get s.held span.object ≡ Some h
+      → h.kind ≡ BuddyChunk → IsPowerOfTwo span.size × IsMultipleOf span.size span.offset
   -- live spans share no byte unless they are one
   pub apart : (x y : Span) → IsLive s x → IsLive s y → x ≢ y → AreApart x y
   -- each held object of one block and each held buddy chunk has a live span

@@ -1,15 +1,15 @@
 //! The allocator.
 
-ghost use Rattle.std.specs.Prelude.{◌≡◌, ◌⊎◌, ◌↔◌, ℕ, ◌+◌, ◌/◌, ◌^◌, ◌<◌, ◌≤◌, true, length, List, All, IsTrue, IfOk, IfErr};
-ghost use Rattle.std.specs.Prelude.{OnErr, Some, None, cond, false, is_some, not, ◌==◌};
+ghost use Rattle.std.specs.Prelude.{◌≡◌, ◌⊎◌, ◌↔◌, ℕ, ◌+◌, ◌^◌, ◌<◌, ◌≤◌, true, length, List, All, IsTrue, IfOk, IfErr};
+ghost use Rattle.std.specs.Prelude.{OnErr, Some, None, false, is_some, not, ◌==◌};
 ghost use Rattle.std.specs.FinMap as map;
 ghost use Rattle.std.specs.FinSet as set;
 ghost use Rattle.gpu_alloc_types.specs.Properties.{IsUsable, properties_of, heap_size};
-ghost use Rattle.gpu_alloc_types.specs.Flags.{has_bit, usage_bits};
+ghost use Rattle.gpu_alloc_types.specs.Flags.{usage_bits};
 ghost use Rattle.gpu_alloc_types.specs.Device.{Event, Chain};
 ghost use Rattle.gpu_alloc_block.specs.Agreement.{Agrees, BlockAgrees, KeepsBlocks};
 ghost use Rattle.gpu_alloc_block.specs.Kept.{LeavesInHand, AddsInHand, RemovesInHand};
-ghost use Rattle.gpu_alloc.specs.Allocation.{passing, strategy, unhinted, fits_a_chunk, Tries, TriesBy, TriesAll};
+ghost use Rattle.gpu_alloc.specs.Allocation.{passing, fits_a_chunk, Tries, TriesBy, TriesAll};
 ghost use Rattle.gpu_alloc_usage.specs.Ranking.{implied, named, ranking};
 ghost use Rattle.gpu_alloc.specs.Allocation.{Allocates, ObjectsAfter, ObjectsTried, IsGranted, candidates_of};
 ghost use Rattle.gpu_alloc.specs.Atoms.{KeepsAtoms};
@@ -25,6 +25,7 @@ ghost use Rattle.gpu_alloc.specs.Sound as Sound;
 ghost use Rattle.gpu_alloc_block.specs.State.{HeldObject, Span, IsLive, IsOwned, ledger, total};
 
 mod by_type;
+mod choosing;
 mod importing;
 mod ranges;
 mod returning;
@@ -171,7 +172,7 @@ impl<M: MemoryObject, A: Allocator> GpuAllocator<M, A> {
     /// `DEVICE_ADDRESS` exactly where the device has the feature (the original crate's rule).
     ///
     /// The block agrees with the device afterwards, which its own calls ask for, and so does each block that was owned
-    /// and agreed before.
+    /// and agreed before. Each byte of those, and what the device has beside the allocator's objects, is as before.
     ///
     /// The request has to be askable (`Request::is_askable`, for the device's `buffer_device_address`), and the device
     /// has to be the one that this allocator has served, so that the two agree. The refusals, in the order in which
@@ -361,58 +362,6 @@ impl<M: MemoryObject, A: Allocator> GpuAllocator<M, A> {
             Strategy::InBuddyChunk => self.try_buddy(device, request, memory_type),
             Strategy::InFreeList => self.try_free_list(device, request, memory_type),
         }
-    }
-
-    /// Which way a memory type serves a request.
-    #[inline(always)]
-    fn strategy(&self, request: Request, hint: Option<Dedicated>, memory_type: u32) -> Strategy
-        requires known { memory_type < length (self.now.properties).memory_types }
-        ensures { result ≡ strategy self.now request hint memory_type }
-    {
-        match hint {
-            Some(Dedicated::Required) => Strategy::OwnObject,
-            Some(Dedicated::Preferred)
-                if request.size >= self.limits.config.preferred_threshold() => {
-                Strategy::OwnObject
-            }
-            _ => self.unhinted(request, memory_type),
-        }
-    }
-
-    /// Which way a memory type serves a request by its size and its usage.
-    #[inline(always)]
-    fn unhinted(&self, request: Request, memory_type: u32) -> Strategy
-        requires known { memory_type < length (self.now.properties).memory_types }
-        ensures { result ≡ unhinted self.now request memory_type }
-    {
-        let config = &self.limits.config;
-        let part = self.heap_size(memory_type) / 32;
-        if request.usage.contains(UsageFlags::TRANSIENT) {
-            if request.size < config.transient_threshold().min(part)
-                && self.fits_a_chunk(request, memory_type)
-            {
-                Strategy::InFreeList
-            } else {
-                Strategy::OwnObject
-            }
-        } else if request.size < config.dedicated_threshold.min(part) {
-            Strategy::InBuddyChunk
-        } else {
-            Strategy::OwnObject
-        }
-    }
-
-    /// Whether a request in whole atoms fits a largest free-list chunk. Its size is below a 32nd part of a heap.
-    #[inline(always)]
-    fn fits_a_chunk(&self, request: Request, memory_type: u32) -> bool
-        requires known { memory_type < length (self.now.properties).memory_types }
-        requires small { request.size < heap_size self.now.properties memory_type / 32 }
-        ensures { result ≡ fits_a_chunk self.now request memory_type }
-    {
-        let atom = self.limits.atom(memory_type);
-        let heap = self.heap_size(memory_type);
-        let size = (request.size + (atom - 1)) / atom * atom;
-        size <= self.limits.config.final_size(heap, atom)
     }
 
     /// Whether a memory type is passed unasked where an object of so many bytes is wanted of it: the object is larger
@@ -641,7 +590,7 @@ impl<M: MemoryObject, A: Allocator> GpuAllocator<M, A> {
     ///
     /// The block has to be live here (`owns` tells), and the device has to be the one that this allocator has served,
     /// so that the two agree. The block may be mapped. It takes no memory and cannot fail. Each other block that stays
-    /// owned agrees with the device afterwards where it did before.
+    /// owned agrees with the device afterwards where it did before, and has the bytes that it had.
     pub fn dealloc<D: ObjectDevice<M>>(&mut self, device: &mut D, block: MemoryBlock<M>)
         requires owned { IsOwned self.old block }
         requires agrees { Agrees self.old (D.properties device.old) (D.objects device.old) }
@@ -666,8 +615,8 @@ impl<M: MemoryObject, A: Allocator> GpuAllocator<M, A> {
     /// first. For each, one more object may be held, and the ledger of its heap is lowered by its size.
     ///
     /// Where no block is live, nothing is held afterwards, and every ledger is 0. Each block that is owned agrees with
-    /// the device afterwards where it did before. The device has to be the one that this allocator has served, so that
-    /// the two agree. It takes no memory and cannot fail.
+    /// the device afterwards where it did before, and has the bytes that it had. The device has to be the one that this
+    /// allocator has served, so that the two agree. It takes no memory and cannot fail.
     pub fn cleanup<D: ObjectDevice<M>>(&mut self, device: &mut D)
         requires agrees { Agrees self.old (D.properties device.old) (D.objects device.old) }
 
@@ -707,9 +656,10 @@ impl<M: MemoryObject, A: Allocator> GpuAllocator<M, A> {
     /// Whether a block is live here: its object, span, memory type and kind are. Which allocator made it is not asked.
     ///
     /// Its contract also tells what holds of every allocator between calls (`sound`): live spans are not empty and
-    /// share no byte, each lies in its object as the object's kind says, an object of one block has no other, no object
-    /// but a chunk of a free list is held without one, the chunks of a free list have numbers of their own, and of no
-    /// heap is more held beside imports than it has.
+    /// share no byte, each lies in its object as the object's kind says, and in a buddy chunk has a power of two of bytes
+    /// and begins at a multiple of its size; an object of one block has no other, no object but a chunk of a free list is
+    /// held without one, the chunks of a free list have numbers of their own, and of no heap is more held beside imports
+    /// than it has.
     pub fn owns(&self, block: &MemoryBlock<M>) -> bool
         ensures owned { IsTrue result ↔ IsOwned self.now block.now }
         ensures sound { Sound.IsSound self.now }

@@ -1,6 +1,6 @@
 //! Laws of the definitions that contracts cite, and those definitions computed on samples. The functions do nothing.
 
-ghost use Rattle.std.specs.Prelude.{◌≡◌, ◌≢◌, ℕ, ◌+◌, ◌<◌, List, [], ◌∷◌, length, Some, None, true, false};
+ghost use Rattle.std.specs.Prelude.{◌≡◌, ◌≢◌, ◌⊎◌, ℕ, ◌+◌, ◌<◌, ◌≤◌, List, [], ◌∷◌, length, Some, None, true, false};
 ghost use Rattle.std.specs.FinSet as set;
 ghost use Rattle.gpu_alloc_block.specs.Agreement.{Agrees, KeptBlocksAgree};
 ghost use Rattle.gpu_alloc_block.specs.ByteCalls.{BytesMoved};
@@ -28,7 +28,9 @@ ghost use Rattle.gpu_alloc_base.specs.Sizes.{minimal_size, final_size, grown_chu
 ghost use Rattle.gpu_alloc.specs.FirstTypes.{first_types};
 ghost use Rattle.gpu_alloc.specs.Owned.{AreTwo, CancelOut, HoldsNothing};
 ghost use Rattle.gpu_alloc.specs.Sound.{IsSound};
-ghost use Rattle.gpu_alloc_block.specs.State.{State, Block, Span, span_of, span_cmp, IsOwned, ledger};
+ghost use Rattle.gpu_alloc_block.specs.Contents.{BytesStay};
+ghost use Rattle.gpu_alloc_block.specs.Kept.{ToldByPlace};
+ghost use Rattle.gpu_alloc_block.specs.State.{State, Block, Span, span_of, span_cmp, IsOwned, is_shared, ledger};
 ghost use Rattle.gpu_alloc_block.specs.declared.block.Kind.{Kind};
 ghost use Rattle.gpu_alloc_base.specs.declared.piece.Piece.{Piece};
 ghost use Rattle.gpu_alloc.specs.declared.request.Dedicated.TheVariants.{Required, Preferred};
@@ -258,6 +260,26 @@ pub fn byte_calls_keep_agreement<M: MemoryObject, D: ObjectDevice<M>, A: Allocat
 /// Two blocks that are owned and of different spans share no byte, nor an object where one of them has its own.
 pub fn owned_blocks_are_apart()
     ensures { (s : State) (b c : Block) → IsSound s → IsOwned s b → IsOwned s c → span_of b ≢ span_of c → AreTwo b c }
+{}
+
+/// Two blocks are two from either side, and are of two objects or of two ranges of one; where one of them has its own, of
+/// two objects.
+pub fn two_blocks_are_apart()
+    ensures back { (b c : Block) → AreTwo b c → AreTwo c b }
+    ensures apart { (b c : Block) → AreTwo b c
+        → (b.object ≢ c.object) ⊎ ((b.offset + b.size ≤ c.offset) ⊎ (c.offset + c.size ≤ b.offset)) }
+    ensures objects { (b c : Block) → AreTwo b c → is_shared b.kind ≡ false → b.object ≢ c.object }
+{}
+
+/// What is known of a list of blocks in hand is known of the block at a place of it: it is owned, it agrees with the device,
+/// and of two places the blocks are two. So a list is a map from places, which the clauses on keys speak of.
+pub fn blocks_in_hand_are_told_by_place()
+    ensures { ToldByPlace }
+{}
+
+/// Bytes that are as they were stay so from call to call, and what the device had of a block that keeps its bytes it has.
+pub fn bytes_stay()
+    ensures { BytesStay }
 {}
 
 /// A span that was put in and taken out again leaves the live spans as they were, and one may be taken out before

@@ -1,5 +1,6 @@
 pub mod Between
 pub mod ByteCalls
+pub mod ByPlace
 pub mod Changes
 pub mod Contents
 pub mod Copies

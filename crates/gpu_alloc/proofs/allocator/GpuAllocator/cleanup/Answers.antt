@@ -71,6 +71,7 @@ pub returns-clause-rest : goal.returns-clause-rest
 returns-clause-rest g c = record {
   live = ap (λ (s : State). s.live) (returns-clause-cleaned g c).2.2.1;
   held = λ none. ap map.len (returns-clause-ends g c (none_live c.args.self.now.live none)).0 ∙ map.len-empty nat_cmp HeldObject;
+  none = λ none. (returns-clause-ends g c (none_live c.args.self.now.live none)).0;
 }
 
 pub returns-clause-properties : goal.returns-clause-properties

@@ -1,0 +1,69 @@
+//! Which way a memory type serves a request.
+
+ghost use Rattle.std.specs.Prelude.{◌≡◌, ◌<◌, ◌/◌, length};
+ghost use Rattle.gpu_alloc_types.specs.Properties.{heap_size};
+ghost use Rattle.gpu_alloc.specs.Allocation.{strategy, unhinted, fits_a_chunk};
+
+use super::{GpuAllocator, Strategy};
+use crate::{Dedicated, Request};
+use gpu_alloc_types::{MemoryObject, UsageFlags};
+use std::alloc::Allocator;
+
+impl<M: MemoryObject, A: Allocator> GpuAllocator<M, A> {
+    /// Which way a memory type serves a request.
+    #[inline(always)]
+    pub(super) fn strategy(
+        &self,
+        request: Request,
+        hint: Option<Dedicated>,
+        memory_type: u32,
+    ) -> Strategy
+        requires known { memory_type < length (self.now.properties).memory_types }
+        ensures { result ≡ strategy self.now request hint memory_type }
+    {
+        match hint {
+            Some(Dedicated::Required) => Strategy::OwnObject,
+            Some(Dedicated::Preferred)
+                if request.size >= self.limits.config.preferred_threshold() => {
+                Strategy::OwnObject
+            }
+            _ => self.unhinted(request, memory_type),
+        }
+    }
+
+    /// Which way a memory type serves a request by its size and its usage.
+    #[inline(always)]
+    fn unhinted(&self, request: Request, memory_type: u32) -> Strategy
+        requires known { memory_type < length (self.now.properties).memory_types }
+        ensures { result ≡ unhinted self.now request memory_type }
+    {
+        let config = &self.limits.config;
+        let part = self.heap_size(memory_type) / 32;
+        if request.usage.contains(UsageFlags::TRANSIENT) {
+            if request.size < config.transient_threshold().min(part)
+                && self.fits_a_chunk(request, memory_type)
+            {
+                Strategy::InFreeList
+            } else {
+                Strategy::OwnObject
+            }
+        } else if request.size < config.dedicated_threshold.min(part) {
+            Strategy::InBuddyChunk
+        } else {
+            Strategy::OwnObject
+        }
+    }
+
+    /// Whether a request in whole atoms fits a largest free-list chunk. Its size is below a 32nd part of a heap.
+    #[inline(always)]
+    fn fits_a_chunk(&self, request: Request, memory_type: u32) -> bool
+        requires known { memory_type < length (self.now.properties).memory_types }
+        requires small { request.size < heap_size self.now.properties memory_type / 32 }
+        ensures { result ≡ fits_a_chunk self.now request memory_type }
+    {
+        let atom = self.limits.atom(memory_type);
+        let heap = self.heap_size(memory_type);
+        let size = (request.size + (atom - 1)) / atom * atom;
+        size <= self.limits.config.final_size(heap, atom)
+    }
+}
