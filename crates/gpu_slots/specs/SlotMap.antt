@@ -45,10 +45,21 @@ IsGone s key = IsGiven s key × (map.get s.live key ≡ None)
 abbrev pub StaysGone : {T : Type 0} → SlotState T → SlotState T → Type 0
 StaysGone old new = (key : ℕ) → IsGone old key → IsGone new key
 
--- Of the values by key one is taken: its key has none from then on, and each other key what it had.
-pub record TakesOne {T : Type 0} (old : FinMap nat_cmp T) (value : T) (new : FinMap nat_cmp T) : Type 0 where
-  pub key : ℕ
+-- Under a key that had none there is a value, and under each other key what there was.
+pub record PutsAt {T : Type 0} (old : FinMap nat_cmp T) (key : ℕ) (value : T) (new : FinMap nat_cmp T) : Type 0 where
+  pub free : map.get old key ≡ None
+  pub there : map.get new key ≡ Some value
+  pub others : (other : ℕ) → other ≢ key → map.get new other ≡ map.get old other
+  pub count : map.len new ≡ map.len old + 1
+
+-- The value under a key is taken, and under each other key there is what there was.
+pub record TakesAt {T : Type 0} (old : FinMap nat_cmp T) (key : ℕ) (value : T) (new : FinMap nat_cmp T) : Type 0 where
   pub taken : map.get old key ≡ Some value
   pub gone : map.get new key ≡ None
   pub others : (other : ℕ) → other ≢ key → map.get new other ≡ map.get old other
-  pub count : map.len old ≡ map.len new + 1
+  pub count : map.len new + 1 ≡ map.len old
+
+-- no key has a value
+pub record HasNone {T : Type 0} (live : FinMap nat_cmp T) : Type 0 where
+  pub none : (key : ℕ) → map.get live key ≡ None
+  pub count : map.len live ≡ 0

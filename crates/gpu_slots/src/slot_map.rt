@@ -4,7 +4,8 @@ ghost use Rattle.std.specs.Prelude.{◌≡◌, ◌≢◌, ℕ, ◌+◌, ◌^◌,
 ghost use Rattle.std.specs.Option.{option_copied_mut};
 ghost use Rattle.std.specs.Borrow.{sem};
 ghost use Rattle.std.specs.FinMap as map;
-ghost use Rattle.gpu_slots.specs.SlotMap.{generation_of, IsGiven, IsGone, StaysGone, TakesOne};
+ghost use Rattle.gpu_slots.specs.SlotMap.{generation_of, IsGiven, IsGone, StaysGone};
+ghost use Rattle.gpu_slots.specs.SlotMap.{HasNone, PutsAt, TakesAt};
 
 use std::alloc::{AllocError, Allocator, Global};
 use std::marker::Model;
@@ -73,6 +74,8 @@ impl<T, A: Allocator + Copy> SlotMap<T, A> {
     pub fn new(alloc: A) -> SlotMap<T, A>
         ensures live { result.live ≡ map.empty }
         ensures generations { result.generations ≡ [] }
+        ensures none { HasNone result.live }
+        ensures unused { (key : ℕ) → IsGiven result key → ⊥ }
     {
         SlotMap {
             places: Vec::new(alloc),
@@ -125,6 +128,7 @@ impl<T, A: Allocator> SlotMap<T, A> {
         ensures never_zero { result ≢ 0 }
         ensures new_key { IsGiven self.old result → ⊥ }
         ensures live { self.new.live ≡ map.insert self.old.live result value }
+        ensures puts { PutsAt self.old.live result value self.new.live }
         ensures given { (key : ℕ) → IsGiven self.new key ↔ (IsGiven self.old key ⊎ (key ≡ result)) }
         ensures gone { StaysGone self.old self.new }
         ensures room { self.old.room ≡ self.new.room + 1 }
@@ -181,6 +185,7 @@ impl<T, A: Allocator> SlotMap<T, A> {
     pub fn remove(&mut self, key: u64) -> Option<T>
         ensures value { result ≡ map.get self.old.live key }
         ensures live { self.new.live ≡ map.remove self.old.live key }
+        ensures takes { IfSome result (λ value. TakesAt self.old.live key value self.new.live) }
         ensures given { (other : ℕ) → IsGiven self.new other ↔ IsGiven self.old other }
         ensures refused { OnSome result (IsGone self.new key) }
         ensures gone { StaysGone self.old self.new }
@@ -249,8 +254,8 @@ impl<T, A: Allocator> Model for Values<T, A> {
 impl<T, A: Allocator> Values<T, A> {
     /// One of the values, or `None` where there is none. The places of all together are gone through once.
     pub fn next(&mut self) -> Option<T>
-        ensures taken { IfSome result (λ value. TakesOne self.old value self.new) }
-        ensures ended { result ≡ None → map.len self.old ≡ 0 }
+        ensures taken { IfSome result (λ value. (key : ℕ) × TakesAt self.old key value self.new) }
+        ensures ended { result ≡ None → map.len self.new ≡ 0 }
         ensures stays { result ≡ None → self.new ≡ self.old }
     {
         while let Some(place) = self.places.pop() {
