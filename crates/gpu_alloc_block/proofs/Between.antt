@@ -1,5 +1,5 @@
 -- A byte call: what is asked and changed from before the mapping to after it.
-use Rattle.std.proofs.Common.{◌≡◌, ◌≢◌, ◌⊎◌, inl, inr, ℕ, zero, suc, ◌+◌, ◌<◌, ◌≤◌, ◌==◌, Bool, true, false, cond, List, [], ◌∷◌, ◌++◌, append-nil, length, Option, Some, None, IsSome, IfSome, Result, Ok, Err, OnOk, OnErr, refl, sym, ◌∙◌, ap, subst, arith}
+use Rattle.std.proofs.Common.{◌≡◌, ℕ, ◌<◌, ◌==◌, Bool, true, false, cond, List, [], ◌∷◌, ◌++◌, append-nil, Option, Some, None, IsSome, Result, Ok, Err, OnOk, OnErr, refl, sym, ◌∙◌, ap, subst, arith}
 use Rattle.std.proofs.lemmas.Bool.Decides.{nat_tests}
 use Rattle.gpu_alloc_types.specs.Chains.{chain_append}
 use Rattle.gpu_alloc_types.specs.Properties.{Properties}
@@ -8,7 +8,7 @@ use Rattle.gpu_alloc_types.specs.Device.Event.{Mapped, Unmapped}
 use Rattle.gpu_alloc_block.proofs.Changes.{some_same, changed_there, changes_none, changes_told, HoldsWhileMapped, changes_between}
 use Rattle.gpu_alloc_block.proofs.Keeping.{HasSameShape, IsRemapped, same_shape, keeps, agrees_moved}
 use Rattle.gpu_alloc_block.proofs.Opened.{able_unmapped, own_unmapped}
-use Rattle.gpu_alloc_block.specs.Agreement.{IsBeneath, IsHeldFor, KeepsAgreement}
+use Rattle.gpu_alloc_block.specs.Agreement.{IsHeldFor, KeepsAgreement}
 use Rattle.gpu_alloc_block.specs.Bytes.{HasOnlyOtherBytes, IsOpen, ChangesBytes, around, where_some}
 use Rattle.gpu_alloc_block.specs.Mapped.{refusal, of_own, mapping_of, IsOpened, IsClosed}
 use Rattle.gpu_alloc_block.specs.Ranges.{rounded}

@@ -2,7 +2,6 @@
 use Rattle.std.proofs.Common.{◌≡◌, ℕ, Bool, true, false, Option, Some, None, IfSome, refl, sym, ◌∙◌, ap, subst}
 use Rattle.gpu_alloc_types.specs.Device.{Object, Range, Changes, IsMappedOver, IsUnmapped, put}
 use Rattle.gpu_alloc_types.specs.Objects.{put-same, put-kept, put-put}
-use Rattle.gpu_alloc_block.specs.Bytes.{HasOnlyOtherBytes}
 use Rattle.gpu_alloc_block.specs.Mapped.{IsOpened, IsClosed}
 
 pub some_same : {X : Type 0} (a b : X) → Some a ≡ Some b → a ≡ b

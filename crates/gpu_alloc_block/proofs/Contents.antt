@@ -111,9 +111,12 @@ module _ (b : Block) (offset : ℕ) (bytes : List ℕ) (f g : ℕ → Option Obj
       let c = changes.some (omega (arith, less, long)) in
       ap (λ o. device_at o (b.offset + offset + k)) c.1 ∙ sym (c.2.1.told k less)
 
--- a read leaves each of the device's bytes
-pub read_unmoved : (b : Block) (offset len : ℕ) (f g : ℕ → Option Object) → Changes (ReadsWithin b offset len) f b.object g → HasSameDeviceBytes b f g
+-- a read leaves each of the device's bytes, of every object
+pub read_unmoved : (b : Block) (offset len : ℕ) (f g : ℕ → Option Object) → Changes (ReadsWithin b offset len) f b.object g → (c : Block) → HasSameDeviceBytes c f g
 unfolding HasSameDeviceBytes
-read_unmoved b offset len f g c k =
-    ap (λ o. device_at o k) (changed_there f b.object (ReadsWithin b offset len) g c) ∙ ap (λ xs. slice_get xs k) c.2.1.device
-    ∙ sym (ap (λ o. device_at o k) c.1)
+read_unmoved b offset len f g changes c k = elim (one_or_two c.object b.object) [
+  | inr other ↦ ap (λ (h : ℕ → Option Object). device_at (h c.object) k) changes.2.2 ∙ ap (λ o. device_at o k) (put-other f b.object (Some changes.2.0) c.object other)
+  | inl is ↦
+      ap (λ n. device_at (g n) k) is ∙ ap (λ o. device_at o k) (changed_there f b.object (ReadsWithin b offset len) g changes)
+      ∙ ap (λ xs. slice_get xs k) changes.2.1.device ∙ sym (ap (λ n. device_at (f n) k) is ∙ ap (λ o. device_at o k) changes.1)
+]

@@ -1,7 +1,7 @@
 -- Putting and then flushing, invalidating and then getting, over all of a device's objects.
-use Rattle.std.proofs.Common.{◌≡◌, ◌⊎◌, ℕ, ◌+◌, ◌<◌, ◌≤◌, true, false, List, [], ◌∷◌, length, slice_get, Option, Some, Result, Ok, Err, OnOk, OnErr, refl, sym, ◌∙◌, ap, subst, arith}
-use Rattle.gpu_alloc_types.specs.Properties.{Properties, atom_of, is_coherent, are_non_coherent}
-use Rattle.gpu_alloc_types.specs.Device.{Object, Range, Row, Changes, HeldWith, IsPut, IsFlushed, IsInvalidated, IsInMapped, IsFlushable}
+use Rattle.std.proofs.Common.{◌≡◌, ℕ, ◌+◌, ◌<◌, ◌≤◌, true, false, List, length, slice_get, Option, Result, Ok, Err, OnOk, OnErr, refl, sym, ◌∙◌, ap, subst, arith}
+use Rattle.gpu_alloc_types.specs.Properties.{Properties, is_coherent, are_non_coherent}
+use Rattle.gpu_alloc_types.specs.Device.{Object, Range, Row, Changes, HeldWith, IsPut, IsFlushed, IsInvalidated, IsInMapped}
 use Rattle.gpu_alloc_types.specs.Device.Event.{BytesPut, BytesGot}
 use Rattle.gpu_alloc_types.specs.declared.types.OutOfMemory.{OutOfMemory}
 use Rattle.gpu_alloc_block.proofs.Changes.{some_same, changed_there, changes_told, changes_of, changes_twice}

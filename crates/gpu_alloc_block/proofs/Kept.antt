@@ -1,5 +1,5 @@
 -- What a call of a block leaves of the blocks in hand.
-use Rattle.std.proofs.Common.{◌≡◌, ◌≢◌, inl, inr, ℕ, Bool, true, false, List, [], ◌∷◌, ◌++◌, Option, Some, None, Result, Ok, Err, cond, is_some, refl, sym, ◌∙◌, ap, subst}
+use Rattle.std.proofs.Common.{◌≡◌, ◌≢◌, inl, inr, ℕ, List, [], ◌∷◌, ◌++◌, Option, Some, None, Result, Ok, Err, cond, is_some, refl, sym, ◌∙◌, ap, subst}
 use Rattle.std.specs.FinMap as map
 use Rattle.gpu_alloc_base.proofs.Names.{one_or_two}
 use Rattle.gpu_alloc_types.specs.Device.{Object, Range, Changes}
@@ -12,7 +12,7 @@ use Rattle.gpu_alloc_block.proofs.Keeping.{IsRemapped, same_block}
 use Rattle.gpu_alloc_block.specs.Agreement.{BlockAgrees, KeepsAgreement}
 use Rattle.gpu_alloc_block.specs.Bytes.{HasOnlyOtherBytes}
 use Rattle.gpu_alloc_block.specs.Contents.{HasSameBytes}
-use Rattle.gpu_alloc_block.specs.InHand.{AreOwned, AreTwo, IsBeside, IsSameBlock, ShareNoObject}
+use Rattle.gpu_alloc_block.specs.InHand.{AreOwned, AreTwo, IsBeside, IsSameBlock}
 use Rattle.gpu_alloc_block.specs.Kept.{AreKept, AreReady, ChangesAt, IsSameOutside, KeepsInHand, outside}
 use Rattle.gpu_alloc_block.specs.Mapped.{ObjectsMapped}
 use Rattle.gpu_alloc_block.specs.State.{AreApart, Block, IsOwned, Span, State, span_of, is_shared}

@@ -1,10 +1,9 @@
 -- What putting and getting bytes makes of an object.
-use Rattle.std.proofs.Common.{◌≡◌, ◌⊎◌, inl, inr, ℕ, ◌+◌, ◌-◌, ◌*◌, ◌/◌, ◌%◌, ◌<◌, ◌≤◌, Bool, true, false, not, ◌&&◌, cond, min, List, [], ◌∷◌, length, slice_get, Option, Some, None, Result, Ok, Err, IsTrue, refl, sym, ◌∙◌, ap, subst, arith}
+use Rattle.std.proofs.Common.{◌≡◌, inl, inr, ℕ, ◌+◌, ◌<◌, ◌≤◌, Bool, true, false, not, ◌&&◌, List, length, slice_get, None, Ok, Err, refl, sym, ◌∙◌, ap, subst, arith}
 use Rattle.gpu_alloc_types.specs.Flags.{has_bit}
 use Rattle.gpu_alloc_types.specs.Properties.{Properties, props_at, is_coherent, are_non_coherent}
-use Rattle.gpu_alloc_types.specs.Device.{Object, Range, IsWellFormed, IsOutside, IsWritten, IsCopied, IsPartlyCopied, IsPut, IsPutDevice, IsFlushed, IsInvalidated, IsMappedOver, IsUnmapped}
+use Rattle.gpu_alloc_types.specs.Device.{Object, Range, IsWellFormed, IsOutside, IsWritten, IsCopied, IsPut, IsPutDevice, IsFlushed, IsInvalidated, IsMappedOver, IsUnmapped}
 use Rattle.gpu_alloc_types.specs.declared.types.OutOfMemory.{OutOfMemory}
-use Rattle.gpu_alloc_block.proofs.Changes.{HoldsWhileMapped}
 use Rattle.gpu_alloc_block.proofs.Rounded.{rounded_covers}
 use Rattle.gpu_alloc_block.specs.Bytes.{IsOpen, HasOnlyOtherBytes, IsWrittenThrough, IsPartlyWritten, IsReadThrough, IsPartlyRead, WritesWithin, ReadsWithin}
 use Rattle.gpu_alloc_block.specs.Ranges.{rounded}

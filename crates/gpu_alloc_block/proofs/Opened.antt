@@ -5,10 +5,9 @@ use Rattle.gpu_alloc_types.specs.Properties.{Properties, props_at, atom_of, is_h
 use Rattle.gpu_alloc_types.specs.Device.{Object, Range, Row, Changes, HeldWith, IsMappedOver}
 use Rattle.gpu_alloc_types.specs.Device.Event.{Mapped}
 use Rattle.gpu_alloc_types.specs.declared.types.DeviceMapError.{DeviceMapError}
-use Rattle.gpu_alloc_base.specs.declared.error.MapError.{MapError}
 use Rattle.gpu_alloc_base.specs.declared.error.MapError.TheVariants.{NonHostVisible, AlreadyMapped}
 use Rattle.gpu_alloc_block.proofs.Changes.{some_same, changed_there}
-use Rattle.gpu_alloc_block.proofs.Rounded.{rounded_covers, rounded_inside, rounded_start, rounded_finish, rounded_some}
+use Rattle.gpu_alloc_block.proofs.Rounded.{rounded_inside, rounded_start, rounded_finish, rounded_some}
 use Rattle.gpu_alloc_block.specs.Agreement.{IsBeneath, IsHeldFor}
 use Rattle.gpu_alloc_block.specs.Bytes.{IsOpen}
 use Rattle.gpu_alloc_block.specs.Mapped.{refusal}

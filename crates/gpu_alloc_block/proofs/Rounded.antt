@@ -1,11 +1,11 @@
 -- Ranges of a block in whole atoms.
-use Rattle.std.proofs.Common.{◌≡◌, ◌≢◌, ◌⊎◌, true, Option, inl, inr, ℕ, zero, suc, ◌+◌, ◌-◌, ◌*◌, ◌/◌, ◌%◌, ◌<◌, ◌≤◌, ◌==◌, ◌^◌, min, refl, sym, ◌∙◌, ap, subst, arith}
+use Rattle.std.proofs.Common.{◌≡◌, ◌≢◌, ◌⊎◌, true, Option, ℕ, zero, suc, ◌+◌, ◌-◌, ◌*◌, ◌/◌, ◌%◌, ◌<◌, ◌≤◌, ◌^◌, min, refl, sym, ◌∙◌, ap, subst, arith}
 use Rattle.std.proofs.Math.Nat.{div-mul-le_self, lt-div-mul-add, mod-lt, mod-eq_of_lt, mod_self, zero-mod, mul-le-mul_right, mul-mod_left}
 use Rattle.std.proofs.lemmas.Nat.{div-add-mod', div-mul-add, le-div}
 use Rattle.std.specs.Int.{next_multiple_of}
 use Rattle.gpu_alloc_base.specs.Sizes.{down, up}
 use Rattle.gpu_alloc_block.specs.Agreement.{BlockAgrees, LiesInBlock}
-use Rattle.gpu_alloc_block.specs.Ranges.{HasEnd, rounded, whole_atoms, atom_start, atom_end}
+use Rattle.gpu_alloc_block.specs.Ranges.{rounded, atom_end}
 use Rattle.gpu_alloc_block.specs.State.{Block, is_shared}
 use Rattle.gpu_alloc_block.specs.declared.block.Kind.{Kind}
 use Rattle.gpu_alloc_block.specs.declared.block.Kind.TheVariants.{Dedicated, Imported, BuddyChunk, FreeListChunk}

@@ -1,5 +1,5 @@
 -- Ranges of a block in whole atoms.
-use Rattle.std.specs.Prelude.{ℕ, ◌+◌, ◌-◌, ◌^◌, ◌<◌, min, Option, option_map}
+use Rattle.std.specs.Prelude.{ℕ, ◌+◌, ◌-◌, ◌^◌, ◌<◌, ◌≤◌, min, Option, option_map}
 use Rattle.gpu_alloc_types.specs.Device.{Range}
 use Rattle.gpu_alloc_base.specs.Sizes.{down, up}
 use Rattle.gpu_alloc_block.specs.State.{Block}
@@ -29,6 +29,10 @@ whole_atoms b start len = record {
 -- the rounded range of some bytes of the block, of which the first is at this offset in it
 abbrev pub rounded : Block → (offset len : ℕ) → Range
 rounded b offset len = whole_atoms b (b.offset + offset) len
+
+-- the range has all of so many bytes, of which the first is at a place of the object
+abbrev pub HasAll : Range → (place len : ℕ) → Type 0
+HasAll r place len = (r.offset ≤ place) × (place + len ≤ r.offset + r.size)
 
 -- what is mapped of an object for a mapping
 abbrev pub mapped_range : Block → Mapping → ℕ × ℕ

@@ -186,6 +186,16 @@ impl<M: MemoryObject> MemoryBlock<M> {
         self.memory_type
     }
 
+    /// The least unit of what has to be flushed of it, in bytes: Vulkan's `nonCoherentAtomSize`, or 1 where its memory
+    /// needs no flush.
+    #[inline(always)]
+    pub fn atom(&self) -> u64
+        ensures atom { result ≡ self.now.atom }
+        ensures some { 0 < result }
+    {
+        self.atom
+    }
+
     /// Whether the block is mapped.
     #[inline(always)]
     pub fn is_mapped(&self) -> bool
@@ -360,7 +370,7 @@ impl<M: MemoryObject> MemoryBlock<M> {
         ensures bytes { OnErr result (bytes.new ≡ bytes.old) }
         ensures within { Changes (ReadsWithin self.old offset (length bytes.old)) (D.objects device.old)
             self.old.object (D.objects device.new) }
-        ensures unmoved { HasSameDeviceBytes self.old (D.objects device.old) (D.objects device.new) }
+        ensures unmoved { (block : Block) → HasSameDeviceBytes block (D.objects device.old) (D.objects device.new) }
         ensures empty { refusal self.old ≡ None → length bytes.old ≡ 0 → IsOk result }
         ensures sure { refusal self.old ≡ None → is_shared self.old.kind ≡ true
             → are_non_coherent self.old.props ≡ false → IsOk result }

@@ -5,16 +5,19 @@ ghost use Rattle.gpu_alloc_types.specs.Device.{Object, HeldWith, IsInMapped};
 ghost use Rattle.gpu_alloc_types.specs.Properties.{Properties};
 ghost use Rattle.gpu_alloc_block.specs.Agreement.{BlockAgrees, LiesInBlock};
 ghost use Rattle.gpu_alloc_block.specs.ByteCalls.{BytesMoved, MayBeMoved};
-ghost use Rattle.gpu_alloc_block.specs.Ranges.{rounded};
+ghost use Rattle.gpu_alloc_block.specs.Ranges.{HasAll, rounded};
 ghost use Rattle.gpu_alloc_block.specs.State.{State};
 
 use crate::{Mapping, MemoryBlock};
 use gpu_alloc_types::{MemoryObject, ObjectDevice};
 
-/// What is flushed or invalidated of a block lies inside it; an import's alone may begin before it, by less than one
-/// atom. So a call of a block changes no byte of another, as its clause `within` tells.
+/// What is flushed or invalidated of a block covers the bytes that it is for, and lies inside the block; an import's
+/// alone may begin before it, by less than one atom. So a call of a block changes no byte of another, as its clause
+/// `in_hand` tells.
 pub fn rounded_ranges_lie_in_their_block<M: MemoryObject>(block: &MemoryBlock<M>)
-    ensures { (p : Properties) (objects : ℕ → Option Object) (offset len : ℕ) → BlockAgrees block.now p objects
+    ensures covers { (offset len : ℕ) → offset + len ≤ block.now.size
+        → HasAll (rounded block.now offset len) (block.now.offset + offset) len }
+    ensures inside { (p : Properties) (objects : ℕ → Option Object) (offset len : ℕ) → BlockAgrees block.now p objects
         → offset + len ≤ block.now.size → LiesInBlock block.now (rounded block.now offset len) }
 {
     block.keeps_end();

@@ -1,4 +1,4 @@
-use Rattle.std.proofs.Common.{ℕ, ◌≡◌, ◌+◌, ◌<◌, ◌≤◌, ◌^◌, ◌∙◌, inl, inr, arith}
+use Rattle.std.proofs.Common.{ℕ, ◌+◌, ◌<◌, ◌≤◌, ◌^◌, ◌∙◌, arith}
 use Rattle.std.specs.Int.{next_multiple_of}
 use Rattle.gpu_alloc_block.proofs.Rounded.{up_is, up_past}
 use Rattle.gpu_alloc_block.proofs.block.MemoryBlock.atom_end.Goals as goal

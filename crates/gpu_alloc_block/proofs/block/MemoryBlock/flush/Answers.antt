@@ -1,6 +1,6 @@
-use Rattle.std.proofs.Common.{◌≡◌, ℕ, true, false, Ok, IfSome, refl, sym, ◌∙◌, ap, subst}
+use Rattle.std.proofs.Common.{◌≡◌, false, Ok, sym, ◌∙◌}
 use Rattle.gpu_alloc_types.specs.Properties.{are_non_coherent}
-use Rattle.gpu_alloc_types.specs.Device.{Object, IsWellFormed, IsFlushed}
+use Rattle.gpu_alloc_types.specs.Device.{IsWellFormed, IsFlushed}
 use Rattle.gpu_alloc_types.specs.declared.types.OutOfMemory.{OutOfMemory}
 use Rattle.gpu_alloc_block.proofs.Changes.{changes_none, some_known}
 use Rattle.gpu_alloc_block.proofs.Moving.{as_flushed}

@@ -1,7 +1,6 @@
-use Rattle.std.proofs.Common.{◌≡◌, ◌+◌, ◌<◌, length, Ok, sym, subst}
+use Rattle.std.proofs.Common.{◌≡◌, ◌+◌, ◌<◌, length, sym, subst}
 use Rattle.gpu_alloc_types.specs.Device.{Row, HeldWith, IsInMapped, Changes, IsInvalidated}
 use Rattle.gpu_alloc_types.specs.Device.Event.{BytesGot}
-use Rattle.gpu_alloc_types.specs.declared.types.OutOfMemory.{OutOfMemory}
 use Rattle.gpu_alloc_block.proofs.Copies.{get_ready, got_read}
 use Rattle.gpu_alloc_block.specs.Ranges.{rounded}
 use Rattle.gpu_alloc_block.proofs.block.MemoryBlock.get.Goals as goal

@@ -1,4 +1,4 @@
-use Rattle.std.proofs.Common.{◌+◌, ◌<◌, length, subst}
+use Rattle.std.proofs.Common.{◌+◌, ◌<◌, subst}
 use Rattle.gpu_alloc_types.specs.Device.{Row}
 use Rattle.gpu_alloc_types.specs.Device.Event.{BytesPut}
 use Rattle.gpu_alloc_block.proofs.Copies.{flush_ready, put_written, put_refused}

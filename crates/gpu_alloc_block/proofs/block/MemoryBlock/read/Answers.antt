@@ -1,4 +1,4 @@
-use Rattle.std.proofs.Common.{◌≡◌, ◌<◌, true, None, Ok, OnOk, OnErr, IfErr, [], ◌∷◌, length, inr, refl, sym, ◌∙◌, ap, subst}
+use Rattle.std.proofs.Common.{◌≡◌, ◌<◌, true, None, Ok, OnOk, OnErr, IfErr, [], ◌∷◌, length, inr, refl, sym, ◌∙◌, subst}
 use Rattle.gpu_alloc_types.specs.Properties.{are_non_coherent}
 use Rattle.gpu_alloc_types.specs.Device.{Changes, HeldWith, Asked}
 use Rattle.gpu_alloc_types.specs.Device.Event.{Mapped}
