@@ -1,5 +1,6 @@
 //! Programs that keep a device's memory, each over any device and any allocator of host memory.
 #![tactic(auto)]
 
+pub mod frames;
 pub mod resources;
 pub mod staging;
