@@ -1,6 +1,7 @@
 -- What calls leave of blocks in hand, of their bytes, and of what the device has beside the allocator's objects.
 use Rattle.std.proofs.Common.{◌≡◌, ◌≢◌, ◌⊎◌, inl, inr, ℕ, List, [], ◌∷◌, ◌++◌, append-nil, Option, Some, None, cond, is_some, true, false, Result, Ok, Err, IfOk, OnErr, IsSome, refl, sym, ◌∙◌, ap, subst, Contains}
 use Rattle.std.specs.FinMap as map
+use Rattle.std.specs.Ordering.{nat_cmp}
 use Rattle.gpu_alloc_types.specs.Device.{Event, Object}
 use Rattle.gpu_alloc_types.specs.Objects.{put-other}
 use Rattle.gpu_alloc_types.specs.Properties.{Properties}
@@ -13,7 +14,7 @@ use Rattle.gpu_alloc_block.specs.InHand.{AreTwo, AreOwned}
 use Rattle.gpu_alloc_block.specs.Kept.{AreReady, AreKept, ChangesAt, outside, IsSameOutside, LeavesInHand, AddsInHand, RemovesInHand}
 use Rattle.gpu_alloc_block.specs.State.{Block, HeldObject, State, IsOwned}
 use Rattle.gpu_alloc.specs.Allocation.{IsAsCounted, IsGranted, ObjectsAfter}
-use Rattle.gpu_alloc.specs.Owned.{Adds, HoldsWith, Leaves, Removes}
+use Rattle.gpu_alloc.specs.Owned.{Adds, HoldsWith, IsAllOutside, Leaves, Removes}
 use Rattle.gpu_alloc.specs.Release.{GoesBack, without_all}
 use Rattle.gpu_alloc.specs.declared.request.Request.{Request}
 use Rattle.gpu_alloc.proofs.Changes.{gone_or_kept}
@@ -33,6 +34,13 @@ none_not_outside s f name none = elim (is_some (map.get s.held name)) as (λ t. 
 pub same_outside : (s new : State) (f g : ℕ → Option Object) (name : ℕ) → map.get new.held name ≡ map.get s.held name → g name ≡ f name → outside new g name ≡ outside s f name
 unfolding outside
 same_outside s new f g name held same = rw (held, same) refl
+
+-- an allocator that holds nothing has none of them
+pub all_outside : (s : State) → s.held ≡ map.empty → IsAllOutside s
+unfolding outside
+all_outside s empty = λ objects name.
+    ap (λ (m : Held). cond (is_some (map.get m name)) None (objects name)) empty
+    ∙ ap (λ (h : Option HeldObject). cond (is_some h) None (objects name)) (map.get-empty nat_cmp name)
 
 -- Blocks that stay owned.
 

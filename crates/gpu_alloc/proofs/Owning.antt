@@ -18,6 +18,7 @@ use Rattle.gpu_alloc_base.specs.declared.error.AllocationError.{AllocationError}
 use Rattle.gpu_alloc.proofs.Decisions.{allocates_kept}
 use Rattle.gpu_alloc_block.specs.State.{HeldObject, State, Block, Span, span_of, span_cmp, AreApart, IsLive, IsOwned, is_shared}
 use Rattle.gpu_alloc.proofs.Changes.{Grows, allocates_grow, granted_kept, apart_differ, still_owned}
+use Rattle.gpu_alloc.proofs.InHand.{all_outside}
 use Rattle.gpu_alloc_block.proofs.Kept.{two_back}
 use Rattle.gpu_alloc_block.proofs.LiveSpans.{span_total, live_new, live_still, live_kept, not_live, put_taken, taken_before}
 
@@ -230,6 +231,7 @@ opened_nothing c p = record {
   properties = refl;
   live = set.len-empty span_cmp;
   held = map.len-empty nat_cmp HeldObject;
+  outside = all_outside (opened c p) refl;
   agrees = λ q same objects. record {
     properties = same;
     holds = λ name. wherever (map.get (map.empty {X = HeldObject} {R = nat_cmp}) name) _ (λ h at. let none = map.get-empty {X = HeldObject} nat_cmp name in absurd (cc));

@@ -6,7 +6,7 @@ use Rattle.gpu_alloc_types.specs.Device.{Object}
 use Rattle.gpu_alloc_types.specs.Properties.{Properties}
 use Rattle.gpu_alloc_block.specs.Agreement.{Agrees}
 pub use Rattle.gpu_alloc_block.specs.InHand.{AreTwo, ShareNoObject, IsBeside, AreOwned, IsSameBlock}
-use Rattle.gpu_alloc_block.specs.Kept.{LeavesInHand}
+use Rattle.gpu_alloc_block.specs.Kept.{LeavesInHand, outside}
 use Rattle.gpu_alloc_block.specs.State.{HeldObject, State, Block, span_of, IsOwned}
 
 -- What a call leaves that takes no block back: what was given to `new`, and each block that was owned.
@@ -50,11 +50,16 @@ pub record CancelOut : Type 0 where
   pub two : (s more most less end : State) (a b : Block) → Adds s more a → Adds more most b → Removes most a less
       → Removes less b end → end.live ≡ s.live
 
+-- all that a device has is outside the allocator
+abbrev pub IsAllOutside : State → Type 0
+IsAllOutside s = (objects : ℕ → Option Object) (name : ℕ) → outside s objects name ≡ objects name
+
 -- What an allocator that holds nothing has: it agrees with every device that offers these properties.
 pub record HoldsNothing (p : Properties) (s : State) : Type 0 where
   pub properties : s.properties ≡ p
   pub live : set.len s.live ≡ 0
   pub held : map.len s.held ≡ 0
+  pub outside : IsAllOutside s
   pub agrees : (q : Properties) → q ≡ p → (objects : ℕ → Option Object) → Agrees s q objects
 
 -- What a cleanup leaves: nothing is held where nothing is live.
@@ -62,6 +67,7 @@ pub record LeavesNoRest (s new : State) : Type 0 where
   pub live : new.live ≡ s.live
   pub held : set.len s.live ≡ 0 → map.len new.held ≡ 0
   pub none : set.len s.live ≡ 0 → new.held ≡ map.empty
+  pub outside : set.len s.live ≡ 0 → IsAllOutside new
 
 -- Whatever the device: where it agreed with the allocator before a call that asks no device, it does so afterwards, and
 -- blocks in hand stay so.

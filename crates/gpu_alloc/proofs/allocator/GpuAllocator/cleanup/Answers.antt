@@ -5,10 +5,11 @@ use Rattle.gpu_alloc.proofs.Agreed.{chain_keeps}
 use Rattle.gpu_alloc.proofs.BlocksAgreed.{cleanup_keeps_blocks}
 use Rattle.gpu_alloc.proofs.FreeLists.Cleanups.{cleaning_goes_on, all_gone, left_is}
 use Rattle.gpu_alloc.proofs.GoneBack.{cleanup_goes_back}
-use Rattle.gpu_alloc.proofs.InHand.{cleanup_in_hand}
+use Rattle.gpu_alloc.proofs.InHand.{all_outside, cleanup_in_hand}
 use Rattle.gpu_alloc.proofs.Owning.{cleans_leave, none_live}
 use Rattle.gpu_alloc_block.specs.State.{HeldObject, State}
 use Rattle.std.specs.FinMap as map
+use Rattle.std.specs.FinSet as set
 use Rattle.std.specs.Ordering.{nat_cmp}
 use Rattle.gpu_alloc.proofs.allocator.GpuAllocator.cleanup.Given.{Over}
 use Rattle.gpu_alloc.proofs.allocator.GpuAllocator.cleanup.Goals as goal
@@ -68,11 +69,14 @@ pub returns-clause-leaves : goal.returns-clause-leaves
 returns-clause-leaves g c = let cleaned = returns-clause-cleaned g c in cleans_leave c.args.self.now cleaned.0 _ cleaned.2 c.keeps_sound.ensures.sound
 
 pub returns-clause-rest : goal.returns-clause-rest
-returns-clause-rest g c = record {
-  live = ap (λ (s : State). s.live) (returns-clause-cleaned g c).2.2.1;
-  held = λ none. ap map.len (returns-clause-ends g c (none_live c.args.self.now.live none)).0 ∙ map.len-empty nat_cmp HeldObject;
-  none = λ none. (returns-clause-ends g c (none_live c.args.self.now.live none)).0;
-}
+returns-clause-rest g c =
+    let empty = λ (none : set.len c.args.self.now.live ≡ 0). (returns-clause-ends g c (none_live c.args.self.now.live none)).0 in
+    record {
+      live = ap (λ (s : State). s.live) (returns-clause-cleaned g c).2.2.1;
+      held = λ none. ap map.len (empty none) ∙ map.len-empty nat_cmp HeldObject;
+      none = empty;
+      outside = λ none. all_outside _ (empty none);
+    }
 
 pub returns-clause-properties : goal.returns-clause-properties
 returns-clause-properties g c = chain_keeps g.D.ObjectDevice.step g.D.ObjectDevice.properties g.met.D.ObjectDevice.keeps_properties _ _ _ c.loop-memory_type.invariant.2
