@@ -51,8 +51,11 @@ module _ {D : Type 0} where
     abbrev pub beside : QueueState D → ℕ → Option Object
     beside q name = outside q.allocator (objects q.device) name
 
-    -- What calls leave: the properties, what the device has beside, and each byte of these blocks.
-    pub record Leaves (old new : QueueState D) (blocks : List Block) : Type 0 where
-      pub properties : new.allocator.properties ≡ old.allocator.properties
-      pub beside : (name : ℕ) → beside new name ≡ beside old name
-      pub bytes : (i : ℕ) (b : Block) → slice_get blocks i ≡ Some b → HasSameBytes b (objects old.device) (objects new.device)
+    -- that is as it was
+    abbrev pub IsSameBeside : (old new : QueueState D) → Type 0
+    IsSameBeside old new = (name : ℕ) → beside new name ≡ beside old name
+
+    -- each byte of these blocks is as it was
+    abbrev pub KeepsBytes : (old new : QueueState D) → List Block → Type 0
+    KeepsBytes old new blocks = (i : ℕ) (b : Block) → slice_get blocks i ≡ Some b
+        → HasSameBytes b (objects old.device) (objects new.device)

@@ -1,12 +1,12 @@
 //! Memory of frames in flight.
 
-ghost use Rattle.std.specs.Prelude.{◌≡◌, ℕ, ◌+◌, ◌<◌, ◌++◌, [], ◌∷◌, All, List, length, IfOk, IfErr, OnOk, OnErr, IsTrue, slice_get, option_copied};
+ghost use Rattle.std.specs.Prelude.{◌≡◌, ℕ, ◌+◌, ◌<◌, ◌++◌, [], ◌∷◌, drop, All, List, length, IfOk, IfErr, OnOk, OnErr, IsTrue, slice_get, option_copied};
 ghost use Rattle.gpu_alloc_types.specs.Properties.{IsUsable, properties_of};
 ghost use Rattle.gpu_alloc.specs.Kept.{AreReady};
 ghost use Rattle.gpu_alloc.specs.Owned.{AreOwned};
 ghost use Rattle.gpu_alloc.specs.Request.{IsAskable};
 ghost use Rattle.gpu_alloc.specs.State.{Block};
-ghost use Rattle.gpu_clients.specs.Frames.{flight, beside, AllServe, Leaves};
+ghost use Rattle.gpu_clients.specs.Frames.{flight, beside, AllServe, IsSameBeside, KeepsBytes};
 
 mod queue;
 
@@ -42,12 +42,7 @@ impl<M: MemoryObject, D: ObjectDevice<M>, A: Allocator + Copy> FramePlanner<M, D
     ///
     /// The properties have to be usable (`DeviceProperties::is_usable`) and those of the device. Want of host memory
     /// gives the device back as it was.
-    pub fn new(
-        alloc: A,
-        config: Config,
-        props: DeviceProperties<'_>,
-        device: D,
-    ) -> Result<Self, D>
+    pub fn new(alloc: A, config: Config, props: DeviceProperties<'_>, device: D) -> Result<Self, D>
         requires usable { IsUsable (properties_of props) }
         requires same { D.properties device ≡ properties_of props }
         ensures none { IfOk result (λ planner. planner.counts ≡ []) }
@@ -77,7 +72,9 @@ impl<M: MemoryObject, D: ObjectDevice<M>, A: Allocator + Copy> FramePlanner<M, D
             × AllServe requests.now blocks) }
         ensures refused { OnErr result (self.new.counts ≡ self.old.counts) }
         ensures as_before { OnErr result (self.new.hand.blocks ≡ self.old.hand.blocks) }
-        ensures leaves { Leaves D.objects self.old.hand self.new.hand self.old.hand.blocks }
+        ensures bytes { KeepsBytes D.objects self.old.hand self.new.hand self.old.hand.blocks }
+        ensures beside { IsSameBeside D.objects self.old.hand self.new.hand }
+        ensures properties { self.new.hand.allocator.properties ≡ self.old.hand.allocator.properties }
     {
         if self.counts.reserve(1).is_err() {
             self.hand.keeps_bytes();
@@ -91,10 +88,12 @@ impl<M: MemoryObject, D: ObjectDevice<M>, A: Allocator + Copy> FramePlanner<M, D
     /// Gives the blocks of the oldest flight back, mapped or not, and tells whether there was a flight. It takes no
     /// memory and cannot fail.
     pub fn retire_oldest(&mut self) -> bool
-        ensures retired { IsTrue result → (count : ℕ) × (gone : List Block) × (self.old.counts ≡ count ∷ self.new.counts)
-            × (self.old.hand.blocks ≡ gone ++ self.new.hand.blocks) × (length gone ≡ count) }
+        ensures retired { IsTrue result → (count : ℕ) × (self.old.counts ≡ count ∷ self.new.counts)
+            × (self.new.hand.blocks ≡ drop count self.old.hand.blocks) }
         ensures none { (IsTrue result → ⊥) → (self.old.counts ≡ []) × (self.new ≡ self.old) }
-        ensures leaves { Leaves D.objects self.old.hand self.new.hand self.new.hand.blocks }
+        ensures bytes { KeepsBytes D.objects self.old.hand self.new.hand self.new.hand.blocks }
+        ensures beside { IsSameBeside D.objects self.old.hand self.new.hand }
+        ensures properties { self.new.hand.allocator.properties ≡ self.old.hand.allocator.properties }
     {
         match self.counts.pop_front() {
             Some(count) => {

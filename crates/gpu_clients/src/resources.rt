@@ -9,7 +9,7 @@ ghost use Rattle.gpu_alloc.specs.Request.{IsAskable};
 ghost use Rattle.gpu_clients.specs.Resources.{block_at, FindsBlock, WasGiven, HasEnded, StayEnded, OthersStay};
 ghost use Rattle.gpu_clients.specs.Resources.{IsAsBefore, beside, IsSameBeside, KeepsBytes};
 
-use gpu_alloc::laws::agrees_at_first;
+use gpu_alloc::laws::{agrees_at_first, bytes_stay};
 use gpu_alloc::{AllocationError, Config, DeviceProperties, GpuAllocator, MemoryBlock, Request};
 use gpu_alloc_types::{MemoryObject, ObjectDevice};
 use gpu_slots::SlotMap;
@@ -77,12 +77,7 @@ impl<M: MemoryObject, D: ObjectDevice<M>, A: Allocator + Copy> ResourceManager<M
     ///
     /// The properties have to be usable (`DeviceProperties::is_usable`) and those of the device. Want of host memory
     /// gives the device back as it was.
-    pub fn new(
-        alloc: A,
-        config: Config,
-        props: DeviceProperties<'_>,
-        device: D,
-    ) -> Result<Self, D>
+    pub fn new(alloc: A, config: Config, props: DeviceProperties<'_>, device: D) -> Result<Self, D>
         requires usable { IsUsable (properties_of props) }
         requires same { D.properties device ≡ properties_of props }
         ensures empty { IfOk result (λ manager. manager.blocks ≡ map.empty) }
@@ -122,6 +117,7 @@ impl<M: MemoryObject, D: ObjectDevice<M>, A: Allocator + Copy> ResourceManager<M
         ensures properties { (self.new.allocator).properties ≡ (self.old.allocator).properties }
         ensures beside { IsSameBeside D.objects self.old self.new }
     {
+        bytes_stay();
         if self.blocks.reserve().is_err() {
             return Err(AllocationError::OutOfHostMemory);
         }
@@ -144,9 +140,11 @@ impl<M: MemoryObject, D: ObjectDevice<M>, A: Allocator + Copy> ResourceManager<M
         ensures properties { (self.new.allocator).properties ≡ (self.old.allocator).properties }
         ensures beside { IsSameBeside D.objects self.old self.new }
     {
+        bytes_stay();
         match self.blocks.remove(handle.key) {
             Some(block) => {
                 self.allocator.dealloc(&mut self.device, block);
+                self.keeps_blocks();
                 true
             }
             None => false,

@@ -6,7 +6,7 @@ ghost use Rattle.gpu_alloc.specs.Kept.{AreReady};
 ghost use Rattle.gpu_alloc.specs.Owned.{AreOwned};
 ghost use Rattle.gpu_alloc.specs.Request.{IsAskable};
 ghost use Rattle.gpu_alloc.specs.State.{Block};
-ghost use Rattle.gpu_clients.specs.Frames.{beside, Serves, AllServe, Leaves};
+ghost use Rattle.gpu_clients.specs.Frames.{beside, Serves, AllServe, IsSameBeside, KeepsBytes};
 
 use gpu_alloc::laws::{agrees_at_first, blocks_in_hand_are_told_by_place, bytes_stay};
 use gpu_alloc::{AllocationError, Config, DeviceProperties, GpuAllocator, MemoryBlock, Request};
@@ -83,7 +83,7 @@ impl<M: MemoryObject, D: ObjectDevice<M>, A: Allocator + Copy> Queue<M, D, A> {
     pub(super) fn keeps_bytes(&self)
         ensures owned { AreOwned self.now.allocator self.now.blocks }
         ensures ready { AreReady (D.properties self.now.device) (D.objects self.now.device) self.now.blocks }
-        ensures leaves { Leaves D.objects self.now self.now self.now.blocks }
+        ensures bytes { KeepsBytes D.objects self.now self.now self.now.blocks }
     {
         let _ = &self.device;
         bytes_stay();
@@ -95,7 +95,9 @@ impl<M: MemoryObject, D: ObjectDevice<M>, A: Allocator + Copy> Queue<M, D, A> {
         ensures taken { OnOk result ((block : Block) × (self.new.blocks ≡ self.old.blocks ++ block ∷ [])
             × Serves request block) }
         ensures refused { OnErr result (self.new.blocks ≡ self.old.blocks) }
-        ensures leaves { Leaves D.objects self.old self.new self.old.blocks }
+        ensures bytes { KeepsBytes D.objects self.old self.new self.old.blocks }
+        ensures beside { IsSameBeside D.objects self.old self.new }
+        ensures properties { self.new.allocator.properties ≡ self.old.allocator.properties }
     {
         blocks_in_hand_are_told_by_place();
         if self.blocks.reserve(1).is_err() {
@@ -112,9 +114,14 @@ impl<M: MemoryObject, D: ObjectDevice<M>, A: Allocator + Copy> Queue<M, D, A> {
         requires askable { All (IsAskable (self.old.allocator.properties).buffer_device_address) requests.now }
         ensures granted { OnOk result ((blocks : List Block) × (self.new.blocks ≡ self.old.blocks ++ blocks)
             × AllServe requests.now blocks) }
+        ensures grown { OnOk result (length self.new.blocks ≡ length self.old.blocks + length requests.now) }
         ensures refused { OnErr result (self.new.blocks ≡ self.old.blocks) }
-        ensures leaves { Leaves D.objects self.old self.new self.old.blocks }
+        ensures bytes { KeepsBytes D.objects self.old self.new self.old.blocks }
+        ensures beside { IsSameBeside D.objects self.old self.new }
+        ensures properties { self.new.allocator.properties ≡ self.old.allocator.properties }
     {
+        self.keeps_bytes();
+        bytes_stay();
         let count = self.len();
         for request in requests {
             if let Err(refusal) = self.take(*request) {
@@ -127,27 +134,64 @@ impl<M: MemoryObject, D: ObjectDevice<M>, A: Allocator + Copy> Queue<M, D, A> {
 
     /// Gives the last blocks back, but for the first so many.
     fn give_back_after(&mut self, count: usize)
-        requires { count ≤ length self.old.blocks }
         ensures blocks { self.new.blocks ≡ take count self.old.blocks }
-        ensures leaves { Leaves D.objects self.old self.new self.new.blocks }
+        ensures bytes { KeepsBytes D.objects self.old self.new self.new.blocks }
+        ensures beside { IsSameBeside D.objects self.old self.new }
+        ensures properties { self.new.allocator.properties ≡ self.old.allocator.properties }
     {
-        while self.blocks.len() > count {
-            if let Some(block) = self.blocks.pop_back() {
+        self.keeps_bytes();
+        bytes_stay();
+        while self.len() > count {
+            self.give_back_last();
+        }
+    }
+
+    /// Gives the last block back.
+    fn give_back_last(&mut self)
+        requires { 0 < length self.old.blocks }
+        ensures blocks { (last : Block) × (self.old.blocks ≡ self.new.blocks ++ last ∷ []) }
+        ensures bytes { KeepsBytes D.objects self.old self.new self.new.blocks }
+        ensures beside { IsSameBeside D.objects self.old self.new }
+        ensures properties { self.new.allocator.properties ≡ self.old.allocator.properties }
+    {
+        blocks_in_hand_are_told_by_place();
+        match self.blocks.pop_back() {
+            Some(block) => {
                 self.allocator.dealloc(&mut self.device, block);
+                self.keeps_bytes();
             }
+            None => self.keeps_bytes(),
         }
     }
 
     /// Gives the first so many blocks back.
     pub(super) fn give_back_first(&mut self, count: usize)
-        requires { count ≤ length self.old.blocks }
         ensures blocks { self.new.blocks ≡ drop count self.old.blocks }
-        ensures leaves { Leaves D.objects self.old self.new self.new.blocks }
+        ensures bytes { KeepsBytes D.objects self.old self.new self.new.blocks }
+        ensures beside { IsSameBeside D.objects self.old self.new }
+        ensures properties { self.new.allocator.properties ≡ self.old.allocator.properties }
     {
+        self.keeps_bytes();
+        bytes_stay();
         for _ in 0..count {
-            if let Some(block) = self.blocks.pop_front() {
+            self.give_back_one();
+        }
+    }
+
+    /// Gives the first block back, if there is one.
+    fn give_back_one(&mut self)
+        ensures blocks { self.new.blocks ≡ drop 1 self.old.blocks }
+        ensures bytes { KeepsBytes D.objects self.old self.new self.new.blocks }
+        ensures beside { IsSameBeside D.objects self.old self.new }
+        ensures properties { self.new.allocator.properties ≡ self.old.allocator.properties }
+    {
+        blocks_in_hand_are_told_by_place();
+        match self.blocks.pop_front() {
+            Some(block) => {
                 self.allocator.dealloc(&mut self.device, block);
+                self.keeps_bytes();
             }
+            None => self.keeps_bytes(),
         }
     }
 
