@@ -1,2 +1,1 @@
-pub mod Handles
-pub mod Queues
+pub mod Managed

@@ -2,11 +2,14 @@
 use Rattle.std.specs.Prelude.{◌≡◌, ◌≢◌, ℕ, List, Option, Some, None, refl}
 use Rattle.std.specs.Coded.{Coded, code_by, coded×, coded_ℕ, coded_list}
 use Rattle.std.specs.FinMap as map
+use Rattle.std.specs.FinSet as set
 use Rattle.std.specs.Ordering.{nat_cmp}
 use Rattle.gpu_alloc_types.specs.Device.{Object}
+use Rattle.gpu_alloc_types.specs.Properties.{Properties}
+use Rattle.gpu_alloc_block.specs.Agreement.{Agrees}
 use Rattle.gpu_alloc_block.specs.Codes.{block_code}
 use Rattle.gpu_alloc_block.specs.Contents.{HasSameBytes}
-use Rattle.gpu_alloc_block.specs.Kept.{outside}
+use Rattle.gpu_alloc_block.specs.Kept.{AreKept, outside}
 use Rattle.gpu_alloc_block.specs.State.{Block, State}
 use Rattle.gpu_alloc.specs.Codes.{state_code}
 use Rattle.gpu_slots.specs.SlotMap.{SlotState, IsGiven, IsGone}
@@ -72,3 +75,9 @@ module _ {D : Type 0} where
     abbrev pub KeepsBytes : ManagerState D → ManagerState D → Type 0
     KeepsBytes old new = (handle : ℕ) (b : Block) → block_at old handle ≡ Some b → block_at new handle ≡ Some b
         → HasSameBytes b (objects old.device) (objects new.device)
+
+-- What holds of a manager between calls: allocator and device agree, its blocks are kept, and nothing else is live.
+pub record IsManaged (s : State) (p : Properties) (objects : ℕ → Option Object) (blocks : map.FinMap nat_cmp Block) : Type 0 where
+  pub agrees : Agrees s p objects
+  pub kept : AreKept s p objects (map.get blocks)
+  pub count : set.len s.live ≡ map.len blocks

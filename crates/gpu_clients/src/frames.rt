@@ -5,8 +5,9 @@ ghost use Rattle.gpu_alloc_types.specs.Properties.{IsUsable, properties_of};
 ghost use Rattle.gpu_alloc.specs.Kept.{AreReady};
 ghost use Rattle.gpu_alloc.specs.Owned.{AreOwned};
 ghost use Rattle.gpu_alloc.specs.Request.{IsAskable};
+ghost use Rattle.gpu_alloc.specs.Served.{AllServe};
 ghost use Rattle.gpu_alloc.specs.State.{Block};
-ghost use Rattle.gpu_clients.specs.Frames.{flight, beside, AllServe, IsSameBeside, KeepsBytes};
+ghost use Rattle.gpu_clients.specs.Frames.{flight, beside, Leaves};
 
 mod queue;
 
@@ -72,12 +73,10 @@ impl<M: MemoryObject, D: ObjectDevice<M>, A: Allocator + Copy> FramePlanner<M, D
             × AllServe requests.now blocks) }
         ensures refused { OnErr result (self.new.counts ≡ self.old.counts) }
         ensures as_before { OnErr result (self.new.hand.blocks ≡ self.old.hand.blocks) }
-        ensures bytes { KeepsBytes D.objects self.old.hand self.new.hand self.old.hand.blocks }
-        ensures beside { IsSameBeside D.objects self.old.hand self.new.hand }
-        ensures properties { self.new.hand.allocator.properties ≡ self.old.hand.allocator.properties }
+        ensures leaves { Leaves D.objects self.old.hand self.new.hand self.old.hand.blocks }
     {
+        self.hand.keeps_blocks();
         if self.counts.reserve(1).is_err() {
-            self.hand.keeps_bytes();
             return Err(AllocationError::OutOfHostMemory);
         }
         self.hand.take_all(requests)?;
@@ -91,19 +90,14 @@ impl<M: MemoryObject, D: ObjectDevice<M>, A: Allocator + Copy> FramePlanner<M, D
         ensures retired { IsTrue result → (count : ℕ) × (self.old.counts ≡ count ∷ self.new.counts)
             × (self.new.hand.blocks ≡ drop count self.old.hand.blocks) }
         ensures none { (IsTrue result → ⊥) → (self.old.counts ≡ []) × (self.new ≡ self.old) }
-        ensures bytes { KeepsBytes D.objects self.old.hand self.new.hand self.new.hand.blocks }
-        ensures beside { IsSameBeside D.objects self.old.hand self.new.hand }
-        ensures properties { self.new.hand.allocator.properties ≡ self.old.hand.allocator.properties }
+        ensures leaves { Leaves D.objects self.old.hand self.new.hand self.new.hand.blocks }
     {
         match self.counts.pop_front() {
             Some(count) => {
                 self.hand.give_back_first(count);
                 true
             }
-            None => {
-                self.hand.keeps_bytes();
-                false
-            }
+            None => false,
         }
     }
 

@@ -9,6 +9,7 @@ ghost use Rattle.gpu_alloc.specs.Request.{IsAskable};
 ghost use Rattle.gpu_clients.specs.Resources.{block_at, FindsBlock, WasGiven, HasEnded, StayEnded, OthersStay};
 ghost use Rattle.gpu_clients.specs.Resources.{IsAsBefore, beside, IsSameBeside, KeepsBytes};
 
+use crate::closing::close;
 use gpu_alloc::laws::{agrees_at_first, bytes_stay};
 use gpu_alloc::{AllocationError, Config, DeviceProperties, GpuAllocator, MemoryBlock, Request};
 use gpu_alloc_types::{MemoryObject, ObjectDevice};
@@ -47,12 +48,7 @@ pub struct ResourceManager<M: MemoryObject, D: ObjectDevice<M>, A: Allocator + C
 }
 
 impl<M: MemoryObject, D: ObjectDevice<M>, A: Allocator + Copy> Model for ResourceManager<M, D, A> {
-    ghost use Rattle.std.specs.Prelude.{◌≡◌};
-    ghost use Rattle.std.specs.FinMap as map;
-    ghost use Rattle.std.specs.FinSet as set;
-    ghost use Rattle.gpu_alloc.specs.Agreement.{Agrees};
-    ghost use Rattle.gpu_alloc.specs.Kept.{AreKept};
-    ghost use Rattle.gpu_clients.specs.Resources.{ManagerState, manager_code};
+    ghost use Rattle.gpu_clients.specs.Resources.{ManagerState, manager_code, IsManaged};
 
     ghost Value = { ManagerState D };
 
@@ -65,11 +61,7 @@ impl<M: MemoryObject, D: ObjectDevice<M>, A: Allocator + Copy> Model for Resourc
       generations = m.blocks.generations;
     } };
 
-    ghost invariant = { λ m. record {
-      agrees : Agrees m.allocator (D.properties m.device) (D.objects m.device);
-      kept : AreKept m.allocator (D.properties m.device) (D.objects m.device) (map.get m.blocks.live);
-      count : set.len m.allocator.live ≡ map.len m.blocks.live;
-    } };
+    ghost invariant = { λ m. IsManaged m.allocator (D.properties m.device) (D.objects m.device) m.blocks.live };
 }
 
 impl<M: MemoryObject, D: ObjectDevice<M>, A: Allocator + Copy> ResourceManager<M, D, A> {
@@ -176,7 +168,7 @@ impl<M: MemoryObject, D: ObjectDevice<M>, A: Allocator + Copy> ResourceManager<M
     /// live and agrees with the device, and the blocks of two handles share no byte.
     pub fn keeps_blocks(&self)
         ensures { AreKept self.now.allocator (D.properties self.now.device) (D.objects self.now.device)
-            (block_at self.now) }
+            (map.get self.now.blocks) }
     {
         let _ = &self.device;
     }
@@ -196,8 +188,6 @@ impl<M: MemoryObject, D: ObjectDevice<M>, A: Allocator + Copy> ResourceManager<M
             allocator.dealloc(&mut device, block);
         }
         blocks.destroy_empty();
-        allocator.cleanup(&mut device);
-        allocator.close();
-        device
+        close(allocator, device)
     }
 }

@@ -5,7 +5,7 @@
 pub mod buffers;
 pub mod bytes;
 pub mod first_use;
-pub mod frame;
+pub mod frames;
 pub mod imports;
 pub mod mapping;
 pub mod opening;

@@ -5,10 +5,12 @@ ghost use Rattle.gpu_alloc_types.specs.Properties.{IsUsable, properties_of};
 ghost use Rattle.gpu_alloc.specs.Kept.{AreReady};
 ghost use Rattle.gpu_alloc.specs.Owned.{AreOwned};
 ghost use Rattle.gpu_alloc.specs.Request.{IsAskable};
+ghost use Rattle.gpu_alloc.specs.Served.{Serves, AllServe};
 ghost use Rattle.gpu_alloc.specs.State.{Block};
-ghost use Rattle.gpu_clients.specs.Frames.{beside, Serves, AllServe, IsSameBeside, KeepsBytes};
+ghost use Rattle.gpu_clients.specs.Frames.{beside, Leaves};
 
-use gpu_alloc::laws::{agrees_at_first, blocks_in_hand_are_told_by_place, bytes_stay};
+use crate::closing::close;
+use gpu_alloc::laws::agrees_at_first;
 use gpu_alloc::{AllocationError, Config, DeviceProperties, GpuAllocator, MemoryBlock, Request};
 use gpu_alloc_types::{MemoryObject, ObjectDevice};
 use std::alloc::{Allocator, Global};
@@ -79,14 +81,13 @@ impl<M: MemoryObject, D: ObjectDevice<M>, A: Allocator + Copy> Queue<M, D, A> {
         self.blocks.len()
     }
 
-    /// Nothing is done: its contract tells what is so of blocks in hand.
-    pub(super) fn keeps_bytes(&self)
+    /// Nothing is done: its contract tells what is so of blocks in hand, and that nothing leaves all as it was.
+    pub(super) fn keeps_blocks(&self)
         ensures owned { AreOwned self.now.allocator self.now.blocks }
         ensures ready { AreReady (D.properties self.now.device) (D.objects self.now.device) self.now.blocks }
-        ensures bytes { KeepsBytes D.objects self.now self.now self.now.blocks }
+        ensures leaves { Leaves D.objects self.now self.now self.now.blocks }
     {
         let _ = &self.device;
-        bytes_stay();
     }
 
     /// Takes a last block as the request asks.
@@ -95,18 +96,19 @@ impl<M: MemoryObject, D: ObjectDevice<M>, A: Allocator + Copy> Queue<M, D, A> {
         ensures taken { OnOk result ((block : Block) × (self.new.blocks ≡ self.old.blocks ++ block ∷ [])
             × Serves request block) }
         ensures refused { OnErr result (self.new.blocks ≡ self.old.blocks) }
-        ensures bytes { KeepsBytes D.objects self.old self.new self.old.blocks }
-        ensures beside { IsSameBeside D.objects self.old self.new }
-        ensures properties { self.new.allocator.properties ≡ self.old.allocator.properties }
+        ensures leaves { Leaves D.objects self.old self.new self.old.blocks }
     {
-        blocks_in_hand_are_told_by_place();
+        self.keeps_blocks();
         if self.blocks.reserve(1).is_err() {
-            self.keeps_bytes();
             return Err(AllocationError::OutOfHostMemory);
         }
-        let block = self.allocator.alloc(&mut self.device, request)?;
-        self.blocks.push_back_reserved(block);
-        Ok(())
+        match self.allocator.alloc(&mut self.device, request) {
+            Ok(block) => {
+                self.blocks.push_back_reserved(block);
+                Ok(())
+            }
+            Err(refusal) => Err(refusal),
+        }
     }
 
     /// Takes a block for each request, in their order, or none.
@@ -116,12 +118,9 @@ impl<M: MemoryObject, D: ObjectDevice<M>, A: Allocator + Copy> Queue<M, D, A> {
             × AllServe requests.now blocks) }
         ensures grown { OnOk result (length self.new.blocks ≡ length self.old.blocks + length requests.now) }
         ensures refused { OnErr result (self.new.blocks ≡ self.old.blocks) }
-        ensures bytes { KeepsBytes D.objects self.old self.new self.old.blocks }
-        ensures beside { IsSameBeside D.objects self.old self.new }
-        ensures properties { self.new.allocator.properties ≡ self.old.allocator.properties }
+        ensures leaves { Leaves D.objects self.old self.new self.old.blocks }
     {
-        self.keeps_bytes();
-        bytes_stay();
+        self.keeps_blocks();
         let count = self.len();
         for request in requests {
             if let Err(refusal) = self.take(*request) {
@@ -135,12 +134,9 @@ impl<M: MemoryObject, D: ObjectDevice<M>, A: Allocator + Copy> Queue<M, D, A> {
     /// Gives the last blocks back, but for the first so many.
     fn give_back_after(&mut self, count: usize)
         ensures blocks { self.new.blocks ≡ take count self.old.blocks }
-        ensures bytes { KeepsBytes D.objects self.old self.new self.new.blocks }
-        ensures beside { IsSameBeside D.objects self.old self.new }
-        ensures properties { self.new.allocator.properties ≡ self.old.allocator.properties }
+        ensures leaves { Leaves D.objects self.old self.new self.new.blocks }
     {
-        self.keeps_bytes();
-        bytes_stay();
+        self.keeps_blocks();
         while self.len() > count {
             self.give_back_last();
         }
@@ -150,29 +146,23 @@ impl<M: MemoryObject, D: ObjectDevice<M>, A: Allocator + Copy> Queue<M, D, A> {
     fn give_back_last(&mut self)
         requires { 0 < length self.old.blocks }
         ensures blocks { (last : Block) × (self.old.blocks ≡ self.new.blocks ++ last ∷ []) }
-        ensures bytes { KeepsBytes D.objects self.old self.new self.new.blocks }
-        ensures beside { IsSameBeside D.objects self.old self.new }
-        ensures properties { self.new.allocator.properties ≡ self.old.allocator.properties }
+        ensures leaves { Leaves D.objects self.old self.new self.new.blocks }
     {
-        blocks_in_hand_are_told_by_place();
         match self.blocks.pop_back() {
             Some(block) => {
                 self.allocator.dealloc(&mut self.device, block);
-                self.keeps_bytes();
+                self.keeps_blocks();
             }
-            None => self.keeps_bytes(),
+            None => {}
         }
     }
 
     /// Gives the first so many blocks back.
     pub(super) fn give_back_first(&mut self, count: usize)
         ensures blocks { self.new.blocks ≡ drop count self.old.blocks }
-        ensures bytes { KeepsBytes D.objects self.old self.new self.new.blocks }
-        ensures beside { IsSameBeside D.objects self.old self.new }
-        ensures properties { self.new.allocator.properties ≡ self.old.allocator.properties }
+        ensures leaves { Leaves D.objects self.old self.new self.new.blocks }
     {
-        self.keeps_bytes();
-        bytes_stay();
+        self.keeps_blocks();
         for _ in 0..count {
             self.give_back_one();
         }
@@ -181,17 +171,14 @@ impl<M: MemoryObject, D: ObjectDevice<M>, A: Allocator + Copy> Queue<M, D, A> {
     /// Gives the first block back, if there is one.
     fn give_back_one(&mut self)
         ensures blocks { self.new.blocks ≡ drop 1 self.old.blocks }
-        ensures bytes { KeepsBytes D.objects self.old self.new self.new.blocks }
-        ensures beside { IsSameBeside D.objects self.old self.new }
-        ensures properties { self.new.allocator.properties ≡ self.old.allocator.properties }
+        ensures leaves { Leaves D.objects self.old self.new self.new.blocks }
     {
-        blocks_in_hand_are_told_by_place();
         match self.blocks.pop_front() {
             Some(block) => {
                 self.allocator.dealloc(&mut self.device, block);
-                self.keeps_bytes();
+                self.keeps_blocks();
             }
-            None => self.keeps_bytes(),
+            None => {}
         }
     }
 
@@ -201,13 +188,11 @@ impl<M: MemoryObject, D: ObjectDevice<M>, A: Allocator + Copy> Queue<M, D, A> {
     {
         self.give_back_after(0);
         let Queue {
-            mut allocator,
-            mut device,
+            allocator,
+            device,
             blocks,
         } = self;
         blocks.destroy_empty();
-        allocator.cleanup(&mut device);
-        allocator.close();
-        device
+        close(allocator, device)
     }
 }

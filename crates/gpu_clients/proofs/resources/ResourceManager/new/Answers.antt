@@ -1,5 +1,5 @@
 use Rattle.std.proofs.Common.{sym, ◌∙◌}
-use Rattle.gpu_clients.proofs.Handles.{none_kept}
+use Rattle.gpu_alloc_block.proofs.Lists.{none_kept}
 use Rattle.gpu_clients.proofs.resources.ResourceManager.new.Goals as goal
 
 pub invariant_of-result : goal.invariant_of-result

@@ -1,8 +1,6 @@
+use Rattle.gpu_alloc_block.proofs.Lists.{leaves_others}
 use Rattle.gpu_clients.proofs.frames.queue.Queue.give_back_one.Goals as goal
 
-pub returns-in-Some-clause-bytes : goal.returns-in-Some-clause-bytes
-returns-in-Some-clause-bytes g c = rw (← c.self.view_is) (λ i b at.
-    c.dealloc.ensures.in_hand.bytes b (c.blocks_in_hand_are_told_by_place.ensures.owned_at _ _ i b c.keeps_bytes.ensures.owned at))
-
-pub returns-in-Some-clause-beside : goal.returns-in-Some-clause-beside
-returns-in-Some-clause-beside g c = rw (← c.self.view_is) c.dealloc.ensures.in_hand.outside
+pub returns-in-Some-clause-leaves : goal.returns-in-Some-clause-leaves
+returns-in-Some-clause-leaves g c =
+    rw (← c.self.view_is) (leaves_others c.dealloc.ensures.removed.properties c.dealloc.ensures.in_hand c.keeps_blocks.ensures.owned)
