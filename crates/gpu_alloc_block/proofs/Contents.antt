@@ -33,7 +33,7 @@ bytes_stay = record {
 }
 
 -- a change of one object leaves the bytes of a block that it does not reach
-change_leaves : (P : Object → Object → Type 0) (f g : ℕ → Option Object) (b c : Block) → Changes P f b.object g
+pub change_leaves : (P : Object → Object → Type 0) (f g : ℕ → Option Object) (b c : Block) → Changes P f b.object g
     → ((o n : Object) → P o n → (k : ℕ) → c.object ≡ b.object → c.offset ≤ k → k < c.offset + c.size
     → (slice_get n.host_bytes k ≡ slice_get o.host_bytes k) × (slice_get n.device_bytes k ≡ slice_get o.device_bytes k))
     → HasSameBytes c f g

@@ -19,4 +19,5 @@ mod runs;
 mod same;
 mod sim;
 mod sim_bytes;
+mod staging;
 mod usage;

@@ -5,3 +5,4 @@ mod closing;
 pub mod frames;
 pub mod resources;
 pub mod staging;
+pub mod uses;

@@ -1,26 +1,22 @@
 -- What a command leaves of the bytes of blocks that it does not name.
 use Rattle.std.proofs.Common.{◌≡◌, ◌≢◌, inl, inr, ℕ, ◌+◌, ◌<◌, ◌≤◌, ◌==◌, Bool, true, false, List, length, slice_get, Option, Some, None, sym, ◌∙◌, ap, arith}
-use Rattle.std.proofs.Math.Nat.{div-mul-le_self}
 use Rattle.std.proofs.lemmas.Bool.Decides.{nat_tests}
 use Rattle.std.specs.FinMap as finite
 use Rattle.std.specs.Ordering.{nat_cmp}
-use Rattle.gpu_alloc_types.specs.Device.{Changes, Event, IsMappedOver, IsOutside, IsPut, IsPutDevice, IsUnmapped, Object, Range, put}
-use Rattle.gpu_alloc_types.specs.Objects.{put-same, put-other}
+use Rattle.gpu_alloc_types.specs.Device.{Changes, Event, IsOutside, IsPut, IsPutDevice, Object, Range, put}
+use Rattle.gpu_alloc_types.specs.Objects.{put-other}
 use Rattle.gpu_alloc_types.specs.Properties.{Properties, is_coherent}
-use Rattle.gpu_alloc.specs.Agreement.{BlockAgrees, LiesInBlock}
+use Rattle.gpu_alloc.specs.Agreement.{BlockAgrees}
 use Rattle.gpu_alloc_block.specs.Agreement.{IsOfBlock}
-use Rattle.gpu_alloc.specs.Allocation.{IsAsCounted}
-use Rattle.gpu_alloc.specs.Bytes.{EndsRead, EndsWrite, ReadsWithin, WritesWithin}
+use Rattle.gpu_alloc.specs.Bytes.{EndsRead, EndsWrite}
 use Rattle.gpu_alloc.specs.Mapped.{IsClosed, IsOpened}
-use Rattle.gpu_alloc.specs.NewObject.{ObjectsGiven}
 use Rattle.gpu_alloc_block.specs.InHand.{AreTwo}
-use Rattle.gpu_alloc.specs.Ranges.{rounded}
-use Rattle.gpu_alloc.specs.Release.{GoesBack}
-use Rattle.gpu_alloc.specs.State.{Block, HeldObject, State, is_shared}
+use Rattle.gpu_alloc.specs.State.{Block, State}
 use Rattle.gpu_alloc.specs.Types.MapError.{MapError}
 use Rattle.gpu_alloc.specs.Types.Mapping.{Mapping}
-use Rattle.gpu_alloc.specs.Types.Kind.TheVariants.{Imported}
-use Rattle.gpu_alloc_base.proofs.Names.{get_put-other, here, one_or_two}
+use Rattle.gpu_alloc_base.proofs.Names.{get_put-other, here}
+use Rattle.gpu_alloc_block.specs.Contents.{HasSameBytes}
+use Rattle.gpu_alloc_block.proofs.Contents.{change_leaves, outside_data}
 use Rattle.gpu_session.specs.Isolation.{AreSame, IsRefusedRead, IsRefusedWrite, MovesNoByte, host_at, device_at}
 use Rattle.gpu_session.specs.Sound.{IsBlock, IsSound}
 
@@ -39,16 +35,23 @@ pub another_name : (own name : ℕ) → (own == name) ≡ false → name ≢ own
 another_name own name e = grind (arith, nat_tests)
 
 -- Where the block of one name is put, each block of another name stays, and is untouched if it is so on the device.
-pub others_left : (blocks : finite.FinMap nat_cmp Block) (own : ℕ) (now : Block) (f g : ℕ → Option Object) → ((name : ℕ) (b : Block) → name ≢ own → finite.get blocks name ≡ Some b → IsUntouched f g b)
+pub others_left : (blocks : finite.FinMap nat_cmp Block) (own : ℕ) (now : Block) (f g : ℕ → Option Object) → ((name : ℕ) (b : Block) → name ≢ own → finite.get blocks name ≡ Some b → HasSameBytes b f g)
     → (name : ℕ) (b : Block) → (own == name) ≡ false → finite.get blocks name ≡ Some b → (finite.get (finite.insert blocks own now) name ≡ Some b) × IsUntouched f g b
+unfolding HasSameBytes
 others_left blocks own now f g each name b another there =
     let ne = another_name own name another in
     (get_put-other blocks own now name ne ∙ there, each name b ne there)
 
 -- where the names stay
-pub others_stay : (blocks : finite.FinMap nat_cmp Block) (own : ℕ) (f g : ℕ → Option Object) → ((name : ℕ) (b : Block) → name ≢ own → finite.get blocks name ≡ Some b → IsUntouched f g b)
+pub others_stay : (blocks : finite.FinMap nat_cmp Block) (own : ℕ) (f g : ℕ → Option Object) → ((name : ℕ) (b : Block) → name ≢ own → finite.get blocks name ≡ Some b → HasSameBytes b f g)
     → (name : ℕ) (b : Block) → (own == name) ≡ false → finite.get blocks name ≡ Some b → (finite.get blocks name ≡ Some b) × IsUntouched f g b
+unfolding HasSameBytes
 others_stay blocks own f g each name b another there = (there, each name b (another_name own name another) there)
+
+-- what a call tells of the bytes
+pub untouched_bytes : (f g : ℕ → Option Object) (b : Block) → HasSameBytes b f g → IsUntouched f g b
+unfolding HasSameBytes
+untouched_bytes f g b same = same
 
 -- the object of a block that has a name
 pub its_object : {p : Properties} {objects : ℕ → Option Object} {s : State} {blocks : finite.FinMap nat_cmp Block} → IsSound p objects (record { allocator = s; blocks = blocks }) → (name : ℕ) (b : Block) → finite.get blocks name ≡ Some b → (o : Object) × (objects b.object ≡ Some o)
@@ -62,81 +65,17 @@ pub new_leaves : (f g : ℕ → Option Object) (name : ℕ) (made : Object) (c :
 new_leaves f g name made c o free now there =
     untouched_object f g c (ap (λ (h : ℕ → Option Object). h c.object) now ∙ put-other f name (Some made) c.object (λ is. absurd (let both = sym there ∙ ap f is ∙ free in cc)))
 
-pub given_leaves : (p : Properties) (before now : Option HeldObject) (name : ℕ) (f g : ℕ → Option Object) (c : Block) (o : Object) → ObjectsGiven (IsAsCounted p) before now name f g → f c.object ≡ Some o → IsUntouched f g c
-given_leaves p None now name f g c o more there = new_leaves f g name more.made c o more.was_free more.now there
-given_leaves p (Some h) now name f g c o same there = untouched f g c same
+-- Bytes that are put in one block leave those of another.
 
--- What goes back is of no block that is still there.
-pub return_leaves : {D : Type 0} (step : D → Event → D → Type 0) (objects : D → ℕ → Option Object) (s new : State) (from to : D) (c : Block) (o : Object) → GoesBack step objects s from new to → objects to c.object ≡ Some o → IsUntouched (objects from) (objects to) c
-return_leaves step objects s new from to c o back there =
-    untouched_object (objects from) (objects to) c (back.stay c.object (λ went. let none = back.absent c.object went in absurd (cc)))
+put_device : (coherent : Bool) (offset : ℕ) (bytes from to : List ℕ) (k : ℕ) → IsPutDevice coherent offset bytes from to → IsOutside offset (length bytes) k → slice_get to k ≡ slice_get from k
+put_device true offset bytes from to k put outside = put.outside k outside
+put_device false offset bytes from to k same outside = ap (λ xs. slice_get xs k) same
 
--- A change of one object leaves the bytes of a block that it does not reach.
-pub change_leaves : (P : Object → Object → Type 0) (f g : ℕ → Option Object) (b c : Block) → Changes P f b.object g
-    → ((o n : Object) → P o n → (k : ℕ) → c.object ≡ b.object → c.offset ≤ k → k < c.offset + c.size
-    → (slice_get n.host_bytes k ≡ slice_get o.host_bytes k) × (slice_get n.device_bytes k ≡ slice_get o.device_bytes k))
-    → IsUntouched f g c
-change_leaves P f g b c changes same k low high = elim (one_or_two c.object b.object) [
-  | inr other ↦ untouched_object f g c (ap (λ (h : ℕ → Option Object). h c.object) changes.2.2 ∙ put-other f b.object (Some changes.2.0) c.object other) k low high
-  | inl is ↦
-      let there : f c.object ≡ Some changes.0 = ap f is ∙ changes.1 in
-      let now : g c.object ≡ Some changes.2.0 = ap (λ (h : ℕ → Option Object). h c.object) changes.2.2 ∙ ap (put f b.object (Some changes.2.0)) is ∙ put-same f b.object (Some changes.2.0) in
-      let two = same changes.0 changes.2.0 changes.2.1 k is low high in
-      (ap (λ o. host_at o k) now ∙ two.0 ∙ sym (ap (λ o. host_at o k) there), ap (λ o. device_at o k) now ∙ two.1 ∙ sym (ap (λ o. device_at o k) there))
-]
-
--- A call that changes the mapping alone.
-
-pub opened_leaves : (shared : Bool) (r : Range) (f g : ℕ → Option Object) (b c : Block) → r.object ≡ b.object → IsOpened shared r f g → IsUntouched f g c
-opened_leaves true r f g b c own same = untouched f g c same
-opened_leaves false r f g b c own changes =
-    change_leaves (IsMappedOver r) f g b c (rw own at changes) (λ o n is k _ _ _. (ap (λ (x : Object). slice_get x.host_bytes k) is, ap (λ (x : Object). slice_get x.device_bytes k) is))
-
-pub closed_leaves : (shared : Bool) (f g : ℕ → Option Object) (b c : Block) → IsClosed shared b.object f g → IsUntouched f g c
-closed_leaves true f g b c same = untouched f g c same
-closed_leaves false f g b c changes =
-    change_leaves IsUnmapped f g b c changes (λ o n is k _ _ _. (ap (λ (x : Object). slice_get x.host_bytes k) is, ap (λ (x : Object). slice_get x.device_bytes k) is))
-
--- Two blocks that share no byte: what lies in the one, or is flushed of it, lies outside the other.
-module _ (b c : Block) (two : AreTwo b c) where
-  own_object : c.object ≡ b.object → b.kind ≢ Imported
-  own_object same is = two.objects.first (ap is_shared is) (sym same)
-
-  pub outside_range : (r : Range) → LiesInBlock b r → c.object ≡ b.object → (k : ℕ) → c.offset ≤ k → k < c.offset + c.size → IsOutside r.offset r.size k
-  outside_range r lies same k low high = elim two.apart [
-    | inl ne ↦ absurd (ne (sym same))
-    | inr sides ↦ elim sides [
-      | inl before ↦ let end = lies.finish in inr (omega (arith, before, low, end))
-      | inr after ↦ let start = lies.start (own_object same) in inl (omega (arith, after, high, start))
-    ]
-  ]
-
-  pub outside_data : (start len : ℕ) → b.offset ≤ start → start + len ≤ b.offset + b.size → c.object ≡ b.object → (k : ℕ) → c.offset ≤ k → k < c.offset + c.size → IsOutside start len k
-  outside_data start len from to same k low high = elim two.apart [
-    | inl ne ↦ absurd (ne (sym same))
-    | inr sides ↦ elim sides [
-      | inl before ↦ inr (omega (arith, before, low, to))
-      | inr after ↦ inl (omega (arith, after, high, from))
-    ]
-  ]
-
-  pub write_leaves : (offset len : ℕ) (f g : ℕ → Option Object) → offset + len ≤ b.size → LiesInBlock b (rounded b offset len) → Changes (WritesWithin b offset len) f b.object g → IsUntouched f g c
-  write_leaves offset len f g inside lies changes =
-      change_leaves (WritesWithin b offset len) f g b c changes (λ o n w k same low high. (w.host k (outside_data (b.offset + offset) len (omega arith) (omega (arith, inside)) same k low high), w.device k (outside_range (rounded b offset len) lies same k low high)))
-
-  pub read_leaves : (offset len : ℕ) (f g : ℕ → Option Object) → LiesInBlock b (rounded b offset len) → Changes (ReadsWithin b offset len) f b.object g → IsUntouched f g c
-  read_leaves offset len f g lies changes =
-      change_leaves (ReadsWithin b offset len) f g b c changes (λ o n w k same low high. (w.host k (outside_range (rounded b offset len) lies same k low high), ap (λ xs. slice_get xs k) w.device))
-
-  pub put_device : (coherent : Bool) (offset : ℕ) (bytes from to : List ℕ) (k : ℕ) → IsPutDevice coherent offset bytes from to → IsOutside offset (length bytes) k → slice_get to k ≡ slice_get from k
-  put_device true offset bytes from to k put outside = put.outside k outside
-  put_device false offset bytes from to k same outside = ap (λ xs. slice_get xs k) same
-
-  pub put_leaves : (p : Properties) (start : ℕ) (bytes : List ℕ) (f g : ℕ → Option Object) → b.offset ≤ start → start + length bytes ≤ b.offset + b.size → Changes (IsPut p start bytes) f b.object g → IsUntouched f g c
-  put_leaves p start bytes f g from to changes =
-      change_leaves (IsPut p start bytes) f g b c changes (λ o n w k same low high.
-      let out = outside_data start (length bytes) from to same k low high in
-      (ap (λ (x : Object). slice_get x.host_bytes k) w.4 ∙ w.2.outside k out, ap (λ (x : Object). slice_get x.device_bytes k) w.4 ∙ put_device (is_coherent p o.memory_type) start bytes o.device_bytes w.1 k w.3 out))
+pub put_leaves : (b c : Block) → AreTwo b c → (p : Properties) (start : ℕ) (bytes : List ℕ) (f g : ℕ → Option Object) → b.offset ≤ start → start + length bytes ≤ b.offset + b.size → Changes (IsPut p start bytes) f b.object g → HasSameBytes c f g
+put_leaves b c two p start bytes f g from to changes =
+    change_leaves (IsPut p start bytes) f g b c changes (λ o n w k same low high.
+    let out = outside_data b c two start (length bytes) from to same k low high in
+    (ap (λ (x : Object). slice_get x.host_bytes k) w.4 ∙ w.2.outside k out, ap (λ (x : Object). slice_get x.device_bytes k) w.4 ∙ put_device (is_coherent p o.memory_type) start bytes o.device_bytes w.1 k w.3 out))
 
 -- a mapping lies in its block
 pub mapping_in_block : (b : Block) (p : Properties) (objects : ℕ → Option Object) (m : Mapping) → BlockAgrees b p objects → b.mapping ≡ Some m → (b.offset ≤ m.start) × (m.start + m.len ≤ b.offset + b.size)
@@ -161,7 +100,3 @@ opened_moves_none false r f g b own changes =
 pub closed_moves_none : (shared : Bool) (f g : ℕ → Option Object) (b : Block) → IsClosed shared b.object f g → MovesNoByte b f g
 closed_moves_none true f g b same = inl same
 closed_moves_none false f g b c = inr (c.0, c.1, (c.2.0, (ap (λ (x : Object). x.host_bytes) c.2.1, ap (λ (x : Object). x.device_bytes) c.2.1), c.2.2))
-
--- an atom is some bytes, as what lies near a block tells
-pub some_atom : (b : Block) → LiesInBlock b (rounded b 0 0) → 0 < b.atom
-some_atom b lies = let near = lies.near in let down = div-mul-le_self (b.offset + 0) b.atom in omega (arith, near, down)

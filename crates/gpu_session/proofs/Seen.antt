@@ -7,11 +7,11 @@ use Rattle.gpu_alloc_types.specs.Device.{Changes, IsCopied, IsOutside, IsPut, Is
 use Rattle.gpu_alloc_types.specs.Objects.{put-same}
 use Rattle.gpu_alloc_types.specs.Properties.{Properties, is_coherent}
 use Rattle.gpu_alloc.specs.Bytes.{ChangesBytes, IsPartlyRead, IsPartlyWritten, IsReadThrough, IsWrittenThrough}
-use Rattle.gpu_alloc.specs.Ranges.{rounded}
+use Rattle.gpu_alloc.specs.Ranges.{HasAll, rounded}
 use Rattle.gpu_alloc.specs.State.{Block}
 use Rattle.gpu_alloc.specs.Types.Mapping.{Mapping}
 use Rattle.gpu_session.specs.Books.{Books, OfBlock}
-use Rattle.gpu_session.specs.Isolation.{HasAll, HasBoth, HasOneOf, HasOnlyOtherMapping, IsRefusedRead, LeavesOthers, MovesNoByte, device_at, host_at}
+use Rattle.gpu_session.specs.Isolation.{HasBoth, HasOneOf, HasOnlyOtherMapping, IsRefusedRead, LeavesOthers, MovesNoByte, device_at, host_at}
 use Rattle.gpu_session.specs.Written.{Seen, given, is_about, maybe, seen_along, surely, with_more}
 use Rattle.gpu_session.specs.declared.command.Command.{Command}
 use Rattle.gpu_session.specs.declared.command.Reply.{Reply}

@@ -2,12 +2,13 @@
 use Rattle.std.specs.Prelude.{◌≡◌, ◌≢◌, ◌⊎◌, ℕ, ◌+◌, ◌<◌, ◌≤◌, false, List, [], ◌∷◌, ◌++◌, length, take}
 use Rattle.std.specs.Prelude.{Option, Some, None, slice_get}
 use Rattle.std.specs.FinMap as finite
-use Rattle.gpu_alloc_types.specs.Device.{Object, Range, Changes, IsPut}
+use Rattle.gpu_alloc_types.specs.Device.{Object, Changes, IsPut}
 use Rattle.gpu_alloc_types.specs.Properties.{Properties}
 use Rattle.gpu_alloc_types.specs.declared.types.OutOfMemory.{OutOfMemory}
 use Rattle.gpu_alloc.specs.Bytes.{ChangesBytes, IsWrittenThrough, IsPartlyWritten, IsReadThrough, IsPartlyRead}
+pub use Rattle.gpu_alloc.specs.Contents.{host_at, device_at, AreSame}
 use Rattle.gpu_alloc.specs.Errors.{map_like_memory}
-use Rattle.gpu_alloc.specs.Ranges.{rounded}
+use Rattle.gpu_alloc.specs.Ranges.{HasAll, rounded}
 use Rattle.gpu_alloc.specs.State.{Block}
 use Rattle.gpu_alloc.specs.Types.MapError.{MapError}
 use Rattle.gpu_alloc.specs.Types.Mapping.{Mapping}
@@ -20,20 +21,8 @@ use Rattle.gpu_session.specs.declared.command.Reply.{Reply}
 use Rattle.gpu_session.specs.declared.command.Reply.TheVariants.{Done, Mapped as MappedTo, MapRefused, Bytes}
 use Rattle.gpu_session.specs.declared.command.Reply.TheVariants.{Unmapped as WasMapped}
 
--- a byte of an object as the host and as the device see it, none where there is none
-abbrev pub host_at : Option Object → ℕ → Option ℕ
-host_at None k = None
-host_at (Some o) k = slice_get o.host_bytes k
-
-abbrev pub device_at : Option Object → ℕ → Option ℕ
-device_at None k = None
-device_at (Some o) k = slice_get o.device_bytes k
-
 -- No other block's command changes: a block that the command does not name stays as it is, with its mapping and with
 -- each of its bytes, as the host and as the device see it.
-abbrev pub AreSame : (old new : Option Object) → ℕ → Type 0
-AreSame old new k = (host_at new k ≡ host_at old k) × (device_at new k ≡ device_at old k)
-
 abbrev pub LeavesOthers : {A : Type 0} → (ℕ → Option Object) → Books → Command A → (ℕ → Option Object) → Books → Type 0
 LeavesOthers objects old command new_objects new =
     (name : ℕ) (b : Block) → is_about name command ≡ false → finite.get old.blocks name ≡ Some b
@@ -41,10 +30,6 @@ LeavesOthers objects old command new_objects new =
     × ((k : ℕ) → b.offset ≤ k → k < b.offset + b.size → AreSame (objects b.object) (new_objects b.object) k)
 
 -- What a command does to the bytes of its own block.
-
--- the range has all of so many bytes, of which the first is at a place of the object
-abbrev pub HasAll : Range → (place len : ℕ) → Type 0
-HasAll r place len = (r.offset ≤ place) × (place + len ≤ r.offset + r.size)
 
 -- the bytes are with host and device, as is all that is flushed with them
 pub record WritesBytes (b : Block) (offset : ℕ) (bytes : List ℕ) (old new : ℕ → Option Object) : Type 0 where

@@ -5,12 +5,10 @@
 pub mod buffers;
 pub mod bytes;
 pub mod first_use;
-pub mod frames;
 pub mod imports;
 pub mod mapping;
 pub mod opening;
 pub mod returning;
 pub mod session;
 pub mod shared;
-pub mod staging;
 pub mod upload;

@@ -79,7 +79,6 @@ impl<M: MemoryObject, D: MemoryDevice<M>, A: Allocator + Copy> Session<M, D, A> 
         let Ok(mut bytes) = zeros(self.alloc, len) else {
             return Reply::Fault(Fault::NoMemory);
         };
-        rounded_ranges_lie_in_their_block(block);
         match block.read_bytes(&mut self.device, offset, bytes.as_mut_slice()) {
             Ok(()) => Reply::Bytes(Bytes::from_vec(bytes)),
             Err(e) => Reply::MapRefused(e),

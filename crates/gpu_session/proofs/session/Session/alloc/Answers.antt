@@ -1,10 +1,11 @@
 use Rattle.std.proofs.Common.{[], None, refl, sym, ◌∙◌, inl, inr}
-use Rattle.gpu_alloc_base.proofs.Names.{get_put, get_put-other}
+use Rattle.gpu_alloc_base.proofs.Names.{get_put, get_put-other, here}
+use Rattle.gpu_session.specs.Sound.{IsBlock}
 use Rattle.gpu_session.proofs.Conditions.{in_use, new_name, tested_request}
 use Rattle.gpu_session.proofs.Grants.{grant_is_kept}
 use Rattle.gpu_session.proofs.Names.{named, unnamed}
 use Rattle.gpu_session.proofs.Returns.{kept_block}
-use Rattle.gpu_session.proofs.Others.{another_name, given_leaves, its_object}
+use Rattle.gpu_session.proofs.Others.{another_name, untouched_bytes}
 use Rattle.gpu_session.proofs.session.Session.alloc.Goals as goal
 
 pub returns-then-contains_key-clause-step : goal.returns-then-contains_key-clause-step
@@ -51,15 +52,16 @@ pub returns-in-Ok-clause-keeps : goal.returns-in-Ok-clause-keeps
 returns-in-Ok-clause-keeps g c =
     let put = rw c.reserve.ensures.entries at c.keep.ensures.kept in
     let done = c.in-Ok.ensures in
+    let before = g.D.MemoryDevice.objects c.self.inside.device in
     rw (← c.self.view_is, c.keep.ensures.told, put) (record {
       given = record { properties = done.leaves.properties; config = done.leaves.config };
       granted = (c.in-Ok.block, get_put _ c.args.name c.in-Ok.block, ((refl, refl, refl, refl), done.granted));
       refused = tt;
       balance = done.total;
       others = λ name b another there.
-          let object = its_object c.self.invariant.sound name b there in (
+          let owned = (here _ (IsBlock _ c.self.inside.allocator before) (c.self.invariant.sound.blocks name) b there).owned in (
             get_put-other _ c.args.name c.in-Ok.block name (another_name c.args.name name another) ∙ there,
-            given_leaves (c.self.inside.allocator).properties _ _ c.in-Ok.block.object (g.D.MemoryDevice.objects c.self.inside.device) (g.D.MemoryDevice.objects c.alloc.new.device) b object.0 (rw c.in-Ok.is at c.alloc.ensures.objects) object.1,
+            untouched_bytes before (g.D.MemoryDevice.objects c.alloc.new.device) b (c.alloc.ensures.in_hand.bytes b owned),
           );
       bytes = tt;
     })

@@ -4,7 +4,7 @@ use Rattle.std.specs.FinMap as map
 use Rattle.gpu_alloc_base.proofs.Names.{here, get_entries, get_removed-other, removed_by_name}
 use Rattle.gpu_session.specs.Sound.{IsBlock}
 use Rattle.gpu_session.proofs.Conditions.{no_block, of_block}
-use Rattle.gpu_session.proofs.Others.{another_name, its_object, return_leaves}
+use Rattle.gpu_session.proofs.Others.{another_name, untouched_bytes}
 use Rattle.gpu_session.proofs.Returns.{return_is_kept}
 use Rattle.gpu_session.proofs.session.Session.free.Goals as goal
 
@@ -53,7 +53,8 @@ returns-in-Some-clause-keeps g c =
       balance = done.total;
       others = λ name b another there.
           let still = get_removed-other (map.from_entries {R = nat_cmp} c.self.inside.blocks.entries) c.args.name name (another_name c.args.name name another) ∙ there in
-          let object = its_object kept.sound name b still in
-          (still, return_leaves g.D.MemoryDevice.step g.D.MemoryDevice.objects c.self.inside.allocator c.dealloc.new.self c.self.inside.device c.dealloc.new.device b object.0 done.gone object.1);
+          let after = g.D.MemoryDevice.objects c.dealloc.new.device in
+          let owned = (here _ (IsBlock _ c.dealloc.new.self after) (kept.sound.blocks name) b still).owned in
+          (still, untouched_bytes (g.D.MemoryDevice.objects c.self.inside.device) after b (done.in_hand.bytes b owned));
       bytes = tt;
     })

@@ -6,7 +6,7 @@ use Rattle.gpu_session.proofs.Moves.{move_is_kept}
 use Rattle.gpu_session.proofs.Names.{lent_at, lent_back, lent_put, placed, placed_again}
 use Rattle.gpu_alloc.specs.Ranges.{rounded}
 use Rattle.gpu_alloc.specs.State.{is_shared}
-use Rattle.gpu_session.proofs.Others.{others_left, opened_leaves, opened_moves_none, untouched}
+use Rattle.gpu_session.proofs.Others.{others_left, opened_moves_none}
 use Rattle.std.specs.FinMap as finite
 use Rattle.std.specs.Ordering.{nat_cmp}
 use Rattle.gpu_session.proofs.session.Session.map.Goals as goal
@@ -81,10 +81,10 @@ returns-clause-keeps g c =
     let at = lent_at c.self.inside.blocks.entries c.args.name b c.in-Some.ensures.value in
     let put = lent_put c.self.inside.blocks.entries c.args.name c.in-Some.block.now c.in-Some.ensures.value c.map.new.self (c.get_mut.follows.lender c.map.new.self).entries (λ some. ((c.get_mut.follows.holds c.map.new.self).3 some).0) in
     let after = g.D.MemoryDevice.objects c.map.new.device in
+    let others = others_left (finite.from_entries {R = nat_cmp} c.self.inside.blocks.entries) c.args.name c.map.new.self before after (λ name x ne there. c.map.ensures.bytes x) in
     elim c.match-map.branch [
       | in-Ok w ↦
           let opened = rw w.in-Ok.is at c.map.ensures.objects in
-          let others = others_left (finite.from_entries {R = nat_cmp} c.self.inside.blocks.entries) c.args.name c.map.new.self before after (λ name x ne there. opened_leaves (is_shared b.kind) (rounded b c.args.offset c.args.size) before after b x refl opened) in
           rw (← c.self.view_is, w.result-is, put)
           (record {
             given = record { properties = refl; config = refl };
@@ -96,7 +96,6 @@ returns-clause-keeps g c =
           })
       | in-Err w ↦
           let same : after ≡ before = rw w.in-Err.is at c.map.ensures.objects in
-          let others = others_left (finite.from_entries {R = nat_cmp} c.self.inside.blocks.entries) c.args.name c.map.new.self before after (λ name x ne there. untouched before after x same) in
           rw (← c.self.view_is, w.result-is, put)
           (record { given = record { properties = refl; config = refl }; granted = tt; refused = tt; balance = refl; others = others; bytes = same })
     ]

@@ -1,10 +1,10 @@
 use Rattle.std.proofs.Common.{◌+◌, [], length, nat_lt, refl, sym, subst, ◌∙◌, ap, inl, inr}
 use Rattle.gpu_alloc_base.proofs.Names.{get_entries, here}
 use Rattle.gpu_session.specs.Sound.{IsBlock}
-use Rattle.gpu_session.proofs.Conditions.{bad_range, good_range, inside, no_block, of_block}
+use Rattle.gpu_session.proofs.Conditions.{bad_range, good_range, no_block, of_block}
 use Rattle.gpu_session.proofs.Moves.{move_is_kept}
 use Rattle.gpu_session.proofs.Names.{lent_at, lent_back, lent_put, placed_again}
-use Rattle.gpu_session.proofs.Others.{others_left, read_leaves, refused_read}
+use Rattle.gpu_session.proofs.Others.{others_left, refused_read}
 use Rattle.std.specs.FinMap as finite
 use Rattle.std.specs.Ordering.{nat_cmp}
 use Rattle.gpu_session.proofs.session.Session.read.Goals as goal
@@ -106,14 +106,10 @@ returns-clause-keeps g c =
     let at = lent_at c.self.inside.blocks.entries c.args.name b c.in-Some.ensures.value in
     let put = lent_put c.self.inside.blocks.entries c.args.name c.in-Some.block.now c.in-Some.ensures.value c.read_bytes.new.self (c.get_mut.follows.lender c.read_bytes.new.self).entries (λ some. ((c.get_mut.follows.holds c.read_bytes.new.self).3 some).0) in
     let after = g.D.MemoryDevice.objects c.read_bytes.new.device in
-    let agrees = (here _ (IsBlock _ c.self.inside.allocator before) (c.self.invariant.sound.blocks c.args.name) b at).agrees in
-    let low = inside (c.args.offset + c.args.len) b.size (ap (λ n. nat_lt n (c.args.offset + c.args.len)) (sym c.size.ensures) ∙ sym c.passes_end.ensures ∙ c.if-passes_end.false) in
-    let lies = c.rounded_ranges_lie_in_their_block.ensures (g.D.MemoryDevice.properties c.self.inside.device) before c.args.offset c.args.len agrees low in
     let count = ap (λ xs. length xs) c.as_mut_slice.ensures.value ∙ c.in-Ok.ensures in
-    let within = rw count at c.read_bytes.ensures.within in
     let others = others_left (finite.from_entries {R = nat_cmp} c.self.inside.blocks.entries) c.args.name c.read_bytes.new.self before after (λ name x ne there.
     let two = c.self.invariant.sound.apart c.args.name name b x (λ e. ne (sym e)) at there in
-    read_leaves b x two c.args.offset c.args.len before after lies within) in
+    c.read_bytes.ensures.in_hand.bytes x two) in
     elim c.match-read_bytes.branch [
       | in-Ok-read_bytes w ↦
           let told = taken_whole c.in-Ok.bytes.len c.read_bytes.new.bytes _ w.from_vec.result w.from_vec.ensures (c.read_bytes.auto.bytes ∙ c.as_mut_slice.ensures.len) in

@@ -4,7 +4,7 @@ use Rattle.gpu_session.specs.Sound.{IsBlock}
 use Rattle.gpu_session.proofs.Conditions.{no_block, of_block}
 use Rattle.gpu_session.proofs.Moves.{move_is_kept}
 use Rattle.gpu_session.proofs.Names.{lent_at, lent_put, placed}
-use Rattle.gpu_session.proofs.Others.{others_left, closed_leaves, closed_moves_none}
+use Rattle.gpu_session.proofs.Others.{others_left, closed_moves_none}
 use Rattle.std.specs.FinMap as finite
 use Rattle.std.specs.Ordering.{nat_cmp}
 use Rattle.gpu_session.proofs.session.Session.unmap.Goals as goal
@@ -41,6 +41,6 @@ returns-clause-keeps g c =
     let put = lent_put c.self.inside.blocks.entries c.args.name c.in-Some.block.now c.in-Some.ensures.value c.unmap-was_mapped.new.self (c.get_mut.follows.lender c.unmap-was_mapped.new.self).entries (λ some. ((c.get_mut.follows.holds c.unmap-was_mapped.new.self).3 some).0) in
     let after = g.D.MemoryDevice.objects c.unmap-was_mapped.new.device in
     let closed = c.unmap-was_mapped.ensures.objects in
-    let others = others_left (finite.from_entries {R = nat_cmp} c.self.inside.blocks.entries) c.args.name c.unmap-was_mapped.new.self before after (λ name x ne there. closed_leaves _ before after b x closed) in
+    let others = others_left (finite.from_entries {R = nat_cmp} c.self.inside.blocks.entries) c.args.name c.unmap-was_mapped.new.self before after (λ name x ne there. c.unmap-was_mapped.ensures.bytes x) in
     rw (← c.self.view_is, put)
     (record { given = record { properties = refl; config = refl }; granted = tt; refused = tt; balance = refl; others = others; bytes = (b, at, closed_moves_none _ before after b closed) })

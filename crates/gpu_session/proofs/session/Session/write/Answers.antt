@@ -1,11 +1,10 @@
-use Rattle.std.proofs.Common.{◌+◌, [], length, nat_lt, refl, sym, ◌∙◌, ap, inl, arith}
+use Rattle.std.proofs.Common.{◌+◌, [], length, nat_lt, refl, sym, ◌∙◌, ap, inl}
 use Rattle.gpu_alloc_base.proofs.Names.{get_entries, here}
 use Rattle.gpu_session.specs.Sound.{IsBlock}
 use Rattle.gpu_session.proofs.Conditions.{bad_range, good_range, inside, no_block, of_block}
 use Rattle.gpu_session.proofs.Moves.{move_is_kept}
 use Rattle.gpu_session.proofs.Names.{lent_at, lent_back, lent_put, placed_again}
-use Rattle.gpu_alloc_block.proofs.Rounded.{rounded_covers}
-use Rattle.gpu_session.proofs.Others.{others_left, refused_write, some_atom, write_leaves}
+use Rattle.gpu_session.proofs.Others.{others_left, refused_write}
 use Rattle.std.specs.FinMap as finite
 use Rattle.std.specs.Ordering.{nat_cmp}
 use Rattle.gpu_session.proofs.session.Session.write.Goals as goal
@@ -77,19 +76,15 @@ returns-clause-keeps g c =
     let at = lent_at c.self.inside.blocks.entries c.args.name b c.in-Some.ensures.value in
     let put = lent_put c.self.inside.blocks.entries c.args.name c.in-Some.block.now c.in-Some.ensures.value c.write_bytes.new.self (c.get_mut.follows.lender c.write_bytes.new.self).entries (λ some. ((c.get_mut.follows.holds c.write_bytes.new.self).3 some).0) in
     let after = g.D.MemoryDevice.objects c.write_bytes.new.device in
-    let agrees = (here _ (IsBlock _ c.self.inside.allocator before) (c.self.invariant.sound.blocks c.args.name) b at).agrees in
     let low = inside (c.args.offset + (length c.args.bytes.now)) b.size (ap (λ n. nat_lt n (c.args.offset + (length c.args.bytes.now))) (sym c.size.ensures) ∙ ap (λ xs. nat_lt c.size.result (c.args.offset + length xs)) (sym c.as_slice-bytes.ensures) ∙ sym c.passes_end.ensures ∙ c.if-passes_end.false) in
-    let lies = c.rounded_ranges_lie_in_their_block.ensures (g.D.MemoryDevice.properties c.self.inside.device) before c.args.offset (length c.args.bytes.now) agrees low in
-    let within = rw c.as_slice-bytes.ensures at c.write_bytes.ensures.within in
-    let atom = some_atom b (c.rounded_ranges_lie_in_their_block.ensures (g.D.MemoryDevice.properties c.self.inside.device) before 0 0 agrees (omega arith)) in
     let others = others_left (finite.from_entries {R = nat_cmp} c.self.inside.blocks.entries) c.args.name c.write_bytes.new.self before after (λ name x ne there.
     let two = c.self.invariant.sound.apart c.args.name name b x (λ e. ne (sym e)) at there in
-    write_leaves b x two c.args.offset (length c.args.bytes.now) before after low lies within) in
+    c.write_bytes.ensures.in_hand.bytes x two) in
     elim c.match-write_bytes.branch [
       | in-Ok w ↦
           let written = rw c.as_slice-bytes.ensures at w.in-Ok.ensures.written in
           rw (← c.self.view_is, w.result-is, put)
-          (record { given = record { properties = refl; config = refl }; granted = tt; refused = tt; balance = refl; others = others; bytes = (b, at, record { through = written; all = rounded_covers b c.args.offset (length c.args.bytes.now) atom low }) })
+          (record { given = record { properties = refl; config = refl }; granted = tt; refused = tt; balance = refl; others = others; bytes = (b, at, record { through = written; all = c.rounded_ranges_lie_in_their_block.ensures.covers c.args.offset (length c.args.bytes.now) low }) })
       | in-Err w ↦
           let asked = rw c.as_slice-bytes.ensures at w.in-Err.ensures.refused in
           rw (← c.self.view_is, w.result-is, put)
