@@ -25,6 +25,7 @@ pub mod Owning
 pub mod Remaining
 pub mod ReturnedTotals
 pub mod Returns
+pub mod Served
 pub mod Soundness
 pub mod Strategies
 pub mod Tables

@@ -17,6 +17,7 @@ pub mod Owned
 pub mod Release
 pub mod Request
 pub mod Samples
+pub mod Served
 pub mod Sound
 pub mod Spans
 pub mod Types
@@ -44,6 +45,7 @@ pub use Rattle.gpu_alloc_block.specs.ByteCalls
 pub use Rattle.gpu_alloc_block.specs.Bytes
 pub use Rattle.gpu_alloc_block.specs.Contents
 pub use Rattle.gpu_alloc_block.specs.Kept
+pub use Rattle.gpu_alloc_block.specs.Lists
 pub use Rattle.gpu_alloc_block.specs.Mapped
 pub use Rattle.gpu_alloc_block.specs.Ranges
 pub use Rattle.gpu_alloc_block.specs.State

@@ -9,6 +9,7 @@ mod errors;
 mod flags;
 mod freelist;
 mod growths;
+mod handles_and_frames;
 mod imports;
 mod offers;
 mod pair;

@@ -1,1 +1,2 @@
+pub mod Managed
 pub mod Pools

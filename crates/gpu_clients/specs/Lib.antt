@@ -1,1 +1,3 @@
+pub mod Frames
+pub mod Resources
 pub mod Staging

@@ -1,5 +1,8 @@
 //! Programs that keep a device's memory, each over any device and any allocator of host memory.
 #![tactic(auto)]
 
+mod closing;
+pub mod frames;
+pub mod resources;
 pub mod staging;
 pub mod uses;

@@ -1,12 +1,16 @@
 //! Callers of the clients, over any device and any allocator of host memory, with no proof of their own.
 
-ghost use Rattle.std.specs.Prelude.{◌≡◌, ℕ};
+ghost use Rattle.std.specs.Prelude.{◌≡◌, ℕ, ◌≤◌, All, IfOk, OnErr, length};
 ghost use Rattle.gpu_alloc_types.specs.Properties.{IsUsable, properties_of};
+ghost use Rattle.gpu_alloc.specs.Request.{IsAskable};
+ghost use Rattle.gpu_clients.specs.Resources.{WasGiven, IsAsBefore};
 ghost use Rattle.gpu_clients.specs.Staging.{beside};
 
+use crate::frames::FramePlanner;
+use crate::resources::{Handle, ResourceManager};
 use crate::staging::{StagingError, StagingPool};
-use gpu_alloc::{Config, DeviceProperties};
-use gpu_alloc_types::{MemoryDevice, MemoryObject};
+use gpu_alloc::{AllocationError, Config, DeviceProperties, Request};
+use gpu_alloc_types::{MemoryDevice, MemoryObject, ObjectDevice};
 use std::alloc::Allocator;
 
 /// Hands bytes to the device and reads as many back, if it has room, and ends. The device has what it had.
@@ -43,4 +47,34 @@ fn pass<M: MemoryObject, D: MemoryDevice<M>, A: Allocator + Copy>(
     pool.download(key, 0, got)?;
     pool.retire(key);
     Ok(())
+}
+
+/// A block in place of another, whose handle finds nothing then; or a refusal, and all stays.
+pub fn replace<M: MemoryObject, D: ObjectDevice<M>, A: Allocator + Copy>(
+    manager: &mut ResourceManager<M, D, A>,
+    handle: Handle,
+    request: Request,
+) -> Result<Handle, AllocationError>
+    requires askable { IsAskable ((manager.old.allocator).properties).buffer_device_address request }
+    ensures fresh { IfOk result (λ new. WasGiven manager.old new → ⊥) }
+    ensures refused { OnErr result (IsAsBefore manager.old manager.new) }
+{
+    let new = manager.create(request)?;
+    manager.destroy(handle);
+    Ok(new)
+}
+
+/// Begins a flight, after the oldest of three was given back.
+pub fn next_flight<M: MemoryObject, D: ObjectDevice<M>, A: Allocator + Copy>(
+    planner: &mut FramePlanner<M, D, A>,
+    requests: &[Request],
+) -> Result<(), AllocationError>
+    requires askable { All (IsAskable ((planner.old.hand).allocator.properties).buffer_device_address) requests.now }
+    requires few { length planner.old.counts ≤ 3 }
+    ensures { length planner.new.counts ≤ 3 }
+{
+    if planner.flights() == 3 {
+        planner.retire_oldest();
+    }
+    planner.begin_flight(requests)
 }

@@ -1,2 +1,3 @@
 pub mod Lookups
 pub mod Sound
+pub mod Taken

@@ -40,10 +40,10 @@ module _ {T : Type 0} where
   abbrev pub state : List (Place T) → SlotState T
   state places = roomless (live_in places) (map (λ (p : Place T). p.generation) places)
 
-  len_put : (m : finite.FinMap nat_cmp T) (k : ℕ) (v : T) → finite.get m k ≡ None → finite.len (finite.insert m k v) ≡ finite.len m + 1
+  pub len_put : (m : finite.FinMap nat_cmp T) (k : ℕ) (v : T) → finite.get m k ≡ None → finite.len (finite.insert m k v) ≡ finite.len m + 1
   len_put m k v none = finite.len-insert nat_cmp_total m k v ∙ ap (λ o. cond (is_some o) (finite.len m) (finite.len m + 1)) none
 
-  len_out : (m : finite.FinMap nat_cmp T) (k : ℕ) → IsSome (finite.get m k) → finite.len (finite.remove m k) + 1 ≡ finite.len m
+  pub len_out : (m : finite.FinMap nat_cmp T) (k : ℕ) → IsSome (finite.get m k) → finite.len (finite.remove m k) + 1 ≡ finite.len m
   len_out m k there = one_less (finite.len m) some (finite.len-remove nat_cmp_total m k ∙ ap (λ b. cond b (finite.len m - 1) (finite.len m)) there)
     where
       some : finite.len m ≢ 0

@@ -1,5 +1,5 @@
 -- What a contract sees of a `SlotMap`.
-use Rattle.std.specs.Prelude.{◌≡◌, ◌⊎◌, ℕ, ◌/◌, ◌%◌, ◌^◌, ◌<◌, List, None, IsSome, slice_index, refl}
+use Rattle.std.specs.Prelude.{◌≡◌, ◌≢◌, ◌⊎◌, ℕ, ◌+◌, ◌/◌, ◌%◌, ◌^◌, ◌<◌, List, Some, None, IsSome, slice_index, refl}
 use Rattle.std.specs.Coded.{Coded, code_by, coded×, coded_ℕ, coded_list}
 use Rattle.std.specs.FinMap as map
 use Rattle.std.specs.FinMap.{FinMap}
@@ -44,3 +44,22 @@ IsGone s key = IsGiven s key × (map.get s.live key ≡ None)
 -- each key that was gone is gone still
 abbrev pub StaysGone : {T : Type 0} → SlotState T → SlotState T → Type 0
 StaysGone old new = (key : ℕ) → IsGone old key → IsGone new key
+
+-- Under a key that had none there is a value, and under each other key what there was.
+pub record PutsAt {T : Type 0} (old : FinMap nat_cmp T) (key : ℕ) (value : T) (new : FinMap nat_cmp T) : Type 0 where
+  pub free : map.get old key ≡ None
+  pub there : map.get new key ≡ Some value
+  pub others : (other : ℕ) → other ≢ key → map.get new other ≡ map.get old other
+  pub count : map.len new ≡ map.len old + 1
+
+-- The value under a key is taken, and under each other key there is what there was.
+pub record TakesAt {T : Type 0} (old : FinMap nat_cmp T) (key : ℕ) (value : T) (new : FinMap nat_cmp T) : Type 0 where
+  pub taken : map.get old key ≡ Some value
+  pub gone : map.get new key ≡ None
+  pub others : (other : ℕ) → other ≢ key → map.get new other ≡ map.get old other
+  pub count : map.len new + 1 ≡ map.len old
+
+-- no key has a value
+pub record HasNone {T : Type 0} (live : FinMap nat_cmp T) : Type 0 where
+  pub none : (key : ℕ) → map.get live key ≡ None
+  pub count : map.len live ≡ 0

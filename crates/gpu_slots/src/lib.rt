@@ -6,4 +6,4 @@ mod slot_map;
 #[cfg(test)]
 mod tests;
 
-pub use slot_map::SlotMap;
+pub use slot_map::{SlotMap, Values};

@@ -1,12 +1,13 @@
 //! Values under keys with generations.
 
-ghost use Rattle.std.specs.Prelude.{◌≡◌, ◌≢◌, ℕ, ◌+◌, ◌^◌, ◌<◌, ◌≤◌, ◌==◌, ◌↔◌, ◌⊎◌, [], OnOk, IsOk, OnSome, IsSome, Some, option_copied};
+ghost use Rattle.std.specs.Prelude.{◌≡◌, ◌≢◌, ℕ, ◌+◌, ◌^◌, ◌<◌, ◌≤◌, ◌==◌, ◌↔◌, ◌⊎◌, [], OnOk, IsOk, OnSome, IfSome, IsSome, Some, None, option_copied};
 ghost use Rattle.std.specs.Option.{option_copied_mut};
 ghost use Rattle.std.specs.Borrow.{sem};
 ghost use Rattle.std.specs.FinMap as map;
 ghost use Rattle.gpu_slots.specs.SlotMap.{generation_of, IsGiven, IsGone, StaysGone};
+ghost use Rattle.gpu_slots.specs.SlotMap.{HasNone, PutsAt, TakesAt};
 
-use std::alloc::{AllocError, Global};
+use std::alloc::{AllocError, Allocator, Global};
 use std::marker::Model;
 use std::mem;
 
@@ -42,14 +43,14 @@ impl<T> Place<T> {
 /// generations are used up is never used again. Each call takes a number of steps that hangs on no count, but where
 /// `reserve` moves the values to more memory.
 #[derive(Drop)]
-pub struct SlotMap<T> {
-    places: Vec<Place<T>>,
+pub struct SlotMap<T, A: Allocator = Global> {
+    places: Vec<Place<T>, A>,
     // The places that have no value and a generation left.
-    free: Vec<u32>,
+    free: Vec<u32, A>,
     len: usize,
 }
 
-impl<T> Model for SlotMap<T> {
+impl<T, A: Allocator> Model for SlotMap<T, A> {
     ghost use Rattle.gpu_slots.specs.SlotMap.{SlotState, slots_code};
 
     ghost Value = { SlotState T };
@@ -68,13 +69,13 @@ impl<T> Model for SlotMap<T> {
     ghost invariant = { λ s. IsSound s.places.items s.free.items s.len (vec_capacity s.free) };
 }
 
-impl<T> SlotMap<T> {
-    ghost use Rattle.gpu_slots.specs.Lends.{lends_get, lends_value};
-
+impl<T, A: Allocator + Copy> SlotMap<T, A> {
     /// No value. `alloc` gives the memory of the values, of which this call takes none.
-    pub fn new(alloc: Global) -> SlotMap<T>
+    pub fn new(alloc: A) -> SlotMap<T, A>
         ensures live { result.live ≡ map.empty }
         ensures generations { result.generations ≡ [] }
+        ensures none { HasNone result.live }
+        ensures unused { (key : ℕ) → IsGiven result key → ⊥ }
     {
         SlotMap {
             places: Vec::new(alloc),
@@ -82,6 +83,10 @@ impl<T> SlotMap<T> {
             len: 0,
         }
     }
+}
+
+impl<T, A: Allocator> SlotMap<T, A> {
+    ghost use Rattle.gpu_slots.specs.Lends.{lends_get, lends_value};
 
     /// How many values there are.
     pub fn len(&self) -> usize
@@ -123,6 +128,7 @@ impl<T> SlotMap<T> {
         ensures never_zero { result ≢ 0 }
         ensures new_key { IsGiven self.old result → ⊥ }
         ensures live { self.new.live ≡ map.insert self.old.live result value }
+        ensures puts { PutsAt self.old.live result value self.new.live }
         ensures given { (key : ℕ) → IsGiven self.new key ↔ (IsGiven self.old key ⊎ (key ≡ result)) }
         ensures gone { StaysGone self.old self.new }
         ensures room { self.old.room ≡ self.new.room + 1 }
@@ -155,7 +161,7 @@ impl<T> SlotMap<T> {
 
     /// The value under a key for writing, or `None` where the key is not live.
     pub fn get_mut(&mut self, key: u64) -> Option<&mut T>
-        ensures* writes_back { sem 𝓛 (lends_get T.row key self.entry result) }
+        ensures* writes_back { sem 𝓛 (lends_get T.row A.row A.Allocator self.entry key result) }
         ensures value { option_copied_mut result ≡ map.get self.old.live key }
     {
         if self.get(key).is_some() {
@@ -167,7 +173,7 @@ impl<T> SlotMap<T> {
 
     fn value_mut(&mut self, key: u64) -> &mut T
         requires { IsSome (map.get self.old.live key) }
-        ensures* writes_back { sem 𝓛 (lends_value T.row key self.entry result) }
+        ensures* writes_back { sem 𝓛 (lends_value T.row A.row A.Allocator self.entry key result) }
         ensures value { map.get self.old.live key ≡ Some result.now }
     {
         self.places[(key % SPAN) as usize].value_mut()
@@ -179,6 +185,7 @@ impl<T> SlotMap<T> {
     pub fn remove(&mut self, key: u64) -> Option<T>
         ensures value { result ≡ map.get self.old.live key }
         ensures live { self.new.live ≡ map.remove self.old.live key }
+        ensures takes { IfSome result (λ value. TakesAt self.old.live key value self.new.live) }
         ensures given { (other : ℕ) → IsGiven self.new other ↔ IsGiven self.old other }
         ensures refused { OnSome result (IsGone self.new key) }
         ensures gone { StaysGone self.old self.new }
@@ -200,15 +207,75 @@ impl<T> SlotMap<T> {
         value
     }
 
-    /// Ends a map that has no value (`is_empty` tells). A map of values that can't be dropped ends so alone.
-    pub fn destroy_empty(self)
-        requires { map.len self.live ≡ 0 }
+    /// Ends the map, and gives its values one after another.
+    pub fn into_values(self) -> Values<T, A>
+        ensures { result ≡ self.live }
     {
         let SlotMap {
-            mut places,
+            places,
             free: _,
             len: _,
         } = self;
+        Values { places }
+    }
+
+    /// Ends a map that has no value (`is_empty` tells). A map of values that can't be dropped ends so, or by
+    /// [`into_values`](SlotMap::into_values).
+    pub fn destroy_empty(self)
+        requires { map.len self.live ≡ 0 }
+    {
+        self.into_values().destroy_empty();
+    }
+}
+
+/// The values of a map that has ended, in no order that is told. Contracts see them by the keys that they had.
+#[derive(Drop)]
+pub struct Values<T, A: Allocator = Global> {
+    places: Vec<Place<T>, A>,
+}
+
+impl<T, A: Allocator> Model for Values<T, A> {
+    ghost use Rattle.std.specs.Prelude.{◌^◌, ◌≤◌, length};
+    ghost use Rattle.std.specs.FinMap as map;
+    ghost use Rattle.std.specs.Ordering.{nat_cmp};
+    ghost use Rattle.std.specs.Coded.{coded_ℕ};
+
+    ghost Value = { map.FinMap nat_cmp T };
+
+    ghost coded = { map.code coded_ℕ T.code };
+
+    ghost use Rattle.gpu_slots.specs.Places.{live_in};
+
+    ghost view = { λ v. live_in v.places.items };
+
+    ghost invariant = { λ v. length v.places.items ≤ 2 ^ 32 };
+}
+
+impl<T, A: Allocator> Values<T, A> {
+    /// One of the values, or `None` where there is none. The places of all together are gone through once.
+    pub fn next(&mut self) -> Option<T>
+        ensures taken { IfSome result (λ value. (key : ℕ) × TakesAt self.old key value self.new) }
+        ensures ended { result ≡ None → map.len self.new ≡ 0 }
+        ensures stays { result ≡ None → self.new ≡ self.old }
+    {
+        while let Some(place) = self.places.pop() {
+            let Place {
+                generation: _,
+                value,
+            } = place;
+            match value {
+                Some(value) => return Some(value),
+                None => continue,
+            }
+        }
+        None
+    }
+
+    /// Ends them once there is none.
+    pub fn destroy_empty(self)
+        requires { map.len self ≡ 0 }
+    {
+        let Values { mut places } = self;
         while let Some(place) = places.pop() {
             let Place {
                 generation: _,

@@ -31,8 +31,11 @@ fn a_place_is_used_again_under_another_key(rt: HostRuntime) -> Result<(), Fail> 
         assert_eq!(rt; slots.get(key).copied(), value, "under {key}");
     }
     assert_eq!(rt; slots.len(), 2);
-    assert_eq!(rt; slots.remove(second), Some(10));
     assert_eq!(rt; slots.remove(third), Some(9));
+    let mut values = slots.into_values();
+    assert_eq!(rt; values.next(), Some(10));
+    assert_eq!(rt; values.next(), None);
+    let slots: SlotMap<u32> = SlotMap::new(rt.alloc());
     if slots.is_empty() {
         slots.destroy_empty();
     }

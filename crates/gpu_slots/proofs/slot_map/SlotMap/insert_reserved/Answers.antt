@@ -1,6 +1,7 @@
 use Rattle.std.proofs.Common.{◌≡◌, ◌<◌, ◌∙◌, length, arith}
 use Rattle.gpu_slots.proofs.Lookups.{read_at}
 use Rattle.gpu_slots.proofs.Sound.{gone_put, sound_push, push_live, push_is_new, push_given, takes_last, last_free, fill_was_empty, fill_begun, fill_unspent, place_fits, sound_fill, fill_live, fill_is_new, fill_given}
+use Rattle.gpu_slots.proofs.Taken.{puts_at, free_key}
 use Rattle.gpu_slots.proofs.slot_map.SlotMap.insert_reserved.Goals as goal
 
 pub invariant_of-self : goal.invariant_of-self
@@ -99,3 +100,9 @@ unreachable-requires g c =
     let is = c.in-Some-replace.is in
     let value = c.replace.ensures.value in
     cc
+
+pub returns-in_default-clause-puts : goal.returns-in_default-clause-puts
+returns-in_default-clause-puts g c = puts_at _ _ _ _ (free_key c.args.self.now _ (returns-in_default-clause-new_key g c)) (returns-in_default-clause-live g c)
+
+pub returns-clause-puts : goal.returns-clause-puts
+returns-clause-puts g c = puts_at _ _ _ _ (free_key c.args.self.now _ (returns-clause-new_key g c)) (returns-clause-live g c)

@@ -3,6 +3,7 @@ use Rattle.std.specs.FinMap as map
 use Rattle.std.specs.Option.{IsSome}
 use Rattle.gpu_slots.proofs.Lookups.{read_at, remove_none}
 use Rattle.gpu_slots.proofs.Sound.{on_some, gone_out, gone_now, live_within, live_counted, take_generation, take_value, take_retired, take_freed, take_live, take_given}
+use Rattle.gpu_slots.proofs.Taken.{takes_if}
 use Rattle.gpu_slots.proofs.slot_map.SlotMap.remove.Goals as goal
 
 pub returns-then-is_none-clause-live : goal.returns-then-is_none-clause-live
@@ -134,3 +135,9 @@ returns-else-place-lt-SPAN-clause-reused g c =
     let is = take_generation _ _ _ _ c.self.invariant c.args.key c.index_mut-place.result.now live (λ within. read_at _ _ _ within c.index_mut-place.ensures.value) in
     let spent = c.if-place-lt-SPAN.false in
     λ _ unspent. absurd (omega (arith, is, spent, unspent))
+
+pub returns-then-place-lt-SPAN-clause-takes : goal.returns-then-place-lt-SPAN-clause-takes
+returns-then-place-lt-SPAN-clause-takes g c = takes_if _ _ _ _ (returns-then-place-lt-SPAN-clause-value g c) (returns-then-place-lt-SPAN-clause-live g c)
+
+pub returns-else-place-lt-SPAN-clause-takes : goal.returns-else-place-lt-SPAN-clause-takes
+returns-else-place-lt-SPAN-clause-takes g c = takes_if _ _ _ _ (returns-else-place-lt-SPAN-clause-value g c) (returns-else-place-lt-SPAN-clause-live g c)

@@ -1,13 +1,12 @@
-use Rattle.std.proofs.Common.{◌≡◌, None, arith}
+use Rattle.std.proofs.Common.{◌≡◌, None}
 use Rattle.std.specs.FinMap as map
 use Rattle.std.proofs.lemmas.List.Elements.{All-pop}
 use Rattle.gpu_slots.proofs.Lookups.{none_live}
-use Rattle.gpu_slots.proofs.slot_map.SlotMap.destroy_empty.Goals as goal
+use Rattle.gpu_slots.proofs.slot_map.Values.destroy_empty.Goals as goal
 
 pub loop-place-init : goal.loop-place-init
 loop-place-init g c =
-    let few = c.self.invariant.few in
-    none_live c.self.inside.places.items (omega (arith, few)) (map.empty_of_len _ (rw (← c.self.view_is) at c.requires))
+    none_live c.self.inside.places.items c.self.invariant (map.empty_of_len _ (rw (← c.self.view_is) at c.requires))
 
 pub loop-place-preserved : goal.loop-place-preserved
 loop-place-preserved g c = (All-pop (λ p. p.value ≡ None) _ _ c.pop.result c.pop.ensures.items c.loop-place.invariant).0

@@ -1,5 +1,5 @@
 use Rattle.std.proofs.Common.{◌≡◌, None, All, length}
-use Rattle.gpu_slots.proofs.slot_map.SlotMap.destroy_empty.Given as goal
+use Rattle.gpu_slots.proofs.slot_map.Values.destroy_empty.Given as goal
 
 abbrev pub invariant-loop-place : goal.invariant-loop-place
 invariant-loop-place g l = All (λ p. p.value ≡ None) l.places.items

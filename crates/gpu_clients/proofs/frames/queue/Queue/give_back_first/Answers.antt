@@ -1,0 +1,13 @@
+use Rattle.std.proofs.Common.{drop, ◌∙◌, ap}
+use Rattle.std.proofs.lemmas.List.{drop-drop}
+use Rattle.gpu_alloc_block.proofs.Lists.{leaves_then, leaves_dropped}
+use Rattle.gpu_clients.proofs.frames.queue.Queue.give_back_first.Goals as goal
+
+pub loop-preserved : goal.loop-preserved
+loop-preserved g c =
+    let i = c.loop.invariant in
+    let back = c.give_back_one.ensures in
+    record {
+      blocks = back.blocks ∙ ap (drop 1) i.blocks ∙ drop-drop 1 c.loop.counter c.args.self.now.blocks;
+      leaves = leaves_then (leaves_dropped back.blocks i.leaves) back.leaves;
+    }

@@ -1,0 +1,13 @@
+use Rattle.std.specs.FinMap as map
+use Rattle.gpu_alloc.specs.Kept.{IsSameOutside}
+use Rattle.gpu_clients.specs.Resources.{IsManaged}
+use Rattle.gpu_clients.proofs.resources.ResourceManager.end.Given as goal
+
+abbrev pub invariant-loop-block : goal.invariant-loop-block
+invariant-loop-block g l = record {
+  managed : IsManaged l.allocator (g.D.ObjectDevice.properties l.device) (g.D.ObjectDevice.objects l.device) l.blocks;
+  outside : IsSameOutside l.fn.self.allocator (g.D.ObjectDevice.objects l.fn.self.device) l.allocator (g.D.ObjectDevice.objects l.device);
+}
+
+abbrev pub decreases-loop-block : goal.decreases-loop-block
+decreases-loop-block g l = map.len l.blocks

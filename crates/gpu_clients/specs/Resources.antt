@@ -1,0 +1,83 @@
+-- What a contract sees of a `ResourceManager`.
+use Rattle.std.specs.Prelude.{◌≡◌, ◌≢◌, ℕ, List, Option, Some, None, refl}
+use Rattle.std.specs.Coded.{Coded, code_by, coded×, coded_ℕ, coded_list}
+use Rattle.std.specs.FinMap as map
+use Rattle.std.specs.FinSet as set
+use Rattle.std.specs.Ordering.{nat_cmp}
+use Rattle.gpu_alloc_types.specs.Device.{Object}
+use Rattle.gpu_alloc_types.specs.Properties.{Properties}
+use Rattle.gpu_alloc_block.specs.Agreement.{Agrees}
+use Rattle.gpu_alloc_block.specs.Codes.{block_code}
+use Rattle.gpu_alloc_block.specs.Contents.{HasSameBytes}
+use Rattle.gpu_alloc_block.specs.Kept.{AreKept, outside}
+use Rattle.gpu_alloc_block.specs.State.{Block, State}
+use Rattle.gpu_alloc.specs.Codes.{state_code}
+use Rattle.gpu_slots.specs.SlotMap.{SlotState, IsGiven, IsGone}
+
+-- its allocator, its device, the blocks by handle, and the generation of each slot
+pub record ManagerState (D : Type 0) : Type 0 where
+  pub allocator : State
+  pub device : D
+  pub blocks : map.FinMap nat_cmp Block
+  pub generations : List ℕ
+
+abbrev pub manager_code : {D : Type 0} → Coded D → Coded (ManagerState D)
+manager_code {D} d =
+    code_by (State × (D × (map.FinMap nat_cmp Block × List ℕ)))
+    (coded× state_code (coded× d (coded× (map.code coded_ℕ block_code) (coded_list coded_ℕ))))
+    (λ m. (m.allocator, (m.device, (m.blocks, m.generations))))
+    (λ c. record { allocator = c.0; device = c.1.0; blocks = c.1.1.0; generations = c.1.1.1 }) (λ _. refl)
+
+module _ {D : Type 0} where
+  -- the block that a handle finds
+  abbrev pub block_at : ManagerState D → ℕ → Option Block
+  block_at m handle = map.get m.blocks handle
+
+  -- a block has the handle, and it is so
+  abbrev pub FindsBlock : ManagerState D → ℕ → (Block → Type 0) → Type 0
+  FindsBlock m handle P = (b : Block) × (block_at m handle ≡ Some b) × P b
+
+  abbrev pub slots : ManagerState D → SlotState Block
+  slots m = record { live = m.blocks; generations = m.generations; room = 0 }
+
+  -- the handle was given, to a block that is there or to one that went back
+  abbrev pub WasGiven : ManagerState D → ℕ → Type 0
+  WasGiven m handle = IsGiven (slots m) handle
+
+  -- it was given, and its block went back
+  abbrev pub HasEnded : ManagerState D → ℕ → Type 0
+  HasEnded m handle = IsGone (slots m) handle
+
+  -- each handle that had ended has still
+  abbrev pub StayEnded : ManagerState D → ManagerState D → Type 0
+  StayEnded old new = (handle : ℕ) → HasEnded old handle → HasEnded new handle
+
+  -- each other handle finds what it found
+  abbrev pub OthersStay : ManagerState D → ManagerState D → ℕ → Type 0
+  OthersStay old new handle = (other : ℕ) → other ≢ handle → block_at new other ≡ block_at old other
+
+  -- its allocator and all its handles are as before
+  pub record IsAsBefore (old new : ManagerState D) : Type 0 where
+    pub allocator : new.allocator ≡ old.allocator
+    pub blocks : new.blocks ≡ old.blocks
+    pub generations : new.generations ≡ old.generations
+
+  module _ (objects : D → ℕ → Option Object) where
+    -- what the device has beside the manager's objects
+    abbrev pub beside : ManagerState D → ℕ → Option Object
+    beside m name = outside m.allocator (objects m.device) name
+
+    -- that is as it was
+    abbrev pub IsSameBeside : ManagerState D → ManagerState D → Type 0
+    IsSameBeside old new = (name : ℕ) → beside new name ≡ beside old name
+
+    -- each byte of a block that had a handle and has it still is as it was
+    abbrev pub KeepsBytes : ManagerState D → ManagerState D → Type 0
+    KeepsBytes old new = (handle : ℕ) (b : Block) → block_at old handle ≡ Some b → block_at new handle ≡ Some b
+        → HasSameBytes b (objects old.device) (objects new.device)
+
+-- What holds of a manager between calls: allocator and device agree, its blocks are kept, and nothing else is live.
+pub record IsManaged (s : State) (p : Properties) (objects : ℕ → Option Object) (blocks : map.FinMap nat_cmp Block) : Type 0 where
+  pub agrees : Agrees s p objects
+  pub kept : AreKept s p objects (map.get blocks)
+  pub count : set.len s.live ≡ map.len blocks

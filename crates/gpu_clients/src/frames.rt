@@ -1,0 +1,119 @@
+//! Memory of frames in flight.
+
+ghost use Rattle.std.specs.Prelude.{◌≡◌, ℕ, ◌+◌, ◌<◌, ◌++◌, [], ◌∷◌, drop, All, List, length, IfOk, IfErr, OnOk, OnErr, IsTrue, slice_get, option_copied};
+ghost use Rattle.gpu_alloc_types.specs.Properties.{IsUsable, properties_of};
+ghost use Rattle.gpu_alloc.specs.Kept.{AreReady};
+ghost use Rattle.gpu_alloc.specs.Owned.{AreOwned};
+ghost use Rattle.gpu_alloc.specs.Request.{IsAskable};
+ghost use Rattle.gpu_alloc.specs.Served.{AllServe};
+ghost use Rattle.gpu_alloc.specs.State.{Block};
+ghost use Rattle.gpu_clients.specs.Frames.{flight, beside, Leaves};
+
+mod queue;
+
+use gpu_alloc::{AllocationError, Config, DeviceProperties, MemoryBlock, Request};
+use gpu_alloc_types::{MemoryObject, ObjectDevice};
+use queue::Queue;
+use std::alloc::{Allocator, Global};
+use std::collections::VecDeque;
+use std::marker::Model;
+
+/// Blocks of the frames that are in flight, each of which is given back with its frame, the oldest frame first. It
+/// cannot be let go: [`end`](FramePlanner::end) ends it.
+pub struct FramePlanner<M: MemoryObject, D: ObjectDevice<M>, A: Allocator + Copy = Global> {
+    hand: Queue<M, D, A>,
+    counts: VecDeque<usize, A>,
+}
+
+impl<M: MemoryObject, D: ObjectDevice<M>, A: Allocator + Copy> Model for FramePlanner<M, D, A> {
+    ghost use Rattle.std.specs.Prelude.{◌≡◌, sum, length};
+    ghost use Rattle.gpu_clients.specs.Frames.{PlannerState, planner_code};
+
+    ghost Value = { PlannerState D };
+
+    ghost coded = { planner_code D.code };
+
+    ghost view = { λ p. record { hand = p.hand; counts = p.counts.items } };
+
+    ghost invariant = { λ p. sum p.counts.items ≡ length p.hand.blocks };
+}
+
+impl<M: MemoryObject, D: ObjectDevice<M>, A: Allocator + Copy> FramePlanner<M, D, A> {
+    /// A planner of no flight, over a device with these properties. `alloc` gives the host memory of its tables.
+    ///
+    /// The properties have to be usable (`DeviceProperties::is_usable`) and those of the device. Want of host memory
+    /// gives the device back as it was.
+    pub fn new(alloc: A, config: Config, props: DeviceProperties<'_>, device: D) -> Result<Self, D>
+        requires usable { IsUsable (properties_of props) }
+        requires same { D.properties device ≡ properties_of props }
+        ensures none { IfOk result (λ planner. planner.counts ≡ []) }
+        ensures empty { IfOk result (λ planner. planner.hand.blocks ≡ []) }
+        ensures properties { IfOk result (λ planner. planner.hand.allocator.properties ≡ properties_of props.entry) }
+        ensures beside { IfOk result (λ planner. (name : ℕ) → beside D.objects planner.hand name ≡ D.objects device name) }
+        ensures given_back { IfErr result (λ other. other ≡ device) }
+    {
+        match Queue::new(alloc, config, props, device) {
+            Ok(hand) => Ok(FramePlanner {
+                hand,
+                counts: VecDeque::new(alloc),
+            }),
+            Err(device) => Err(device),
+        }
+    }
+
+    /// Begins a flight with a block for each request, in their order: all of them, or none.
+    ///
+    /// Each request has to be askable (`Request::is_askable`, for the device's `buffer_device_address`). The refusals
+    /// are those of `GpuAllocator::alloc`, and `OutOfHostMemory` where there is no memory for the table. The flights are
+    /// as before then.
+    pub fn begin_flight(&mut self, requests: &[Request]) -> Result<(), AllocationError>
+        requires askable { All (IsAskable (self.old.hand.allocator.properties).buffer_device_address) requests.now }
+        ensures begun { OnOk result (self.new.counts ≡ self.old.counts ++ length requests.now ∷ []) }
+        ensures granted { OnOk result ((blocks : List Block) × (self.new.hand.blocks ≡ self.old.hand.blocks ++ blocks)
+            × AllServe requests.now blocks) }
+        ensures refused { OnErr result (self.new.counts ≡ self.old.counts) }
+        ensures as_before { OnErr result (self.new.hand.blocks ≡ self.old.hand.blocks) }
+        ensures leaves { Leaves D.objects self.old.hand self.new.hand self.old.hand.blocks }
+    {
+        self.hand.keeps_blocks();
+        if self.counts.reserve(1).is_err() {
+            return Err(AllocationError::OutOfHostMemory);
+        }
+        self.hand.take_all(requests)?;
+        self.counts.push_back_reserved(requests.len());
+        Ok(())
+    }
+
+    /// Gives the blocks of the oldest flight back, mapped or not, and tells whether there was a flight. It takes no
+    /// memory and cannot fail.
+    pub fn retire_oldest(&mut self) -> bool
+        ensures retired { IsTrue result → (count : ℕ) × (self.old.counts ≡ count ∷ self.new.counts)
+            × (self.new.hand.blocks ≡ drop count self.old.hand.blocks) }
+        ensures none { (IsTrue result → ⊥) → (self.old.counts ≡ []) × (self.new ≡ self.old) }
+        ensures leaves { Leaves D.objects self.old.hand self.new.hand self.new.hand.blocks }
+    {
+        match self.counts.pop_front() {
+            Some(count) => {
+                self.hand.give_back_first(count);
+                true
+            }
+            None => false,
+        }
+    }
+
+    /// How many flights there are.
+    pub fn flights(&self) -> usize
+        ensures { result ≡ length self.now.counts }
+    {
+        self.counts.len()
+    }
+
+    /// Gives every block back, and then the device, which holds nothing of the planner's any more. It takes no memory
+    /// and cannot fail.
+    pub fn end(self) -> D
+        ensures beside { (name : ℕ) → D.objects result name ≡ beside D.objects self.hand name }
+    {
+        let FramePlanner { hand, counts: _ } = self;
+        hand.end()
+    }
+}

@@ -1,0 +1,193 @@
+//! Blocks that a program holds by handles.
+
+ghost use Rattle.std.specs.Prelude.{◌≡◌, ℕ, ◌+◌, IfOk, IfErr, OnErr, IsOk, IsSome, IsTrue, ◌↔◌, None, option_copied};
+ghost use Rattle.std.specs.FinMap as map;
+ghost use Rattle.gpu_alloc_types.specs.Properties.{IsUsable, properties_of};
+ghost use Rattle.gpu_alloc.specs.Allocation.{IsGranted};
+ghost use Rattle.gpu_alloc.specs.Kept.{AreKept};
+ghost use Rattle.gpu_alloc.specs.Request.{IsAskable};
+ghost use Rattle.gpu_clients.specs.Resources.{block_at, FindsBlock, WasGiven, HasEnded, StayEnded, OthersStay};
+ghost use Rattle.gpu_clients.specs.Resources.{IsAsBefore, beside, IsSameBeside, KeepsBytes};
+
+use crate::closing::close;
+use gpu_alloc::laws::{agrees_at_first, bytes_stay};
+use gpu_alloc::{AllocationError, Config, DeviceProperties, GpuAllocator, MemoryBlock, Request};
+use gpu_alloc_types::{MemoryObject, ObjectDevice};
+use gpu_slots::SlotMap;
+use std::alloc::{Allocator, Global};
+use std::marker::Model;
+
+/// A handle of a block: a slot of its manager, and how often the slot was used. Contracts see its number.
+///
+/// It is good for the manager that gave it alone.
+#[derive(Clone, Copy, Debug, PartialEq, Eq, Hash)]
+pub struct Handle {
+    key: u64,
+}
+
+impl Model for Handle {
+    ghost use Rattle.std.specs.Prelude.{ℕ};
+
+    ghost Value = { ℕ };
+
+    ghost view = { λ h. h.key };
+
+    ghost inverse = { λ n. record { key = n } };
+}
+
+/// Blocks of a device's memory under handles that are given once. It cannot be let go: [`end`](ResourceManager::end)
+/// ends it.
+///
+/// A handle is a slot with the slot's generation, so that a look-up is one step, and a handle whose block went back
+/// finds nothing for ever after, whatever the slot holds by then. A slot whose 2^32 generations are used up is never
+/// used again.
+pub struct ResourceManager<M: MemoryObject, D: ObjectDevice<M>, A: Allocator + Copy = Global> {
+    allocator: GpuAllocator<M, A>,
+    device: D,
+    blocks: SlotMap<MemoryBlock<M>, A>,
+}
+
+impl<M: MemoryObject, D: ObjectDevice<M>, A: Allocator + Copy> Model for ResourceManager<M, D, A> {
+    ghost use Rattle.gpu_clients.specs.Resources.{ManagerState, manager_code, IsManaged};
+
+    ghost Value = { ManagerState D };
+
+    ghost coded = { manager_code D.code };
+
+    ghost view = { λ m. record {
+      allocator = m.allocator;
+      device = m.device;
+      blocks = m.blocks.live;
+      generations = m.blocks.generations;
+    } };
+
+    ghost invariant = { λ m. IsManaged m.allocator (D.properties m.device) (D.objects m.device) m.blocks.live };
+}
+
+impl<M: MemoryObject, D: ObjectDevice<M>, A: Allocator + Copy> ResourceManager<M, D, A> {
+    /// A manager of no block, over a device with these properties. `alloc` gives the host memory of its tables.
+    ///
+    /// The properties have to be usable (`DeviceProperties::is_usable`) and those of the device. Want of host memory
+    /// gives the device back as it was.
+    pub fn new(alloc: A, config: Config, props: DeviceProperties<'_>, device: D) -> Result<Self, D>
+        requires usable { IsUsable (properties_of props) }
+        requires same { D.properties device ≡ properties_of props }
+        ensures empty { IfOk result (λ manager. manager.blocks ≡ map.empty) }
+        ensures unused { IfOk result (λ manager. (handle : ℕ) → WasGiven manager handle → ⊥) }
+        ensures properties { IfOk result (λ manager. (manager.allocator).properties ≡ properties_of props.entry) }
+        ensures beside { IfOk result (λ manager. (name : ℕ) → beside D.objects manager name ≡ D.objects device name) }
+        ensures given_back { IfErr result (λ other. other ≡ device) }
+    {
+        match GpuAllocator::new(alloc, config, props) {
+            Ok(allocator) => {
+                agrees_at_first(&allocator, &device);
+                Ok(ResourceManager {
+                    allocator,
+                    device,
+                    blocks: SlotMap::new(alloc),
+                })
+            }
+            Err(_) => Err(device),
+        }
+    }
+
+    /// A block as the request asks, under a handle that was never given before.
+    ///
+    /// The request has to be askable (`Request::is_askable`, for the device's `buffer_device_address`). The refusals are
+    /// those of [`GpuAllocator::alloc`], and `OutOfHostMemory` where there is no memory for a handle, or each of the
+    /// 2^32 - 1 slots is taken or used up. Nothing has changed then.
+    pub fn create(&mut self, request: Request) -> Result<Handle, AllocationError>
+        requires askable { IsAskable ((self.old.allocator).properties).buffer_device_address request }
+        ensures fresh { IfOk result (λ handle. WasGiven self.old handle → ⊥) }
+        ensures granted { IfOk result (λ handle.
+            FindsBlock self.new handle (IsGranted self.old.allocator request self.new.allocator)) }
+        ensures others { IfOk result (OthersStay self.old self.new) }
+        ensures count { IfOk result (λ handle. map.len self.new.blocks ≡ map.len self.old.blocks + 1) }
+        ensures refused { OnErr result (IsAsBefore self.old self.new) }
+        ensures bytes { KeepsBytes D.objects self.old self.new }
+        ensures ended { StayEnded self.old self.new }
+        ensures properties { (self.new.allocator).properties ≡ (self.old.allocator).properties }
+        ensures beside { IsSameBeside D.objects self.old self.new }
+    {
+        bytes_stay();
+        if self.blocks.reserve().is_err() {
+            return Err(AllocationError::OutOfHostMemory);
+        }
+        let block = self.allocator.alloc(&mut self.device, request)?;
+        Ok(Handle {
+            key: self.blocks.insert_reserved(block),
+        })
+    }
+
+    /// Gives back the block of a handle, mapped or not, and tells whether the handle had one. It takes no memory and
+    /// cannot fail. The handle finds nothing for ever after.
+    pub fn destroy(&mut self, handle: Handle) -> bool
+        ensures found { IsTrue result ↔ IsSome (block_at self.old handle) }
+        ensures gone { IsTrue result → HasEnded self.new handle }
+        ensures others { OthersStay self.old self.new handle }
+        ensures count { IsTrue result → map.len self.new.blocks + 1 ≡ map.len self.old.blocks }
+        ensures unchanged { (IsTrue result → ⊥) → self.new ≡ self.old }
+        ensures bytes { KeepsBytes D.objects self.old self.new }
+        ensures ended { StayEnded self.old self.new }
+        ensures properties { (self.new.allocator).properties ≡ (self.old.allocator).properties }
+        ensures beside { IsSameBeside D.objects self.old self.new }
+    {
+        bytes_stay();
+        match self.blocks.remove(handle.key) {
+            Some(block) => {
+                self.allocator.dealloc(&mut self.device, block);
+                self.keeps_blocks();
+                true
+            }
+            None => false,
+        }
+    }
+
+    /// The block of a handle, or `None` where it has none.
+    pub fn block(&self, handle: Handle) -> Option<&MemoryBlock<M>>
+        ensures { option_copied result ≡ block_at self.now handle }
+    {
+        self.blocks.get(handle.key)
+    }
+
+    /// How many blocks there are.
+    pub fn len(&self) -> usize
+        ensures { result ≡ map.len self.now.blocks }
+    {
+        self.blocks.len()
+    }
+
+    /// The device.
+    pub fn device(&self) -> &D
+        ensures { result.now ≡ self.now.device }
+    {
+        &self.device
+    }
+
+    /// Nothing is done: its contract tells what every manager keeps, whatever calls were made. Each handle's block is
+    /// live and agrees with the device, and the blocks of two handles share no byte.
+    pub fn keeps_blocks(&self)
+        ensures { AreKept self.now.allocator (D.properties self.now.device) (D.objects self.now.device)
+            (map.get self.now.blocks) }
+    {
+        let _ = &self.device;
+    }
+
+    /// Gives every block back, and then the device, which holds nothing of the manager's any more. It takes no memory
+    /// and cannot fail.
+    pub fn end(self) -> D
+        ensures beside { (name : ℕ) → D.objects result name ≡ beside D.objects self name }
+    {
+        let ResourceManager {
+            mut allocator,
+            mut device,
+            blocks,
+        } = self;
+        let mut blocks = blocks.into_values();
+        while let Some(block) = blocks.next() {
+            allocator.dealloc(&mut device, block);
+        }
+        blocks.destroy_empty();
+        close(allocator, device)
+    }
+}
