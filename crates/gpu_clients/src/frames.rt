@@ -1,6 +1,6 @@
 //! Memory of frames in flight.
 
-ghost use Rattle.std.specs.Prelude.{◌≡◌, ℕ, ◌+◌, ◌<◌, ◌++◌, [], ◌∷◌, drop, All, List, length, IfOk, IfErr, OnOk, OnErr, IsTrue, slice_get, option_copied};
+ghost use Rattle.std.specs.Prelude.{◌≡◌, ℕ, ◌+◌, ◌<◌, ◌++◌, [], ◌∷◌, drop, All, List, length, IfOk, IfErr, OnOk, OnErr, IsSome, IsTrue, slice_get, slice_index, sum, take, option_copied};
 ghost use Rattle.gpu_alloc_types.specs.Properties.{IsUsable, properties_of};
 ghost use Rattle.gpu_alloc.specs.Kept.{AreReady};
 ghost use Rattle.gpu_alloc.specs.Owned.{AreOwned};
@@ -106,6 +106,36 @@ impl<M: MemoryObject, D: ObjectDevice<M>, A: Allocator + Copy> FramePlanner<M, D
         ensures { result ≡ length self.now.counts }
     {
         self.counts.len()
+    }
+
+    /// A block of a flight, the oldest of which is flight 0, by its place among the flight's requests; or `None` where there
+    /// is no such place. The flights before it are gone through.
+    #[tactic(auto, using(std::proofs::lemmas::List::Sums::sum_by_more_le))]
+    pub fn block(&self, flight: usize, index: usize) -> Option<&MemoryBlock<M>>
+        ensures found { flight < length self.now.counts → index < slice_index self.now.counts flight
+            → option_copied result ≡ slice_get self.now.hand.blocks (sum (take flight self.now.counts) + index) }
+        ensures none { IsSome result → (flight < length self.now.counts) × (index < slice_index self.now.counts flight) }
+    {
+        if flight >= self.counts.len() || index >= self.counts[flight] {
+            return None;
+        }
+        // A place among all blocks is at most their number.
+        let _ = self.hand.len();
+        let mut first = 0;
+        for earlier in 0..flight {
+            first += self.counts[earlier];
+        }
+        self.hand.block(first + index)
+    }
+
+    /// Nothing is done: its contract tells what every planner keeps, whatever calls were made. Each block is live, and
+    /// two at different places, so those of two flights, share no byte.
+    pub fn keeps_blocks(&self)
+        ensures owned { AreOwned self.now.hand.allocator self.now.hand.blocks }
+        ensures counted { sum self.now.counts ≡ length self.now.hand.blocks }
+    {
+        self.hand.keeps_blocks();
+        let _ = &self.counts;
     }
 
     /// Gives every block back, and then the device, which holds nothing of the planner's any more. It takes no memory

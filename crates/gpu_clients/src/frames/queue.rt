@@ -1,6 +1,6 @@
 //! Blocks in hand with their allocator and its device, the oldest first.
 
-ghost use Rattle.std.specs.Prelude.{◌≡◌, ℕ, ◌+◌, ◌<◌, ◌≤◌, ◌++◌, [], ◌∷◌, All, List, length, IfOk, IfErr, OnOk, OnErr, IsTrue, take, drop, slice_get};
+ghost use Rattle.std.specs.Prelude.{◌≡◌, ℕ, ◌+◌, ◌<◌, ◌≤◌, ◌++◌, [], ◌∷◌, All, List, length, IfOk, IfErr, OnOk, OnErr, IsTrue, take, drop, slice_get, option_copied};
 ghost use Rattle.gpu_alloc_types.specs.Properties.{IsUsable, properties_of};
 ghost use Rattle.gpu_alloc.specs.Kept.{AreReady};
 ghost use Rattle.gpu_alloc.specs.Owned.{AreOwned};
@@ -79,6 +79,17 @@ impl<M: MemoryObject, D: ObjectDevice<M>, A: Allocator + Copy> Queue<M, D, A> {
         ensures { result ≡ length self.now.blocks }
     {
         self.blocks.len()
+    }
+
+    /// The block of a place.
+    pub(super) fn block(&self, place: usize) -> Option<&MemoryBlock<M>>
+        ensures { option_copied result ≡ slice_get self.now.blocks place }
+    {
+        if place < self.blocks.len() {
+            Some(&self.blocks[place])
+        } else {
+            None
+        }
     }
 
     /// Nothing is done: its contract tells what is so of blocks in hand, and that nothing leaves all as it was.
