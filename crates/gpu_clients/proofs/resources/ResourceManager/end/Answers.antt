@@ -13,10 +13,8 @@ pub loop-block-preserved : goal.loop-block-preserved
 loop-block-preserved g c =
     let i = c.loop-block.invariant in
     let back = c.dealloc.ensures in
-    record {
-      managed = gone i.managed back.agrees c.in-Some.ensures.taken.1 back.in_hand back.removed;
-      outside = λ name. back.in_hand.outside name ∙ i.outside name;
-    }
+    let managed = gone i.managed back.agrees c.in-Some.ensures.taken.1 back.in_hand back.removed in
+    record { managed = managed; outside = λ name. back.in_hand.outside name ∙ i.outside name }
 
 pub close-requires-clause-none : goal.close-requires-clause-none
 close-requires-clause-none g c =

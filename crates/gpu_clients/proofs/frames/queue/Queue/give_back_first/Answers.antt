@@ -7,7 +7,4 @@ pub loop-preserved : goal.loop-preserved
 loop-preserved g c =
     let i = c.loop.invariant in
     let back = c.give_back_one.ensures in
-    record {
-      blocks = back.blocks ∙ ap (drop 1) i.blocks ∙ drop-drop 1 c.loop.counter c.args.self.now.blocks;
-      leaves = leaves_then (leaves_dropped back.blocks i.leaves) back.leaves;
-    }
+    record { blocks = back.blocks ∙ ap (drop 1) i.blocks ∙ drop-drop 1 c.loop.counter _; leaves = leaves_then (leaves_dropped back.blocks i.leaves) back.leaves }
