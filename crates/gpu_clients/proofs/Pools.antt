@@ -26,9 +26,9 @@ pub keeps_twice : {D : Type 0} {offers : D → Properties} {objects : D → ℕ 
     → Keeps offers objects mid new Then → ((key : ℕ) (b : Block) → buffer_at old key ≡ Some b → Then key × (buffer_at mid key ≡ Some b)) → Keeps offers objects old new Key
 unfolding HasSameBytes
 keeps_twice old mid new one two there = record {
-  bytes = λ key b this was is k low high. let first = one.bytes key b this was (there key b was).1 k low high in let second = two.bytes key b (there key b was).0 (there key b was).1 is k low high in (second.0 ∙ first.0, second.1 ∙ first.1);
   beside = λ name. two.beside name ∙ one.beside name;
   properties = two.properties ∙ one.properties;
+  bytes = λ key b this was is k low high. let first = one.bytes key b this was (there key b was).1 k low high in let second = two.bytes key b (there key b was).0 (there key b was).1 is k low high in (second.0 ∙ first.0, second.1 ∙ first.1);
 }
 
 -- what was there is so still after a key that was free was set, and is under another

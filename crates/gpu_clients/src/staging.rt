@@ -123,12 +123,7 @@ impl<M: MemoryObject, D: MemoryDevice<M>, A: Allocator + Copy> StagingPool<M, D,
     ///
     /// `alloc` gives the memory of its tables, and `config` decides which buffers share a memory object. The properties
     /// have to be usable (`DeviceProperties::is_usable`) and those of the device, which is not asked.
-    pub fn new(
-        alloc: A,
-        config: Config,
-        props: DeviceProperties<'_>,
-        device: D,
-    ) -> Result<Self, D>
+    pub fn new(alloc: A, config: Config, props: DeviceProperties<'_>, device: D) -> Result<Self, D>
         requires usable { IsUsable (properties_of props) }
         requires same { D.properties device ≡ properties_of props }
         ensures over { IfOk result (λ pool. pool.device ≡ device) }
@@ -188,12 +183,7 @@ impl<M: MemoryObject, D: MemoryDevice<M>, A: Allocator + Copy> StagingPool<M, D,
     /// Refused are: `UnknownKey`, `BadRange` where the range passes the buffer's end, and `NoAccess`; `bytes` are then
     /// as before.
     #[tactic(auto, unfolding(gpu_alloc_block::specs::Contents::HasSameDeviceBytes))]
-    pub fn download(
-        &mut self,
-        key: u64,
-        offset: u64,
-        bytes: &mut [u8],
-    ) -> Result<(), StagingError>
+    pub fn download(&mut self, key: u64, offset: u64, bytes: &mut [u8]) -> Result<(), StagingError>
         ensures told { OnOk result (OfBuffer self.old key
             (λ b. Stores b offset bytes.new (D.objects self.old.device) × Stores b offset bytes.new (D.objects self.new.device))) }
         ensures refused { OnErr result (bytes.new ≡ bytes.old) }

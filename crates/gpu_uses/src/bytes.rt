@@ -161,6 +161,22 @@ fn with_third<M: MemoryObject, D: MemoryDevice<M>>(
     Ok(())
 }
 
+/// Returns both of two blocks.
+fn return_two<M: MemoryObject, D: MemoryDevice<M>>(
+    allocator: &mut GpuAllocator<M>,
+    device: &mut D,
+    first: MemoryBlock<M>,
+    second: MemoryBlock<M>,
+)
+    requires agrees { Agrees allocator.old (D.properties device.old) (D.objects device.old) }
+    requires owned { AreOwned allocator.old (first ∷ second ∷ []) }
+    ensures agrees { Agrees allocator.new (D.properties device.new) (D.objects device.new) }
+    ensures count { set.len allocator.new.live + 2 ≡ set.len allocator.old.live }
+{
+    allocator.dealloc(device, first);
+    allocator.dealloc(device, second);
+}
+
 /// Takes two blocks as a request asks and a third with an object of its own; writes bytes to the first, reads as many of
 /// the second, and maps and unmaps the third. Then all are returned.
 pub fn three_blocks<M: MemoryObject, D: MemoryDevice<M>>(
@@ -180,8 +196,7 @@ pub fn three_blocks<M: MemoryObject, D: MemoryDevice<M>>(
         Ok(mut second) => {
             kept_blocks_agree();
             let answer = with_third(allocator, device, request, &mut first, &mut second, bytes);
-            allocator.dealloc(device, first);
-            allocator.dealloc(device, second);
+            return_two(allocator, device, first, second);
             answer
         }
         Err(refusal) => {
