@@ -9,16 +9,11 @@ loop-request-init g c = record { served = serves_none _ _; count = c.len-count.e
 pub loop-request-preserved : goal.loop-request-preserved
 loop-request-preserved g c =
     let i = c.loop-request.invariant in
-    let t = c.in_default.ensures in
-    let leaves = leaves_then i.leaves (leaves_front _ i.served.more i.served.grown t.leaves) in
-    record { served = serves_next _ _ _ c.loop-request-test.true i.served t.taken; count = i.count; leaves = leaves }
+    let leaves = leaves_then i.leaves (leaves_front _ i.served.more i.served.grown c.in_default.ensures.leaves) in
+    record { served = serves_next _ _ _ c.loop-request-test.true i.served c.in_default.ensures.taken; count = i.count; leaves = leaves }
 
 pub returns-clause-grown : goal.returns-clause-grown
-returns-clause-grown g c =
-    let within = c.loop-request.auto.request-index-end in
-    let grown = serves_as_many c.loop-request.invariant.served within in
-    let end = c.loop-request-test.false in
-    omega (arith, within, grown, end)
+returns-clause-grown g c = omega (arith, c.loop-request.auto.request-index-end, c.loop-request-test.false, serves_as_many c.loop-request.invariant.served c.loop-request.auto.request-index-end)
 
 pub returns-in-Err-clause-leaves : goal.returns-in-Err-clause-leaves
 returns-in-Err-clause-leaves g c =
