@@ -1,5 +1,5 @@
 -- Blocks for requests, one for each.
-use Rattle.std.specs.Prelude.{◌≡◌, ◌+◌, ◌%◌, ◌≤◌, List, [], ◌∷◌}
+use Rattle.std.specs.Prelude.{◌≡◌, ℕ, ◌+◌, ◌%◌, ◌≤◌, List, [], ◌∷◌, ◌++◌, take}
 use Rattle.gpu_alloc_block.specs.State.{Block}
 use Rattle.gpu_alloc.specs.declared.request.Request.{Request}
 
@@ -13,3 +13,9 @@ abbrev pub AllServe : List Request → List Block → Type 0
 AllServe [] [] = Unit {0}
 AllServe (r ∷ rs) (b ∷ bs) = Serves r b × AllServe rs bs
 AllServe _ _ = ⊥
+
+-- To the blocks came some that serve the first so many requests.
+pub record ServesFirst (requests : List Request) (count : ℕ) (old new : List Block) : Type 0 where
+  pub more : List Block
+  pub grown : new ≡ old ++ more
+  pub served : AllServe (take count requests) more

@@ -1,5 +1,6 @@
 -- For callers that hold a list of blocks, or blocks under keys.
-use Rattle.std.proofs.Common.{◌≡◌, ℕ, zero, suc, List, [], ◌∷◌, ◌++◌, drop, slice_get, Option, Some, None, refl, ◌∙◌, subst}
+use Rattle.std.proofs.Common.{◌≡◌, ℕ, zero, suc, ◌<◌, ◌≤◌, List, [], ◌∷◌, ◌++◌, drop, length, length-append, slice_get, take, Option, Some, None, refl, sym, ◌∙◌, ap, subst, arith}
+use Rattle.std.proofs.lemmas.List.{take-append-le}
 use Rattle.gpu_alloc_types.specs.Device.{Object}
 use Rattle.gpu_alloc_types.specs.Properties.{Properties}
 use Rattle.gpu_alloc_block.proofs.ByPlace.{told_by_place}
@@ -22,6 +23,14 @@ after_one (c ∷ bs) i b is = is
 pub last_owned : {s : State} (bs : List Block) {b : Block} → AreOwned s (bs ++ b ∷ []) → IsOwned s b
 last_owned [] owned = owned.0
 last_owned (c ∷ bs) owned = last_owned bs owned.2
+
+-- the first so many of a list are the same where it loses its last and has still as many
+pub firsts_stay : (n : ℕ) {old : List Block} (new : List Block) {kept : List Block} → (last : Block) × (old ≡ new ++ last ∷ []) → n < length old
+    → take n old ≡ kept → take n new ≡ kept
+firsts_stay n {old} new last more same = sym (take-append-le n new (last.0 ∷ []) long) ∙ ap (take n) (sym last.1) ∙ same
+  where
+    long : n ≤ length new
+    long = let e = ap length last.1 ∙ length-append new (last.0 ∷ []) in omega (arith, e, more)
 
 -- where no key has a block, what there is is kept
 pub none_kept : {s : State} {p : Properties} {objects : ℕ → Option Object} {at : ℕ → Option Block} → ((key : ℕ) → at key ≡ None)

@@ -14,15 +14,11 @@ use Rattle.gpu_slots.specs.SlotMap.{PutsAt, TakesAt}
 module _ {s after : State} {p q : Properties} {old new : ℕ → Option Object} {m n : map.FinMap nat_cmp Block} {key : ℕ} {b : Block}
     (managed : IsManaged s p old m) (agrees : Agrees after q new) where
   pub granted : PutsAt m key b n → AddsInHand s p old after q new b → Adds s after b → IsManaged after q new n
-  granted puts joins adds = record {
-    agrees = agrees;
-    kept = joins.kept _ _ _ managed.kept puts.free (record { changed = puts.there; others = puts.others });
-    count = let c = managed.count in let more = puts.count in let live = adds.count in omega arith;
-  }
+  granted puts joins adds =
+      let kept = joins.kept _ _ _ managed.kept puts.free (record { changed = puts.there; others = puts.others }) in
+      record { agrees = agrees; kept = kept; count = omega (arith, managed.count, puts.count, adds.count) }
 
   pub gone : TakesAt m key b n → RemovesInHand s p old b after q new → Removes s b after → IsManaged after q new n
-  gone takes leaves removes = record {
-    agrees = agrees;
-    kept = leaves.kept _ _ _ managed.kept takes.taken (record { changed = takes.gone; others = takes.others });
-    count = let c = managed.count in let less = takes.count in let live = removes.count in omega arith;
-  }
+  gone takes leaves removes =
+      let kept = leaves.kept _ _ _ managed.kept takes.taken (record { changed = takes.gone; others = takes.others }) in
+      record { agrees = agrees; kept = kept; count = omega (arith, managed.count, takes.count, removes.count) }

@@ -5,7 +5,7 @@ ghost use Rattle.gpu_alloc_types.specs.Properties.{IsUsable, properties_of};
 ghost use Rattle.gpu_alloc.specs.Kept.{AreReady};
 ghost use Rattle.gpu_alloc.specs.Owned.{AreOwned};
 ghost use Rattle.gpu_alloc.specs.Request.{IsAskable};
-ghost use Rattle.gpu_alloc.specs.Served.{AllServe};
+ghost use Rattle.gpu_alloc.specs.Served.{ServesFirst};
 ghost use Rattle.gpu_alloc.specs.State.{Block};
 ghost use Rattle.gpu_clients.specs.Frames.{flight, beside, Leaves};
 
@@ -69,8 +69,8 @@ impl<M: MemoryObject, D: ObjectDevice<M>, A: Allocator + Copy> FramePlanner<M, D
     pub fn begin_flight(&mut self, requests: &[Request]) -> Result<(), AllocationError>
         requires askable { All (IsAskable (self.old.hand.allocator.properties).buffer_device_address) requests.now }
         ensures begun { OnOk result (self.new.counts ≡ self.old.counts ++ length requests.now ∷ []) }
-        ensures granted { OnOk result ((blocks : List Block) × (self.new.hand.blocks ≡ self.old.hand.blocks ++ blocks)
-            × AllServe requests.now blocks) }
+        ensures granted { OnOk result
+            (ServesFirst requests.now (length requests.now) self.old.hand.blocks self.new.hand.blocks) }
         ensures refused { OnErr result (self.new.counts ≡ self.old.counts) }
         ensures as_before { OnErr result (self.new.hand.blocks ≡ self.old.hand.blocks) }
         ensures leaves { Leaves D.objects self.old.hand self.new.hand self.old.hand.blocks }

@@ -96,6 +96,7 @@ impl<M: MemoryObject, D: ObjectDevice<M>, A: Allocator + Copy> ResourceManager<M
     /// The request has to be askable (`Request::is_askable`, for the device's `buffer_device_address`). The refusals are
     /// those of [`GpuAllocator::alloc`], and `OutOfHostMemory` where there is no memory for a handle, or each of the
     /// 2^32 - 1 slots is taken or used up. Nothing has changed then.
+    #[tactic(auto, using(crate::proofs::Managed::granted))]
     pub fn create(&mut self, request: Request) -> Result<Handle, AllocationError>
         requires askable { IsAskable ((self.old.allocator).properties).buffer_device_address request }
         ensures fresh { IfOk result (λ handle. WasGiven self.old handle → ⊥) }
@@ -121,6 +122,7 @@ impl<M: MemoryObject, D: ObjectDevice<M>, A: Allocator + Copy> ResourceManager<M
 
     /// Gives back the block of a handle, mapped or not, and tells whether the handle had one. It takes no memory and
     /// cannot fail. The handle finds nothing for ever after.
+    #[tactic(auto, using(crate::proofs::Managed::gone))]
     pub fn destroy(&mut self, handle: Handle) -> bool
         ensures found { IsTrue result ↔ IsSome (block_at self.old handle) }
         ensures gone { IsTrue result → HasEnded self.new handle }

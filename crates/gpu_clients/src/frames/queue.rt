@@ -5,7 +5,7 @@ ghost use Rattle.gpu_alloc_types.specs.Properties.{IsUsable, properties_of};
 ghost use Rattle.gpu_alloc.specs.Kept.{AreReady};
 ghost use Rattle.gpu_alloc.specs.Owned.{AreOwned};
 ghost use Rattle.gpu_alloc.specs.Request.{IsAskable};
-ghost use Rattle.gpu_alloc.specs.Served.{Serves, AllServe};
+ghost use Rattle.gpu_alloc.specs.Served.{Serves, ServesFirst};
 ghost use Rattle.gpu_alloc.specs.State.{Block};
 ghost use Rattle.gpu_clients.specs.Frames.{beside, Leaves};
 
@@ -102,6 +102,7 @@ impl<M: MemoryObject, D: ObjectDevice<M>, A: Allocator + Copy> Queue<M, D, A> {
     }
 
     /// Takes a last block as the request asks.
+    #[tactic(auto, using(gpu_alloc_block::proofs::Lists::leaves_owned))]
     fn take(&mut self, request: Request) -> Result<(), AllocationError>
         requires askable { IsAskable (self.old.allocator.properties).buffer_device_address request }
         ensures taken { OnOk result ((block : Block) × (self.new.blocks ≡ self.old.blocks ++ block ∷ [])
@@ -125,8 +126,7 @@ impl<M: MemoryObject, D: ObjectDevice<M>, A: Allocator + Copy> Queue<M, D, A> {
     /// Takes a block for each request, in their order, or none.
     pub(super) fn take_all(&mut self, requests: &[Request]) -> Result<(), AllocationError>
         requires askable { All (IsAskable (self.old.allocator.properties).buffer_device_address) requests.now }
-        ensures granted { OnOk result ((blocks : List Block) × (self.new.blocks ≡ self.old.blocks ++ blocks)
-            × AllServe requests.now blocks) }
+        ensures granted { OnOk result (ServesFirst requests.now (length requests.now) self.old.blocks self.new.blocks) }
         ensures grown { OnOk result (length self.new.blocks ≡ length self.old.blocks + length requests.now) }
         ensures refused { OnErr result (self.new.blocks ≡ self.old.blocks) }
         ensures leaves { Leaves D.objects self.old self.new self.old.blocks }
@@ -154,6 +154,7 @@ impl<M: MemoryObject, D: ObjectDevice<M>, A: Allocator + Copy> Queue<M, D, A> {
     }
 
     /// Gives the last block back.
+    #[tactic(auto, using(gpu_alloc_block::proofs::Lists::last_owned))]
     fn give_back_last(&mut self)
         requires { 0 < length self.old.blocks }
         ensures blocks { (last : Block) × (self.old.blocks ≡ self.new.blocks ++ last ∷ []) }

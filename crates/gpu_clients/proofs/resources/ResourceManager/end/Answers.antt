@@ -11,16 +11,12 @@ dealloc-requires-clause-owned g c = c.loop-block.invariant.managed.kept.owned _ 
 
 pub loop-block-preserved : goal.loop-block-preserved
 loop-block-preserved g c =
-    let i = c.loop-block.invariant in
     let back = c.dealloc.ensures in
-    record {
-      managed = gone i.managed back.agrees c.in-Some.ensures.taken.1 back.in_hand back.removed;
-      outside = λ name. back.in_hand.outside name ∙ i.outside name;
-    }
+    let managed = gone c.loop-block.invariant.managed back.agrees c.in-Some.ensures.taken.1 back.in_hand back.removed in
+    record { managed = managed; outside = λ name. back.in_hand.outside name ∙ c.loop-block.invariant.outside name }
 
 pub close-requires-clause-none : goal.close-requires-clause-none
-close-requires-clause-none g c =
-    c.loop-block.invariant.managed.count ∙ ap map.len (sym (c.in_default.ensures.stays refl)) ∙ c.in_default.ensures.ended refl
+close-requires-clause-none g c = c.loop-block.invariant.managed.count ∙ ap map.len (sym (c.in_default.ensures.stays refl)) ∙ c.in_default.ensures.ended refl
 
 pub returns : goal.returns
 returns g c = record { beside = λ name. c.close.ensures name ∙ c.loop-block.invariant.outside name }

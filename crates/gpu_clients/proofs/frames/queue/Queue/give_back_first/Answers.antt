@@ -5,9 +5,5 @@ use Rattle.gpu_clients.proofs.frames.queue.Queue.give_back_first.Goals as goal
 
 pub loop-preserved : goal.loop-preserved
 loop-preserved g c =
-    let i = c.loop.invariant in
     let back = c.give_back_one.ensures in
-    record {
-      blocks = back.blocks ∙ ap (drop 1) i.blocks ∙ drop-drop 1 c.loop.counter c.args.self.now.blocks;
-      leaves = leaves_then (leaves_dropped back.blocks i.leaves) back.leaves;
-    }
+    record { blocks = back.blocks ∙ ap (drop 1) c.loop.invariant.blocks ∙ drop-drop 1 c.loop.counter _; leaves = leaves_then (leaves_dropped back.blocks c.loop.invariant.leaves) back.leaves }

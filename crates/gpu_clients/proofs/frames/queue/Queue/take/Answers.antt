@@ -3,6 +3,3 @@ use Rattle.gpu_clients.proofs.frames.queue.Queue.take.Goals as goal
 
 pub returns-in-Ok-clause-leaves : goal.returns-in-Ok-clause-leaves
 returns-in-Ok-clause-leaves g c = rw (← c.self.view_is) (leaves_owned c.alloc.ensures.leaves.properties c.alloc.ensures.in_hand c.self.invariant.owned)
-
-pub returns-in-Err-clause-leaves : goal.returns-in-Err-clause-leaves
-returns-in-Err-clause-leaves g c = rw (← c.self.view_is) (leaves_owned c.alloc.ensures.leaves.properties c.alloc.ensures.in_hand c.self.invariant.owned)
