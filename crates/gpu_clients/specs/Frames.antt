@@ -1,5 +1,5 @@
 -- What a contract sees of a `FramePlanner`.
-use Rattle.std.specs.Prelude.{ℕ, List, take, drop, sum, slice_index, Option, refl}
+use Rattle.std.specs.Prelude.{ℕ, List, Option, refl}
 use Rattle.std.specs.Coded.{Coded, code_by, coded×, coded_ℕ, coded_list}
 use Rattle.gpu_alloc_types.specs.Device.{Object}
 use Rattle.gpu_alloc_block.specs.Codes.{block_code}
@@ -30,10 +30,6 @@ planner_code {D} d =
     (λ p. (p.hand, p.counts)) (λ c. record { hand = c.0; counts = c.1 }) (λ _. refl)
 
 module _ {D : Type 0} where
-  -- the blocks of the flight of that number
-  abbrev pub flight : PlannerState D → ℕ → List Block
-  flight p i = take (slice_index p.counts i) (drop (sum (take i p.counts)) p.hand.blocks)
-
   module _ (objects : D → ℕ → Option Object) where
     -- what the device has beside the blocks' allocator
     abbrev pub beside : QueueState D → ℕ → Option Object

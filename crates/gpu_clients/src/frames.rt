@@ -1,13 +1,12 @@
 //! Memory of frames in flight.
 
 ghost use Rattle.std.specs.Prelude.{◌≡◌, ℕ, ◌+◌, ◌<◌, ◌++◌, [], ◌∷◌, drop, All, List, length, IfOk, IfErr, OnOk, OnErr, IsSome, IsTrue, slice_get, slice_index, sum, take, option_copied};
+ghost use Rattle.std.specs.FinSet as set;
 ghost use Rattle.gpu_alloc_types.specs.Properties.{IsUsable, properties_of};
-ghost use Rattle.gpu_alloc.specs.Kept.{AreReady};
 ghost use Rattle.gpu_alloc.specs.Owned.{AreOwned};
 ghost use Rattle.gpu_alloc.specs.Request.{IsAskable};
 ghost use Rattle.gpu_alloc.specs.Served.{ServesFirst};
-ghost use Rattle.gpu_alloc.specs.State.{Block};
-ghost use Rattle.gpu_clients.specs.Frames.{flight, beside, Leaves};
+ghost use Rattle.gpu_clients.specs.Frames.{beside, Leaves};
 
 mod queue;
 
@@ -129,9 +128,10 @@ impl<M: MemoryObject, D: ObjectDevice<M>, A: Allocator + Copy> FramePlanner<M, D
     }
 
     /// Nothing is done: its contract tells what every planner keeps, whatever calls were made. Each block is live, and
-    /// two at different places, so those of two flights, share no byte.
+    /// two at different places, so those of two flights, share no byte; and nothing else is live.
     pub fn keeps_blocks(&self)
         ensures owned { AreOwned self.now.hand.allocator self.now.hand.blocks }
+        ensures live { set.len self.now.hand.allocator.live ≡ length self.now.hand.blocks }
         ensures counted { sum self.now.counts ≡ length self.now.hand.blocks }
     {
         self.hand.keeps_blocks();

@@ -1,7 +1,8 @@
 //! Blocks that a program holds by handles.
 
-ghost use Rattle.std.specs.Prelude.{◌≡◌, ℕ, ◌+◌, IfOk, IfErr, OnErr, IsOk, IsSome, IsTrue, ◌↔◌, None, option_copied};
+ghost use Rattle.std.specs.Prelude.{◌≡◌, ℕ, ◌+◌, IfOk, IfErr, OnErr, IsSome, IsTrue, ◌↔◌, None, option_copied};
 ghost use Rattle.std.specs.FinMap as map;
+ghost use Rattle.std.specs.FinSet as set;
 ghost use Rattle.gpu_alloc_types.specs.Properties.{IsUsable, properties_of};
 ghost use Rattle.gpu_alloc.specs.Allocation.{IsGranted};
 ghost use Rattle.gpu_alloc.specs.Kept.{AreKept};
@@ -167,10 +168,11 @@ impl<M: MemoryObject, D: ObjectDevice<M>, A: Allocator + Copy> ResourceManager<M
     }
 
     /// Nothing is done: its contract tells what every manager keeps, whatever calls were made. Each handle's block is
-    /// live and agrees with the device, and the blocks of two handles share no byte.
+    /// live and agrees with the device, the blocks of two handles share no byte, and nothing else is live.
     pub fn keeps_blocks(&self)
-        ensures { AreKept self.now.allocator (D.properties self.now.device) (D.objects self.now.device)
+        ensures kept { AreKept self.now.allocator (D.properties self.now.device) (D.objects self.now.device)
             (map.get self.now.blocks) }
+        ensures live { set.len self.now.allocator.live ≡ map.len self.now.blocks }
     {
         let _ = &self.device;
     }

@@ -1,5 +1,8 @@
 //! Handles and frames over a device, of which it refuses one object.
 
+ghost use Rattle.std.specs.Prelude.{false};
+ghost use Rattle.gpu_alloc.specs.Request.{IsAskable};
+
 use super::offers::{LOCAL, again, offer};
 use super::same::{holds, same};
 use gpu_alloc::{AllocationError, Config, Request, UsageFlags};
@@ -13,20 +16,24 @@ type Manager = ResourceManager<SimMemory, Sim>;
 
 type Planner = FramePlanner<SimMemory, Sim>;
 
-/// So many bytes.
-const fn request(size: u64) -> Request {
-    Request {
+/// So many bytes, which may be asked for.
+fn request(rt: &impl Abort, size: u64) -> Request
+    ensures { IsAskable false result }
+{
+    let request = Request {
         size,
         align_mask: 0,
         usage: UsageFlags::TRANSIENT,
         memory_types: u32::MAX,
-    }
+    };
+    holds(rt, request.is_askable(false), "a request");
+    request
 }
 
 /// Makes a block of so many bytes, which is found under its handle.
 fn make(rt: &impl Abort, manager: &mut Manager, size: u64) -> Handle {
-    holds(rt, request(size).is_askable(false), "a request");
-    let handle = manager.create(request(size)).expect(rt, "a block");
+    let asked = request(rt, size);
+    let handle = manager.create(asked).expect(rt, "a block");
     finds(rt, manager, handle, Some(size));
     handle
 }
@@ -44,8 +51,8 @@ fn replace(rt: &impl Abort, manager: &mut Manager) {
     same(rt, "whether it went", &manager.destroy(first), &true);
     same(rt, "whether it went again", &manager.destroy(first), &false);
     let third = make(rt, manager, 256);
-    holds(rt, request(1 << 19).is_askable(false), "a request");
-    let refused = manager.create(request(1 << 19));
+    let asked = request(rt, 1 << 19);
+    let refused = manager.create(asked);
     same(
         rt,
         "a refusal",
@@ -58,11 +65,10 @@ fn replace(rt: &impl Abort, manager: &mut Manager) {
     same(rt, "how many", &manager.len(), &2);
 }
 
-/// Begins a flight of three blocks.
+/// Begins a flight of two blocks.
 fn begin(rt: &impl Abort, planner: &mut Planner, last: u64) -> Result<(), AllocationError> {
-    holds(rt, request(16).is_askable(false), "a request");
-    holds(rt, request(last).is_askable(false), "a request");
-    planner.begin_flight(&[request(16), request(16), request(last)])
+    let requests = [request(rt, 16), request(rt, last)];
+    planner.begin_flight(&requests)
 }
 
 /// Two flights, the oldest of which goes, and one that is refused.

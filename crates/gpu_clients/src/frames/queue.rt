@@ -1,6 +1,7 @@
 //! Blocks in hand with their allocator and its device, the oldest first.
 
-ghost use Rattle.std.specs.Prelude.{◌≡◌, ℕ, ◌+◌, ◌<◌, ◌≤◌, ◌++◌, [], ◌∷◌, All, List, length, IfOk, IfErr, OnOk, OnErr, IsTrue, take, drop, slice_get, option_copied};
+ghost use Rattle.std.specs.Prelude.{◌≡◌, ℕ, ◌+◌, ◌<◌, ◌++◌, [], ◌∷◌, All, length, IfOk, IfErr, OnOk, OnErr, take, drop, slice_get, option_copied};
+ghost use Rattle.std.specs.FinSet as set;
 ghost use Rattle.gpu_alloc_types.specs.Properties.{IsUsable, properties_of};
 ghost use Rattle.gpu_alloc.specs.Kept.{AreReady};
 ghost use Rattle.gpu_alloc.specs.Owned.{AreOwned};
@@ -96,6 +97,7 @@ impl<M: MemoryObject, D: ObjectDevice<M>, A: Allocator + Copy> Queue<M, D, A> {
     pub(super) fn keeps_blocks(&self)
         ensures owned { AreOwned self.now.allocator self.now.blocks }
         ensures ready { AreReady (D.properties self.now.device) (D.objects self.now.device) self.now.blocks }
+        ensures live { set.len self.now.allocator.live ≡ length self.now.blocks }
         ensures leaves { Leaves D.objects self.now self.now self.now.blocks }
     {
         let _ = &self.device;
