@@ -7,6 +7,7 @@ pub mod Buddies
 pub mod Changes
 pub mod Closing
 pub mod Consistency
+pub mod FreeCovered
 pub mod FreeLists
 pub mod FreeRanges
 pub mod Decisions
@@ -18,6 +19,7 @@ pub mod HeapLists
 pub mod Imports
 pub mod InHand
 pub mod Ledgers
+pub mod LongestRanges
 pub mod NewObjects
 pub mod Opened
 pub mod OwnObjects

@@ -1,9 +1,10 @@
 -- What is free in the shared chunks of a memory type.
-use Rattle.std.specs.Prelude.{◌≡◌, ◌⊎◌, ℕ, ◌+◌}
+use Rattle.std.specs.Prelude.{◌≡◌, ◌⊎◌, ℕ, ◌+◌, ◌<◌, ◌≤◌, true}
 use Rattle.gpu_alloc_types.specs.declared.types.FreeRange.{FreeRange}
 use Rattle.gpu_alloc_base.specs.FreeRuns.{IsFreeRun}
 use Rattle.gpu_alloc_base.specs.FreeSpace.{IsFreePiece}
-use Rattle.gpu_alloc_block.specs.State.{State}
+use Rattle.gpu_alloc_block.specs.State.{State, is_shared}
+use Rattle.gpu_alloc_block.specs.declared.block.Kind.{Kind}
 use Rattle.gpu_alloc_block.specs.declared.block.Kind.TheVariants.{BuddyChunk, FreeListChunk}
 use Rattle.gpu_alloc.specs.FreeBytes.{IsFreeByte}
 
@@ -21,3 +22,15 @@ pub record IsFreeRunOf (s : State) (t : ℕ) (r : FreeRange) : Type 0 where
 -- it is the one or the other
 abbrev pub IsFreeRangeOf : State → ℕ → FreeRange → Type 0
 IsFreeRangeOf s t r = IsFreePieceOf s t r ⊎ IsFreeRunOf s t r
+
+-- the byte lies in the range
+pub record HasByte (r : FreeRange) (object at : ℕ) : Type 0 where
+  pub of : r.object ≡ object
+  pub from : r.start ≤ at
+  pub to : at < r.end
+
+-- the byte is free, in a shared chunk of the memory type
+pub record IsFreeOf (s : State) (t object at : ℕ) : Type 0 where
+  pub kind : Kind
+  pub shared : is_shared kind ≡ true
+  pub free : IsFreeByte s t kind object at

@@ -2,6 +2,7 @@
 
 ghost use Rattle.std.specs.Prelude.{◌≡◌, ◌≢◌, ◌⊎◌, ℕ, ◌+◌, ◌<◌, ◌≤◌, List, [], ◌∷◌, length, Some, None, true, false};
 ghost use Rattle.std.specs.FinSet as set;
+ghost use Rattle.gpu_alloc_types.specs.declared.types.FreeRange.{FreeRange};
 ghost use Rattle.gpu_alloc_block.specs.Agreement.{Agrees, KeptBlocksAgree};
 ghost use Rattle.gpu_alloc_block.specs.ByteCalls.{BytesMoved};
 ghost use Rattle.gpu_alloc.specs.Allocation.{strategy, CandidatesServe};
@@ -14,6 +15,7 @@ ghost use Rattle.gpu_alloc_base.specs.Wanted.{wanted};
 ghost use Rattle.gpu_alloc_buddy.specs.BuddyState.{Buddy, IsFreeAt};
 ghost use Rattle.gpu_alloc_base.specs.Config.{potato, prototyping};
 ghost use Rattle.gpu_alloc.specs.FreeBytes.{IsFreeByte};
+ghost use Rattle.gpu_alloc.specs.FreeRanges.{HasByte, IsFreeOf, IsFreeRangeOf};
 ghost use Rattle.gpu_alloc_freelist.specs.FreeList.{HasPlace};
 ghost use Rattle.gpu_alloc_freelist.specs.FreeListState.{Space, IsFreeIn};
 ghost use Rattle.gpu_alloc_base.specs.FreeRuns.{tail_start};
@@ -81,6 +83,18 @@ pub fn regions_are_the_free_runs()
         → AreSpaced (IsFreeInChunk s t) regions → AreFreeRuns (IsFreeInChunk s t) regions }
     ensures place_in_state { (s : State) (t : ℕ) (regions : List FreeListRegion)
         → AreSpaced (IsFreeInChunk s t) regions → TellPlaces (HasListPlace s t) regions }
+{}
+
+/// Each free byte of a memory type's shared chunks lies in a free range, of which each byte is free, and no two share one.
+/// So what `free_ranges` lists covers all that is free, once.
+pub fn free_ranges_are_the_free_bytes()
+    ensures covers { (s : State) (t object at : ℕ) → IsFreeOf s t object at
+        → (r : FreeRange) × IsFreeRangeOf s t r × HasByte r object at }
+    ensures free { (s : State) (t : ℕ) (r : FreeRange) → IsFreeRangeOf s t r
+        → (object at : ℕ) → HasByte r object at → IsFreeOf s t object at }
+    ensures apart { (s : State) (t : ℕ) (r q : FreeRange) → IsFreeRangeOf s t r → IsFreeRangeOf s t q
+        → (object at : ℕ) → HasByte r object at → HasByte q object at → r ≡ q }
+    ensures nonempty { (s : State) (t : ℕ) (r : FreeRange) → IsFreeRangeOf s t r → r.start < r.end }
 {}
 
 /// Chunks of free lists and the tails that blocks are, for a first chunk of 8192 bytes: the next chunk, one that has to

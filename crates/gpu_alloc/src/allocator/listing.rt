@@ -9,7 +9,7 @@ ghost use Rattle.std.specs.Option.{option_map};
 ghost use Rattle.gpu_alloc.specs.Budget.{heap_bytes};
 ghost use Rattle.gpu_alloc.specs.Sound as Sound;
 ghost use Rattle.gpu_alloc.specs.Spans.{held_of, objects_in, span_in};
-ghost use Rattle.gpu_alloc.specs.Listing.{AreOnce};
+ghost use Rattle.gpu_alloc.specs.Listing.{AreOfKnownTypes, AreOnce};
 
 use super::GpuAllocator;
 use crate::spans::{HeldRow, LiveSpan};
@@ -52,6 +52,7 @@ impl<M: MemoryObject, A: Allocator> GpuAllocator<M, A> {
     pub fn objects<B: Allocator>(&self, alloc: B) -> Result<Vec<(u64, HeldRow), B>, AllocError>
         ensures exact { IfOk result (λ rows. objects_in rows.items ≡ self.now.held) }
         ensures once { IfOk result (λ rows. IsDistinct nat_eq (keys_of rows.items)) }
+        ensures known { AreOfKnownTypes self.now }
     {
         self.spans.objects(alloc)
     }
