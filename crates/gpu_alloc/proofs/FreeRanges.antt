@@ -104,7 +104,7 @@ not_both s index number object at at' piece run =
     let kinds : ◌≡◌ {A = Kind} BuddyChunk (FreeListChunk number) = sym piece.of_kind ∙ ap (λ (h : HeldObject). h.kind) same ∙ run.of_kind in
     absurd (cc)
 
-distinct_append : {X : Type 0} (e : X → X → Bool) (xs ys : List X) → IsDistinct e xs → IsDistinct e ys → ((x y : X) → Contains xs x → Contains ys y → e x y ≡ false) → IsDistinct e (xs ++ ys)
+pub distinct_append : {X : Type 0} (e : X → X → Bool) (xs ys : List X) → IsDistinct e xs → IsDistinct e ys → ((x y : X) → Contains xs x → Contains ys y → e x y ≡ false) → IsDistinct e (xs ++ ys)
 distinct_append e [] ys first second apart = second
 distinct_append e (x ∷ xs) ys first second apart =
     IsDistinct-cons e x (xs ++ ys)

@@ -1,14 +1,14 @@
 -- The held objects that are held as one memory type and kind, row by row.
 use Rattle.std.proofs.Common.{◌≡◌, ℕ, ◌+◌, ◌<◌, true, cond, List, [], ◌∷◌, ◌++◌, length, map, take, get_or, Option, Some, None, nat_eq, refl, sym, ◌∙◌, ap, subst, arith}
 use Rattle.std.proofs.lemmas.List.{take_more, map-append, length-map, get_or-map}
-use Rattle.std.proofs.lemmas.List.Elements.{filter-append, Contains-get_or}
+use Rattle.std.proofs.lemmas.List.Elements.{filter-append}
 use Rattle.std.proofs.lemmas.List.Sorted.{IsPermutation-map, IsPermutation-sym, Contains-permutation}
 use Rattle.std.proofs.lemmas.Map.Made.{keys_of-map_values}
 use Rattle.std.proofs.lemmas.Map.Keys.{IsDistinct-IsPermutation}
 use Rattle.std.proofs.lemmas.Map.Views.{lookup-from_Contains, Contains-from_lookup}
 use Rattle.std.proofs.lemmas.Cmp.{nat_eq_equiv}
 use Rattle.std.proofs.lemmas.Bool.Decides.{nat_tests}
-use Rattle.std.specs.List.{IsDistinct}
+use Rattle.std.specs.List.{Contains, IsDistinct}
 use Rattle.std.specs.List.Sorted.{IsPermutation, IsNonDecreasing, IsNonDecreasingBy}
 use Rattle.std.specs.Map.{keys_of, lookup}
 use Rattle.std.specs.Ordering.{nat_cmp}
@@ -16,7 +16,6 @@ use Rattle.std.specs.Cmp.{nat_cmp_total}
 use Rattle.std.specs.FinMap as finite
 use Rattle.std.specs.FinMap.{nat_cmp-IsAntisymmetric}
 use Rattle.gpu_alloc_block.specs.declared.block.Kind.TheVariants.{Dedicated}
-use Rattle.gpu_alloc_base.proofs.ListViews.{contains_name}
 use Rattle.gpu_alloc_base.proofs.Names.{get_entries}
 use Rattle.gpu_alloc.specs.Spans.{entry_of, held_of, objects_in}
 use Rattle.gpu_alloc.specs.State.{HeldObject, State}
@@ -83,10 +82,14 @@ held_sorted s old new exact once perm sorted =
         let h = up i j nothing le in_j in
         omega (arith, at_i, at_j, h)
 
--- a row's object is held
-pub held_there : (s : State) (rows : List (ℕ × HeldRow)) (i : ℕ) (d : ℕ × HeldRow) → AreHeld s (map entry_of rows) → i < length rows → finite.get s.held (get_or rows i d).0 ≡ Some (held_of (get_or rows i d).1)
-held_there s rows i d are lt =
-    let e = get_or rows i d in
-    let has = contains_name entry_of rows e (Contains-get_or rows i d lt) in
-    ap (λ (m : finite.FinMap nat_cmp HeldObject). finite.get m e.0) (sym are.exact) ∙ get_entries (map entry_of rows) e.0
-    ∙ lookup-from_Contains nat_eq_equiv e.0 (held_of e.1) (map entry_of rows) are.once has
+-- an entry's object is held
+pub held_entry : (s : State) (held : List (ℕ × HeldObject)) (e : ℕ × HeldObject) → AreHeld s held → Contains held e → finite.get s.held e.0 ≡ Some e.1
+held_entry s held e are has =
+    ap (λ (m : finite.FinMap nat_cmp HeldObject). finite.get m e.0) (sym are.exact) ∙ get_entries held e.0
+    ∙ lookup-from_Contains nat_eq_equiv e.0 e.1 held are.once has
+
+-- and a held object is an entry
+pub entry_held : (s : State) (held : List (ℕ × HeldObject)) (object : ℕ) (h : HeldObject) → AreHeld s held → finite.get s.held object ≡ Some h → Contains held (object, h)
+entry_held s held object h are is =
+    Contains-from_lookup same_number object h held
+    (sym (get_entries held object) ∙ ap (λ (m : finite.FinMap nat_cmp HeldObject). finite.get m object) are.exact ∙ is)

@@ -1,6 +1,10 @@
+mod Covering
 mod Digits
+mod Finding
 mod HeldRows
+mod Members
+mod Runs
 mod Sessions
 mod Spans
-mod Tiles
+mod Tiling
 mod Told

@@ -1,9 +1,12 @@
 -- Live blocks by the names that their keeper has for them.
 use Rattle.std.specs.Prelude.{◌≡◌, ℕ, List, map, Contains}
 use Rattle.std.specs.List.{filter}
+use Rattle.std.specs.Cmp.Lexicographic.{slice_cmp}
+use Rattle.std.specs.List.Sorted.{IsNonDecreasingBy, IsSortedByKey}
+use Rattle.std.specs.Ordering.{nat_cmp}
 use Rattle.std.specs.FinSet as set
 use Rattle.gpu_alloc.specs.Listing.{AreOnce}
-use Rattle.gpu_alloc.specs.State.{Span, State, IsLive}
+use Rattle.gpu_alloc.specs.State.{Span, State, IsLive, span_numbers}
 use Rattle.gpu_report.specs.declared.part.Part.{Part}
 use Rattle.gpu_report.specs.declared.live.LiveBlock.{LiveBlock}
 use Rattle.gpu_report.specs.Held.{is_held_as}
@@ -11,10 +14,15 @@ use Rattle.gpu_report.specs.Held.{is_held_as}
 abbrev pub span_told : LiveBlock → Span
 span_told b = record { object = b.object; offset = b.offset; size = b.size }
 
--- these are all that are live, each once
+-- these are all that are live, each once, by the name of their object
 pub record AreLive (s : State) (live : List LiveBlock) : Type 0 where
   pub exact : set.from_list (map span_told live) ≡ s.live
   pub once : AreOnce (map span_told live)
+  pub by_object : IsNonDecreasingBy (λ b. b.object) live
+
+-- blocks in the order of their spans' numbers
+abbrev pub AreBySpan : List LiveBlock → Type 0
+AreBySpan blocks = IsSortedByKey (λ b. span_numbers (span_told b)) (slice_cmp nat_cmp) blocks
 
 -- a live span that none of the blocks has
 pub record LacksSpan (s : State) (blocks : List LiveBlock) : Type 0 where

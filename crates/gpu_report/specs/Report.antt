@@ -1,5 +1,6 @@
 -- What a report tells of an allocator.
 use Rattle.std.specs.Prelude.{◌≡◌, ℕ, ◌<◌, Bool, true, false, List, length, map, All, Contains, Some, slice_get, nat_lt, sum}
+use Rattle.std.specs.FinMap as finite
 use Rattle.std.specs.List.{filter, flat_map}
 use Rattle.gpu_alloc_types.specs.declared.types.FreeRange.{FreeRange}
 use Rattle.gpu_alloc.specs.Budget.{heap_bytes, heap_budget}
@@ -46,12 +47,16 @@ is_chunk Imported = false
 is_chunk BuddyChunk = true
 is_chunk FreeListChunk = true
 
+-- its places are those of the object, each once and in order
+abbrev pub HasPlaces : List LiveBlock → List FreeRange → ObjectReport → Type 0
+HasPlaces live free o = ArePlaces live free o.object o.places.items
+
 -- An object's live blocks and free ranges, each once and in order. Of a shared object they cover it: the first begins at
 -- 0, each begins where the one before it ends, and the last ends where the object does.
 pub record IsObjectTold (s : State) (live : List LiveBlock) (o : ObjectReport) : Type 0 where
   pub free : List FreeRange
   pub are_free : AreFree s o.memory_type free
-  pub places : ArePlaces live free o.object o.places.items
+  pub places : HasPlaces live free o
   pub tiled : is_chunk o.kind ≡ true → Tile 0 o.size o.places.items
 
 -- The held objects of a memory type and a kind: how many they are, the sum of the sizes of the live blocks in them, and of
@@ -83,6 +88,11 @@ pub record AreTold (s : State) (held : List (ℕ × HeldObject)) (live : List Li
   pub rows : map part_told ks ≡ filter (is_used held) ps
   pub kinds : All (IsKindTold s held live) ks
 
+-- each held object is told
+abbrev pub TellsEach : State → List ObjectReport → Type 0
+TellsEach s os = (object : ℕ) (h : HeldObject) → finite.get s.held object ≡ Some h
+    → Contains (map head_told os) (head_held (object, h))
+
 -- What a report tells: the heaps, and of each memory type and kind its objects. `held` are the held objects, and `live` the
 -- live blocks, under names from those that were given.
 pub record IsReport (s : State) (blocks : List LiveBlock) (r : Report) : Type 0 where
@@ -93,3 +103,4 @@ pub record IsReport (s : State) (blocks : List LiveBlock) (r : Report) : Type 0 
   pub given : All (Contains blocks) live
   pub heaps : AreHeaps s r.heaps.items
   pub told : AreTold s held live (parts (length s.properties.memory_types)) r.kinds.items r.objects.items
+  pub each : TellsEach s r.objects.items

@@ -1,6 +1,7 @@
 //! The held objects by name, and the heaps.
 
 ghost use Rattle.std.specs.Prelude.{◌≡◌, IfOk, map as mapped};
+ghost use Rattle.gpu_alloc.specs.Listing.{AreOfKnownTypes};
 ghost use Rattle.gpu_alloc.specs.Spans.{entry_of};
 ghost use Rattle.gpu_report.specs.Held.{AreHeld};
 ghost use Rattle.gpu_report.specs.Report.{AreHeaps};
@@ -15,7 +16,8 @@ pub(crate) fn held_by_name<M: MemoryObject, A: Allocator>(
     alloc: Global,
     allocator: &GpuAllocator<M, A>,
 ) -> Result<Vec<(u64, HeldRow)>, AllocError>
-    ensures { IfOk result (λ rows. AreHeld allocator.now (mapped entry_of rows.items)) }
+    ensures held { IfOk result (λ rows. AreHeld allocator.now (mapped entry_of rows.items)) }
+    ensures known { AreOfKnownTypes allocator.now }
 {
     let mut rows = allocator.objects(alloc)?;
     rows.sort_unstable_by_key(|row| row.0);

@@ -1,19 +1,21 @@
 //! What is told of a memory type and a kind.
 
-ghost use Rattle.std.specs.Prelude.{◌≡◌, ◌<◌, ◌++◌, ◌∷◌, [], All, List, Some, IfOk, OnOk, length, map as mapped};
+ghost use Rattle.std.specs.Prelude.{◌≡◌, ◌<◌, ◌++◌, ◌∷◌, [], All, List, IfOk, OnOk, length, map as mapped};
+ghost use Rattle.std.specs.List.Sorted.{IsNonDecreasingBy};
+ghost use Rattle.gpu_alloc.specs.RangeOrder.{AreInOrder};
 ghost use Rattle.gpu_alloc.specs.Sound as Sound;
 ghost use Rattle.gpu_alloc.specs.Spans.{entry_of};
-ghost use Rattle.std.specs.FinMap as map;
 ghost use Rattle.gpu_report.specs.declared.part.Part.{Part as APart};
 ghost use Rattle.gpu_report.specs.Free.{AreFree};
 ghost use Rattle.gpu_report.specs.Held.{AreHeld, held_as};
 ghost use Rattle.gpu_report.specs.Live.{AreLive};
-ghost use Rattle.gpu_report.specs.Report.{head_held, head_told, is_used, part_told, AreTold, IsKindTold, IsObjectTold};
+ghost use Rattle.gpu_report.specs.Report.{head_held, head_told, part_told, AreTold, HasPlaces, IsKindTold};
 
 use crate::part::Part;
-use crate::places::{do_tile, places_of};
+use crate::places::places_of;
 use crate::sums::{greatest, scattered, total};
 use crate::{KindReport, LiveBlock, ObjectKind, ObjectReport};
+use gpu_alloc::laws::free_ranges_are_the_free_bytes;
 use gpu_alloc::spans::HeldRow;
 use gpu_alloc::{FreeRange, GpuAllocator, MemoryObject};
 use std::alloc::{AllocError, Allocator, Global};
@@ -47,62 +49,48 @@ fn kind_report<M: MemoryObject, A: Allocator>(
 }
 
 /// What is told of an object.
-fn object_report<M: MemoryObject, A: Allocator>(
+fn object_report(
     alloc: Global,
-    allocator: &GpuAllocator<M, A>,
     row: &(u64, HeldRow),
     live: &[LiveBlock],
     free: &[FreeRange],
 ) -> Result<ObjectReport, AllocError>
-    requires sound { Sound.IsSound allocator.now }
-    requires are_live { AreLive allocator.now live.now }
-    requires are_free { AreFree allocator.now row.now.1.memory_type free.now }
-    requires is_held { map.get allocator.now.held (entry_of row.now).0 ≡ Some (entry_of row.now).1 }
-    ensures told { IfOk result (IsObjectTold allocator.now live.now) }
+    requires by_object { IsNonDecreasingBy (λ b. b.object) live.now }
+    requires order { AreInOrder free.now }
     ensures of { IfOk result (λ o. head_told o ≡ head_held (entry_of row.now)) }
+    ensures placed { IfOk result (HasPlaces live.now free.now) }
 {
     let (object, held) = *row;
-    let kind = ObjectKind::of(held.kind);
-    let places = places_of(alloc, object, live, free)?;
-    if kind.is_chunk() && !do_tile(&places, held.counted) {
-        // They always do, which is not proved, so it is tested.
-        return Err(AllocError);
-    }
     Ok(ObjectReport {
         object,
         memory_type: held.memory_type,
-        kind,
+        kind: ObjectKind::of(held.kind),
         size: held.counted,
-        places,
+        places: places_of(alloc, object, live, free)?,
     })
 }
 
-/// Adds what is told of each object that is held as this.
-fn add_objects<M: MemoryObject, A: Allocator>(
+/// What is told of each object that is held as this.
+fn objects_of(
     alloc: Global,
-    allocator: &GpuAllocator<M, A>,
     part: Part,
     held: &[(u64, HeldRow)],
     live: &[LiveBlock],
     free: &[FreeRange],
-    objects: &mut Vec<ObjectReport>,
-) -> Result<(), AllocError>
-    requires sound { Sound.IsSound allocator.now }
-    requires are_held { AreHeld allocator.now (mapped entry_of held.now) }
-    requires are_live { AreLive allocator.now live.now }
-    requires are_free { AreFree allocator.now part.memory_type free.now }
-    ensures heads { OnOk result (mapped head_told objects.new.items
-        ≡ mapped head_told objects.old.items ++ mapped head_held (held_as (mapped entry_of held.now) part)) }
-    ensures told { OnOk result (All (IsObjectTold allocator.now live.now) objects.old.items
-        → All (IsObjectTold allocator.now live.now) objects.new.items) }
+) -> Result<Vec<ObjectReport>, AllocError>
+    requires by_object { IsNonDecreasingBy (λ b. b.object) live.now }
+    requires order { AreInOrder free.now }
+    ensures heads { IfOk result (λ objects.
+        mapped head_told objects.items ≡ mapped head_held (held_as (mapped entry_of held.now) part)) }
+    ensures placed { IfOk result (λ objects. All (HasPlaces live.now free.now) objects.items) }
 {
+    let mut objects = Vec::new(alloc);
     for row in held {
         if part.has(&row.1) {
-            let object = object_report(alloc, allocator, row, live, free)?;
-            objects.push(object)?;
+            objects.push(object_report(alloc, row, live, free)?)?;
         }
     }
-    Ok(())
+    Ok(objects)
 }
 
 /// Adds what is told of a memory type and a kind, and of each object that is held so.
@@ -128,6 +116,7 @@ pub(crate) fn add_kind<M: MemoryObject, A: Allocator>(
     if part.count(held) > 0 {
         kinds.push(kind_report(alloc, allocator, part, held, live, free)?)?;
     }
-    add_objects(alloc, allocator, part, held, live, free, objects)?;
+    objects.append(&mut objects_of(alloc, part, held, live, free)?)?;
+    free_ranges_are_the_free_bytes();
     Ok(())
 }

@@ -1,10 +1,14 @@
 //! Live blocks by the names that their keeper has for them.
 
-ghost use Rattle.std.specs.Prelude.{◌≡◌, ◌↔◌, All, Contains, IfNone, IfOk, IfSome, IsTrue, MatchOption, map as mapped};
+ghost use Rattle.std.specs.Prelude.{◌≡◌, ◌↔◌, All, Contains, IfNone, IfOk, IfSome, MatchOption, map as mapped};
+ghost use Rattle.std.specs.FinSet as set;
+ghost use Rattle.std.specs.List.Sorted.{IsNonDecreasingBy};
+ghost use Rattle.gpu_alloc.specs.Listing.{AreOnce};
 ghost use Rattle.gpu_alloc.specs.Sound as Sound;
-ghost use Rattle.gpu_alloc.specs.State.{span_of};
+ghost use Rattle.gpu_alloc.specs.State.{span_numbers, span_of};
 ghost use Rattle.gpu_alloc.specs.Spans.{span_in};
-ghost use Rattle.gpu_report.specs.Live.{span_told, AreLive, LacksSpan};
+ghost use Rattle.gpu_report.specs.Live.{span_told, AreBySpan, AreLive, LacksSpan};
+ghost use Rattle.gpu_report.specs.declared.live.LiveBlock.{LiveBlock as Block};
 
 use gpu_alloc::spans::LiveSpan;
 use gpu_alloc::{GpuAllocator, MemoryBlock, MemoryObject};
@@ -40,28 +44,53 @@ impl LiveBlock {
         }
     }
 
-    /// Whether the block has this span.
-    fn has(&self, span: &LiveSpan) -> bool
-        ensures { IsTrue result ↔ (span_told self.now ≡ span_in span.now) }
+    /// The numbers of its span, by which blocks are sorted and found.
+    fn numbers(&self) -> [u64; 3]
+        ensures { result ≡ span_numbers (span_told self.now) }
     {
-        self.object == span.object && self.offset == span.offset && self.size == span.size
+        [self.object, self.offset, self.size]
     }
 }
 
-/// A block that has this span.
+/// The live spans, by the name of their object.
+fn spans_by_object<M: MemoryObject, A: Allocator>(
+    alloc: Global,
+    allocator: &GpuAllocator<M, A>,
+) -> Result<Vec<LiveSpan>, AllocError>
+    ensures exact { IfOk result (λ spans. set.from_list (mapped span_in spans.items) ≡ allocator.now.live) }
+    ensures once { IfOk result (λ spans. AreOnce (mapped span_in spans.items)) }
+    ensures by_object { IfOk result (λ spans. IsNonDecreasingBy (λ span. span.object) spans.items) }
+    ensures sound { Sound.IsSound allocator.now }
+{
+    let mut spans = allocator.live(alloc)?;
+    spans.sort_unstable_by_key(|span| span.object);
+    Ok(spans)
+}
+
+/// The blocks by their spans.
+fn blocks_by_span(alloc: Global, blocks: &[LiveBlock]) -> Result<Vec<LiveBlock>, AllocError>
+    ensures same { IfOk result (λ sorted. (b : Block) → Contains sorted.items b ↔ Contains blocks.now b) }
+    ensures sorted { IfOk result (λ sorted. AreBySpan sorted.items) }
+{
+    let mut sorted = Vec::from_slice(alloc, blocks)?;
+    sorted.sort_unstable_by(|block, other| block.numbers().cmp(&other.numbers()));
+    Ok(sorted)
+}
+
+/// A block that has this span, of blocks that are sorted by their spans.
 fn find(blocks: &[LiveBlock], span: &LiveSpan) -> Option<LiveBlock>
+    requires { AreBySpan blocks.now }
     ensures { MatchOption result (Contains (mapped span_told blocks.now) (span_in span.now) → ⊥)
         (λ b. Contains blocks.now b × (span_told b ≡ span_in span.now)) }
 {
-    for block in blocks {
-        if block.has(span) {
-            return Some(*block);
-        }
+    let wanted = [span.object, span.offset, span.size];
+    match blocks.binary_search_by(|block| block.numbers().cmp(&wanted)) {
+        Ok(index) => Some(blocks[index]),
+        Err(_) => None,
     }
-    None
 }
 
-/// For each live span a block that has it, or none where a span has no block.
+/// For each live span a block that has it, by the name of their object, or none where a span has no block.
 pub(crate) fn live_blocks<M: MemoryObject, A: Allocator>(
     alloc: Global,
     allocator: &GpuAllocator<M, A>,
@@ -72,10 +101,11 @@ pub(crate) fn live_blocks<M: MemoryObject, A: Allocator>(
     ensures sound { Sound.IsSound allocator.now }
     ensures missing { IfOk result (λ answer. IfNone answer (LacksSpan allocator.now blocks.now)) }
 {
-    let spans = allocator.live(alloc)?;
+    let spans = spans_by_object(alloc, allocator)?;
+    let sorted = blocks_by_span(alloc, blocks)?;
     let mut live = Vec::new(alloc);
     for span in &spans {
-        match find(blocks, span) {
+        match find(&sorted, span) {
             Some(block) => live.push(block)?,
             None => return Ok(None),
         }

@@ -1,7 +1,10 @@
 //! The places of an object: its live blocks and free ranges.
 
-ghost use Rattle.std.specs.Prelude.{◌≡◌, ◌↔◌, ◌==◌, IfOk, IsTrue};
-ghost use Rattle.gpu_report.specs.Places.{block_place, free_place, places_in, ArePlaces, Tile};
+ghost use Rattle.std.specs.Prelude.{◌≡◌, ◌==◌, IfOk};
+ghost use Rattle.std.specs.List.{filter};
+ghost use Rattle.std.specs.List.Sorted.{IsNonDecreasingBy};
+ghost use Rattle.gpu_alloc_base.specs.RangeOrder.{AreInOrder};
+ghost use Rattle.gpu_report.specs.Places.{block_place, free_place, places_in, ArePlaces};
 
 use crate::{LiveBlock, Place};
 use gpu_alloc::FreeRange;
@@ -29,6 +32,28 @@ impl Place {
     }
 }
 
+/// The live blocks of an object, of blocks that are sorted by the name of their object.
+fn blocks_of(live: &[LiveBlock], object: u64) -> &[LiveBlock]
+    requires { IsNonDecreasingBy (λ b. b.object) live.now }
+    ensures { result.now ≡ filter (λ b. b.object == object) live.now }
+{
+    let first = live.partition_point(|block| block.object < object);
+    let rest = &live[first..];
+    let count = rest.partition_point(|block| block.object <= object);
+    &rest[..count]
+}
+
+/// The free ranges of an object, of ranges in order.
+fn ranges_of(free: &[FreeRange], object: u64) -> &[FreeRange]
+    requires { AreInOrder free.now }
+    ensures { result.now ≡ filter (λ r. r.object == object) free.now }
+{
+    let first = free.partition_point(|range| range.object < object);
+    let rest = &free[first..];
+    let count = rest.partition_point(|range| range.object <= object);
+    &rest[..count]
+}
+
 /// The live blocks and free ranges of an object, in no order.
 fn gathered(
     alloc: Global,
@@ -36,18 +61,18 @@ fn gathered(
     live: &[LiveBlock],
     free: &[FreeRange],
 ) -> Result<Vec<Place>, AllocError>
+    requires by_object { IsNonDecreasingBy (λ b. b.object) live.now }
+    requires order { AreInOrder free.now }
     ensures { IfOk result (λ places. places.items ≡ places_in live.now free.now object) }
 {
+    let blocks = blocks_of(live, object);
+    let ranges = ranges_of(free, object);
     let mut places = Vec::new(alloc);
-    for block in live {
-        if block.object == object {
-            places.push(Place::of_block(block))?;
-        }
+    for block in blocks {
+        places.push(Place::of_block(block))?;
     }
-    for range in free {
-        if range.object == object {
-            places.push(Place::of_free(range))?;
-        }
+    for range in ranges {
+        places.push(Place::of_free(range))?;
     }
     Ok(places)
 }
@@ -59,26 +84,11 @@ pub(crate) fn places_of(
     live: &[LiveBlock],
     free: &[FreeRange],
 ) -> Result<Vec<Place>, AllocError>
+    requires by_object { IsNonDecreasingBy (λ b. b.object) live.now }
+    requires order { AreInOrder free.now }
     ensures { IfOk result (λ places. ArePlaces live.now free.now object places.items) }
 {
     let mut places = gathered(alloc, object, live, free)?;
     places.sort_unstable_by_key(|place| place.offset);
     Ok(places)
-}
-
-/// Whether each place begins where the one before it ends, the first at 0, and the last ends at `size`.
-pub(crate) fn do_tile(places: &[Place], size: u64) -> bool
-    ensures { IsTrue result ↔ Tile 0 size places.now }
-{
-    let mut at: u64 = 0;
-    for place in places {
-        if place.offset != at {
-            return false;
-        }
-        match at.checked_add(place.size) {
-            Some(end) => at = end,
-            None => return false,
-        }
-    }
-    at == size
 }
