@@ -10,6 +10,7 @@ mod live;
 mod part;
 mod places;
 mod report;
+pub mod strips;
 mod sums;
 pub mod uses;
 

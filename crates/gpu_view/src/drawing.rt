@@ -2,8 +2,8 @@
 
 ghost use Rattle.std.specs.Prelude.{◌<◌, ◌≤◌};
 
-use crate::rows::{ROW, Span, piece};
 use crate::words::{FREE, KINDS, PATTERNS, Title, fill, name};
+use gpu_report::strips::{ROW, Span, piece};
 use std::alloc::{AllocError, Global};
 
 /// Where the picture's left column starts, which says what is beside it, and the rows.

@@ -4,7 +4,6 @@
 
 mod drawing;
 mod picture;
-mod rows;
 mod view;
 mod wanted;
 mod words;

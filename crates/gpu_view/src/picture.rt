@@ -5,9 +5,9 @@
 ghost use Rattle.std.specs.Prelude.{◌<◌, ◌^◌};
 
 use crate::drawing::{Drawing, LEFT, LINE, MARGIN, Set};
-use crate::rows::{ROW, Span, Strip, start_of};
 use crate::words::{Amount, Count, FREE, NOTE, PROPERTIES, Share, Title, fill, ink, name};
 use gpu_alloc::MemoryType;
+use gpu_report::strips::{ROW, Span, Strip, start_of};
 use gpu_report::{HeapReport, KindReport, ObjectReport, Report};
 use std::alloc::{AllocError, Global};
 

@@ -1,9 +1,9 @@
-//! Where things lie in the picture, in its units. What is drawn of the objects lies in rows of equal length, one below
-//! another, and a strip that passes the end of its row goes on in the next one.
+//! Where the ranges of a report lie in a picture of it, in the picture's units. Objects are drawn as strips in rows of equal
+//! length, one below another, and a strip that passes the end of its row goes on in the next one.
 
 ghost use Rattle.std.specs.Prelude.{◌≡◌, ◌+◌, ◌*◌, ◌^◌, ◌%◌, ◌<◌, ◌≤◌};
-ghost use Rattle.gpu_view.specs.Rows.{on_line};
-ghost use Rattle.gpu_view.specs.declared.rows.TheConstants.{LEAST};
+ghost use Rattle.gpu_report.specs.OnLine.{on_line};
+ghost use Rattle.gpu_report.specs.declared.strips.TheConstants.{LEAST};
 
 /// How long a row is.
 pub const ROW: u64 = 790;
@@ -66,7 +66,7 @@ impl Span {
 }
 
 impl Strip {
-    ghost use Rattle.gpu_view.specs.Strip.{edge_of};
+    ghost use Rattle.gpu_report.specs.Strips.{edge_of};
 
     /// The strip of an object of `size` bytes in `count` ranges, where a row stands for `full` bytes.
     pub fn new(size: u64, count: u64, full: u64) -> Strip
