@@ -26,8 +26,7 @@ impl Report {
     ///
     /// `blocks` has to have a block for each live span: where one lacks, the answer is `BlockMissing`. Blocks that are not
     /// live are passed over, and of two of one span either may be told. Names may be any numbers, also equal ones. The
-    /// only other refusal is `OutOfHostMemory`: for want of memory, and where the places of a shared object would not cover
-    /// it, which is tested, since it is not proved that they always do.
+    /// only other refusal is `OutOfHostMemory`.
     pub fn of<M: MemoryObject, A: Allocator + Copy>(
         alloc: Global,
         allocator: &GpuAllocator<M, A>,
@@ -45,7 +44,7 @@ impl Report {
 
     /// A report of what a session's allocator holds, with the live blocks under their names there. Nothing changes.
     ///
-    /// The only refusal is want of host memory, or what [`Report::of`] answers by the same error.
+    /// The only refusal is want of host memory.
     pub fn of_session<M: MemoryObject, D: MemoryDevice<M>, A: Allocator + Copy>(
         alloc: Global,
         session: &Session<M, D, A>,
