@@ -3,7 +3,7 @@
 
 ghost use Rattle.std.specs.Prelude.{◌≡◌, ◌+◌, ◌*◌, ◌^◌, ◌%◌, ◌<◌, ◌≤◌};
 ghost use Rattle.gpu_report.specs.OnLine.{on_line};
-ghost use Rattle.gpu_report.specs.declared.strips.TheConstants.{LEAST};
+ghost use Rattle.gpu_report.specs.declared.strips.TheConstants.{LEAST, ROW};
 
 /// How long a row is.
 pub const ROW: u64 = 790;
@@ -57,7 +57,10 @@ pub struct Span {
 
 impl Span {
     /// Where it is drawn if what it lies in starts at `start`.
-    pub fn moved(self, start: u64) -> Span {
+    pub fn moved(self, start: u64) -> Span
+        ensures { start + self.end < 2 ^ 64 → self.start ≤ self.end
+            → (result.start ≡ start + self.start) × (result.end ≡ start + self.end) }
+    {
         Span {
             start: start.saturating_add(self.start),
             end: start.saturating_add(self.end),
@@ -71,6 +74,9 @@ impl Strip {
     /// The strip of an object of `size` bytes in `count` ranges, where a row stands for `full` bytes.
     pub fn new(size: u64, count: u64, full: u64) -> Strip
         requires { count < 2 ^ 32 }
+        ensures size { result.size ≡ size }
+        ensures count { result.count ≡ count }
+        ensures to_scale { on_line size full ROW ≤ result.length }
     {
         let length = on_line(size, full, ROW).max(count * EACH);
         Strip {
@@ -94,6 +100,7 @@ impl Strip {
     pub fn span(&self, index: u64, offset: u64, size: u64) -> Span
         requires { index < self.now.count }
         ensures start { result.start ≡ edge_of self.now index offset }
+        ensures end { result.end ≡ edge_of self.now (index + 1) (offset + size) }
         ensures seen { result.start + LEAST ≤ result.end }
         ensures within { result.end ≤ self.now.length }
     {
