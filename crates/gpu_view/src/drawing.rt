@@ -44,7 +44,7 @@ pub struct Drawing {
 
 impl Drawing {
     /// An empty drawing.
-    pub fn new(alloc: Global) -> Drawing {
+    pub(crate) fn new(alloc: Global) -> Drawing {
         Drawing {
             body: String::new(alloc),
             bottom: 0,
@@ -52,12 +52,12 @@ impl Drawing {
     }
 
     /// Leaves so much room below what is drawn.
-    pub fn leave(&mut self, room: u64) {
+    pub(crate) fn leave(&mut self, room: u64) {
         self.bottom = self.bottom.saturating_add(room);
     }
 
     /// Writes the heading, and below it the legend.
-    pub fn head(&mut self, heading: &str) -> Result<(), AllocError> {
+    pub(crate) fn head(&mut self, heading: &str) -> Result<(), AllocError> {
         self.leave(32);
         self.write(MARGIN, Set::Heading, heading)?;
         self.leave(26);
@@ -74,7 +74,7 @@ impl Drawing {
     }
 
     /// Writes a text from `x` on, on a line that stands at the bottom.
-    pub fn write(&mut self, x: u64, set: Set, text: &str) -> Result<(), AllocError> {
+    pub(crate) fn write(&mut self, x: u64, set: Set, text: &str) -> Result<(), AllocError> {
         let how = match set {
             Set::Heading => " font-size=\"16\" font-weight=\"bold\"",
             Set::Name => " font-weight=\"bold\"",
@@ -86,7 +86,7 @@ impl Drawing {
     }
 
     /// Draws a line over the whole width, at the bottom.
-    pub fn divide(&mut self) -> Result<(), AllocError> {
+    pub(crate) fn divide(&mut self) -> Result<(), AllocError> {
         let y = self.bottom;
         let width = WIDTH - 2 * MARGIN;
         writeln!(
@@ -96,7 +96,7 @@ impl Drawing {
     }
 
     /// Draws a small square of a colour from `x` on, on the line at the bottom.
-    pub fn sample(&mut self, x: u64, colour: &str) -> Result<(), AllocError> {
+    pub(crate) fn sample(&mut self, x: u64, colour: &str) -> Result<(), AllocError> {
         let y = self.bottom.saturating_sub(10);
         writeln!(
             self.body,
@@ -112,7 +112,12 @@ impl Drawing {
 
     /// Draws a range of rows that begin at the bottom, in as many pieces as it has rows, and says of it on hovering what
     /// it is.
-    pub fn range(&mut self, span: Span, colour: &str, title: Title) -> Result<(), AllocError> {
+    pub(crate) fn range(
+        &mut self,
+        span: Span,
+        colour: &str,
+        title: Title,
+    ) -> Result<(), AllocError> {
         let Span { mut start, end } = span;
         while start < end {
             let (into_row, width) = piece(start, end);
@@ -131,7 +136,7 @@ impl Drawing {
     }
 
     /// Writes what stands to the left of a row.
-    pub fn aside(&mut self, row: u64, text: &str) -> Result<(), AllocError> {
+    pub(crate) fn aside(&mut self, row: u64, text: &str) -> Result<(), AllocError> {
         let x = LEFT - 10;
         let y = self.row_at(row.saturating_mul(ROW)).saturating_add(12);
         writeln!(
@@ -141,7 +146,7 @@ impl Drawing {
     }
 
     /// Writes in the middle of a range the name of the block that it is, if there is room for it in one row.
-    pub fn number(&mut self, span: Span, ink: &str, number: u64) -> Result<(), AllocError> {
+    pub(crate) fn number(&mut self, span: Span, ink: &str, number: u64) -> Result<(), AllocError> {
         let width = span.end.saturating_sub(span.start);
         let into_row = span.start % ROW;
         let digits = u64::from(number.checked_ilog10().unwrap_or(0)) + 1;
@@ -157,7 +162,7 @@ impl Drawing {
     }
 
     /// The whole picture as a text.
-    pub fn finish(mut self, alloc: Global) -> Result<String, AllocError> {
+    pub(crate) fn finish(mut self, alloc: Global) -> Result<String, AllocError> {
         self.leave(MARGIN);
         let Drawing { body, bottom } = self;
         let mut text = String::new(alloc);

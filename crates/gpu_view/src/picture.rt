@@ -16,7 +16,7 @@ const ROWS: u128 = 6;
 
 /// The picture of a report, as an SVG. `types` are the device's memory types, and `after` the line of the script after
 /// which the report was made, if not after the last one. Only want of memory is refused.
-pub fn picture(
+pub(crate) fn picture(
     alloc: Global,
     report: &Report,
     types: &[MemoryType],

@@ -12,7 +12,7 @@ use std::alloc::{AllocError, Global};
 use std::io::Read;
 
 /// What is wanted of the script that a reader gives. `Stop` tells why a script has no replies either.
-pub fn view<R: Read>(alloc: Global, input: &mut R, wanted: Wanted) -> Result<String, Stop> {
+pub(crate) fn view<R: Read>(alloc: Global, input: &mut R, wanted: Wanted) -> Result<String, Stop> {
     let text = read_all(alloc, input)?;
     let script = parse_usable(alloc, text.as_slice())?;
     let count = match wanted.after {

@@ -22,7 +22,7 @@ pub struct Wanted {
 
 impl Wanted {
     /// What these words ask for: `report` or `picture`, and behind it nothing, or `--after` and a number.
-    pub fn of(words: &[String]) -> Option<Wanted> {
+    pub(crate) fn of(words: &[String]) -> Option<Wanted> {
         let (form, after) = match words {
             [form] => (form, None),
             [form, option, line] if option.as_str() == "--after" => {

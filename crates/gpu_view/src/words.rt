@@ -40,7 +40,7 @@ On hovering a block tells its name, offset, size and type.";
 pub const FREE: &str = "#e6e6e6";
 
 /// The colour of a kind's blocks.
-pub fn fill(kind: ObjectKind) -> &'static str {
+pub(crate) fn fill(kind: ObjectKind) -> &'static str {
     match kind {
         ObjectKind::Dedicated => "#0072b2",
         ObjectKind::Imported => "url(#imported)",
@@ -50,7 +50,7 @@ pub fn fill(kind: ObjectKind) -> &'static str {
 }
 
 /// How a block's name is written on it, so that it is read on the pattern too.
-pub fn ink(kind: ObjectKind) -> &'static str {
+pub(crate) fn ink(kind: ObjectKind) -> &'static str {
     match kind {
         ObjectKind::Dedicated => "fill=\"#fff\"",
         ObjectKind::BuddyChunk => "fill=\"#000\"",
@@ -61,7 +61,7 @@ pub fn ink(kind: ObjectKind) -> &'static str {
 }
 
 /// What a kind's objects are called.
-pub fn name(kind: ObjectKind) -> &'static str {
+pub(crate) fn name(kind: ObjectKind) -> &'static str {
     match kind {
         ObjectKind::Dedicated => "dedicated",
         ObjectKind::Imported => "imported",
