@@ -2,16 +2,13 @@
 
 ghost use Rattle.std.specs.Prelude.{◌≡◌, ◌+◌, ◌≤◌, ◌<◌, length, [], ◌∷◌};
 ghost use Rattle.std.specs.FinSet as set;
-ghost use Rattle.gpu_alloc_types.specs.Properties.{IsUsable, properties_of};
 ghost use Rattle.gpu_alloc.specs.Agreement.{Agrees, BlockAgrees, KeepsAgreement};
 ghost use Rattle.gpu_alloc.specs.Owned.{AreOwned, IsSameBlock};
 ghost use Rattle.gpu_alloc.specs.Request.{IsAskable};
 
-use crate::opening::open;
 use gpu_alloc::laws::kept_blocks_agree;
-use gpu_alloc::{AllocationError, Dedicated, DeviceProperties, GpuAllocator, MemoryBlock, Request};
+use gpu_alloc::{AllocationError, Dedicated, GpuAllocator, MemoryBlock, Request};
 use gpu_alloc_types::{MemoryDevice, MemoryObject};
-use std::alloc::Global;
 
 /// Writes bytes at a block's start. What the device refuses is left at that.
 pub(crate) fn fill<M: MemoryObject, D: MemoryDevice<M>>(
@@ -204,41 +201,4 @@ pub fn three_blocks<M: MemoryObject, D: MemoryDevice<M>>(
             Err(refusal)
         }
     }
-}
-
-/// Opens an allocator over a device, uses the bytes of three blocks, cleans up and closes.
-pub fn open_write_and_close<M: MemoryObject, D: MemoryDevice<M>>(
-    alloc: Global,
-    props: DeviceProperties<'_>,
-    device: &mut D,
-    request: Request,
-    bytes: &mut [u8],
-) -> Result<(), AllocationError>
-    requires usable { IsUsable (properties_of props) }
-    requires same { D.properties device.old ≡ properties_of props }
-    requires fit { length bytes.old ≤ request.size }
-{
-    let mut allocator: GpuAllocator<M> = open(alloc, props, device)?;
-    let answer = try_three(&mut allocator, device, request, bytes);
-    allocator.cleanup(device);
-    allocator.close();
-    answer
-}
-
-/// Uses three blocks where the request may be asked.
-fn try_three<M: MemoryObject, D: MemoryDevice<M>>(
-    allocator: &mut GpuAllocator<M>,
-    device: &mut D,
-    request: Request,
-    bytes: &mut [u8],
-) -> Result<(), AllocationError>
-    requires fit { length bytes.old ≤ request.size }
-    requires agrees { Agrees allocator.old (D.properties device.old) (D.objects device.old) }
-    ensures agrees { Agrees allocator.new (D.properties device.new) (D.objects device.new) }
-    ensures count { set.len allocator.new.live ≡ set.len allocator.old.live }
-{
-    if !request.is_askable(false) {
-        return Ok(());
-    }
-    three_blocks(allocator, device, request, bytes)
 }

@@ -5,7 +5,7 @@ ghost use Rattle.std.specs.Prelude.{None, [], ◌∷◌};
 ghost use Rattle.std.specs.FinMap as map;
 ghost use Rattle.std.specs.FinSet as set;
 ghost use Rattle.gpu_alloc_types.specs.Flags.{property_bits};
-ghost use Rattle.gpu_alloc_types.specs.Properties.{IsUsable, properties_of, props_at};
+ghost use Rattle.gpu_alloc_types.specs.Properties.{props_at};
 ghost use Rattle.gpu_alloc.specs.Agreement.{Agrees, BlockAgrees};
 ghost use Rattle.gpu_alloc.specs.Importing.{MayBeImported};
 ghost use Rattle.gpu_alloc.specs.Owned.{Adds, AreOwned, Leaves};
@@ -13,17 +13,15 @@ ghost use Rattle.gpu_alloc.specs.Request.{IsAskable};
 ghost use Rattle.gpu_alloc.specs.State.{IsOwned};
 
 use crate::bytes::fill;
-use crate::opening::open;
 use gpu_alloc::laws::{
     imports_agree, made_objects_may_be_imported, objects_of_others_may_go,
     which_objects_may_be_imported,
 };
 use gpu_alloc::{
-    AllocationError, AllocationFlags, DeviceProperties, GpuAllocator, MemoryBlock,
-    MemoryPropertyFlags, MemoryType, Request,
+    AllocationError, AllocationFlags, GpuAllocator, MemoryBlock, MemoryPropertyFlags, MemoryType,
+    Request,
 };
 use gpu_alloc_types::{MemoryDevice, MemoryObject};
-use std::alloc::Global;
 
 /// An object that the device makes, if it does so, while a block is in hand.
 fn make<M: MemoryObject, D: MemoryDevice<M>>(
@@ -260,54 +258,4 @@ pub fn import_beside<M: MemoryObject, D: MemoryDevice<M>>(
             Ok(None)
         }
     }
-}
-
-/// Imports an object beside a block, where the request may be asked and there is such a memory type.
-fn try_beside<M: MemoryObject, D: MemoryDevice<M>>(
-    allocator: &mut GpuAllocator<M>,
-    device: &mut D,
-    request: Request,
-    memory_type: u32,
-    types: &[MemoryType],
-    bytes: &[u8],
-) -> Result<Option<usize>, AllocationError>
-    requires fit { length bytes.now ≤ request.size }
-    requires types { types.now ≡ (allocator.old.properties).memory_types }
-    requires agrees { Agrees allocator.old (D.properties device.old) (D.objects device.old) }
-    ensures agrees { Agrees allocator.new (D.properties device.new) (D.objects device.new) }
-    ensures count { set.len allocator.new.live ≡ set.len allocator.old.live }
-{
-    let index = memory_type as usize;
-    if !request.is_askable(false) || index >= types.len() {
-        return Ok(None);
-    }
-    import_beside(
-        allocator,
-        device,
-        request,
-        memory_type,
-        types[index].props,
-        bytes,
-    )
-}
-
-/// Opens an allocator over a device, imports an object beside a block and uses the bytes of both, cleans up and closes.
-pub fn open_import_and_close<M: MemoryObject, D: MemoryDevice<M>>(
-    alloc: Global,
-    props: DeviceProperties<'_>,
-    device: &mut D,
-    request: Request,
-    memory_type: u32,
-    bytes: &[u8],
-) -> Result<Option<usize>, AllocationError>
-    requires usable { IsUsable (properties_of props) }
-    requires same { D.properties device.old ≡ properties_of props }
-    requires fit { length bytes.now ≤ request.size }
-{
-    let types = props.memory_types;
-    let mut allocator: GpuAllocator<M> = open(alloc, props, device)?;
-    let answer = try_beside(&mut allocator, device, request, memory_type, types, bytes);
-    allocator.cleanup(device);
-    allocator.close();
-    answer
 }

@@ -112,21 +112,6 @@ pub fn answer_both<M: MemoryObject, D: MemoryDevice<M>>(
     Ok((replies, answers))
 }
 
-/// Answers two lists of commands, one after the other: each byte of a live block that was written by one of them that was
-/// done has one of the values that it may have by the joined lists.
-pub fn answer_both_and_hold<M: MemoryObject, D: MemoryDevice<M>>(
-    session: &mut Session<M, D>,
-    commands: &[Command<Global>],
-    later: &[Command<Global>],
-) -> Result<Answers, AllocError>
-    ensures { IfOk result (λ answers. HoldsWritten (D.objects session.new.device) session.new.books
-        (written (commands.now ++ later.now) ((answers.0).items ++ (answers.1).items))) }
-{
-    let held = answer_both(session, commands, later)?;
-    runs_hold_what_was_written::<M, D, Global>();
-    Ok(held)
-}
-
 /// Answers two lists of commands, one after the other: each read of the second tells what both lists wrote before it, as
 /// each one of the first does.
 pub fn answer_both_and_tell<M: MemoryObject, D: MemoryDevice<M>>(
