@@ -1,1 +1,1 @@
-pub mod Managed
+mod Managed

@@ -17,9 +17,8 @@ use Rattle.gpu_slots.specs.SlotMap.{PutsAt, TakesAt}
 
 -- to put what is there changes nothing
 pub put_again : {X : Type 0} (m : map.FinMap nat_cmp X) (key : ℕ) {b now : X} → Some b ≡ map.get m key → now ≡ b → map.insert m key now ≡ m
-put_again m key {now = now} there same = map.same_map nat_cmp_total nat_cmp-IsAntisymmetric _ _ (λ k.
-    let put = map.get-insert nat_cmp_total m key now k in
-    grind (arith, nat_tests, name_test))
+put_again m key {now = now} there same =
+    map.same_map nat_cmp_total nat_cmp-IsAntisymmetric _ _ (λ k. grind (arith, nat_tests, name_test, map.get-insert nat_cmp_total m key now k))
 
 module _ {s after : State} {p q : Properties} {old new : ℕ → Option Object} {m n : map.FinMap nat_cmp Block} {key : ℕ} {b : Block}
     (managed : IsManaged s p old m) (agrees : Agrees after q new) where

@@ -1,10 +1,9 @@
 //! Staging buffers, in which bytes go from the host to the device and back.
 
-ghost use Rattle.std.specs.Prelude.{◌≡◌, ◌≢◌, ⊤, ℕ, ◌+◌, ◌<◌, ◌≤◌, Some, None, is_some, length, nat_eq, IfOk, IfErr, OnOk, OnErr, Err, IfSome, IfNone, IsTrue, [], option_copied, true};
+ghost use Rattle.std.specs.Prelude.{◌≡◌, ◌≢◌, ⊤, ℕ, ◌+◌, ◌≤◌, Some, None, is_some, length, IfOk, IfErr, OnOk, OnErr, Err, IsTrue, option_copied};
 ghost use Rattle.std.specs.FinMap as map;
 ghost use Rattle.gpu_alloc_types.specs.Properties.{IsUsable, properties_of};
 ghost use Rattle.gpu_alloc_block.specs.Contents.{HasSameDeviceBytes, Stores};
-ghost use Rattle.gpu_alloc_block.specs.Kept.{ChangesAt};
 ghost use Rattle.gpu_alloc_block.specs.State.{Block};
 ghost use Rattle.gpu_clients.specs.Staging.{AreApart, Keeps, OfBuffer, SameBuffers, SetsBuffer, beside, buffer_at};
 
