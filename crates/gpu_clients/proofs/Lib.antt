@@ -1,2 +1,1 @@
-pub mod Managed
-pub mod Pools
+mod Managed

@@ -16,7 +16,8 @@ pub(crate) fn close<M: MemoryObject, D: ObjectDevice<M>, A: Allocator + Copy>(
 ) -> D
     requires agrees { Agrees allocator (D.properties device) (D.objects device) }
     requires none { set.len allocator.live ≡ 0 }
-    ensures { (name : ℕ) → D.objects result name ≡ outside allocator (D.objects device) name }
+    ensures beside { (name : ℕ) → D.objects result name ≡ outside allocator (D.objects device) name }
+    ensures properties { D.properties result ≡ D.properties device }
 {
     allocator.cleanup(&mut device);
     allocator.close();

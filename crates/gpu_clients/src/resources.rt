@@ -1,19 +1,24 @@
 //! Blocks that a program holds by handles.
 
-ghost use Rattle.std.specs.Prelude.{◌≡◌, ℕ, ◌+◌, IfOk, IfErr, OnErr, IsSome, IsTrue, ◌↔◌, None, option_copied};
+ghost use Rattle.std.specs.Prelude.{◌≡◌, ◌≢◌, ℕ, ◌+◌, ◌≤◌, IfOk, IfErr, OnOk, OnErr, IsSome, IsTrue, ◌↔◌, None, option_copied, length};
 ghost use Rattle.std.specs.FinMap as map;
 ghost use Rattle.std.specs.FinSet as set;
 ghost use Rattle.gpu_alloc_types.specs.Properties.{IsUsable, properties_of};
+ghost use Rattle.gpu_alloc_block.specs.Contents.{HasSameDeviceBytes, Stores};
+ghost use Rattle.gpu_alloc_block.specs.State.{Block};
 ghost use Rattle.gpu_alloc.specs.Allocation.{IsGranted};
 ghost use Rattle.gpu_alloc.specs.Kept.{AreKept};
 ghost use Rattle.gpu_alloc.specs.Request.{IsAskable};
 ghost use Rattle.gpu_clients.specs.Resources.{block_at, FindsBlock, WasGiven, HasEnded, StayEnded, OthersStay};
 ghost use Rattle.gpu_clients.specs.Resources.{IsAsBefore, beside, IsSameBeside, KeepsBytes};
+ghost use Rattle.gpu_clients.specs.Staging.{Keeps};
 
 use crate::closing::close;
 use gpu_alloc::laws::{agrees_at_first, bytes_stay};
-use gpu_alloc::{AllocationError, Config, DeviceProperties, GpuAllocator, MemoryBlock, Request};
-use gpu_alloc_types::{MemoryObject, ObjectDevice};
+use gpu_alloc::{
+    AllocationError, Config, DeviceProperties, GpuAllocator, MapError, MemoryBlock, Request,
+};
+use gpu_alloc_types::{MemoryDevice, MemoryObject, ObjectDevice};
 use gpu_slots::SlotMap;
 use std::alloc::{Allocator, Global};
 use std::marker::Model;
@@ -23,7 +28,7 @@ use std::marker::Model;
 /// It is good for the manager that gave it alone.
 #[derive(Clone, Copy, Debug, PartialEq, Eq, Hash)]
 pub struct Handle {
-    key: u64,
+    pub(crate) key: u64,
 }
 
 impl Model for Handle {
@@ -73,7 +78,9 @@ impl<M: MemoryObject, D: ObjectDevice<M>, A: Allocator + Copy> ResourceManager<M
     pub fn new(alloc: A, config: Config, props: DeviceProperties<'_>, device: D) -> Result<Self, D>
         requires usable { IsUsable (properties_of props) }
         requires same { D.properties device ≡ properties_of props }
+        ensures over { IfOk result (λ manager. manager.device ≡ device) }
         ensures empty { IfOk result (λ manager. manager.blocks ≡ map.empty) }
+        ensures none { IfOk result (λ manager. (handle : ℕ) → block_at manager handle ≡ None) }
         ensures unused { IfOk result (λ manager. (handle : ℕ) → WasGiven manager handle → ⊥) }
         ensures properties { IfOk result (λ manager. (manager.allocator).properties ≡ properties_of props.entry) }
         ensures beside { IfOk result (λ manager. (name : ℕ) → beside D.objects manager name ≡ D.objects device name) }
@@ -101,6 +108,7 @@ impl<M: MemoryObject, D: ObjectDevice<M>, A: Allocator + Copy> ResourceManager<M
     pub fn create(&mut self, request: Request) -> Result<Handle, AllocationError>
         requires askable { IsAskable ((self.old.allocator).properties).buffer_device_address request }
         ensures fresh { IfOk result (λ handle. WasGiven self.old handle → ⊥) }
+        ensures was_free { IfOk result (λ handle. block_at self.old handle ≡ None) }
         ensures granted { IfOk result (λ handle.
             FindsBlock self.new handle (IsGranted self.old.allocator request self.new.allocator)) }
         ensures others { IfOk result (OthersStay self.old self.new) }
@@ -110,6 +118,7 @@ impl<M: MemoryObject, D: ObjectDevice<M>, A: Allocator + Copy> ResourceManager<M
         ensures ended { StayEnded self.old self.new }
         ensures properties { (self.new.allocator).properties ≡ (self.old.allocator).properties }
         ensures beside { IsSameBeside D.objects self.old self.new }
+        ensures offers { D.properties self.new.device ≡ D.properties self.old.device }
     {
         bytes_stay();
         if self.blocks.reserve().is_err() {
@@ -134,6 +143,7 @@ impl<M: MemoryObject, D: ObjectDevice<M>, A: Allocator + Copy> ResourceManager<M
         ensures ended { StayEnded self.old self.new }
         ensures properties { (self.new.allocator).properties ≡ (self.old.allocator).properties }
         ensures beside { IsSameBeside D.objects self.old self.new }
+        ensures offers { D.properties self.new.device ≡ D.properties self.old.device }
     {
         bytes_stay();
         match self.blocks.remove(handle.key) {
@@ -181,6 +191,7 @@ impl<M: MemoryObject, D: ObjectDevice<M>, A: Allocator + Copy> ResourceManager<M
     /// and cannot fail.
     pub fn end(self) -> D
         ensures beside { (name : ℕ) → D.objects result name ≡ beside D.objects self name }
+        ensures properties { D.properties result ≡ D.properties self.device }
     {
         let ResourceManager {
             mut allocator,
@@ -193,5 +204,42 @@ impl<M: MemoryObject, D: ObjectDevice<M>, A: Allocator + Copy> ResourceManager<M
         }
         blocks.destroy_empty();
         close(allocator, device)
+    }
+}
+
+impl<M: MemoryObject, D: MemoryDevice<M>, A: Allocator + Copy> ResourceManager<M, D, A> {
+    /// Writes bytes to the start of a handle's block.
+    #[tactic(auto, using(crate::proofs::Managed::moved, crate::proofs::Managed::put_again))]
+    pub(crate) fn write(&mut self, handle: Handle, bytes: &[u8]) -> Result<(), MapError>
+        requires { FindsBlock self.old handle (λ b. length bytes.now ≤ b.size) }
+        ensures stored { OnOk result (FindsBlock self.old handle (λ b. Stores b 0 bytes.now (D.objects self.new.device))) }
+        ensures blocks { self.new.blocks ≡ self.old.blocks }
+        ensures keeps { Keeps D.properties D.objects self.old self.new (λ other. other ≢ handle) }
+    {
+        match self.blocks.get_mut(handle.key) {
+            Some(block) => block.write_bytes(&mut self.device, 0, bytes),
+            None => unreachable!(),
+        }
+    }
+
+    /// Reads bytes of a handle's block.
+    #[tactic(auto, using(crate::proofs::Managed::moved, crate::proofs::Managed::put_again))]
+    pub(crate) fn read(
+        &mut self,
+        handle: Handle,
+        offset: u64,
+        bytes: &mut [u8],
+    ) -> Result<(), MapError>
+        requires { FindsBlock self.old handle (λ b. offset + length bytes.old ≤ b.size) }
+        ensures told { OnOk result (FindsBlock self.old handle (λ b. Stores b offset bytes.new (D.objects self.old.device))) }
+        ensures refused { OnErr result (bytes.new ≡ bytes.old) }
+        ensures blocks { self.new.blocks ≡ self.old.blocks }
+        ensures unmoved { (c : Block) → HasSameDeviceBytes c (D.objects self.old.device) (D.objects self.new.device) }
+        ensures keeps { Keeps D.properties D.objects self.old self.new (λ other. other ≢ handle) }
+    {
+        match self.blocks.get_mut(handle.key) {
+            Some(block) => block.read_bytes(&mut self.device, offset, bytes),
+            None => unreachable!(),
+        }
     }
 }

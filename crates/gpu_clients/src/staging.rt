@@ -1,24 +1,21 @@
 //! Staging buffers, in which bytes go from the host to the device and back.
 
-ghost use Rattle.std.specs.Prelude.{◌≡◌, ◌≢◌, ⊤, ℕ, ◌+◌, ◌<◌, ◌≤◌, Some, None, is_some, length, nat_eq, IfOk, IfErr, OnOk, OnErr, Err, IfSome, IfNone, IsTrue, [], option_copied, true};
-ghost use Rattle.indexmap.specs.IndexMap.{get, spare, index_map_len};
+ghost use Rattle.std.specs.Prelude.{◌≡◌, ◌≢◌, ⊤, ℕ, ◌+◌, ◌≤◌, Some, None, is_some, length, IfOk, IfErr, OnOk, OnErr, Err, IsTrue, option_copied};
+ghost use Rattle.std.specs.FinMap as map;
 ghost use Rattle.gpu_alloc_types.specs.Properties.{IsUsable, properties_of};
 ghost use Rattle.gpu_alloc_block.specs.Contents.{HasSameDeviceBytes, Stores};
-ghost use Rattle.gpu_alloc_block.specs.Kept.{ChangesAt};
 ghost use Rattle.gpu_alloc_block.specs.State.{Block};
 ghost use Rattle.gpu_clients.specs.Staging.{AreApart, Keeps, OfBuffer, SameBuffers, SetsBuffer, beside, buffer_at};
 
-use gpu_alloc::laws::{agrees_at_first, bytes_stay};
+use crate::resources::{Handle, ResourceManager};
+use gpu_alloc::laws::bytes_stay;
 use gpu_alloc::{
-    AllocationError, Config, DeviceProperties, GpuAllocator, MapError, MemoryBlock, Request,
-    UsageFlags,
+    AllocationError, Config, DeviceProperties, MapError, MemoryBlock, Request, UsageFlags,
 };
 use gpu_alloc_types::{MemoryDevice, MemoryObject};
-use indexmap::IndexMap;
 use std::alloc::{Allocator, Global};
 use std::error::Error;
 use std::fmt;
-use std::hash::{BuildHasherDefault, FoldHasher};
 use std::marker::Model;
 
 /// Why a call of a pool is refused.
@@ -27,10 +24,7 @@ pub enum StagingError {
     /// No bytes were given, or an alignment mask that is none.
     NotAskable,
 
-    /// The next key is in use: keys are counted, and 2^64 were given since.
-    KeyInUse,
-
-    /// There is no memory for the buffer.
+    /// There is no memory for the buffer, or for one more key.
     NoMemory(AllocationError),
 
     /// The device did not map the buffer, or did not make its bytes seen.
@@ -47,7 +41,6 @@ impl fmt::Display for StagingError {
     fn fmt<W: fmt::Write>(&self, f: &mut fmt::Formatter<W>) -> fmt::Result {
         match self {
             StagingError::NotAskable => write!(f, "No bytes, or no alignment mask"),
-            StagingError::KeyInUse => write!(f, "The next key is in use"),
             StagingError::NoMemory(cause) => write!(f, "No memory for the buffer: {cause}"),
             StagingError::NoAccess(cause) => write!(f, "No access to the buffer: {cause}"),
             StagingError::UnknownKey => write!(f, "No buffer has the key"),
@@ -58,64 +51,20 @@ impl fmt::Display for StagingError {
 
 impl Error for StagingError {}
 
-/// Buffers by key. Its hashes go by a fixed seed: nobody but the pool picks a key.
-type Buffers<M, A> = IndexMap<u64, MemoryBlock<M>, BuildHasherDefault<FoldHasher>, A>;
-
-/// Keeps a buffer under a key that has none. There has to be room for its entry.
-fn keep<M: MemoryObject, A: Allocator + Copy>(
-    buffers: &mut Buffers<M, A>,
-    key: u64,
-    buffer: MemoryBlock<M>,
-)
-    requires free { get nat_eq buffers.old key ≡ None }
-    requires room { 0 < spare buffers.old }
-    ensures was_free { get nat_eq buffers.old key ≡ None }
-    ensures kept { ChangesAt (get nat_eq buffers.old) (get nat_eq buffers.new) key (Some buffer) }
-    ensures count { index_map_len buffers.new ≡ index_map_len buffers.old + 1 }
-{
-    match buffers.insert(key, buffer) {
-        Ok(None) => {}
-        Ok(Some(_older)) => unreachable!(),
-        Err(_failed) => unreachable!(),
-    }
-}
-
-/// Takes out the buffer under a key.
-fn take<M: MemoryObject, A: Allocator + Copy>(
-    buffers: &mut Buffers<M, A>,
-    key: u64,
-) -> MemoryBlock<M>
-    requires known { is_some (get nat_eq buffers.old key) ≡ true }
-    ensures had { get nat_eq buffers.old key ≡ Some result }
-    ensures taken { ChangesAt (get nat_eq buffers.old) (get nat_eq buffers.new) key None }
-    ensures count { index_map_len buffers.new + 1 ≡ index_map_len buffers.old }
-{
-    match buffers.swap_remove(&key) {
-        Some(buffer) => buffer,
-        None => unreachable!(),
-    }
-}
-
-/// Host-visible buffers on a device, by keys that are counted. Contracts see the allocator, the device and
-/// the buffers. It cannot be let go: [`end`](StagingPool::end) ends it.
+/// Host-visible buffers on a device, by keys that are given once. Contracts see the allocator, the device and the
+/// buffers. It cannot be let go: [`end`](StagingPool::end) ends it.
 pub struct StagingPool<M: MemoryObject, D: MemoryDevice<M>, A: Allocator + Copy = Global> {
-    allocator: GpuAllocator<M, A>,
-    device: D,
-    buffers: Buffers<M, A>,
-    next_key: u64,
+    buffers: ResourceManager<M, D, A>,
 }
 
 impl<M: MemoryObject, D: MemoryDevice<M>, A: Allocator + Copy> Model for StagingPool<M, D, A> {
-    ghost use Rattle.gpu_clients.specs.Staging.{PoolState, IsKept, pool_code};
+    ghost use Rattle.gpu_clients.specs.Resources.{ManagerState, manager_code};
 
-    ghost Value = { PoolState D };
+    ghost Value = { ManagerState D };
 
-    ghost coded = { pool_code D.code };
+    ghost coded = { manager_code D.code };
 
-    ghost view = { λ p. record { allocator = p.allocator; device = p.device; buffers = p.buffers.entries } };
-
-    ghost invariant = { λ p. IsKept D.properties D.objects
-        (record { allocator = p.allocator; device = p.device; buffers = p.buffers.entries }) };
+    ghost view = { λ p. p.buffers };
 }
 
 impl<M: MemoryObject, D: MemoryDevice<M>, A: Allocator + Copy> StagingPool<M, D, A> {
@@ -131,24 +80,18 @@ impl<M: MemoryObject, D: MemoryDevice<M>, A: Allocator + Copy> StagingPool<M, D,
         ensures beside { IfOk result (λ pool. (name : ℕ) → beside D.objects pool name ≡ D.objects device name) }
         ensures given_back { IfErr result (λ d. d ≡ device) }
     {
-        let Ok(allocator) = GpuAllocator::new(alloc, config, props) else {
-            return Err(device);
-        };
-        agrees_at_first(&allocator, &device);
-        Ok(StagingPool {
-            allocator,
-            device,
-            buffers: IndexMap::new(alloc),
-            next_key: 0,
-        })
+        match ResourceManager::new(alloc, config, props, device) {
+            Ok(buffers) => Ok(StagingPool { buffers }),
+            Err(device) => Err(device),
+        }
     }
 
     /// Makes a buffer that holds these bytes as the device sees them, and tells its key, which no buffer had.
     ///
     /// The buffer starts at a multiple of one more than `align_mask`, a power of two of at most 2^63, and is of one of
     /// `memory_types` (those whose bit is set). There has to be at least 1 byte. Each byte of every other buffer stays,
-    /// for host and device, whatever the device refuses. After a refusal (`NotAskable`, `KeyInUse`, `NoMemory`,
-    /// `NoAccess`) there are the buffers of before.
+    /// for host and device, whatever the device refuses. After a refusal (`NotAskable`, `NoMemory`, `NoAccess`) there are
+    /// the buffers of before.
     pub fn upload(
         &mut self,
         bytes: &[u8],
@@ -161,19 +104,17 @@ impl<M: MemoryObject, D: MemoryDevice<M>, A: Allocator + Copy> StagingPool<M, D,
         ensures refused { OnErr result (SameBuffers self.old self.new) }
         ensures keeps { Keeps D.properties D.objects self.old self.new (λ _. ⊤) }
     {
+        bytes_stay();
         let request = Request {
             size: bytes.len() as u64,
             align_mask,
             usage: UsageFlags::UPLOAD | UsageFlags::DOWNLOAD | UsageFlags::TRANSIENT,
             memory_types,
         };
-        let key = self.make(request)?;
-        match self.fill(key, bytes) {
-            Ok(()) => Ok(key),
-            Err(refusal) => {
-                self.retire(key);
-                Err(StagingError::NoAccess(refusal))
-            }
+        let handle = self.make(request)?;
+        match self.fill(handle, bytes) {
+            Ok(()) => Ok(handle.key),
+            Err(refusal) => Err(StagingError::NoAccess(refusal)),
         }
     }
 
@@ -194,7 +135,7 @@ impl<M: MemoryObject, D: MemoryDevice<M>, A: Allocator + Copy> StagingPool<M, D,
     {
         bytes_stay();
         self.has_range(key, offset, bytes.len() as u64)?;
-        match self.fetch(key, offset, bytes) {
+        match self.buffers.read(Handle { key }, offset, bytes) {
             Ok(()) => Ok(()),
             Err(refusal) => Err(StagingError::NoAccess(refusal)),
         }
@@ -204,16 +145,10 @@ impl<M: MemoryObject, D: MemoryDevice<M>, A: Allocator + Copy> StagingPool<M, D,
     pub fn retire(&mut self, key: u64) -> bool
         ensures known { result ≡ is_some (buffer_at self.old key) }
         ensures gone { SetsBuffer self.old self.new key None }
-        ensures fewer { IsTrue result → length self.new.buffers + 1 ≡ length self.old.buffers }
+        ensures fewer { IsTrue result → map.len self.new.blocks + 1 ≡ map.len self.old.blocks }
         ensures keeps { Keeps D.properties D.objects self.old self.new (λ _. ⊤) }
     {
-        bytes_stay();
-        if !self.buffers.contains_key(&key) {
-            return false;
-        }
-        let buffer = take(&mut self.buffers, key);
-        self.allocator.dealloc(&mut self.device, buffer);
-        true
+        self.buffers.destroy(Handle { key })
     }
 
     /// The buffer under a key, of which a program binds and copies. No two buffers share a byte.
@@ -221,55 +156,25 @@ impl<M: MemoryObject, D: MemoryDevice<M>, A: Allocator + Copy> StagingPool<M, D,
         ensures value { option_copied result ≡ buffer_at self.now key }
         ensures apart { AreApart self.now }
     {
-        self.buffers.get(&key)
+        self.buffers.keeps_blocks();
+        self.buffers.block(Handle { key })
     }
 
     /// The device.
     pub fn device(&self) -> &D
         ensures { result.now ≡ self.now.device }
     {
-        &self.device
+        self.buffers.device()
     }
 
     /// Gives all buffers back, and then the device, which has what it had beside the pool. It takes no memory and cannot
     /// fail.
-    pub fn end(mut self) -> D
-        ensures returned { (name : ℕ) → D.objects result name ≡ beside D.objects self name }
+    pub fn end(self) -> D
+        ensures beside { (name : ℕ) → D.objects result name ≡ beside D.objects self name }
         ensures properties { D.properties result ≡ D.properties self.device }
     {
-        while let Some(key) = self.some_key() {
-            self.retire(key);
-        }
-        self.close()
-    }
-
-    /// A key that has a buffer, if there is one.
-    fn some_key(&self) -> Option<u64>
-        ensures known { IfSome result (λ key. is_some (buffer_at self.now key) ≡ true) }
-        ensures none { IfNone result (self.now.buffers ≡ []) }
-    {
-        match self.buffers.get_index(0) {
-            Some((key, _)) => Some(*key),
-            None => None,
-        }
-    }
-
-    /// Ends a pool without buffers.
-    fn close(self) -> D
-        requires none { self.buffers ≡ [] }
-        ensures returned { (name : ℕ) → D.objects result name ≡ beside D.objects self name }
-        ensures properties { D.properties result ≡ D.properties self.device }
-    {
-        let StagingPool {
-            mut allocator,
-            mut device,
-            buffers,
-            next_key: _,
-        } = self;
-        buffers.destroy_empty();
-        allocator.cleanup(&mut device);
-        allocator.close();
-        device
+        let StagingPool { buffers } = self;
+        buffers.end()
     }
 
     /// Whether there is a buffer under a key, and a range lies inside it.
@@ -277,7 +182,7 @@ impl<M: MemoryObject, D: MemoryDevice<M>, A: Allocator + Copy> StagingPool<M, D,
         ensures inside { OnOk result (OfBuffer self.now key (λ b. offset + len ≤ b.size)) }
         ensures unknown { buffer_at self.now key ≡ None → result ≡ Err StagingError.UnknownKey }
     {
-        let Some(buffer) = self.buffers.get(&key) else {
+        let Some(buffer) = self.buffers.block(Handle { key }) else {
             return Err(StagingError::UnknownKey);
         };
         let size = buffer.size();
@@ -287,9 +192,11 @@ impl<M: MemoryObject, D: MemoryDevice<M>, A: Allocator + Copy> StagingPool<M, D,
         Ok(())
     }
 
-    /// Makes a buffer as a request asks, and tells its key.
-    fn make(&mut self, request: Request) -> Result<u64, StagingError>
+    /// Makes a buffer as a request asks.
+    #[tactic(auto, using(gpu_alloc_base::proofs::Maps::another_key))]
+    fn make(&mut self, request: Request) -> Result<Handle, StagingError>
         ensures was_free { IfOk result (λ key. buffer_at self.old key ≡ None) }
+        ensures another { IfOk result (λ key. (other : ℕ) (b : Block) → buffer_at self.old other ≡ Some b → other ≢ key) }
         ensures made { IfOk result (λ key. OfBuffer self.new key
             (λ b. SetsBuffer self.old self.new key (Some b) × (request.size ≤ b.size))) }
         ensures refused { OnErr result (SameBuffers self.old self.new) }
@@ -299,53 +206,25 @@ impl<M: MemoryObject, D: MemoryDevice<M>, A: Allocator + Copy> StagingPool<M, D,
         if !request.is_askable(false) {
             return Err(StagingError::NotAskable);
         }
-        let key = self.next_key;
-        if self.buffers.contains_key(&key) {
-            return Err(StagingError::KeyInUse);
-        }
-        if self.buffers.reserve(1).is_err() {
-            return Err(StagingError::NoMemory(AllocationError::OutOfHostMemory));
-        }
-        match self.allocator.alloc(&mut self.device, request) {
-            Ok(buffer) => {
-                self.next_key = key.wrapping_add(1);
-                keep(&mut self.buffers, key, buffer);
-                Ok(key)
-            }
+        match self.buffers.create(request) {
+            Ok(handle) => Ok(handle),
             Err(refusal) => Err(StagingError::NoMemory(refusal)),
         }
     }
 
-    /// Writes bytes to the start of a buffer.
-    fn fill(&mut self, key: u64, bytes: &[u8]) -> Result<(), MapError>
-        requires { OfBuffer self.old key (λ b. length bytes.now ≤ b.size) }
-        ensures stored { OnOk result (OfBuffer self.old key (λ b. Stores b 0 bytes.now (D.objects self.new.device))) }
-        ensures buffers { SameBuffers self.old self.new }
-        ensures keeps { Keeps D.properties D.objects self.old self.new (λ other. other ≢ key) }
+    /// Writes bytes to a buffer that was just made, and gives it back where that is refused.
+    fn fill(&mut self, handle: Handle, bytes: &[u8]) -> Result<(), MapError>
+        requires { OfBuffer self.old handle (λ b. length bytes.now ≤ b.size) }
+        ensures stored { OnOk result (OfBuffer self.new handle (λ b. Stores b 0 bytes.now (D.objects self.new.device))) }
+        ensures buffers { OnOk result (SameBuffers self.old self.new) }
+        ensures gone { OnErr result (SetsBuffer self.old self.new handle None) }
+        ensures keeps { Keeps D.properties D.objects self.old self.new (λ other. other ≢ handle) }
     {
-        match self.buffers.get_mut(&key) {
-            Some(buffer) => buffer.write_bytes(&mut self.device, 0, bytes),
-            None => unreachable!(),
+        bytes_stay();
+        let answer = self.buffers.write(handle, bytes);
+        if answer.is_err() {
+            self.buffers.destroy(handle);
         }
-    }
-
-    /// Reads bytes of a buffer.
-    fn fetch(&mut self, key: u64, offset: u64, bytes: &mut [u8]) -> Result<(), MapError>
-        requires { OfBuffer self.old key (λ b. offset + length bytes.old ≤ b.size) }
-        ensures told { OnOk result (OfBuffer self.old key
-            (λ b. Stores b offset bytes.new (D.objects self.old.device) × Stores b offset bytes.new (D.objects self.new.device))) }
-        ensures refused { OnErr result (bytes.new ≡ bytes.old) }
-        ensures buffers { SameBuffers self.old self.new }
-        ensures unmoved { (c : Block) → HasSameDeviceBytes c (D.objects self.old.device) (D.objects self.new.device) }
-        ensures keeps { Keeps D.properties D.objects self.old self.new (λ other. other ≢ key) }
-    {
-        match self.buffers.get_mut(&key) {
-            Some(buffer) => {
-                let answer = buffer.read_bytes(&mut self.device, offset, bytes);
-                bytes_stay();
-                answer
-            }
-            None => unreachable!(),
-        }
+        answer
     }
 }

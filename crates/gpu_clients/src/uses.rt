@@ -23,7 +23,7 @@ pub fn there_and_back<M: MemoryObject, D: MemoryDevice<M>, A: Allocator + Copy>(
 ) -> D
     requires usable { IsUsable (properties_of props) }
     requires same { D.properties device ≡ properties_of props }
-    ensures returned { (name : ℕ) → D.objects result name ≡ D.objects device name }
+    ensures beside { (name : ℕ) → D.objects result name ≡ D.objects device name }
 {
     match StagingPool::new(alloc, Config::i_am_potato(), props, device) {
         Ok(mut pool) => {

@@ -11,7 +11,7 @@ ghost use Rattle.gpu_alloc.specs.State.{Block};
 ghost use Rattle.gpu_clients.specs.Frames.{beside, Leaves};
 
 use crate::closing::close;
-use gpu_alloc::laws::agrees_at_first;
+use gpu_alloc::laws::{agrees_at_first, bytes_stay};
 use gpu_alloc::{AllocationError, Config, DeviceProperties, GpuAllocator, MemoryBlock, Request};
 use gpu_alloc_types::{MemoryObject, ObjectDevice};
 use std::alloc::{Allocator, Global};
@@ -100,6 +100,7 @@ impl<M: MemoryObject, D: ObjectDevice<M>, A: Allocator + Copy> Queue<M, D, A> {
         ensures live { set.len self.now.allocator.live ≡ length self.now.blocks }
         ensures leaves { Leaves D.objects self.now self.now self.now.blocks }
     {
+        bytes_stay();
         let _ = &self.device;
     }
 
@@ -126,6 +127,7 @@ impl<M: MemoryObject, D: ObjectDevice<M>, A: Allocator + Copy> Queue<M, D, A> {
     }
 
     /// Takes a block for each request, in their order, or none.
+    #[tactic(auto, using(gpu_alloc::proofs::Served::serves_none))]
     pub(super) fn take_all(&mut self, requests: &[Request]) -> Result<(), AllocationError>
         requires askable { All (IsAskable (self.old.allocator.properties).buffer_device_address) requests.now }
         ensures granted { OnOk result (ServesFirst requests.now (length requests.now) self.old.blocks self.new.blocks) }

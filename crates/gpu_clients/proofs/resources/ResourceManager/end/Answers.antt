@@ -4,7 +4,8 @@ use Rattle.gpu_clients.proofs.Managed.{gone}
 use Rattle.gpu_clients.proofs.resources.ResourceManager.end.Goals as goal
 
 pub loop-block-init : goal.loop-block-init
-loop-block-init g c = rw (c.into_values-blocks.ensures, ← c.self.view_is) (record { managed = c.self.invariant; outside = λ name. refl })
+loop-block-init g c =
+    rw (c.into_values-blocks.ensures, ← c.self.view_is) (record { managed = c.self.invariant; outside = λ name. refl; properties = refl })
 
 pub dealloc-requires-clause-owned : goal.dealloc-requires-clause-owned
 dealloc-requires-clause-owned g c = c.loop-block.invariant.managed.kept.owned _ _ c.in-Some.ensures.taken.1.taken
@@ -12,11 +13,15 @@ dealloc-requires-clause-owned g c = c.loop-block.invariant.managed.kept.owned _ 
 pub loop-block-preserved : goal.loop-block-preserved
 loop-block-preserved g c =
     let back = c.dealloc.ensures in
-    let managed = gone c.loop-block.invariant.managed back.agrees c.in-Some.ensures.taken.1 back.in_hand back.removed in
-    record { managed = managed; outside = λ name. back.in_hand.outside name ∙ c.loop-block.invariant.outside name }
+    record {
+      managed = gone c.loop-block.invariant.managed back.agrees c.in-Some.ensures.taken.1 back.in_hand back.removed;
+      outside = λ name. back.in_hand.outside name ∙ c.loop-block.invariant.outside name;
+      properties = back.properties ∙ c.loop-block.invariant.properties;
+    }
 
 pub close-requires-clause-none : goal.close-requires-clause-none
-close-requires-clause-none g c = c.loop-block.invariant.managed.count ∙ ap map.len (sym (c.in_default.ensures.stays refl)) ∙ c.in_default.ensures.ended refl
+close-requires-clause-none g c =
+    c.loop-block.invariant.managed.count ∙ ap map.len (sym (c.in_default.ensures.stays refl)) ∙ c.in_default.ensures.ended refl
 
-pub returns : goal.returns
-returns g c = record { beside = λ name. c.close.ensures name ∙ c.loop-block.invariant.outside name }
+pub returns-clause-beside : goal.returns-clause-beside
+returns-clause-beside g c = λ name. c.close.ensures.beside name ∙ c.loop-block.invariant.outside name

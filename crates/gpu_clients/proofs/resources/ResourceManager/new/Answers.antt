@@ -3,4 +3,6 @@ use Rattle.gpu_alloc_block.proofs.Lists.{none_kept}
 use Rattle.gpu_clients.proofs.resources.ResourceManager.new.Goals as goal
 
 pub invariant_of-result : goal.invariant_of-result
-invariant_of-result g c = let n = c.new-in-Ok.ensures.none in record { agrees = c.agrees_at_first.ensures; kept = none_kept n.none; count = c.in-Ok.ensures.empty.live ∙ sym n.count }
+invariant_of-result g c =
+    let none = c.new-in-Ok.ensures.none in
+    record { agrees = c.agrees_at_first.ensures; kept = none_kept none.none; count = c.in-Ok.ensures.empty.live ∙ sym none.count }

@@ -6,4 +6,5 @@ use Rattle.gpu_clients.proofs.frames.queue.Queue.give_back_first.Goals as goal
 pub loop-preserved : goal.loop-preserved
 loop-preserved g c =
     let back = c.give_back_one.ensures in
-    record { blocks = back.blocks ∙ ap (drop 1) c.loop.invariant.blocks ∙ drop-drop 1 c.loop.counter _; leaves = leaves_then (leaves_dropped back.blocks c.loop.invariant.leaves) back.leaves }
+    let leaves = leaves_then (leaves_dropped back.blocks c.loop.invariant.leaves) back.leaves in
+    record { blocks = back.blocks ∙ ap (drop 1) c.loop.invariant.blocks ∙ drop-drop 1 c.loop.counter _; leaves = leaves }

@@ -1,22 +1,20 @@
 use Rattle.std.proofs.Common.{ap, take, ◌∙◌, arith}
-use Rattle.gpu_alloc.proofs.Served.{first_ones, serves_as_many, serves_next, serves_none}
+use Rattle.gpu_alloc.proofs.Served.{first_ones, serves_as_many, serves_next}
 use Rattle.gpu_alloc_block.proofs.Lists.{leaves_then, leaves_front}
 use Rattle.gpu_clients.proofs.frames.queue.Queue.take_all.Goals as goal
-
-pub loop-request-init : goal.loop-request-init
-loop-request-init g c = record { served = serves_none _ _; count = c.len-count.ensures; leaves = c.keeps_blocks.ensures.leaves }
 
 pub loop-request-preserved : goal.loop-request-preserved
 loop-request-preserved g c =
     let i = c.loop-request.invariant in
-    let leaves = leaves_then i.leaves (leaves_front _ i.served.more i.served.grown c.in_default.ensures.leaves) in
-    record { served = serves_next _ _ _ c.loop-request-test.true i.served c.in_default.ensures.taken; count = i.count; leaves = leaves }
+    let leaves = leaves_then i.leaves (leaves_front _ _ i.served.grown c.in_default.ensures.leaves) in
+    record { served = serves_next _ _ _ c.loop-request-test.true i.served c.in_default.ensures.taken; leaves = leaves }
 
 pub returns-clause-grown : goal.returns-clause-grown
-returns-clause-grown g c = omega (arith, c.loop-request.auto.request-index-end, c.loop-request-test.false, serves_as_many c.loop-request.invariant.served c.loop-request.auto.request-index-end)
+returns-clause-grown g c = omega (arith, serves_as_many c.loop-request.invariant.served c.loop-request.auto.request-index-end)
 
 pub returns-in-Err-clause-leaves : goal.returns-in-Err-clause-leaves
 returns-in-Err-clause-leaves g c =
     let i = c.loop-request.invariant in
-    let same = c.give_back_after.ensures.blocks ∙ ap (take c.len-count.result) c.in-Err.ensures.refused ∙ first_ones i.served i.count in
-    leaves_then (leaves_then i.leaves (leaves_front _ i.served.more i.served.grown c.in-Err.ensures.leaves)) (rw same at c.give_back_after.ensures.leaves)
+    let same = c.give_back_after.ensures.blocks ∙ ap (take c.len-count.result) c.in-Err.ensures.refused ∙ first_ones i.served c.len-count.ensures in
+    let until = leaves_then i.leaves (leaves_front _ _ i.served.grown c.in-Err.ensures.leaves) in
+    leaves_then until (rw same at c.give_back_after.ensures.leaves)

@@ -1,4 +1,3 @@
-use Rattle.std.proofs.Common.{◌≡◌, length}
 use Rattle.gpu_alloc.specs.Served.{ServesFirst}
 use Rattle.gpu_clients.specs.Frames.{Leaves}
 use Rattle.gpu_clients.proofs.frames.queue.Queue.take_all.Given as goal
@@ -6,6 +5,5 @@ use Rattle.gpu_clients.proofs.frames.queue.Queue.take_all.Given as goal
 abbrev pub invariant-loop-request : goal.invariant-loop-request
 invariant-loop-request g l = record {
   served : ServesFirst l.requests l.request-index l.fn.self.blocks l.self.blocks;
-  count : l.count ≡ length l.fn.self.blocks;
   leaves : Leaves g.D.ObjectDevice.objects l.fn.self l.self l.fn.self.blocks;
 }
