@@ -4,11 +4,11 @@
 mod printed;
 mod tally;
 
-use super::same::{holds, same, same_at};
+use super::same::{same, same_at};
 use super::scripts;
 use crate::sim::{Question, Sim};
 use gpu_alloc::{Dedicated, MapError, Request, UsageFlags};
-use gpu_script_language::{SimSession, open};
+use gpu_script_language::SimSession;
 use gpu_session::{Bytes, Command, Fault, Reply, values_of};
 use printed::printed;
 use std::alloc::{AllocError, Global};
@@ -556,12 +556,7 @@ pub(super) fn session_of(
     script: &str,
 ) -> Result<SimSession<Global>, Fail> {
     let script = scripts::good_script(alloc, script)?;
-    holds(
-        rt,
-        script.setup.properties().is_usable(),
-        "properties of no use",
-    );
-    Ok(open(alloc, &script.setup)?)
+    Ok(scripts::open_session(rt, alloc, &script.setup)?)
 }
 
 /// Runs commands as one list: the replies, and the device at the end.
