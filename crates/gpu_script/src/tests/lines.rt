@@ -178,7 +178,7 @@ fn compare_fields(
 
 #[test]
 fn fields_are_counted_before_they_are_read(rt: HostRuntime) -> Result<(), Fail> {
-    for (word, wanted) in WANTED {
+    for (word, wanted) in &WANTED {
         compare_fields(&rt, rt.alloc(), word, wanted)?;
     }
     Ok(())
@@ -276,7 +276,7 @@ fn any_bytes_are_a_script_or_have_a_bad_line(rt: HostRuntime) -> Result<(), Fail
     compare(&rt, rt.alloc(), &ANY_TEXT);
     compare_long(&rt, rt.alloc(), '0', EMPTY, 0)?;
     compare_long(&rt, rt.alloc(), '1', "line 1: bad number\n", 2)?;
-    for (start, known, other) in LAST_BYTES {
+    for (start, known, other) in &LAST_BYTES {
         compare_last_bytes(&rt, rt.alloc(), start, known, other)?;
     }
     Ok(())

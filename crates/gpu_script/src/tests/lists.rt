@@ -211,10 +211,10 @@ fn draw_plan(alloc: Global, chance: &mut Chance) -> Result<Plan, AllocError> {
     let mut text = String::new(alloc);
     let mut refused = Vec::new(alloc);
     text.push_str("heap 1048576\ntype 0 2\natom 16\n")?;
-    for (question, word) in REFUSED {
+    for (question, word) in &REFUSED {
         let nth = chance.next() % 7 + 1;
-        writeln!(text, "refuse {word} {nth} {}", cause_of(question, nth))?;
-        refused.push((question, nth))?;
+        writeln!(text, "refuse {word} {nth} {}", cause_of(*question, nth))?;
+        refused.push((*question, nth))?;
     }
     Ok(Plan { text, refused })
 }

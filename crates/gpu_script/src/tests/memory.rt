@@ -111,9 +111,9 @@ const WANTS: [(&str, &str, Refusals); 17] = [
 
 #[test]
 fn each_request_for_memory_is_refused_in_turn(rt: HostRuntime) -> Result<(), Fail> {
-    for (earlier, command, wanted) in WANTS {
+    for (earlier, command, wanted) in &WANTS {
         let met = refusals(&rt, rt.alloc(), earlier, command)?;
-        same_at(&rt, "the refusals of", &command, &met, &wanted);
+        same_at(&rt, "the refusals of", command, &met, wanted);
     }
     Ok(())
 }
@@ -232,10 +232,10 @@ pub(super) const FAULTS: [(Fault, &str); 12] = [
 
 #[test]
 fn faults_print_their_numbers_and_names(rt: HostRuntime) -> Result<(), Fail> {
-    for (fault, line) in FAULTS {
+    for (fault, line) in &FAULTS {
         let mut text = String::new(rt.alloc());
-        print_reply(&mut text, &Reply::Fault(fault))?;
-        same(&rt, "what is printed of a fault", &text.as_str(), &line);
+        print_reply(&mut text, &Reply::Fault(*fault))?;
+        same(&rt, "what is printed of a fault", &text.as_str(), line);
     }
     Ok(())
 }

@@ -244,16 +244,16 @@ fn compare_end(
 
 #[test]
 fn a_refused_question_changes_nothing(rt: HostRuntime) -> Result<(), Fail> {
-    for (question, place, answer, allocations) in REFUSED {
+    for (question, place, answer, allocations) in &REFUSED {
         let script = BYTES[3].0;
         compare_refused(
             &rt,
             rt.alloc(),
             script,
             question,
-            place,
+            *place,
             answer,
-            allocations,
+            *allocations,
         )?;
     }
     Ok(())

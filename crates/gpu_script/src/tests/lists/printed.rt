@@ -8,8 +8,8 @@ use std::alloc::{AllocError, Global};
 
 /// The line of a fault.
 fn fault_line(fault: Fault) -> &'static str {
-    for (of, line) in FAULTS {
-        if of == fault {
+    for (of, line) in &FAULTS {
+        if *of == fault {
             return line;
         }
     }
