@@ -56,7 +56,7 @@ fn run<A: Allocator + Copy>(
     let mut refusal = None;
     for (at, (command, row)) in commands.chunks(1).zip(rows).enumerate() {
         session.lose(lost);
-        let outcome = Outcome::of(&session.run(command));
+        let outcome = session.outcome(command);
         if outcome != Outcome::Served {
             same_at(rt, "a second refusal at", &at, &refusal, &None);
             compare_told(rt, alloc, session, at, row.as_slice())?;

@@ -21,13 +21,17 @@ fn outcome_in<A: Allocator + Copy>(
 ) -> Result<Outcome, AllocError> {
     let before = session.told(alloc)?;
     session.leave(rt, room);
-    let outcome = Outcome::of(&session.run(command));
+    let outcome = session.outcome(command);
     let after = session.told(alloc)?;
     if outcome != Outcome::Served {
-        let before = before.as_slice();
-        same_at(rt, "held after", &outcome, &after.as_slice(), &before);
+        compare_held(rt, outcome, after.as_slice(), before.as_slice());
     }
     Ok(outcome)
+}
+
+/// Compares what is held after a refused command with what was held before it.
+fn compare_held(rt: &impl Abort, outcome: Outcome, after: &[String], before: &[String]) {
+    same_at(rt, "held after", &outcome, &after, &before);
 }
 
 /// Runs the earlier commands with ample memory, and then one command where so many bytes are left. At the end the device

@@ -122,6 +122,11 @@ impl<'a, A: Allocator + Copy> ScarceSession<'a, A> {
         self.session.run(commands)
     }
 
+    /// What commands come to that are run as one list.
+    pub(super) fn outcome(&mut self, commands: &[Command<A>]) -> Outcome {
+        Outcome::of(&self.session.run(commands))
+    }
+
     /// From now on so many bytes are left.
     pub(super) fn leave(&self, rt: &impl Abort, room: usize) {
         let left = self.memory.leave(room).is_ok();
