@@ -249,13 +249,8 @@ fn printed_for<'a>(known: &[(&[u8], &'a str)], other: &'a str, byte: u8) -> &'a 
 
 /// A line of one word and 100000 digits, the last of which is another than 0.
 fn long_number(alloc: Global, first: char) -> Result<String, AllocError> {
-    let mut line = String::from_str(alloc, "heap ")?;
-    line.push(first)?;
-    for _ in 0..99998 {
-        line.push('0')?;
-    }
-    line.push('1')?;
-    Ok(line)
+    let zeros = "0".repeat(alloc, 99_998)?;
+    format!(in alloc; "heap {first}{zeros}1")
 }
 
 /// Compares what a script prints that is such a line.
