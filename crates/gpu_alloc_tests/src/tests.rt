@@ -20,5 +20,6 @@ mod runs;
 mod same;
 mod sim;
 mod sim_bytes;
+mod slots;
 mod staging;
 mod usage;

@@ -3,7 +3,5 @@
 #![tactic(auto)]
 
 mod slot_map;
-#[cfg(test)]
-mod tests;
 
 pub use slot_map::{SlotMap, Values};

@@ -10,8 +10,8 @@ ghost use Rattle.gpu_alloc.specs.Owned.{Leaves};
 ghost use Rattle.gpu_alloc.specs.State.{IsOwned};
 ghost use Rattle.gpu_alloc_tests.specs.Bench.{HasTwoTypes};
 
-use super::offers::{again, offer};
-use super::same::{holds, same, same_at};
+use super::offers::{again, are_usable, offer};
+use super::same::{below, holds, same, same_at};
 use gpu_alloc::laws::{
     agrees_at_first, imports_agree, made_objects_may_be_imported, which_objects_may_be_imported,
 };
@@ -21,7 +21,7 @@ use gpu_alloc::{
 };
 use gpu_alloc_types::{MemoryDevice, MemoryObject};
 use gpu_sim::{ScarceMemory, Sim, SimMemory};
-use std::alloc::{Allocator, Global};
+use std::alloc::{AllocError, Allocator, Global};
 use std::marker::Model;
 use std::process::Abort;
 use std::test::Fail;
@@ -71,11 +71,11 @@ impl<A: Allocator + Copy> Bench<A> {
     ) -> Result<Self, Fail> {
         let types = [memory_type, memory_type];
         let offered = offer(&types, atom);
-        holds(rt, offered.is_usable(), "properties of no use");
-        holds(rt, offered.memory_heaps.len() > 0, "no heap");
-        holds(rt, offered.memory_types.len() > 1, "no second memory type");
+        are_usable(rt, &offered);
+        below(rt, 0, offered.memory_heaps.len(), "no heap");
+        below(rt, 1, offered.memory_types.len(), "no second memory type");
         let blocks = Vec::with_capacity(alloc, 8)?;
-        match Sim::new(alloc, again(&offered)) {
+        match device_of(alloc, &offered) {
             Ok(device) => Bench::over(alloc, offered, device, blocks),
             Err(e) => {
                 blocks.destroy_empty();
@@ -225,7 +225,7 @@ impl<A: Allocator + Copy> Bench<A> {
 
     /// Gives back the block at this place of those that are kept. The latest takes its place.
     pub(super) fn give_back_at(&mut self, rt: &impl Abort, at: usize) {
-        holds(rt, at < self.blocks.len(), "no such block");
+        below(rt, at, self.blocks.len(), "no such block");
         let block = self.blocks.swap_remove(at);
         give_back(rt, &mut self.allocator, &mut self.device, block);
     }
@@ -264,7 +264,7 @@ impl<A: Allocator + Copy> Bench<A> {
 
     /// Gives back what free lists keep.
     fn clean(&mut self) {
-        self.allocator.cleanup(&mut self.device);
+        clean(&mut self.allocator, &mut self.device);
     }
 
     /// Ends the allocator, which holds nothing.
@@ -278,8 +278,7 @@ impl<A: Allocator + Copy> Bench<A> {
         drop(device);
         assert!(rt; blocks.is_empty());
         blocks.destroy_empty();
-        assert!(rt; allocator.held_objects() == 0);
-        allocator.close();
+        close(rt, allocator);
     }
 }
 
@@ -299,13 +298,29 @@ impl Bench {
     }
 }
 
+/// A fresh device that offers this.
+fn device_of<A: Allocator + Copy>(
+    alloc: A,
+    offered: &DeviceProperties<'_>,
+) -> Result<Sim<A>, AllocError>
+    ensures { IfOk result (λ device. device.properties ≡ properties_of offered.now) }
+{
+    Sim::new(alloc, again(offered))
+}
+
+/// Ends an allocator, which holds nothing.
+pub(super) fn close<M: MemoryObject, A: Allocator>(rt: &impl Abort, allocator: GpuAllocator<M, A>) {
+    assert!(rt; allocator.held_objects() == 0);
+    allocator.close();
+}
+
 /// Keeps a block where there is a place for it.
 fn keep<M: MemoryObject, A: Allocator>(
     rt: &impl Abort,
     blocks: &mut Vec<MemoryBlock<M>, A>,
     block: MemoryBlock<M>,
 ) {
-    holds(rt, blocks.len() < blocks.capacity(), "no place for a block");
+    below(rt, blocks.len(), blocks.capacity(), "no place for a block");
     blocks.push_reserved(block);
 }
 
@@ -356,7 +371,7 @@ fn allow<M: MemoryObject, D: MemoryDevice<M>, A: Allocator>(
 }
 
 /// Gives back a block, which the allocator has to own.
-fn give_back<M: MemoryObject, D: MemoryDevice<M>, A: Allocator>(
+pub(super) fn give_back<M: MemoryObject, D: MemoryDevice<M>, A: Allocator>(
     rt: &impl Abort,
     allocator: &mut GpuAllocator<M, A>,
     device: &mut D,
@@ -368,6 +383,18 @@ fn give_back<M: MemoryObject, D: MemoryDevice<M>, A: Allocator>(
 {
     holds(rt, allocator.owns(&block), "a block that is not owned");
     allocator.dealloc(device, block);
+}
+
+/// Gives back what free lists keep.
+pub(super) fn clean<M: MemoryObject, D: MemoryDevice<M>, A: Allocator>(
+    allocator: &mut GpuAllocator<M, A>,
+    device: &mut D,
+)
+    requires agrees { Agrees allocator.old (D.properties device.old) (D.objects device.old) }
+    ensures agrees { Agrees allocator.new (D.properties device.new) (D.objects device.new) }
+    ensures properties { allocator.new.properties ≡ allocator.old.properties }
+{
+    allocator.cleanup(device);
 }
 
 /// From now on no memory is left.
@@ -464,24 +491,38 @@ fn import_or_again<M: MemoryObject, D: MemoryDevice<M>, A: Allocator>(
     ensures agrees { Agrees allocator.new (D.properties device.now) (D.objects device.now) }
     ensures properties { allocator.new.properties ≡ allocator.old.properties }
 {
-    let name = object.object();
-    let before = counts(allocator);
+    let before = (object.object(), false, counts(allocator));
     match import(rt, allocator, device, object, props, whole(64)) {
         Ok(block) => (None, block),
         Err(handed) => {
-            let came = (handed.object(), allocator.holds(name), counts(allocator));
-            same(
-                rt,
-                "an object that came back",
-                &came,
-                &(name, false, before),
-            );
+            let name = handed.object();
+            let came = (name, allocator.holds(name), counts(allocator));
+            same(rt, "an object that came back", &came, &before);
             memory.lift();
-            match import(rt, allocator, device, handed, props, whole(64)) {
-                Ok(block) => (Some("an import"), block),
-                Err(_) => panic!(rt; "refused with ample memory"),
-            }
+            let block = import_again(rt, allocator, device, handed, props);
+            (Some("an import"), block)
         }
+    }
+}
+
+/// Imports an object of 64 bytes that came back.
+fn import_again<M: MemoryObject, D: MemoryDevice<M>, A: Allocator>(
+    rt: &impl Abort,
+    allocator: &mut GpuAllocator<M, A>,
+    device: &D,
+    object: M,
+    props: MemoryPropertyFlags,
+) -> MemoryBlock<M>
+    requires offered { HasTwoTypes allocator.old.properties (property_bits props) }
+    requires unheld { map.get allocator.old.held (M.object object) ≡ None }
+    requires agrees { Agrees allocator.old (D.properties device.now) (D.objects device.now) }
+    requires may { MayBeImported (D.properties device.now) (D.objects device.now) (M.object object) 0 0 64 }
+    ensures agrees { Agrees allocator.new (D.properties device.now) (D.objects device.now) }
+    ensures properties { allocator.new.properties ≡ allocator.old.properties }
+{
+    match import(rt, allocator, device, object, props, whole(64)) {
+        Ok(block) => block,
+        Err(_) => panic!(rt; "refused with ample memory"),
     }
 }
 
@@ -511,7 +552,8 @@ fn is_end(part: Part) -> bool
     ensures ends { IsTrue result → part.offset + part.size ≡ part.object }
     ensures fits { IsTrue result → part.offset + part.size < 2 ^ 64 }
 {
-    part.size > 0 && part.offset <= part.object && part.object - part.offset == part.size
+    let end = u128::from(part.offset) + u128::from(part.size);
+    part.size > 0 && end == u128::from(part.object)
 }
 
 /// Imports a part of an object that the device makes for it.

@@ -38,13 +38,8 @@ fn read(alloc: Global, text: &str) -> Result<Config, Error> {
 
 /// A text that no configuration has.
 fn compare_refused(rt: &impl Abort, alloc: Global, text: &str) {
-    same_at(
-        rt,
-        "it is refused at",
-        &text,
-        &read(alloc, text).is_err(),
-        &true,
-    );
+    let refused = read(alloc, text).is_err();
+    same_at(rt, "it is refused at", &text, &refused, &true);
 }
 
 /// Fields that no configuration has.
@@ -108,10 +103,13 @@ fn compare_with_unknown(
     compare_potato(rt, alloc, fields.as_slice())
 }
 
+/// Values of an unknown field.
+const UNKNOWN: [&str; 6] = ["1", "\"\"", "null", "[[1],{}]", "{\"a\":{\"b\":[]}}", "1e9"];
+
 #[test]
 fn fields_come_in_any_order_with_others_among_them(rt: HostRuntime) -> Result<(), Fail> {
     for index in 0..8 {
-        for value in ["1", "\"\"", "null", "[[1],{}]", "{\"a\":{\"b\":[]}}", "1e9"] {
+        for value in &UNKNOWN {
             compare_with_unknown(&rt, rt.alloc(), index, value)?;
         }
     }
@@ -146,66 +144,86 @@ fn compare_wrong_value(
     compare_refused_fields(rt, alloc, &fields)
 }
 
+/// Values that no field has.
+const WRONG: [&str; 14] = [
+    "-1",
+    "18446744073709551616",
+    "1.0",
+    "1e3",
+    "\"1\"",
+    "null",
+    "true",
+    "[1]",
+    "{}",
+    "",
+    "01",
+    "+1",
+    "0x1",
+    "-0",
+];
+
 #[test]
 fn a_wrong_field_is_refused(rt: HostRuntime) -> Result<(), Fail> {
     for index in 0..7 {
         compare_doubled_and_missing(&rt, rt.alloc(), index)?;
-        for value in [
-            "-1",
-            "18446744073709551616",
-            "1.0",
-            "1e3",
-            "\"1\"",
-            "null",
-            "true",
-            "[1]",
-            "{}",
-            "",
-            "01",
-            "+1",
-            "0x1",
-            "-0",
-        ] {
+        for value in &WRONG {
             compare_wrong_value(&rt, rt.alloc(), index, value)?;
         }
     }
     Ok(())
 }
 
-/// Each text that the potato's begins with, but for the whole, and the whole with something after it.
-fn compare_cut_and_longer(rt: &impl Abort, alloc: Global) -> Result<(), AllocError> {
-    let mut cut = object(alloc, &POTATO)?;
-    for tail in ["}", ",", "0", "{}", "x", "\u{0}"] {
-        let longer = format!(in alloc; "{cut}{tail}")?;
+/// What may not stand after a configuration's text.
+const TAILS: [&str; 6] = ["}", ",", "0", "{}", "x", "\u{0}"];
+
+/// The whole of the potato's text with something after it.
+fn compare_longer(rt: &impl Abort, alloc: Global, text: &str) -> Result<(), AllocError> {
+    for tail in &TAILS {
+        let longer = format!(in alloc; "{text}{tail}")?;
         compare_refused(rt, alloc, longer.as_str());
     }
-    for _ in 0..cut.len() {
-        cut.pop();
-        compare_refused(rt, alloc, cut.as_str());
+    Ok(())
+}
+
+/// Each text that the potato's begins with, but for the whole.
+fn compare_cut(rt: &impl Abort, alloc: Global, mut text: String) {
+    for _ in 0..text.len() {
+        text.pop();
+        compare_refused(rt, alloc, text.as_str());
     }
-    holds(rt, cut.is_empty(), "a text that was not cut to its start");
+    holds(rt, text.is_empty(), "a text that was not cut to its start");
+}
+
+/// Texts that are no configuration's.
+const TEXTS: [&str; 8] = [
+    " ",
+    "null",
+    "7",
+    "\"potato\"",
+    "{}",
+    "[]",
+    "[1,2,3,4,5,6]",
+    "[1,2,3,4,5,6,7,8]",
+];
+
+/// An unknown field of lists in lists without end.
+fn compare_deep(rt: &impl Abort, alloc: Global) -> Result<(), AllocError> {
+    let deep = "[".repeat(alloc, 100_000)?;
+    let text = format!(in alloc; "{{\"unknown\":{deep}")?;
+    compare_refused(rt, alloc, text.as_str());
     Ok(())
 }
 
 #[test]
 fn a_text_of_no_configuration_is_refused(rt: HostRuntime) -> Result<(), Fail> {
     let alloc = rt.alloc();
-    compare_cut_and_longer(&rt, alloc)?;
-    for text in [
-        " ",
-        "null",
-        "7",
-        "\"potato\"",
-        "{}",
-        "[]",
-        "[1,2,3,4,5,6]",
-        "[1,2,3,4,5,6,7,8]",
-    ] {
+    let text = object(alloc, &POTATO)?;
+    compare_longer(&rt, alloc, text.as_str())?;
+    compare_cut(&rt, alloc, text);
+    for text in &TEXTS {
         compare_refused(&rt, alloc, text);
     }
-    let deep = "[".repeat(alloc, 100_000)?;
-    let text = format!(in alloc; "{{\"unknown\":{deep}")?;
-    compare_refused(&rt, alloc, text.as_str());
+    compare_deep(&rt, alloc)?;
     Ok(())
 }
 

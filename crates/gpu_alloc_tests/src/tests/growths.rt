@@ -1,15 +1,15 @@
 //! Each request for host memory of a whole run refused in turn, by calls of the allocator alone: what is held is as
 //! before then. The calls of blocks, the returns, the cleanup and the end take no memory.
 
-use super::bench::{Bench, leave_nothing};
-use super::offers::offer;
+use super::bench::{Bench, Held, close, leave_nothing};
+use super::offers::{are_usable, offer};
 use super::same::{holds, same};
 use gpu_alloc::{
     AllocationError, Config, Dedicated, GpuAllocator, MemoryPropertyFlags, MemoryType, Request,
     UsageFlags,
 };
 use gpu_sim::{HostMemory, ScarceMemory, SimMemory};
-use std::alloc::Global;
+use std::alloc::{Allocator, Global};
 use std::process::Abort;
 use std::test::Fail;
 
@@ -65,10 +65,10 @@ fn kinds() -> [(&'static str, Request, Dedicated); 3] {
 
 /// Takes a block, and once more with ample memory where that was refused: then what is held is as before. It tells
 /// whether it was served at once.
-fn take_or_again(
+fn take_or_again<A: Allocator + Copy>(
     rt: &impl Abort,
     memory: &ScarceMemory,
-    bench: &mut Bench<HostMemory<'_>>,
+    bench: &mut Bench<A>,
     request: Request,
     hint: Dedicated,
 ) -> bool {
@@ -76,26 +76,27 @@ fn take_or_again(
     match bench.take(rt, request, Some(hint)) {
         Ok(()) => true,
         Err(error) => {
-            same(rt, "a refusal", &error, &AllocationError::OutOfHostMemory);
-            same(rt, "what is held after a refusal", &bench.held(), &before);
+            compare_kept(rt, error, bench.held(), before);
             memory.lift();
-            same(
-                rt,
-                "with ample memory",
-                &bench.take(rt, request, Some(hint)),
-                &Ok(()),
-            );
+            let again = bench.take(rt, request, Some(hint));
+            same(rt, "with ample memory", &again, &Ok(()));
             false
         }
     }
 }
 
+/// Compares a refusal for want of host memory, and what is held after it.
+fn compare_kept(rt: &impl Abort, error: AllocationError, after: Held, before: Held) {
+    same(rt, "a refusal", &error, &AllocationError::OutOfHostMemory);
+    same(rt, "what is held after a refusal", &after, &before);
+}
+
 /// Takes a block of each kind, an import first. It tells what was refused memory first, and is served with ample memory
 /// then.
-fn take_each(
+fn take_each<A: Allocator + Copy>(
     rt: &impl Abort,
     memory: &ScarceMemory,
-    bench: &mut Bench<HostMemory<'_>>,
+    bench: &mut Bench<A>,
 ) -> Option<&'static str> {
     let mut refused = bench.import_or_again(rt, memory);
     for (kind, request, hint) in kinds() {
@@ -108,7 +109,7 @@ fn take_each(
 }
 
 /// Takes a further block of each kind beside those, and calls it where no memory is left.
-fn call_each(rt: &impl Abort, memory: &ScarceMemory, bench: &mut Bench<HostMemory<'_>>) {
+fn call_each<A: Allocator + Copy>(rt: &impl Abort, memory: &ScarceMemory, bench: &mut Bench<A>) {
     for (_, request, hint) in kinds() {
         bench.take_and_call(rt, memory, request, hint);
     }
@@ -160,26 +161,24 @@ fn each_growth_of_an_allocator_is_refused_in_turn(rt: HostRuntime) -> Result<(),
     Ok(())
 }
 
+/// An allocator that takes its memory here, if there is enough.
+fn open<'a>(
+    rt: &impl Abort,
+    memory: HostMemory<'a>,
+) -> Result<ScarceAllocator<'a>, AllocationError> {
+    let types = [NON_COHERENT];
+    let offered = offer(&types, 64);
+    are_usable(rt, &offered);
+    GpuAllocator::new(memory, Config::i_am_potato(), offered)
+}
+
 /// Whether an allocator is opened where so many bytes are left. It is ended then.
 fn is_opened_in(rt: &impl Abort, alloc: Global, room: usize) -> Result<bool, Fail> {
     let memory = ScarceMemory::new(alloc)?;
     memory.leave(room)?;
-    let types = [NON_COHERENT];
-    let offered = offer(&types, 64);
-    holds(rt, offered.is_usable(), "properties of no use");
-    let opened: Result<ScarceAllocator<'_>, AllocationError> = GpuAllocator::new(
-        memory.host(),
-        Config::i_am_potato(),
-        offered,
-    );
-    match opened {
+    match open(rt, memory.host()) {
         Ok(allocator) => {
-            holds(
-                rt,
-                allocator.held_objects() == 0,
-                "objects of a new allocator",
-            );
-            allocator.close();
+            close(rt, allocator);
             Ok(true)
         }
         Err(error) => {

@@ -23,13 +23,8 @@ fn take(rt: &impl Abort, bench: &mut Bench, size: u64, usage: UsageFlags, hint: 
         usage,
         memory_types: 1,
     };
-    same_at(
-        rt,
-        "what is taken of bytes",
-        &size,
-        &bench.take(rt, request, hint),
-        &Ok(()),
-    );
+    let taken = bench.take(rt, request, hint);
+    same_at(rt, "what is taken of bytes", &size, &taken, &Ok(()));
 }
 
 /// An import counts its own bytes, and what is written to it is flushed in whole atoms of its object.

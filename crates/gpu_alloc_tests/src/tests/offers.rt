@@ -1,9 +1,11 @@
 //! What a device offers.
 
 ghost use Rattle.std.specs.Prelude.{◌≡◌};
-ghost use Rattle.gpu_alloc_types.specs.Properties.{properties_of};
+ghost use Rattle.gpu_alloc_types.specs.Properties.{IsUsable, properties_of};
 
+use super::same::holds;
 use gpu_alloc::{DeviceProperties, MemoryHeap, MemoryPropertyFlags, MemoryType};
+use std::process::Abort;
 
 /// One heap of 1 MiB.
 pub(super) const HEAPS: [MemoryHeap; 1] = [MemoryHeap { size: 1 << 20 }];
@@ -38,4 +40,11 @@ pub(super) fn again<'a>(props: &DeviceProperties<'a>) -> DeviceProperties<'a>
         non_coherent_atom_size: props.non_coherent_atom_size,
         buffer_device_address: props.buffer_device_address,
     }
+}
+
+/// An allocator has to be able to stand on these.
+pub(super) fn are_usable(rt: &impl Abort, props: &DeviceProperties<'_>)
+    ensures { IsUsable (properties_of props.now) }
+{
+    holds(rt, props.is_usable(), "properties of no use");
 }

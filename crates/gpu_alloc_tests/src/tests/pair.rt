@@ -6,7 +6,7 @@ ghost use Rattle.gpu_alloc.specs.Owned.{Adds, IsSameBlock, Leaves};
 ghost use Rattle.gpu_sim.specs.Question.{CanRefuse};
 ghost use Rattle.gpu_sim.specs.Sim.{objects_of};
 
-use super::bench::Bench;
+use super::bench::{Bench, clean, close, give_back};
 use super::same::{holds, never_with, same, same_at};
 use gpu_alloc::laws::kept_blocks_agree;
 use gpu_alloc::{
@@ -28,55 +28,64 @@ const MOST: usize = 512;
 /// What is wrong with a range that does not lie in its block.
 const OUTSIDE: &str = "a range outside its block";
 
+/// A kind of memory.
+#[derive(Clone, Copy)]
+pub(super) enum Memory {
+    /// The host does not see it.
+    Unseen,
+
+    /// The host sees it, and has to flush and to invalidate it.
+    NonCoherent,
+
+    /// The host sees it as the device does.
+    Coherent,
+}
+
 /// What two blocks are asked for with, each.
 #[derive(Clone, Copy)]
 pub(super) struct Asking {
-    pub(super) props: MemoryPropertyFlags,
+    pub(super) memory: Memory,
     pub(super) usage: UsageFlags,
     pub(super) size: u64,
     pub(super) hint: Dedicated,
 }
 
-/// One of two blocks.
-#[derive(Clone, Copy)]
-pub(super) enum Which {
-    First,
-    Second,
-}
-
 /// A call of a block, and what it has to answer.
 #[derive(Clone, Copy)]
-pub(super) enum Call<'a> {
+pub(super) enum Call {
     /// These bytes are written there.
-    Write(u64, &'a [u8], Result<(), MapError>),
+    Write(u64, &'static [u8], Result<(), MapError>),
 
     /// So many bytes are read there, and are these.
-    Read(u64, &'a [u8]),
+    Read(u64, &'static [u8]),
 
     /// So many bytes are refused to be read there, and the buffer stays as it was.
     Unread(u64, usize, MapError),
 
-    /// So many bytes are mapped there.
-    Map(u64, usize, Result<Mapping, MapError>),
+    /// So many bytes are mapped there. A mapping is told by where it starts in the object, and how many bytes it has.
+    Map(u64, usize, Result<(u64, u64), MapError>),
 
     /// The mapping is ended, where there is one.
     Unmap(bool),
 
     /// That is mapped.
-    Mapped(Option<Mapping>),
+    Mapped(Option<(u64, u64)>),
 }
 
 /// What is done with two blocks and their device, and what has to come of it.
 #[derive(Clone, Copy)]
-pub(super) enum Step<'a> {
-    /// A block is called.
-    Call(Which, Call<'a>),
+pub(super) enum Step {
+    /// The first block is called.
+    First(Call),
+
+    /// The second block is called.
+    Second(Call),
 
     /// The device refuses its next question of that kind.
     Refuse(Question, Cause),
 
     /// A command of the device writes these bytes into an object, from an offset on.
-    Command(u64, u64, &'a [u8]),
+    Command(u64, u64, &'static [u8]),
 
     /// The device was asked so often to allocate, map, flush and invalidate.
     Asked([u64; 4]),
@@ -84,6 +93,9 @@ pub(super) enum Step<'a> {
     /// The latest range in a question was that of the object with this name: its offset and its size.
     Range(u64, u64, u64),
 }
+
+/// What two blocks are asked for with, and what is done with them.
+pub(super) type Row = (Asking, &'static [Step]);
 
 /// An allocator over a simulated device, and two blocks of it. Contracts see nothing of them.
 struct Pair {
@@ -110,7 +122,7 @@ impl Pair {
     fn new(rt: &impl Abort, alloc: Global, asking: Asking) -> Result<Pair, Fail> {
         let memory_type = MemoryType {
             heap: 0,
-            props: asking.props,
+            props: props_of(asking.memory),
         };
         let Bench {
             allocator,
@@ -144,31 +156,32 @@ impl Pair {
     }
 
     /// Takes one step, and compares what comes of it. The number tells which one it is.
-    fn take_step(&mut self, rt: &impl Abort, at: usize, step: Step<'_>) {
+    fn take_step(&mut self, rt: &impl Abort, at: usize, step: Step) {
         match step {
-            Step::Call(which, call) => self.call(rt, at, which, call),
+            Step::First(call) => self.call_first(rt, at, call),
+            Step::Second(call) => self.call_second(rt, at, call),
             Step::Refuse(kind, cause) => self.refuse(rt, kind, cause),
             Step::Command(object, offset, bytes) => self.command(rt, object, offset, bytes),
             Step::Asked(counts) => same_at(rt, "questions at step", &at, &self.asked(), &counts),
             Step::Range(object, offset, size) => {
-                let range = self.device.last_range();
+                let wanted = Some((object, offset, size));
                 same_at(
                     rt,
                     "the range of step",
                     &at,
-                    &range,
-                    &Some((object, offset, size)),
+                    &self.device.last_range(),
+                    &wanted,
                 );
             }
         }
     }
 
-    /// Calls one of the blocks.
-    fn call(&mut self, rt: &impl Abort, at: usize, which: Which, call: Call<'_>) {
-        match which {
-            Which::First => call_block(rt, &mut self.device, &mut self.first, at, call),
-            Which::Second => call_block(rt, &mut self.device, &mut self.second, at, call),
-        }
+    fn call_first(&mut self, rt: &impl Abort, at: usize, call: Call) {
+        call_block(rt, &mut self.device, &mut self.first, at, call);
+    }
+
+    fn call_second(&mut self, rt: &impl Abort, at: usize, call: Call) {
+        call_block(rt, &mut self.device, &mut self.second, at, call);
     }
 
     /// Has the device refuse its next question of a kind.
@@ -202,29 +215,42 @@ impl Pair {
             first,
             second,
         } = self;
-        allocator.dealloc(&mut device, first);
-        allocator.dealloc(&mut device, second);
-        allocator.cleanup(&mut device);
+        give_back(rt, &mut allocator, &mut device, first);
+        give_back(rt, &mut allocator, &mut device, second);
+        clean(&mut allocator, &mut device);
         same(rt, "objects at the end", &device.objects(), &0);
         drop(device);
-        holds(rt, allocator.held_objects() == 0, "objects held at the end");
-        allocator.close();
+        close(rt, allocator);
     }
 }
 
-/// Takes the steps in their order with two fresh blocks, and gives these back.
-pub(super) fn play(
-    rt: &impl Abort,
-    alloc: Global,
-    asking: Asking,
-    steps: &[Step<'_>],
-) -> Result<(), Fail> {
+/// Takes the steps of each row in their order with two fresh blocks, and gives these back.
+pub(super) fn play(rt: &impl Abort, alloc: Global, rows: &[Row]) -> Result<(), Fail> {
+    for (asking, steps) in rows {
+        play_row(rt, alloc, *asking, steps)?;
+    }
+    Ok(())
+}
+
+/// The same of one row.
+fn play_row(rt: &impl Abort, alloc: Global, asking: Asking, steps: &[Step]) -> Result<(), Fail> {
     let mut pair = Pair::new(rt, alloc, asking)?;
     for (at, step) in steps.iter().enumerate() {
         pair.take_step(rt, at, *step);
     }
     pair.end(rt);
     Ok(())
+}
+
+/// The properties of that kind of memory.
+fn props_of(memory: Memory) -> MemoryPropertyFlags {
+    match memory {
+        Memory::Unseen => MemoryPropertyFlags::DEVICE_LOCAL,
+        Memory::NonCoherent => MemoryPropertyFlags::HOST_VISIBLE,
+        Memory::Coherent => {
+            MemoryPropertyFlags::HOST_VISIBLE | MemoryPropertyFlags::HOST_COHERENT
+        }
+    }
 }
 
 /// A block as it is asked for, beside those in hand.
@@ -292,7 +318,7 @@ fn can_refuse(kind: Question, cause: Cause) -> bool
 fn fits(block: &MemoryBlock<SimMemory>, offset: u64, len: usize) -> bool
     ensures { IsTrue result → offset + len ≤ block.now.size }
 {
-    offset <= block.size() && len as u64 <= block.size() - offset
+    u128::from(offset) + len as u128 <= u128::from(block.size())
 }
 
 /// Calls a block, and compares what it answers.
@@ -301,7 +327,7 @@ fn call_block(
     device: &mut Sim,
     block: &mut MemoryBlock<SimMemory>,
     at: usize,
-    call: Call<'_>,
+    call: Call,
 )
     requires ready { BlockAgrees block.old device.old.properties (objects_of device.old) }
     ensures agrees { BlockAgrees block.new device.new.properties (objects_of device.new) }
@@ -325,7 +351,7 @@ fn call_block(
         }
         Call::Map(offset, size, answer) => {
             holds(rt, size > 0 && fits(block, offset, size), OUTSIDE);
-            let given = block.map(device, offset, size);
+            let given = told(block.map(device, offset, size));
             same_at(rt, "the mapping of step", &at, &given, &answer);
         }
         Call::Unmap(answer) => {
@@ -333,16 +359,23 @@ fn call_block(
             same_at(rt, "the unmapping of step", &at, &given, &answer);
         }
         Call::Mapped(mapping) => {
-            let given = (block.mapping(), block.is_mapped());
-            same_at(
-                rt,
-                "what is mapped at step",
-                &at,
-                &given,
-                &(mapping, mapping.is_some()),
-            );
+            let given = (place_of(block.mapping()), block.is_mapped());
+            let wanted = (mapping, mapping.is_some());
+            same_at(rt, "what is mapped at step", &at, &given, &wanted);
         }
     }
+}
+
+/// Where a mapping starts in its object, and how many bytes it has.
+fn told(answer: Result<Mapping, MapError>) -> Result<(u64, u64), MapError> {
+    let Mapping { start, len } = answer?;
+    Ok((start, len))
+}
+
+/// The same of what is mapped, if anything is.
+fn place_of(mapping: Option<Mapping>) -> Option<(u64, u64)> {
+    let Mapping { start, len } = mapping?;
+    Some((start, len))
 }
 
 /// Reads so many bytes of a block. What is answered, and what the buffer holds then.

@@ -1,6 +1,6 @@
 //! Comparisons that tell what they compare. They stand here once, since the words of a failed one are dear to prove.
 
-ghost use Rattle.std.specs.Prelude.{◌≡◌, IsTrue};
+ghost use Rattle.std.specs.Prelude.{◌≡◌, ◌<◌, IsTrue};
 
 use std::fmt::Debug;
 use std::process::Abort;
@@ -26,6 +26,13 @@ pub(super) fn holds(rt: &impl Abort, is_so: bool, wrong: &str)
     ensures { IsTrue is_so }
 {
     assert!(rt; is_so, "{wrong}");
+}
+
+/// A number has to be below another. If not, the message says what is wrong.
+pub(super) fn below(rt: &impl Abort, number: usize, bound: usize, wrong: &str)
+    ensures { number < bound }
+{
+    assert!(rt; number < bound, "{wrong}");
 }
 
 /// That must not come.

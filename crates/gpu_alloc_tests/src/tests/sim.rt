@@ -124,7 +124,8 @@ impl Device {
             }
             Step::Latest(latest) => {
                 let came = self.sim.last_allocation();
-                same_at(rt, "the latest question at step", &at, &came, &latest);
+                let wanted = without_flags(latest);
+                same_at(rt, "the latest question at step", &at, &came, &wanted);
             }
         }
     }
@@ -204,8 +205,14 @@ enum Step {
     /// It was asked so often to allocate and to map.
     Asked(u64, u64),
 
-    /// That was the latest question to allocate.
-    Latest(Option<(u64, u32, AllocationFlags)>),
+    /// That was the latest question to allocate: for so many bytes of that memory type, without flags.
+    Latest(Option<(u64, u32)>),
+}
+
+/// A question to allocate, without flags.
+fn without_flags(latest: Option<(u64, u32)>) -> Option<(u64, u32, AllocationFlags)> {
+    let (size, memory_type) = latest?;
+    Some((size, memory_type, AllocationFlags::from_bits_retain(0)))
 }
 
 /// Takes the steps in their order with a fresh device, which refuses a question.
@@ -218,87 +225,150 @@ fn play(rt: &impl Abort, alloc: Global, refused: Plan, steps: &[Step]) -> Result
     Ok(())
 }
 
+const REFUSED: [Step; 3] = [
+    Step::Keep(8, Err(OutOfMemory::OutOfDeviceMemory), 0),
+    Step::Keep(8, Ok(1), 1),
+    Step::Keep(9, Ok(2), 2),
+];
+
 #[test]
 fn a_refused_question_uses_no_name(rt: HostRuntime) -> Result<(), Fail> {
     let refused = (Question::Allocate, 1, Cause::Device);
-    let steps = [
-        Step::Keep(8, Err(OutOfMemory::OutOfDeviceMemory), 0),
-        Step::Keep(8, Ok(1), 1),
-        Step::Keep(9, Ok(2), 2),
-    ];
-    play(&rt, rt.alloc(), refused, &steps)
+    play(&rt, rt.alloc(), refused, &REFUSED)
 }
+
+const RETURNED: [Step; 2] = [Step::Return(8, Ok(1), 0), Step::Keep(8, Ok(2), 1)];
 
 #[test]
 fn a_name_is_given_once(rt: HostRuntime) -> Result<(), Fail> {
-    let steps = [Step::Return(8, Ok(1), 0), Step::Keep(8, Ok(2), 1)];
-    play(&rt, rt.alloc(), NONE, &steps)
+    play(&rt, rt.alloc(), NONE, &RETURNED)
 }
+
+const COUNTED: [Step; 6] = [
+    Step::Asked(0, 0),
+    Step::Latest(None),
+    Step::Keep(8, Ok(1), 1),
+    Step::Keep(16, Err(OutOfMemory::OutOfHostMemory), 1),
+    Step::Asked(2, 0),
+    Step::Latest(Some((16, 0))),
+];
 
 #[test]
 fn a_question_is_counted_and_told(rt: HostRuntime) -> Result<(), Fail> {
-    let flags = AllocationFlags::from_bits_retain(0);
-    let steps = [
-        Step::Asked(0, 0),
-        Step::Latest(None),
-        Step::Keep(8, Ok(1), 1),
-        Step::Keep(16, Err(OutOfMemory::OutOfHostMemory), 1),
-        Step::Asked(2, 0),
-        Step::Latest(Some((16, 0, flags))),
-    ];
-    play(&rt, rt.alloc(), (Question::Allocate, 2, Host), &steps)
+    play(&rt, rt.alloc(), (Question::Allocate, 2, Host), &COUNTED)
 }
+
+const PLANNED: [Step; 1] = [Step::Keep(8, Ok(1), 1)];
 
 #[test]
 fn a_plan_for_a_map_refuses_no_allocation(rt: HostRuntime) -> Result<(), Fail> {
-    let steps = [Step::Keep(8, Ok(1), 1)];
-    play(&rt, rt.alloc(), (Question::Map, 1, Failed), &steps)
+    play(&rt, rt.alloc(), (Question::Map, 1, Failed), &PLANNED)
 }
+
+/// Plans for maps, the answers to the first one, and how often the device is asked to map.
+const MAPS: [(Plan, [Step; 2]); 4] = [
+    (
+        (Question::Map, 1, Cause::Device),
+        [
+            Step::Map(8, Err(DeviceMapError::OutOfDeviceMemory)),
+            Step::Asked(1, 2),
+        ],
+    ),
+    (
+        (Question::Map, 1, Host),
+        [
+            Step::Map(8, Err(DeviceMapError::OutOfHostMemory)),
+            Step::Asked(1, 2),
+        ],
+    ),
+    (
+        (Question::Map, 1, Failed),
+        [
+            Step::Map(8, Err(DeviceMapError::MapFailed)),
+            Step::Asked(1, 2),
+        ],
+    ),
+    (
+        (Question::Map, 2, Failed),
+        [Step::Map(8, Ok(())), Step::Asked(1, 1)],
+    ),
+];
 
 #[test]
 fn a_map_is_counted_and_where_it_is_refused_maps_nothing(rt: HostRuntime) -> Result<(), Fail> {
-    for (nth, cause, answer, maps) in [
-        (1, Cause::Device, Err(DeviceMapError::OutOfDeviceMemory), 2),
-        (1, Host, Err(DeviceMapError::OutOfHostMemory), 2),
-        (1, Failed, Err(DeviceMapError::MapFailed), 2),
-        (2, Failed, Ok(()), 1),
-    ] {
-        let steps = [Step::Map(8, answer), Step::Asked(1, maps)];
-        play(&rt, rt.alloc(), (Question::Map, nth, cause), &steps)?;
+    for (refused, steps) in &MAPS {
+        play(&rt, rt.alloc(), *refused, steps)?;
     }
     Ok(())
 }
 
+const DUPLICATED: [Step; 2] = [Step::Keep(8, Ok(1), 1), Step::Duplicate(8, 2)];
+
 #[test]
 fn a_duplicate_is_of_the_same_object(rt: HostRuntime) -> Result<(), Fail> {
-    let steps = [Step::Keep(8, Ok(1), 1), Step::Duplicate(8, 2)];
-    play(&rt, rt.alloc(), NONE, &steps)
+    play(&rt, rt.alloc(), NONE, &DUPLICATED)
 }
 
-/// What a device offers that has one memory type, with these property bits.
-macro_rules! one_type {
-    ($bits:expr) => {
-        DeviceProperties {
+/// A device with one memory type and an atom of 64 bytes. Contracts see nothing else of it.
+#[derive(Drop)]
+struct OneType<A: Allocator + Copy = Global> {
+    sim: Sim<A>,
+}
+
+impl<A: Allocator + Copy> Model for OneType<A> {
+    ghost use Rattle.std.specs.Prelude.{◌≡◌, ℕ, length};
+
+    ghost Value = { ℕ };
+
+    ghost view = { λ _. 0 };
+
+    ghost invariant = { λ d. length (d.sim).properties.memory_types ≡ 1 };
+}
+
+impl<A: Allocator + Copy> OneType<A> {
+    /// One whose type has these property bits.
+    fn new(heap: A, bits: u8) -> Result<OneType<A>, AllocError> {
+        let props = DeviceProperties {
             memory_types: &[MemoryType {
                 heap: 0,
-                props: MemoryPropertyFlags::from_bits_retain($bits),
+                props: MemoryPropertyFlags::from_bits_retain(bits),
             }],
             memory_heaps: &HEAPS,
             max_memory_allocation_count: 1,
             max_memory_allocation_size: 1,
             non_coherent_atom_size: 64,
             buffer_device_address: false,
-        }
-    };
+        };
+        Ok(OneType {
+            sim: Sim::new(heap, props)?,
+        })
+    }
+
+    /// The answer to a question for an object of so many bytes, and how many objects are held then.
+    fn ask(&mut self, rt: &impl Abort, size: u64) -> (Result<u64, OutOfMemory>, usize) {
+        holds(rt, size > 0, "an object of no bytes");
+        let given = ask(&mut self.sim, size);
+        (given, self.sim.objects())
+    }
+
+    /// A handle of a new object of one byte.
+    fn handle(&mut self) -> Option<SimMemory<A>> {
+        self.sim
+            .allocate_memory(1, 0, AllocationFlags::from_bits_retain(0))
+            .ok()
+    }
 }
 
 /// A handle of the second object of a device, which is gone.
-fn handle_of_second<A: Allocator + Copy>(heap: A) -> Result<Option<SimMemory<A>>, AllocError> {
-    let mut sim: Sim<A> = Sim::new(heap, one_type!(1))?;
-    let _ = ask(&mut sim, 1);
-    let answer = sim.allocate_memory(1, 0, AllocationFlags::from_bits_retain(0));
-    drop(sim);
-    Ok(answer.ok())
+fn handle_of_second<A: Allocator + Copy>(
+    rt: &impl Abort,
+    heap: A,
+) -> Result<Option<SimMemory<A>>, AllocError> {
+    let mut device = OneType::new(heap, 1)?;
+    let _ = device.ask(rt, 1);
+    let handle = device.handle();
+    drop(device);
+    Ok(handle)
 }
 
 /// Duplicates a handle until its memory is spent. How many there are then.
@@ -320,7 +390,7 @@ fn count_duplicates(
 #[test]
 fn a_duplicate_is_refused_with_its_memory(rt: HostRuntime) -> Result<(), Fail> {
     let scarce = ScarceMemory::new(rt.alloc())?;
-    let Some(memory) = handle_of_second(scarce.host())? else {
+    let Some(memory) = handle_of_second(&rt, scarce.host())? else {
         panic!(rt; "no object");
     };
     for (room, count) in [(0, 0), (7, 0), (8, 1), (80, 10), (4096, 512), (8, 1)] {
@@ -339,43 +409,60 @@ fn a_duplicate_is_refused_with_its_memory(rt: HostRuntime) -> Result<(), Fail> {
     Ok(())
 }
 
+/// Compares the largest object in memory that the host does not see, and that no command writes to it.
+fn compare_largest(rt: &impl Abort, alloc: Global, bits: u8) -> Result<(), AllocError> {
+    let mut device = OneType::new(alloc, bits)?;
+    let (answer, _) = device.ask(rt, 1 << 63);
+    let OneType { mut sim } = device;
+    let first = sim.gpu_write(1, 0, &[1]);
+    let second = sim.gpu_write(2, 0, &[]);
+    let objects = sim.objects();
+    drop(sim);
+    let came = (answer, (first, second), objects);
+    same_at(
+        rt,
+        "an object of bits",
+        &bits,
+        &came,
+        &(Ok(1), (false, false), 1),
+    );
+    Ok(())
+}
+
 #[test]
 fn a_device_local_object_may_be_of_2_to_the_63_bytes(rt: HostRuntime) -> Result<(), Fail> {
     for bits in [1, 5] {
-        let mut sim: Sim = Sim::new(rt.alloc(), one_type!(bits))?;
-        let answer = ask(&mut sim, 1 << 63);
-        let written = (sim.gpu_write(1, 0, &[1]), sim.gpu_write(2, 0, &[]));
-        let objects = sim.objects();
-        drop(sim);
-        let came = (answer, written, objects);
-        same_at(
-            &rt,
-            "an object of bits",
-            &bits,
-            &came,
-            &(Ok(1), (false, false), 1),
-        );
+        compare_largest(&rt, rt.alloc(), bits)?;
     }
     Ok(())
+}
+
+/// Objects of these sizes where few bytes are left, the answers, and how many are held then: of 3,000 bytes there is
+/// room for the host's list alone.
+const FEW: [(u64, Result<u64, OutOfMemory>, usize); 3] = [
+    (3000, Err(OutOfMemory::OutOfHostMemory), 0),
+    (1 << 63, Err(OutOfMemory::OutOfHostMemory), 0),
+    (1000, Ok(1), 1),
+];
+
+fn compare_few<A: Allocator + Copy>(
+    rt: &impl Abort,
+    memory: &ScarceMemory,
+    device: &mut OneType<A>,
+) {
+    for (size, answer, objects) in &FEW {
+        holds(rt, memory.leave(4096).is_ok(), "the host lacks memory");
+        let came = device.ask(rt, *size);
+        same_at(rt, "an object of bytes", size, &came, &(*answer, *objects));
+    }
+    same(rt, "questions", &device.sim.asked(Question::Allocate), &3);
 }
 
 #[test]
 fn an_object_is_refused_with_its_bytes(rt: HostRuntime) -> Result<(), Fail> {
     let memory = ScarceMemory::new(rt.alloc())?;
-    let mut sim: Sim<HostMemory<'_>> = Sim::new(memory.host(), one_type!(2))?;
-    let refused = Err(OutOfMemory::OutOfHostMemory);
-    // Of 3,000 bytes there is room for the host's list alone.
-    for (size, answer, objects) in [(3000, refused, 0), (1 << 63, refused, 0), (1000, Ok(1), 1)] {
-        holds(
-            &rt,
-            size > 0 && memory.leave(4096).is_ok(),
-            "the host lacks memory",
-        );
-        let given = ask(&mut sim, size);
-        let came = (given, sim.objects());
-        same_at(&rt, "an object of bytes", &size, &came, &(answer, objects));
-    }
-    same(&rt, "questions", &sim.asked(Question::Allocate), &3);
-    drop(sim);
+    let mut device = OneType::new(memory.host(), 2)?;
+    compare_few(&rt, &memory, &mut device);
+    drop(device);
     Ok(())
 }

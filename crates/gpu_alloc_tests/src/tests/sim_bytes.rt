@@ -26,7 +26,7 @@ fn is_inside(offset: u64, size: u64) -> bool
     ensures some { IsTrue result → 0 < size }
     ensures inside { IsTrue result → offset + size ≤ 8 }
 {
-    size > 0 && offset <= SIZE && size <= SIZE - offset
+    size > 0 && u128::from(offset) + u128::from(size) <= u128::from(SIZE)
 }
 
 /// A device of one memory type with an object of 8 bytes, all of which are mapped. Contracts see the object's name.
@@ -207,6 +207,14 @@ const REFUSED: Result<(), OutOfMemory> = Err(OutOfMemory::OutOfHostMemory);
 /// All that the device has comes to the host.
 const ALL: Act = Invalidate(0, 8, Ok(()));
 
+/// Does all that in turn with a fresh object, coherent or not, of a device that refuses no question.
+fn act_in_each(rt: &impl Abort, alloc: Global, rows: &[(bool, [Act; 3])]) -> Result<(), Fail> {
+    for (coherent, acts) in rows {
+        act_in_turn(rt, alloc, *coherent, NONE, acts)?;
+    }
+    Ok(())
+}
+
 /// Does all that in turn with a fresh object, coherent or not, of a device that refuses a question.
 fn act_in_turn(
     rt: &impl Abort,
@@ -223,103 +231,143 @@ fn act_in_turn(
     Ok(())
 }
 
+/// What the host sees of new bytes that are coherent, and of such that are not.
+const NEW: [(bool, [Act; 3]); 2] = [
+    (true, [See([0; 8]), Invalidate(3, 5, Ok(())), See([0; 8])]),
+    (
+        false,
+        [
+            See([238; 8]),
+            Invalidate(3, 5, Ok(())),
+            See([238, 238, 238, 0, 0, 0, 0, 0]),
+        ],
+    ),
+];
+
 #[test]
 fn new_bytes_show_a_missing_invalidate(rt: HostRuntime) -> Result<(), Fail> {
-    let to_the_end = Invalidate(3, 5, Ok(()));
-    let cut = See([238, 238, 238, 0, 0, 0, 0, 0]);
-    for (coherent, acts) in [
-        (true, [See([0; 8]), to_the_end, See([0; 8])]),
-        (false, [See([238; 8]), to_the_end, cut]),
-    ] {
-        act_in_turn(&rt, rt.alloc(), coherent, NONE, &acts)?;
-    }
-    Ok(())
+    act_in_each(&rt, rt.alloc(), &NEW)
 }
+
+/// What the device has after a put.
+const AT_ONCE: [(bool, [Act; 3]); 2] = [
+    (true, [Put(2, [3, 4]), ALL, See([0, 0, 3, 4, 0, 0, 0, 0])]),
+    (false, [Put(2, [3, 4]), ALL, See([0; 8])]),
+];
 
 #[test]
 fn the_device_sees_a_put_at_once_where_it_is_coherent(rt: HostRuntime) -> Result<(), Fail> {
-    for (coherent, found) in [(true, [0, 0, 3, 4, 0, 0, 0, 0]), (false, [0; 8])] {
-        let acts = [Put(2, [3, 4]), ALL, See(found)];
-        act_in_turn(&rt, rt.alloc(), coherent, NONE, &acts)?;
-    }
-    Ok(())
+    act_in_each(&rt, rt.alloc(), &AT_ONCE)
 }
+
+const FLUSHED: [Act; 5] = [
+    Put(2, [3, 4]),
+    Put(4, [5, 6]),
+    Flush(3, 2, Ok(())),
+    ALL,
+    See([0, 0, 0, 4, 5, 0, 0, 0]),
+];
 
 #[test]
 fn a_flush_copies_its_range(rt: HostRuntime) -> Result<(), Fail> {
-    let acts = [
-        Put(2, [3, 4]),
-        Put(4, [5, 6]),
-        Flush(3, 2, Ok(())),
-        ALL,
-        See([0, 0, 0, 4, 5, 0, 0, 0]),
-    ];
-    act_in_turn(&rt, rt.alloc(), false, NONE, &acts)
+    act_in_turn(&rt, rt.alloc(), false, NONE, &FLUSHED)
 }
+
+const HALF_FLUSHED: [Act; 5] = [
+    Put(1, [2, 3]),
+    Put(3, [4, 5]),
+    Flush(1, 7, REFUSED),
+    ALL,
+    See([0, 2, 3, 4, 0, 0, 0, 0]),
+];
 
 #[test]
 fn a_refused_flush_copies_the_first_half(rt: HostRuntime) -> Result<(), Fail> {
-    let acts = [
-        Put(1, [2, 3]),
-        Put(3, [4, 5]),
-        Flush(1, 7, REFUSED),
-        ALL,
-        See([0, 2, 3, 4, 0, 0, 0, 0]),
-    ];
-    act_in_turn(&rt, rt.alloc(), false, (Question::Flush, 1, Host), &acts)
+    act_in_turn(
+        &rt,
+        rt.alloc(),
+        false,
+        (Question::Flush, 1, Host),
+        &HALF_FLUSHED,
+    )
 }
+
+const HALF_INVALIDATED: [Act; 3] = [
+    Invalidate(7, 1, Ok(())),
+    Invalidate(0, 7, REFUSED),
+    See([0, 0, 0, 238, 238, 238, 238, 0]),
+];
 
 #[test]
 fn a_refused_invalidate_copies_the_first_half(rt: HostRuntime) -> Result<(), Fail> {
-    let acts = [
-        Invalidate(7, 1, Ok(())),
-        Invalidate(0, 7, REFUSED),
-        See([0, 0, 0, 238, 238, 238, 238, 0]),
-    ];
     act_in_turn(
         &rt,
         rt.alloc(),
         false,
         (Question::Invalidate, 2, Host),
-        &acts,
+        &HALF_INVALIDATED,
     )
 }
 
-#[test]
-fn an_unmap_keeps_the_bytes(rt: HostRuntime) -> Result<(), Fail> {
-    let kept = See([238, 238, 1, 2, 238, 238, 238, 238]);
-    act_in_turn(&rt, rt.alloc(), false, NONE, &[Put(2, [1, 2]), Remap, kept])
-}
+const KEPT: [Act; 3] = [
+    Put(2, [1, 2]),
+    Remap,
+    See([238, 238, 1, 2, 238, 238, 238, 238]),
+];
 
 #[test]
-fn a_command_writes_inside_an_object(rt: HostRuntime) -> Result<(), Fail> {
-    for (coherent, first) in [(true, [0, 0, 0, 0, 0, 0, 9, 9]), (false, [238; 8])] {
-        let acts = [
+fn an_unmap_keeps_the_bytes(rt: HostRuntime) -> Result<(), Fail> {
+    act_in_turn(&rt, rt.alloc(), false, NONE, &KEPT)
+}
+
+/// What commands of the device write where that is inside an object, and what the host sees of it.
+const COMMANDS: [(bool, [Act; 6]); 2] = [
+    (
+        true,
+        [
             Write(7, [1, 1], false),
             Write(u64::MAX, [1, 1], false),
             Write(6, [9, 9], true),
-            See(first),
+            See([0, 0, 0, 0, 0, 0, 9, 9]),
             ALL,
             See([0, 0, 0, 0, 0, 0, 9, 9]),
-        ];
-        act_in_turn(&rt, rt.alloc(), coherent, NONE, &acts)?;
+        ],
+    ),
+    (
+        false,
+        [
+            Write(7, [1, 1], false),
+            Write(u64::MAX, [1, 1], false),
+            Write(6, [9, 9], true),
+            See([238; 8]),
+            ALL,
+            See([0, 0, 0, 0, 0, 0, 9, 9]),
+        ],
+    ),
+];
+
+#[test]
+fn a_command_writes_inside_an_object(rt: HostRuntime) -> Result<(), Fail> {
+    for (coherent, acts) in &COMMANDS {
+        act_in_turn(&rt, rt.alloc(), *coherent, NONE, acts)?;
     }
     Ok(())
 }
 
+const RANGES: [Act; 4] = [
+    Told(0, 0, (1, 0, 8)),
+    FlushTwo,
+    Invalidate(3, 4, REFUSED),
+    Told(2, 1, (1, 3, 4)),
+];
+
 #[test]
 fn the_latest_range_is_told(rt: HostRuntime) -> Result<(), Fail> {
-    let acts = [
-        Told(0, 0, (1, 0, 8)),
-        FlushTwo,
-        Invalidate(3, 4, REFUSED),
-        Told(2, 1, (1, 3, 4)),
-    ];
     act_in_turn(
         &rt,
         rt.alloc(),
         false,
         (Question::Invalidate, 1, Host),
-        &acts,
+        &RANGES,
     )
 }

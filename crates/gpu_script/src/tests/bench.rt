@@ -1,16 +1,17 @@
 //! An allocator over the simulated device, with the blocks that it gave out.
 
-ghost use Rattle.std.specs.Prelude.{◌≡◌, ◌<◌, length, vec_len};
+ghost use Rattle.std.specs.Prelude.{◌≡◌, ◌<◌, length, vec_len, IfOk};
 ghost use Rattle.gpu_alloc_types.specs.Properties.{IsUsable, properties_of};
+ghost use Rattle.gpu_alloc.specs.Agreement.{Agrees};
 ghost use Rattle.gpu_sim.specs.Question.{CanRefuse};
 
-use super::same::{same, same_at};
+use super::same::{below, holds, same, same_at};
 use crate::sim::{Cause, Question, Sim, SimMemory};
 use gpu_alloc::{
     AllocationError, AllocationFlags, Config, Dedicated, DeviceProperties, GpuAllocator,
     MemoryBlock, MemoryHeap, MemoryPropertyFlags, MemoryType, Request, UsageFlags,
 };
-use gpu_alloc_types::MemoryObject;
+use gpu_alloc_types::{MemoryDevice, MemoryObject};
 use std::alloc::{AllocError, Allocator, Global};
 use std::marker::Model;
 use std::process::Abort;
@@ -62,6 +63,13 @@ pub(super) fn again<'a>(props: &DeviceProperties<'a>) -> DeviceProperties<'a>
     }
 }
 
+/// An allocator has to be able to stand on these.
+pub(super) fn are_usable(rt: &impl Abort, props: &DeviceProperties<'_>)
+    ensures { IsUsable (properties_of props.now) }
+{
+    holds(rt, props.is_usable(), "properties of no use");
+}
+
 /// A request for so many bytes of the first memory type, wherever they start, and without a usage.
 pub(super) fn bytes(size: u64) -> Request {
     Request {
@@ -91,6 +99,90 @@ pub(super) fn place_in(object: u64, offset: u64, size: u64) -> Place {
     }
 }
 
+/// Where a block lies in memory of the first type: its object, its offset and its size.
+pub(super) type Spot = (u64, u64, u64);
+
+/// The place of such a block in memory of a type.
+fn place_at(memory_type: u32, spot: Spot) -> Place {
+    let (object, offset, size) = spot;
+    Place {
+        memory_type,
+        object,
+        offset,
+        size,
+    }
+}
+
+/// What is asked for: so many bytes of the first memory type, wherever they start, and without a usage, where nothing
+/// else is said.
+#[derive(Clone, Copy)]
+pub(super) enum Ask {
+    Bytes(u64),
+
+    /// From a multiple of the mask and one on.
+    Aligned(u64, u64),
+
+    /// Of these memory types.
+    OfTypes(u64, u32),
+
+    /// For a usage of a bit that has no name.
+    Unnamed(u64),
+
+    /// For the host to write and read.
+    ByHost(u64),
+
+    /// For a short time.
+    Transient(u64),
+
+    /// The same from a multiple of the mask and one on.
+    AlignedTransient(u64, u64),
+
+    /// In an object of their own.
+    Own(u64),
+
+    /// The same of no memory type.
+    OwnOfNone(u64),
+
+    /// In an object of their own where they are many enough for a hint.
+    Preferred(u64),
+}
+
+impl Ask {
+    /// Its size, the mask of its alignment, its usage and its memory types.
+    fn parts(self) -> (u64, u64, UsageFlags, u32) {
+        match self {
+            Ask::Bytes(size) | Ask::Own(size) | Ask::Preferred(size) => {
+                (size, 0, UsageFlags::empty(), 1)
+            }
+            Ask::Aligned(size, align_mask) => (size, align_mask, UsageFlags::empty(), 1),
+            Ask::OfTypes(size, memory_types) => (size, 0, UsageFlags::empty(), memory_types),
+            Ask::OwnOfNone(size) => (size, 0, UsageFlags::empty(), 0),
+            Ask::Unnamed(size) => (size, 0, UsageFlags::from_bits_retain(0x40), 1),
+            Ask::ByHost(size) => (size, 0, UsageFlags::HOST_ACCESS, 1),
+            Ask::Transient(size) => (size, 0, UsageFlags::TRANSIENT, 1),
+            Ask::AlignedTransient(size, align_mask) => (size, align_mask, UsageFlags::TRANSIENT, 1),
+        }
+    }
+
+    pub(super) fn request(self) -> Request {
+        let (size, align_mask, usage, memory_types) = self.parts();
+        Request {
+            size,
+            align_mask,
+            usage,
+            memory_types,
+        }
+    }
+
+    fn hint(self) -> Option<Dedicated> {
+        match self {
+            Ask::Own(_) | Ask::OwnOfNone(_) => Some(Dedicated::Required),
+            Ask::Preferred(_) => Some(Dedicated::Preferred),
+            _ => None,
+        }
+    }
+}
+
 /// What was asked of a device so far, and what is held.
 #[derive(Clone, Copy, Debug, PartialEq, Eq)]
 pub(super) struct Counts {
@@ -107,7 +199,7 @@ pub(super) struct Counts {
     pub(super) used: u128,
 }
 
-/// An allocator over a simulated device, with the blocks that it gave out. Contracts see how many these are.
+/// An allocator over a simulated device, with the blocks that it gave out. Contracts see nothing of it.
 pub(super) struct Bench<A: Allocator + Copy = Global> {
     allocator: GpuAllocator<SimMemory<A>, A>,
     device: Sim<A>,
@@ -115,13 +207,13 @@ pub(super) struct Bench<A: Allocator + Copy = Global> {
 }
 
 impl<A: Allocator + Copy> Model for Bench<A> {
-    ghost use Rattle.std.specs.Prelude.{ℕ, ◌<◌, length, vec_len};
+    ghost use Rattle.std.specs.Prelude.{ℕ, ◌<◌, length};
     ghost use Rattle.gpu_alloc.specs.Agreement.{Agrees};
     ghost use Rattle.gpu_sim.specs.Sim.{objects_of};
 
     ghost Value = { ℕ };
 
-    ghost view = { λ b. vec_len b.blocks };
+    ghost view = { λ _. 0 };
 
     ghost invariant = { λ b. Agrees b.allocator (b.device).properties (objects_of b.device) ×
         (0 < length ((b.allocator).properties).memory_heaps) };
@@ -134,12 +226,10 @@ impl<A: Allocator + Copy> Bench<A> {
         alloc: A,
         offered: DeviceProperties<'_>,
     ) -> Result<Self, Fail> {
-        assert!(rt; offered.is_usable());
-        if offered.memory_heaps.is_empty() {
-            panic!(rt; "no heap");
-        }
+        are_usable(rt, &offered);
+        below(rt, 0, offered.memory_heaps.len(), "no heap");
         let blocks = Vec::with_capacity(alloc, 8)?;
-        match Sim::new(alloc, again(&offered)) {
+        match device_of(alloc, &offered) {
             Ok(device) => Bench::over(alloc, offered, device, blocks),
             Err(e) => {
                 blocks.destroy_empty();
@@ -182,35 +272,22 @@ impl<A: Allocator + Copy> Bench<A> {
         request: Request,
         hint: Option<Dedicated>,
     ) -> Result<Place, AllocationError> {
-        assert!(rt; request.is_askable(false));
-        assert!(rt; self.blocks.len() < self.blocks.capacity());
-        let block = match hint {
-            None => self.allocator.alloc(&mut self.device, request)?,
-            Some(hint) => self
-                .allocator
-                .alloc_with_dedicated(&mut self.device, request, hint)?,
-        };
-        let place = Place {
-            memory_type: block.memory_type(),
-            object: block.memory().object(),
-            offset: block.offset(),
-            size: block.size(),
-        };
-        self.blocks.push_reserved(block);
+        let block = ask_for(rt, &mut self.allocator, &mut self.device, request, hint)?;
+        let place = place_of(&block);
+        keep(rt, &mut self.blocks, block);
         Ok(place)
     }
 
     /// Gives back what free lists keep without a block.
     pub(super) fn cleanup(&mut self) {
-        self.allocator.cleanup(&mut self.device);
+        clean(&mut self.allocator, &mut self.device);
     }
 
     /// Gives back the block of this place in the list, which the latest one takes.
     fn give_back_at(&mut self, rt: &impl Abort, at: usize) {
-        assert!(rt; at < self.blocks.len());
+        below(rt, at, self.blocks.len(), "no such block");
         let block = self.blocks.swap_remove(at);
-        assert!(rt; self.allocator.owns(&block));
-        self.allocator.dealloc(&mut self.device, block);
+        give_back(rt, &mut self.allocator, &mut self.device, block);
     }
 
     pub(super) fn counts(&self) -> Counts {
@@ -324,17 +401,13 @@ impl Bench {
 
     /// Swaps its latest block for the first one of another. That becomes the latest of either.
     pub(super) fn swap_with_first_of(&mut self, rt: &impl Abort, other: &mut Bench) {
-        assert!(rt; !other.blocks.is_empty());
+        below(rt, 0, other.blocks.len(), "no block to swap for");
         let theirs = other.blocks.swap_remove(0);
         match self.blocks.pop() {
-            Some(ours) => {
-                assert!(rt; other.blocks.len() < other.blocks.capacity());
-                other.blocks.push_reserved(ours);
-            }
+            Some(ours) => keep(rt, &mut other.blocks, ours),
             None => panic!(rt; "no block"),
         }
-        assert!(rt; self.blocks.len() < self.blocks.capacity());
-        self.blocks.push_reserved(theirs);
+        keep(rt, &mut self.blocks, theirs);
     }
 
     /// The limit that the device set to the size of an object.
@@ -348,12 +421,104 @@ impl Bench {
     }
 }
 
-/// Asks for as many bytes as each pair says, and compares the places.
-pub(super) fn compare_grants(rt: &impl Abort, bench: &mut Bench, rows: &[(u64, Place)]) {
-    for (size, place) in rows {
-        let answer = bench.ask(rt, bytes(*size), None);
-        same_at(rt, "the block of bytes", size, &answer, &Ok(*place));
+/// A fresh device that offers this.
+fn device_of<A: Allocator + Copy>(
+    alloc: A,
+    offered: &DeviceProperties<'_>,
+) -> Result<Sim<A>, AllocError>
+    ensures { IfOk result (λ device. device.properties ≡ properties_of offered.now) }
+{
+    Sim::new(alloc, again(offered))
+}
+
+/// Asks for a block, with that hint or none.
+fn ask_for<M: MemoryObject, D: MemoryDevice<M>, A: Allocator>(
+    rt: &impl Abort,
+    allocator: &mut GpuAllocator<M, A>,
+    device: &mut D,
+    request: Request,
+    hint: Option<Dedicated>,
+) -> Result<MemoryBlock<M>, AllocationError>
+    requires agrees { Agrees allocator.old (D.properties device.old) (D.objects device.old) }
+    ensures agrees { Agrees allocator.new (D.properties device.new) (D.objects device.new) }
+    ensures properties { allocator.new.properties ≡ allocator.old.properties }
+{
+    holds(
+        rt,
+        request.is_askable(false),
+        "a request that may not be asked",
+    );
+    match hint {
+        None => allocator.alloc(device, request),
+        Some(hint) => allocator.alloc_with_dedicated(device, request, hint),
     }
+}
+
+/// Where a block lies.
+fn place_of<M: MemoryObject>(block: &MemoryBlock<M>) -> Place {
+    Place {
+        memory_type: block.memory_type(),
+        object: block.memory().object(),
+        offset: block.offset(),
+        size: block.size(),
+    }
+}
+
+/// Keeps a block where there is a place for it.
+fn keep<M: MemoryObject, A: Allocator>(
+    rt: &impl Abort,
+    blocks: &mut Vec<MemoryBlock<M>, A>,
+    block: MemoryBlock<M>,
+) {
+    below(rt, blocks.len(), blocks.capacity(), "no place for a block");
+    blocks.push_reserved(block);
+}
+
+/// Gives back a block, which the allocator has to own.
+fn give_back<M: MemoryObject, D: MemoryDevice<M>, A: Allocator>(
+    rt: &impl Abort,
+    allocator: &mut GpuAllocator<M, A>,
+    device: &mut D,
+    block: MemoryBlock<M>,
+)
+    requires agrees { Agrees allocator.old (D.properties device.old) (D.objects device.old) }
+    ensures agrees { Agrees allocator.new (D.properties device.new) (D.objects device.new) }
+    ensures properties { allocator.new.properties ≡ allocator.old.properties }
+{
+    holds(rt, allocator.owns(&block), "a block that is not owned");
+    allocator.dealloc(device, block);
+}
+
+/// Gives back what free lists keep without a block.
+fn clean<M: MemoryObject, D: MemoryDevice<M>, A: Allocator>(
+    allocator: &mut GpuAllocator<M, A>,
+    device: &mut D,
+)
+    requires agrees { Agrees allocator.old (D.properties device.old) (D.objects device.old) }
+    ensures agrees { Agrees allocator.new (D.properties device.new) (D.objects device.new) }
+    ensures properties { allocator.new.properties ≡ allocator.old.properties }
+{
+    allocator.cleanup(device);
+}
+
+/// Asks for as many bytes as each pair says, and compares the places.
+pub(super) fn compare_grants(rt: &impl Abort, bench: &mut Bench, rows: &[(u64, Spot)]) {
+    for (size, spot) in rows {
+        let answer = bench.ask(rt, bytes(*size), None);
+        same_at(
+            rt,
+            "the block of bytes",
+            size,
+            &answer,
+            &Ok(place_at(0, *spot)),
+        );
+    }
+}
+
+/// Compares a grant of memory of a type.
+fn compare_grant(rt: &impl Abort, bench: &mut Bench, at: usize, ask: Ask, place: Place) {
+    let answer = bench.ask(rt, ask.request(), ask.hint());
+    same_at(rt, "step", &at, &answer, &Ok(place));
 }
 
 /// Compares a refusal, and how often the device is asked for it. What is held stays as it was.
@@ -361,13 +526,13 @@ fn compare_refusal(
     rt: &impl Abort,
     bench: &mut Bench,
     at: usize,
-    request: Request,
-    hint: Option<Dedicated>,
+    ask: Ask,
     error: AllocationError,
     asked: u64,
 ) {
     let before = bench.counts();
-    same_at(rt, "step", &at, &bench.ask(rt, request, hint), &Err(error));
+    let answer = bench.ask(rt, ask.request(), ask.hint());
+    same_at(rt, "step", &at, &answer, &Err(error));
     let after = Counts {
         asked: before.asked.saturating_add(asked),
         ..before
@@ -375,14 +540,49 @@ fn compare_refusal(
     same_at(rt, "what is held after step", &at, &bench.counts(), &after);
 }
 
+/// Compares what is held.
+fn compare_held(
+    rt: &impl Abort,
+    bench: &Bench,
+    at: usize,
+    objects: usize,
+    remaining: u32,
+    used: u128,
+) {
+    let counts = bench.counts();
+    let wanted = Counts {
+        asked: counts.asked,
+        objects,
+        remaining,
+        used,
+    };
+    same_at(rt, "step", &at, &counts, &wanted);
+}
+
+/// Compares for what the device was asked last.
+fn compare_asked(
+    rt: &impl Abort,
+    bench: &Bench,
+    at: usize,
+    size: u64,
+    memory_type: u32,
+    flags: u8,
+) {
+    let wanted = Some((size, memory_type, AllocationFlags::from_bits_retain(flags)));
+    same_at(rt, "step", &at, &bench.last_allocation(), &wanted);
+}
+
 /// What is done with a bench, and what has to come of it.
 #[derive(Clone, Copy)]
 pub(super) enum Step {
     /// A request is granted there.
-    Grant(Request, Option<Dedicated>, Place),
+    Grant(Ask, Spot),
+
+    /// A request is granted there in memory of that type.
+    GrantOf(u32, Ask, Spot),
 
     /// A request is refused, and the device is asked so often for it. What is held stays as it was.
-    Refuse(Request, Option<Dedicated>, AllocationError, u64),
+    Refuse(Ask, AllocationError, u64),
 
     /// The block in that object and at that offset is given back.
     Return(u64, u64),
@@ -390,56 +590,42 @@ pub(super) enum Step {
     /// What free lists keep without a block is given back.
     Cleanup,
 
-    /// The device was last asked for so many bytes of that memory type, with those flags.
-    Asked(u64, u32, AllocationFlags),
+    /// The device was last asked for so many bytes of that memory type, with flags of these bits.
+    Asked(u64, u32, u8),
 
     /// So many objects are held, so many more may be, and so many bytes are held of the first heap.
     Held(usize, u32, u128),
 }
 
-/// So many bytes of the first memory type are granted there.
-pub(super) fn grant(size: u64, place: Place) -> Step {
-    Step::Grant(bytes(size), None, place)
-}
-
-/// The device was last asked for so many bytes of that memory type, without flags.
-pub(super) fn asked_for(size: u64, memory_type: u32) -> Step {
-    Step::Asked(size, memory_type, AllocationFlags::empty())
-}
-
 /// Takes one step, and compares what comes of it. The number tells which one it is.
-fn take_step(rt: &impl Abort, bench: &mut Bench, at: usize, step: Step) {
+pub(super) fn take_step(rt: &impl Abort, bench: &mut Bench, at: usize, step: Step) {
     match step {
-        Step::Grant(request, hint, place) => {
-            same_at(rt, "step", &at, &bench.ask(rt, request, hint), &Ok(place));
+        Step::Grant(ask, spot) => compare_grant(rt, bench, at, ask, place_at(0, spot)),
+        Step::GrantOf(memory_type, ask, spot) => {
+            compare_grant(rt, bench, at, ask, place_at(memory_type, spot));
         }
-        Step::Refuse(request, hint, error, asked) => {
-            compare_refusal(rt, bench, at, request, hint, error, asked);
-        }
+        Step::Refuse(ask, error, asked) => compare_refusal(rt, bench, at, ask, error, asked),
         Step::Return(object, offset) => bench.give_back(rt, object, offset),
         Step::Cleanup => bench.cleanup(),
         Step::Asked(size, memory_type, flags) => {
-            let wanted = Some((size, memory_type, flags));
-            same_at(rt, "step", &at, &bench.last_allocation(), &wanted);
+            compare_asked(rt, bench, at, size, memory_type, flags);
         }
         Step::Held(objects, remaining, used) => {
-            let counts = bench.counts();
-            let wanted = Counts {
-                asked: counts.asked,
-                objects,
-                remaining,
-                used,
-            };
-            same_at(rt, "step", &at, &counts, &wanted);
+            compare_held(rt, bench, at, objects, remaining, used);
         }
+    }
+}
+
+/// Takes the steps in their order.
+pub(super) fn take_steps(rt: &impl Abort, bench: &mut Bench, steps: &[Step]) {
+    for (at, step) in steps.iter().enumerate() {
+        take_step(rt, bench, at, *step);
     }
 }
 
 /// Takes the steps in their order, and ends the bench.
 pub(super) fn play(rt: &impl Abort, mut bench: Bench, steps: &[Step]) {
-    for (at, step) in steps.iter().enumerate() {
-        take_step(rt, &mut bench, at, *step);
-    }
+    take_steps(rt, &mut bench, steps);
     bench.end(rt);
 }
 

@@ -1,48 +1,21 @@
 //! Where blocks lie: in chunks that they share, or in objects of their own.
 
 use super::bench::{
-    Bench, DEVICE_LOCAL, Place, Step, TYPES, asked_for, bytes, compare_grants, grant, offering,
-    one_type, place_in, play, play_on, play_refused,
+    Ask, Bench, DEVICE_LOCAL, Spot, Step, TYPES, compare_grants, offering, one_type, play, play_on,
+    play_refused,
 };
 use super::same::same;
 use crate::sim::{Cause, Question};
-use gpu_alloc::{
-    AllocationError, AllocationFlags, Dedicated, DeviceProperties, MemoryHeap, MemoryType, Request,
-    UsageFlags,
-};
+use gpu_alloc::{AllocationError, DeviceProperties, MemoryHeap, MemoryType};
 use std::alloc::Global;
 use std::process::Abort;
 use std::test::Fail;
 
 /// Blocks of 100, 100 and 200 bytes.
-const THREE: [(u64, Place); 3] = [
-    (
-        100,
-        Place {
-            memory_type: 0,
-            object: 1,
-            offset: 0,
-            size: 128,
-        },
-    ),
-    (
-        100,
-        Place {
-            memory_type: 0,
-            object: 1,
-            offset: 128,
-            size: 128,
-        },
-    ),
-    (
-        200,
-        Place {
-            memory_type: 0,
-            object: 1,
-            offset: 256,
-            size: 256,
-        },
-    ),
+const THREE: [(u64, Spot); 3] = [
+    (100, (1, 0, 128)),
+    (100, (1, 128, 128)),
+    (200, (1, 256, 256)),
 ];
 
 /// A bench over one memory type, which gave out those three.
@@ -52,131 +25,156 @@ fn open_with_three(rt: &impl Abort, alloc: Global) -> Result<Bench, Fail> {
     Ok(bench)
 }
 
+const USED_UP: [Step; 8] = [
+    Step::Held(1, 4095, 8192),
+    Step::Grant(Ask::Bytes(512), (1, 512, 512)),
+    Step::Grant(Ask::Bytes(1024), (1, 1024, 1024)),
+    Step::Grant(Ask::Bytes(2048), (1, 2048, 2048)),
+    Step::Grant(Ask::Bytes(4096), (1, 4096, 4096)),
+    Step::Held(1, 4095, 8192),
+    Step::Grant(Ask::Bytes(1), (2, 0, 1)),
+    Step::Held(2, 4094, 16384),
+];
+
 /// The shortest piece that is long enough is taken, so that a chunk is used up before the next one is made.
 #[test]
 fn a_chunk_is_used_up_first(rt: HostRuntime) -> Result<(), Fail> {
     let bench = open_with_three(&rt, rt.alloc())?;
-    play(
-        &rt,
-        bench,
-        &[
-            Step::Held(1, 4095, 8192),
-            grant(512, place_in(1, 512, 512)),
-            grant(1024, place_in(1, 1024, 1024)),
-            grant(2048, place_in(1, 2048, 2048)),
-            grant(4096, place_in(1, 4096, 4096)),
-            Step::Held(1, 4095, 8192),
-            grant(1, place_in(2, 0, 1)),
-            Step::Held(2, 4094, 16384),
-        ],
-    );
+    play(&rt, bench, &USED_UP);
     Ok(())
 }
 
-/// Gives three blocks back in this order of their offsets, and compares when their chunk goes.
-fn compare_returns(rt: &impl Abort, bench: Bench, order: [u64; 3]) {
-    let [first, second, third] = order;
-    play(
-        rt,
-        bench,
-        &[
-            Step::Return(1, first),
-            Step::Held(1, 4095, 8192),
-            Step::Return(1, second),
-            Step::Held(1, 4095, 8192),
-            Step::Return(1, third),
-            Step::Held(0, 4096, 0),
-        ],
-    );
-}
+/// The three are given back in each order of their offsets, and their chunk goes with the last one.
+const RETURNS: [[Step; 6]; 6] = [
+    [
+        Step::Return(1, 0),
+        Step::Held(1, 4095, 8192),
+        Step::Return(1, 128),
+        Step::Held(1, 4095, 8192),
+        Step::Return(1, 256),
+        Step::Held(0, 4096, 0),
+    ],
+    [
+        Step::Return(1, 0),
+        Step::Held(1, 4095, 8192),
+        Step::Return(1, 256),
+        Step::Held(1, 4095, 8192),
+        Step::Return(1, 128),
+        Step::Held(0, 4096, 0),
+    ],
+    [
+        Step::Return(1, 128),
+        Step::Held(1, 4095, 8192),
+        Step::Return(1, 0),
+        Step::Held(1, 4095, 8192),
+        Step::Return(1, 256),
+        Step::Held(0, 4096, 0),
+    ],
+    [
+        Step::Return(1, 128),
+        Step::Held(1, 4095, 8192),
+        Step::Return(1, 256),
+        Step::Held(1, 4095, 8192),
+        Step::Return(1, 0),
+        Step::Held(0, 4096, 0),
+    ],
+    [
+        Step::Return(1, 256),
+        Step::Held(1, 4095, 8192),
+        Step::Return(1, 0),
+        Step::Held(1, 4095, 8192),
+        Step::Return(1, 128),
+        Step::Held(0, 4096, 0),
+    ],
+    [
+        Step::Return(1, 256),
+        Step::Held(1, 4095, 8192),
+        Step::Return(1, 128),
+        Step::Held(1, 4095, 8192),
+        Step::Return(1, 0),
+        Step::Held(0, 4096, 0),
+    ],
+];
 
 #[test]
 fn a_chunk_goes_with_its_last_block(rt: HostRuntime) -> Result<(), Fail> {
-    for order in [
-        [0, 128, 256],
-        [0, 256, 128],
-        [128, 0, 256],
-        [128, 256, 0],
-        [256, 0, 128],
-        [256, 128, 0],
-    ] {
+    for steps in &RETURNS {
         let bench = open_with_three(&rt, rt.alloc())?;
-        compare_returns(&rt, bench, order);
+        play(&rt, bench, steps);
     }
     Ok(())
 }
+
+const JOINED: [Step; 3] = [
+    Step::Return(1, 0),
+    Step::Return(1, 128),
+    Step::Grant(Ask::Bytes(200), (1, 0, 256)),
+];
 
 #[test]
 fn two_free_halves_are_joined(rt: HostRuntime) -> Result<(), Fail> {
     let bench = open_with_three(&rt, rt.alloc())?;
-    play(
-        &rt,
-        bench,
-        &[
-            Step::Return(1, 0),
-            Step::Return(1, 128),
-            grant(200, place_in(1, 0, 256)),
-        ],
-    );
+    play(&rt, bench, &JOINED);
     Ok(())
 }
 
-/// Compares the first block of a fresh allocator, and the object that the device is asked for.
-fn compare_first(
-    rt: &impl Abort,
-    alloc: Global,
-    request: Request,
-    hint: Option<Dedicated>,
-    size: u64,
-    object_size: u64,
-) -> Result<(), Fail> {
-    play_on(
-        rt,
-        alloc,
-        one_type(),
-        &[
-            Step::Grant(request, hint, place_in(1, 0, size)),
-            asked_for(object_size, 0),
-        ],
-    )
-}
+/// First blocks, and for how many bytes the device is asked: a block of exactly a threshold has an object of its own,
+/// one of a byte less shares a chunk.
+const FIRST: [[Step; 2]; 5] = [
+    [
+        Step::Grant(Ask::Bytes(32768), (1, 0, 32768)),
+        Step::Asked(32768, 0, 0),
+    ],
+    [
+        Step::Grant(Ask::Bytes(32767), (1, 0, 32768)),
+        Step::Asked(65536, 0, 0),
+    ],
+    [
+        Step::Grant(Ask::Preferred(1024), (1, 0, 1024)),
+        Step::Asked(1024, 0, 0),
+    ],
+    [
+        Step::Grant(Ask::Preferred(1023), (1, 0, 1024)),
+        Step::Asked(8192, 0, 0),
+    ],
+    [Step::Grant(Ask::Own(1), (1, 0, 1)), Step::Asked(1, 0, 0)],
+];
 
-/// A block of exactly a threshold has an object of its own, one of a byte less shares a chunk.
 #[test]
 fn large_blocks_have_objects_of_their_own(rt: HostRuntime) -> Result<(), Fail> {
-    let preferred = Some(Dedicated::Preferred);
-    for (size, hint, granted, object_size) in [
-        (32768, None, 32768, 32768),
-        (32767, None, 32768, 65536),
-        (1024, preferred, 1024, 1024),
-        (1023, preferred, 1024, 8192),
-        (1, Some(Dedicated::Required), 1, 1),
-    ] {
-        compare_first(&rt, rt.alloc(), bytes(size), hint, granted, object_size)?;
+    for steps in &FIRST {
+        play_on(&rt, rt.alloc(), one_type(), steps)?;
     }
     Ok(())
 }
 
+const UNNAMED: [Step; 2] = [
+    Step::Grant(Ask::Unnamed(100), (1, 0, 128)),
+    Step::Asked(8192, 0, 0),
+];
+
 #[test]
 fn a_usage_of_unnamed_bits_is_an_empty_one(rt: HostRuntime) -> Result<(), Fail> {
-    let request = Request {
-        usage: UsageFlags::from_bits_retain(0x40),
-        ..bytes(100)
-    };
-    compare_first(&rt, rt.alloc(), request, None, 128, 8192)
+    play_on(&rt, rt.alloc(), one_type(), &UNNAMED)
 }
+
+const TINY: [MemoryHeap; 1] = [MemoryHeap { size: 31 }];
+
+const TINY_BLOCK: [Step; 2] = [
+    Step::Grant(Ask::Bytes(31), (1, 0, 31)),
+    Step::Asked(31, 0, 0),
+];
 
 /// What is in a heap smaller than 32 bytes has an object of its own, since a 32nd part of it is nothing.
 #[test]
 fn blocks_of_a_tiny_heap_have_objects_of_their_own(rt: HostRuntime) -> Result<(), Fail> {
-    let heaps = [MemoryHeap { size: 31 }];
-    play_on(
-        &rt,
-        rt.alloc(),
-        offering(&TYPES, &heaps),
-        &[grant(31, place_in(1, 0, 31)), asked_for(31, 0)],
-    )
+    play_on(&rt, rt.alloc(), offering(&TYPES, &TINY), &TINY_BLOCK)
 }
+
+const ADDRESSED: [Step; 2] = [
+    Step::Grant(Ask::Bytes(100), (1, 0, 128)),
+    Step::Asked(8192, 0, 1),
+];
 
 #[test]
 fn chunks_are_asked_for_with_the_address_flag_where_the_device_has_it(
@@ -186,88 +184,76 @@ fn chunks_are_asked_for_with_the_address_flag_where_the_device_has_it(
         buffer_device_address: true,
         ..one_type()
     };
-    play_on(
-        &rt,
-        rt.alloc(),
-        offered,
-        &[
-            grant(100, place_in(1, 0, 128)),
-            Step::Asked(8192, 0, AllocationFlags::from_bits_retain(1)),
-        ],
-    )
+    play_on(&rt, rt.alloc(), offered, &ADDRESSED)
 }
+
+const LATEST: [Step; 6] = [
+    Step::Grant(Ask::Bytes(20000), (1, 0, 32768)),
+    Step::Asked(65536, 0, 0),
+    Step::Return(1, 0),
+    Step::Grant(Ask::Bytes(100), (2, 0, 128)),
+    Step::Asked(65536, 0, 0),
+    Step::Return(2, 0),
+];
 
 /// A chunk that was made leaves the next ones as large, also once it is gone.
 #[test]
 fn chunks_stay_as_large_as_the_latest(rt: HostRuntime) -> Result<(), Fail> {
-    play_on(
-        &rt,
-        rt.alloc(),
-        one_type(),
-        &[
-            grant(20000, place_in(1, 0, 32768)),
-            asked_for(65536, 0),
-            Step::Return(1, 0),
-            grant(100, place_in(2, 0, 128)),
-            asked_for(65536, 0),
-            Step::Return(2, 0),
-        ],
-    )
+    play_on(&rt, rt.alloc(), one_type(), &LATEST)
 }
+
+const AFTER_A_REFUSAL: [Step; 4] = [
+    Step::Refuse(
+        Ask::Aligned(1, (1 << 14) - 1),
+        AllocationError::OutOfDeviceMemory,
+        1,
+    ),
+    Step::Asked(32768, 0, 0),
+    Step::Grant(Ask::Bytes(100), (1, 0, 128)),
+    Step::Asked(8192, 0, 0),
+];
 
 /// A chunk that the device refused leaves the next ones as they were.
 #[test]
 fn a_refused_chunk_makes_no_later_one_larger(rt: HostRuntime) -> Result<(), Fail> {
-    let aligned = Request {
-        align_mask: (1 << 14) - 1,
-        ..bytes(1)
-    };
     play_refused(
         &rt,
         rt.alloc(),
         one_type(),
         Question::Allocate,
         Cause::Device,
-        &[
-            Step::Refuse(aligned, None, AllocationError::OutOfDeviceMemory, 1),
-            asked_for(32768, 0),
-            grant(100, place_in(1, 0, 128)),
-            asked_for(8192, 0),
-        ],
+        &AFTER_A_REFUSAL,
     )
 }
+
+/// Two memory types, each in a heap of its own.
+const TWO_TYPES: [MemoryType; 2] = [
+    DEVICE_LOCAL,
+    MemoryType {
+        heap: 1,
+        ..DEVICE_LOCAL
+    },
+];
+
+const TWO_HEAPS: [MemoryHeap; 2] = [MemoryHeap { size: 1 << 20 }, MemoryHeap { size: 1 << 20 }];
+
+const PASSED: [Step; 4] = [
+    Step::GrantOf(1, Ask::OfTypes(100, 3), (1, 0, 128)),
+    Step::Asked(8192, 1, 0),
+    Step::Grant(Ask::Bytes(100), (2, 0, 128)),
+    Step::Asked(8192, 0, 0),
+];
 
 /// A memory type that the device refuses is passed, and is asked for again by the next request.
 #[test]
 fn the_next_type_serves_where_the_first_is_refused(rt: HostRuntime) -> Result<(), Fail> {
-    let types = [
-        DEVICE_LOCAL,
-        MemoryType {
-            heap: 1,
-            ..DEVICE_LOCAL
-        },
-    ];
-    let heaps = [MemoryHeap { size: 1 << 20 }, MemoryHeap { size: 1 << 20 }];
-    let either = Request {
-        memory_types: 3,
-        ..bytes(100)
-    };
-    let second = Place {
-        memory_type: 1,
-        ..place_in(1, 0, 128)
-    };
     play_refused(
         &rt,
         rt.alloc(),
-        offering(&types, &heaps),
+        offering(&TWO_TYPES, &TWO_HEAPS),
         Question::Allocate,
         Cause::Device,
-        &[
-            Step::Grant(either, None, second),
-            asked_for(8192, 1),
-            grant(100, place_in(2, 0, 128)),
-            asked_for(8192, 0),
-        ],
+        &PASSED,
     )
 }
 
@@ -279,7 +265,7 @@ fn an_allocator_owns_blocks_by_their_spans(rt: HostRuntime) -> Result<(), Fail> 
     let Ok(mut theirs) = opened else {
         panic!(rt; "no second allocator");
     };
-    compare_grants(&rt, &mut theirs, &[(300, place_in(1, 0, 512))]);
+    compare_grants(&rt, &mut theirs, &[(300, (1, 0, 512))]);
     let own = (
         ours.owns_latest_of(&rt, &ours),
         theirs.owns_latest_of(&rt, &theirs),

@@ -106,8 +106,8 @@ const MASKED: [(u8, u32, &[u32]); 6] = [
 
 #[test]
 fn only_types_whose_bit_is_set_are_tried(rt: HostRuntime) -> Result<(), Fail> {
-    for (usage, mask, want) in MASKED {
-        are_tried(&rt, rt.alloc(), THREE_TYPES, usage, mask, want)?;
+    for (usage, mask, want) in &MASKED {
+        are_tried(&rt, rt.alloc(), THREE_TYPES, *usage, *mask, want)?;
     }
     let most = "type 0 1\n".repeat(rt.alloc(), 32)?;
     are_tried(&rt, rt.alloc(), most.as_str(), 0x10, 0x8000_0001, &[0, 31])
@@ -124,8 +124,8 @@ const UNMASKED: [(u8, &[u32]); 5] = [
 
 #[test]
 fn what_a_usage_means_is_tried(rt: HostRuntime) -> Result<(), Fail> {
-    for (usage, want) in UNMASKED {
-        are_tried(&rt, rt.alloc(), THREE_TYPES, usage, u32::MAX, want)?;
+    for (usage, want) in &UNMASKED {
+        are_tried(&rt, rt.alloc(), THREE_TYPES, *usage, u32::MAX, want)?;
     }
     Ok(())
 }

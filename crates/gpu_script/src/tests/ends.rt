@@ -118,8 +118,8 @@ fn compare_reads(rt: &impl Abort, alloc: Global, script: &str, printed: &str, st
 
 #[test]
 fn a_failed_read_prints_nothing(rt: HostRuntime) {
-    for (script, printed, status) in ENDS {
-        compare_reads(&rt, rt.alloc(), script, printed, status);
+    for (script, printed, status) in &ENDS {
+        compare_reads(&rt, rt.alloc(), script, printed, *status);
     }
 }
 
@@ -175,8 +175,8 @@ fn compare_writes<A: Allocator + Copy>(
 
 #[test]
 fn a_failed_write_has_written_a_part(rt: HostRuntime) -> Result<(), Fail> {
-    for (script, printed, status) in ENDS {
-        compare_writes(&rt, rt.alloc(), rt.alloc(), script, printed, status);
+    for (script, printed, status) in &ENDS {
+        compare_writes(&rt, rt.alloc(), rt.alloc(), script, printed, *status);
     }
     let memory = ScarceMemory::new(rt.alloc())?;
     memory.leave(0)?;

@@ -6,16 +6,16 @@ use super::scarce::{Outcome, Refusals, ScarceSession};
 use super::scripts::good_script;
 use super::whole::{BYTES, OBJECTS};
 use gpu_session::Command;
-use gpu_sim::{HostMemory, ScarceMemory};
-use std::alloc::{AllocError, Global};
+use gpu_sim::ScarceMemory;
+use std::alloc::{AllocError, Allocator, Global};
 use std::process::Abort;
 use std::test::Fail;
 
 /// What is told of what is held before each command of a list, where they are run one by one with ample memory.
-fn told_before<'a>(
+fn told_before<A: Allocator + Copy>(
     alloc: Global,
-    session: &mut ScarceSession<'a>,
-    commands: &[Command<HostMemory<'a>>],
+    session: &mut ScarceSession<'_, A>,
+    commands: &[Command<A>],
 ) -> Result<Vec<Vec<String>>, AllocError> {
     let mut rows = Vec::new(alloc);
     for command in commands.chunks(1) {
@@ -25,11 +25,16 @@ fn told_before<'a>(
     Ok(rows)
 }
 
-/// The same of the commands of a script.
-fn told_of_script(rt: &impl Abort, alloc: Global, text: &str) -> Result<Vec<Vec<String>>, Fail> {
-    let memory = ScarceMemory::new(alloc)?;
-    let script = good_script(memory.host(), text)?;
-    let mut session = ScarceSession::new(rt, &memory, &script)?;
+/// The same of the commands of a script, with memory that may run out.
+fn told_of_script<A: Allocator + Copy>(
+    rt: &impl Abort,
+    alloc: Global,
+    memory: &ScarceMemory,
+    host: A,
+    text: &str,
+) -> Result<Vec<Vec<String>>, Fail> {
+    let script = good_script(host, text)?;
+    let mut session = ScarceSession::new(rt, memory, host, &script)?;
     let rows = told_before(alloc, &mut session, script.commands.as_slice());
     session.end(rt);
     Ok(rows?)
@@ -40,18 +45,18 @@ type Refusal = Option<(usize, Outcome)>;
 
 /// Runs commands one by one, and tells which one was refused memory, if any was: what is held after it is what was told
 /// before it. Those after it have memory. Before each so many bytes are lost.
-fn run<'a>(
+fn run<A: Allocator + Copy>(
     rt: &impl Abort,
     alloc: Global,
-    session: &mut ScarceSession<'a>,
-    commands: &[Command<HostMemory<'a>>],
+    session: &mut ScarceSession<'_, A>,
+    commands: &[Command<A>],
     rows: &[Vec<String>],
     lost: usize,
 ) -> Result<Refusal, AllocError> {
     let mut refusal = None;
     for (at, (command, row)) in commands.chunks(1).zip(rows).enumerate() {
         session.lose(lost);
-        let outcome = Outcome::of(&session.run(command));
+        let outcome = session.outcome(command);
         if outcome != Outcome::Served {
             same_at(rt, "a second refusal at", &at, &refusal, &None);
             compare_told(rt, alloc, session, at, row.as_slice())?;
@@ -62,10 +67,10 @@ fn run<'a>(
 }
 
 /// Compares what is held after a refused command with what was told before it.
-fn compare_told(
+fn compare_told<A: Allocator + Copy>(
     rt: &impl Abort,
     alloc: Global,
-    session: &mut ScarceSession<'_>,
+    session: &mut ScarceSession<'_, A>,
     at: usize,
     before: &[String],
 ) -> Result<(), AllocError> {
@@ -74,8 +79,29 @@ fn compare_told(
     Ok(())
 }
 
-/// Runs a script where so many bytes are left for its commands, and tells which one was refused memory, and how many may
-/// be left next. At the end the device holds nothing.
+/// Runs a script where so many bytes are left for its commands, and tells which one was refused memory. At the end the
+/// device holds nothing.
+fn run_commands<A: Allocator + Copy>(
+    rt: &impl Abort,
+    alloc: Global,
+    memory: &ScarceMemory,
+    host: A,
+    text: &str,
+    rows: &[Vec<String>],
+    room: usize,
+    lost: usize,
+) -> Result<Refusal, Fail> {
+    let script = good_script(host, text)?;
+    let mut session = ScarceSession::new(rt, memory, host, &script)?;
+    session.leave(rt, room);
+    let commands = script.commands.as_slice();
+    let refusal = run(rt, alloc, &mut session, commands, rows, lost);
+    memory.lift();
+    session.end(rt);
+    Ok(refusal?)
+}
+
+/// The same with fresh memory. It tells too how many bytes may be left next.
 fn run_in(
     rt: &impl Abort,
     alloc: Global,
@@ -85,14 +111,8 @@ fn run_in(
     lost: usize,
 ) -> Result<(Refusal, Option<usize>), Fail> {
     let memory = ScarceMemory::new(alloc)?;
-    let script = good_script(memory.host(), text)?;
-    let mut session = ScarceSession::new(rt, &memory, &script)?;
-    session.leave(rt, room);
-    let commands = script.commands.as_slice();
-    let refusal = run(rt, alloc, &mut session, commands, rows, lost);
-    memory.lift();
-    session.end(rt);
-    Ok((refusal?, memory.less_room(room)))
+    let refusal = run_commands(rt, alloc, &memory, memory.host(), text, rows, room, lost)?;
+    Ok((refusal, memory.less_room(room)))
 }
 
 /// Marks a refusal at its command.
@@ -135,7 +155,8 @@ fn compare_refusals(
     text: &str,
     wanted: &[Refusals],
 ) -> Result<(), Fail> {
-    let rows = told_of_script(rt, alloc, text)?;
+    let memory = ScarceMemory::new(alloc)?;
+    let rows = told_of_script(rt, alloc, &memory, memory.host(), text)?;
     let mut met = vec![in alloc; [false; 3]; rows.len()]?;
     for lost in [0, 8] {
         let rows = rows.as_slice();
@@ -157,24 +178,44 @@ const ASKED: Refusals = [true, false, true];
 /// All three.
 const ALL: Refusals = [true, true, true];
 
+/// Which refusals the commands of a script of pieces come to, of one of runs, and of one of both with bytes and an
+/// import. That finds the room that the block before it left, with the session and with the allocator.
+const PIECES: [Refusals; 9] = [ALL, ASKED, ASKED, OWN, PLACE, PLACE, OWN, PLACE, OWN];
+
+const RUNS: [Refusals; 12] = [
+    ALL, ASKED, OWN, PLACE, PLACE, OWN, ASKED, OWN, PLACE, OWN, PLACE, OWN,
+];
+
+const BOTH: [Refusals; 14] = [
+    ALL, ASKED, ASKED, PLACE, PLACE, OWN, OWN, PLACE, ASKED, PLACE, PLACE, PLACE, PLACE, OWN,
+];
+
 #[test]
 fn each_growth_of_a_script_is_refused_in_turn(rt: HostRuntime) -> Result<(), Fail> {
-    let pieces = [ALL, ASKED, ASKED, OWN, PLACE, PLACE, OWN, PLACE, OWN];
-    compare_refusals(&rt, rt.alloc(), OBJECTS[2].0, &pieces)?;
-    let runs = [
-        ALL, ASKED, OWN, PLACE, PLACE, OWN, ASKED, OWN, PLACE, OWN, PLACE, OWN,
-    ];
-    compare_refusals(&rt, rt.alloc(), OBJECTS[3].0, &runs)?;
-    // The import finds the room that the block before it left, with the session and with the allocator.
-    let both = [
-        ALL, ASKED, ASKED, PLACE, PLACE, OWN, OWN, PLACE, ASKED, PLACE, PLACE, PLACE, PLACE, OWN,
-    ];
-    compare_refusals(&rt, rt.alloc(), BYTES[3].0, &both)
+    compare_refusals(&rt, rt.alloc(), OBJECTS[2].0, &PIECES)?;
+    compare_refusals(&rt, rt.alloc(), OBJECTS[3].0, &RUNS)?;
+    compare_refusals(&rt, rt.alloc(), BYTES[3].0, &BOTH)
 }
 
 /// Opens a session over a script's device where so many bytes are left, and runs its commands. Where it was refused its
 /// memory, the device comes back, which serves with ample memory. At the end it holds nothing. It tells whether those
-/// bytes were enough, and how many may be left next.
+/// bytes were enough.
+fn open_script<A: Allocator + Copy>(
+    rt: &impl Abort,
+    memory: &ScarceMemory,
+    host: A,
+    text: &str,
+    room: usize,
+) -> Result<bool, Fail> {
+    let script = good_script(host, text)?;
+    let (mut session, enough) = ScarceSession::in_room(rt, memory, host, &script, room)?;
+    let ran = session.run(script.commands.as_slice()).is_ok();
+    session.end(rt);
+    same_at(rt, "the commands run after", &room, &ran, &true);
+    Ok(enough)
+}
+
+/// The same with fresh memory. It tells too how many bytes may be left next.
 fn open_in(
     rt: &impl Abort,
     alloc: Global,
@@ -182,11 +223,7 @@ fn open_in(
     room: usize,
 ) -> Result<(bool, Option<usize>), Fail> {
     let memory = ScarceMemory::new(alloc)?;
-    let script = good_script(memory.host(), text)?;
-    let (mut session, enough) = ScarceSession::in_room(rt, &memory, &script, room)?;
-    let ran = session.run(script.commands.as_slice()).is_ok();
-    session.end(rt);
-    same_at(rt, "the commands run after", &room, &ran, &true);
+    let enough = open_script(rt, &memory, memory.host(), text, room)?;
     Ok((enough, memory.less_room(room)))
 }
 

@@ -178,7 +178,7 @@ fn compare_fields(
 
 #[test]
 fn fields_are_counted_before_they_are_read(rt: HostRuntime) -> Result<(), Fail> {
-    for (word, wanted) in WANTED {
+    for (word, wanted) in &WANTED {
         compare_fields(&rt, rt.alloc(), word, wanted)?;
     }
     Ok(())
@@ -249,13 +249,8 @@ fn printed_for<'a>(known: &[(&[u8], &'a str)], other: &'a str, byte: u8) -> &'a 
 
 /// A line of one word and 100000 digits, the last of which is another than 0.
 fn long_number(alloc: Global, first: char) -> Result<String, AllocError> {
-    let mut line = String::from_str(alloc, "heap ")?;
-    line.push(first)?;
-    for _ in 0..99998 {
-        line.push('0')?;
-    }
-    line.push('1')?;
-    Ok(line)
+    let zeros = "0".repeat(alloc, 99_998)?;
+    format!(in alloc; "heap {first}{zeros}1")
 }
 
 /// Compares what a script prints that is such a line.
@@ -276,7 +271,7 @@ fn any_bytes_are_a_script_or_have_a_bad_line(rt: HostRuntime) -> Result<(), Fail
     compare(&rt, rt.alloc(), &ANY_TEXT);
     compare_long(&rt, rt.alloc(), '0', EMPTY, 0)?;
     compare_long(&rt, rt.alloc(), '1', "line 1: bad number\n", 2)?;
-    for (start, known, other) in LAST_BYTES {
+    for (start, known, other) in &LAST_BYTES {
         compare_last_bytes(&rt, rt.alloc(), start, known, other)?;
     }
     Ok(())

@@ -4,11 +4,11 @@
 mod printed;
 mod tally;
 
-use super::same::{holds, same, same_at};
+use super::same::{same, same_at};
 use super::scripts;
 use crate::sim::{Question, Sim};
 use gpu_alloc::{Dedicated, MapError, Request, UsageFlags};
-use gpu_script_language::{SimSession, open};
+use gpu_script_language::SimSession;
 use gpu_session::{Bytes, Command, Fault, Reply, values_of};
 use printed::printed;
 use std::alloc::{AllocError, Global};
@@ -211,10 +211,10 @@ fn draw_plan(alloc: Global, chance: &mut Chance) -> Result<Plan, AllocError> {
     let mut text = String::new(alloc);
     let mut refused = Vec::new(alloc);
     text.push_str("heap 1048576\ntype 0 2\natom 16\n")?;
-    for (question, word) in REFUSED {
+    for (question, word) in &REFUSED {
         let nth = chance.next() % 7 + 1;
-        writeln!(text, "refuse {word} {nth} {}", cause_of(question, nth))?;
-        refused.push((question, nth))?;
+        writeln!(text, "refuse {word} {nth} {}", cause_of(*question, nth))?;
+        refused.push((*question, nth))?;
     }
     Ok(Plan { text, refused })
 }
@@ -556,12 +556,7 @@ pub(super) fn session_of(
     script: &str,
 ) -> Result<SimSession<Global>, Fail> {
     let script = scripts::good_script(alloc, script)?;
-    holds(
-        rt,
-        script.setup.properties().is_usable(),
-        "properties of no use",
-    );
-    Ok(open(alloc, &script.setup)?)
+    Ok(scripts::open_session(rt, alloc, &script.setup)?)
 }
 
 /// Runs commands as one list: the replies, and the device at the end.

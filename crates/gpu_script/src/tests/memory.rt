@@ -6,32 +6,56 @@ use super::scripts::good_script;
 use crate::run_script;
 use gpu_script_language::print_reply;
 use gpu_session::{Command, Fault, Reply};
-use gpu_sim::{HostMemory, ScarceMemory};
-use std::alloc::{AllocError, Global};
+use gpu_sim::ScarceMemory;
+use std::alloc::{AllocError, Allocator, Global};
 use std::process::Abort;
 use std::test::Fail;
 
 /// Runs a command where so many bytes are left. Where that was refused, what is held has to be as before.
-fn outcome_in<'a>(
+fn outcome_in<A: Allocator + Copy>(
     rt: &impl Abort,
     alloc: Global,
-    session: &mut ScarceSession<'a>,
-    command: &[Command<HostMemory<'a>>],
+    session: &mut ScarceSession<'_, A>,
+    command: &[Command<A>],
     room: usize,
 ) -> Result<Outcome, AllocError> {
     let before = session.told(alloc)?;
     session.leave(rt, room);
-    let outcome = Outcome::of(&session.run(command));
+    let outcome = session.outcome(command);
     let after = session.told(alloc)?;
     if outcome != Outcome::Served {
-        let before = before.as_slice();
-        same_at(rt, "held after", &outcome, &after.as_slice(), &before);
+        compare_held(rt, outcome, after.as_slice(), before.as_slice());
     }
     Ok(outcome)
 }
 
+/// Compares what is held after a refused command with what was held before it.
+fn compare_held(rt: &impl Abort, outcome: Outcome, after: &[String], before: &[String]) {
+    same_at(rt, "held after", &outcome, &after, &before);
+}
+
 /// Runs the earlier commands with ample memory, and then one command where so many bytes are left. At the end the device
 /// holds nothing.
+fn outcome_of<A: Allocator + Copy>(
+    rt: &impl Abort,
+    alloc: Global,
+    memory: &ScarceMemory,
+    host: A,
+    earlier: &str,
+    command: &str,
+    room: usize,
+) -> Result<Outcome, Fail> {
+    let earlier = good_script(host, earlier)?;
+    let command = good_script(host, command)?;
+    let mut session = ScarceSession::new(rt, memory, host, &earlier)?;
+    let ran = session.run(earlier.commands.as_slice()).is_ok();
+    same(rt, "the earlier commands run", &ran, &true);
+    let outcome = outcome_in(rt, alloc, &mut session, command.commands.as_slice(), room);
+    session.end(rt);
+    Ok(outcome?)
+}
+
+/// The same with fresh memory.
 fn outcome_of_script(
     rt: &impl Abort,
     alloc: Global,
@@ -40,14 +64,8 @@ fn outcome_of_script(
     room: usize,
 ) -> Result<Outcome, Fail> {
     let memory = ScarceMemory::new(alloc)?;
-    let earlier = good_script(memory.host(), earlier)?;
-    let command = good_script(memory.host(), command)?;
-    let mut session = ScarceSession::new(rt, &memory, &earlier)?;
-    let ran = session.run(earlier.commands.as_slice()).is_ok();
-    same(rt, "the earlier commands run", &ran, &true);
-    let outcome = outcome_in(rt, alloc, &mut session, command.commands.as_slice(), room);
-    session.end(rt);
-    Ok(outcome?)
+    let host = memory.host();
+    outcome_of(rt, alloc, &memory, host, earlier, command, room)
 }
 
 /// Which refusals a command comes to, as more bytes are left until it is served.
@@ -97,9 +115,9 @@ const WANTS: [(&str, &str, Refusals); 17] = [
 
 #[test]
 fn each_request_for_memory_is_refused_in_turn(rt: HostRuntime) -> Result<(), Fail> {
-    for (earlier, command, wanted) in WANTS {
+    for (earlier, command, wanted) in &WANTS {
         let met = refusals(&rt, rt.alloc(), earlier, command)?;
-        same_at(&rt, "the refusals of", &command, &met, &wanted);
+        same_at(&rt, "the refusals of", command, &met, wanted);
     }
     Ok(())
 }
@@ -218,10 +236,10 @@ pub(super) const FAULTS: [(Fault, &str); 12] = [
 
 #[test]
 fn faults_print_their_numbers_and_names(rt: HostRuntime) -> Result<(), Fail> {
-    for (fault, line) in FAULTS {
+    for (fault, line) in &FAULTS {
         let mut text = String::new(rt.alloc());
-        print_reply(&mut text, &Reply::Fault(fault))?;
-        same(&rt, "what is printed of a fault", &text.as_str(), &line);
+        print_reply(&mut text, &Reply::Fault(*fault))?;
+        same(&rt, "what is printed of a fault", &text.as_str(), line);
     }
     Ok(())
 }

@@ -97,13 +97,16 @@ fn printed_in<A: Allocator + Copy>(
     String::from_str(alloc, line.as_str())
 }
 
+/// The ledger of a heap, by what is told of the counts: it follows six words.
+fn ledger_of(counts: &str, heap: usize) -> Option<&str> {
+    counts.split(' ').nth(heap.saturating_add(6))
+}
+
 /// The ledger of a type's heap and its free ranges, by what is told.
 fn of_type(told: &[String], memory_type: usize) -> Option<(&str, &str)> {
-    let [counts, ranges @ ..] = told else {
-        return None;
-    };
-    let ledger = counts.as_str().split(' ').skip(6).nth(memory_type)?;
-    Some((ledger, ranges.get(memory_type)?.as_str()))
+    let ledger = ledger_of(told.first()?.as_str(), memory_type)?;
+    let ranges = told.get(memory_type.saturating_add(1))?;
+    Some((ledger, ranges.as_str()))
 }
 
 /// Compares what is told of a type before and after a command that changes nothing of it.
@@ -244,16 +247,16 @@ fn compare_end(
 
 #[test]
 fn a_refused_question_changes_nothing(rt: HostRuntime) -> Result<(), Fail> {
-    for (question, place, answer, allocations) in REFUSED {
+    for (question, place, answer, allocations) in &REFUSED {
         let script = BYTES[3].0;
         compare_refused(
             &rt,
             rt.alloc(),
             script,
             question,
-            place,
+            *place,
             answer,
-            allocations,
+            *allocations,
         )?;
     }
     Ok(())

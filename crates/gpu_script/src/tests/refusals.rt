@@ -1,142 +1,133 @@
 //! Refused requests: which refusal it is, what the device is asked, and that nothing is left behind.
 
 use super::bench::{
-    Bench, Counts, DEVICE_LOCAL, HEAPS, Place, Step, TYPES, asked_for, bytes, offering, one_type,
-    place_in, play_on,
+    Ask, Bench, Counts, DEVICE_LOCAL, HEAPS, Step, TYPES, offering, one_type, play_on,
 };
 use super::same::{same, same_at};
-use super::transient::transient;
-use gpu_alloc::{
-    AllocationError, AllocationFlags, Dedicated, DeviceProperties, MemoryHeap, MemoryType, Request,
-};
-use gpu_sim::{HostMemory, ScarceMemory};
-use std::alloc::Global;
+use gpu_alloc::{AllocationError, AllocationFlags, DeviceProperties, MemoryHeap, MemoryType};
+use gpu_sim::ScarceMemory;
+use std::alloc::{Allocator, Global};
 use std::process::Abort;
 use std::test::Fail;
 
-/// Compares a refusal to which the device isn't asked.
-fn compare_unasked(
-    rt: &impl Abort,
-    alloc: Global,
-    offered: DeviceProperties<'_>,
-    request: Request,
-    hint: Option<Dedicated>,
-    error: AllocationError,
-) -> Result<(), Fail> {
-    play_on(rt, alloc, offered, &[Step::Refuse(request, hint, error, 0)])
-}
+/// Requests of no memory type, how many objects the device allows, and the refusals.
+const ORDERED: [(u32, [Step; 1]); 4] = [
+    (
+        4096,
+        [Step::Refuse(
+            Ask::OfTypes(1, 0),
+            AllocationError::NoCompatibleMemoryTypes,
+            0,
+        )],
+    ),
+    (
+        0,
+        [Step::Refuse(
+            Ask::OfTypes(1, 0),
+            AllocationError::NoCompatibleMemoryTypes,
+            0,
+        )],
+    ),
+    (
+        0,
+        [Step::Refuse(Ask::OwnOfNone(1), AllocationError::TooManyObjects, 0)],
+    ),
+    (
+        0,
+        [Step::Refuse(
+            Ask::OwnOfNone((1 << 30) + 1),
+            AllocationError::OutOfDeviceMemory,
+            0,
+        )],
+    ),
+];
 
 /// A request that is too large comes before the count of objects, and that before the memory types.
 #[test]
 fn refusals_come_in_their_order(rt: HostRuntime) -> Result<(), Fail> {
-    let required = Some(Dedicated::Required);
-    for (size, hint, count, error) in [
-        (1, None, 4096, AllocationError::NoCompatibleMemoryTypes),
-        (1, None, 0, AllocationError::NoCompatibleMemoryTypes),
-        (1, required, 0, AllocationError::TooManyObjects),
-        (
-            (1 << 30) + 1,
-            required,
-            0,
-            AllocationError::OutOfDeviceMemory,
-        ),
-    ] {
+    for (count, steps) in &ORDERED {
         let offered = DeviceProperties {
-            max_memory_allocation_count: count,
+            max_memory_allocation_count: *count,
             ..one_type()
         };
-        let request = Request {
-            memory_types: 0,
-            ..bytes(size)
-        };
-        compare_unasked(&rt, rt.alloc(), offered, request, hint, error)?;
+        play_on(&rt, rt.alloc(), offered, steps)?;
     }
     Ok(())
 }
+
+const TOO_ALIGNED: [Step; 1] = [Step::Refuse(
+    Ask::Aligned(1, (1 << 63) - 1),
+    AllocationError::OutOfDeviceMemory,
+    0,
+)];
 
 #[test]
 fn an_alignment_of_2_to_the_63_fits_no_chunk(rt: HostRuntime) -> Result<(), Fail> {
-    let request = Request {
-        align_mask: (1 << 63) - 1,
-        ..bytes(1)
-    };
-    let error = AllocationError::OutOfDeviceMemory;
-    compare_unasked(&rt, rt.alloc(), one_type(), request, None, error)
+    play_on(&rt, rt.alloc(), one_type(), &TOO_ALIGNED)
 }
+
+/// Heaps, and requests that are too large for them.
+const SMALL: [([MemoryHeap; 1], [Step; 1]); 2] = [
+    (
+        [MemoryHeap { size: 31 }],
+        [Step::Refuse(Ask::Bytes(32), AllocationError::OutOfDeviceMemory, 0)],
+    ),
+    (
+        [MemoryHeap { size: 0 }],
+        [Step::Refuse(Ask::Bytes(1), AllocationError::OutOfDeviceMemory, 0)],
+    ),
+];
 
 #[test]
 fn a_heap_that_is_too_small_is_not_asked(rt: HostRuntime) -> Result<(), Fail> {
-    for (heap, size) in [(31, 32), (0, 1)] {
-        let heaps = [MemoryHeap { size: heap }];
-        let offered = offering(&TYPES, &heaps);
-        let error = AllocationError::OutOfDeviceMemory;
-        compare_unasked(&rt, rt.alloc(), offered, bytes(size), None, error)?;
+    for (heaps, steps) in &SMALL {
+        play_on(&rt, rt.alloc(), offering(&TYPES, heaps), steps)?;
     }
     Ok(())
 }
 
+const NO_TYPES: [Step; 1] = [Step::Refuse(
+    Ask::Bytes(1),
+    AllocationError::NoCompatibleMemoryTypes,
+    0,
+)];
+
 #[test]
 fn a_device_without_memory_types_serves_nothing(rt: HostRuntime) -> Result<(), Fail> {
-    let error = AllocationError::NoCompatibleMemoryTypes;
-    compare_unasked(
-        &rt,
-        rt.alloc(),
-        offering(&[], &HEAPS),
-        bytes(1),
-        None,
-        error,
-    )
+    play_on(&rt, rt.alloc(), offering(&[], &HEAPS), &NO_TYPES)
 }
 
-/// What a device offers that has two memory types in one heap, and allows one object.
-fn one_object<'a>(types: &'a [MemoryType]) -> DeviceProperties<'a> {
+/// What a device offers that has these memory types in one heap, and allows one object.
+fn one_object(types: &'static [MemoryType]) -> DeviceProperties<'static> {
     DeviceProperties {
         max_memory_allocation_count: 1,
         ..offering(types, &HEAPS)
     }
 }
 
+const USED_UP: [Step; 3] = [
+    Step::Grant(Ask::Own(10), (1, 0, 10)),
+    Step::Held(1, 0, 10),
+    Step::Refuse(Ask::Bytes(32768), AllocationError::TooManyObjects, 0),
+];
+
 #[test]
 fn objects_are_used_up(rt: HostRuntime) -> Result<(), Fail> {
-    let required = Some(Dedicated::Required);
-    play_on(
-        &rt,
-        rt.alloc(),
-        one_object(&TYPES),
-        &[
-            Step::Grant(bytes(10), required, place_in(1, 0, 10)),
-            Step::Held(1, 0, 10),
-            Step::Refuse(bytes(32768), None, AllocationError::TooManyObjects, 0),
-        ],
-    )
+    play_on(&rt, rt.alloc(), one_object(&TYPES), &USED_UP)
 }
+
+const TWO_TYPES: [MemoryType; 2] = [DEVICE_LOCAL, DEVICE_LOCAL];
+
+const NOT_PASSED: [Step; 3] = [
+    Step::GrantOf(1, Ask::OfTypes(100, 2), (1, 0, 128)),
+    Step::Asked(8192, 1, 0),
+    Step::Refuse(Ask::OfTypes(100, 3), AllocationError::TooManyObjects, 0),
+];
 
 /// A memory type for which no more objects may be held is not passed, though a later one has a free piece.
 #[test]
 fn a_lack_of_objects_is_not_passed(rt: HostRuntime) -> Result<(), Fail> {
-    let types = [DEVICE_LOCAL, DEVICE_LOCAL];
-    let second = Request {
-        memory_types: 2,
-        ..bytes(100)
-    };
-    let either = Request {
-        memory_types: 3,
-        ..bytes(100)
-    };
-    let granted = Place {
-        memory_type: 1,
-        ..place_in(1, 0, 128)
-    };
-    play_on(
-        &rt,
-        rt.alloc(),
-        one_object(&types),
-        &[
-            Step::Grant(second, None, granted),
-            asked_for(8192, 1),
-            Step::Refuse(either, None, AllocationError::TooManyObjects, 0),
-        ],
-    )
+    play_on(&rt, rt.alloc(), one_object(&TWO_TYPES), &NOT_PASSED)
 }
 
 /// How far a request came where few bytes were left.
@@ -157,28 +148,29 @@ enum Reached {
 
 /// A request that takes a new chunk of so many bytes, and those that are granted before it.
 #[derive(Clone, Copy)]
-struct Growth<'a> {
-    before: &'a [Request],
-    request: Request,
+struct Growth {
+    before: &'static [Ask],
+    ask: Ask,
     chunk: u64,
 }
 
-/// How far such a request came that was refused. No more is held than before, and the same request is granted with
-/// ample memory: its object's name tells whether there was one in between.
-fn how_far(
-    rt: &impl Abort,
-    bench: &mut Bench<HostMemory<'_>>,
-    growth: Growth<'_>,
-    before: Counts,
-    room: usize,
-) -> Reached {
-    let counts = bench.counts();
+/// Compares what is held after a refusal with what was held before the request.
+fn compare_kept(rt: &impl Abort, room: usize, before: Counts, counts: Counts) {
     let held = Counts {
         asked: before.asked,
         ..counts
     };
     same_at(rt, "what is held in", &room, &held, &before);
-    let later = bench.ask(rt, growth.request, None);
+}
+
+/// Asks once more with ample memory, for which the device is asked for such a chunk. The name of its object.
+fn ask_again<A: Allocator + Copy>(
+    rt: &impl Abort,
+    bench: &mut Bench<A>,
+    growth: Growth,
+    room: usize,
+) -> u64 {
+    let later = bench.ask(rt, growth.ask.request(), None);
     let chunk = Some((growth.chunk, 0, AllocationFlags::empty()));
     same_at(
         rt,
@@ -189,44 +181,81 @@ fn how_far(
     );
     same_at(rt, "the refusal after", &room, &later.err(), &None);
     match later {
-        Ok(place) if place.object > before.asked.saturating_add(1) => Reached::Object,
-        _ if counts.asked > before.asked => Reached::Question,
-        _ => Reached::Nothing,
+        Ok(place) => place.object,
+        Err(_) => 0,
+    }
+}
+
+/// How far such a request came that was refused. No more is held than before, and the same request is granted with
+/// ample memory: its object's name tells whether there was one in between.
+fn how_far<A: Allocator + Copy>(
+    rt: &impl Abort,
+    bench: &mut Bench<A>,
+    growth: Growth,
+    before: Counts,
+    room: usize,
+) -> Reached {
+    let counts = bench.counts();
+    compare_kept(rt, room, before, counts);
+    let object = ask_again(rt, bench, growth, room);
+    if object > before.asked.saturating_add(1) {
+        Reached::Object
+    } else if counts.asked > before.asked {
+        Reached::Question
+    } else {
+        Reached::Nothing
+    }
+}
+
+/// Takes what is granted before a growth.
+fn take_before<A: Allocator + Copy>(rt: &impl Abort, bench: &mut Bench<A>, growth: Growth) {
+    for ask in growth.before {
+        let answer = bench.ask(rt, ask.request(), None);
+        same(rt, "a refusal before", &answer.err(), &None);
     }
 }
 
 /// How far a request comes where so many bytes are left.
-fn reached_in(
+fn ask_in<A: Allocator + Copy>(
     rt: &impl Abort,
-    alloc: Global,
-    growth: Growth<'_>,
+    memory: &ScarceMemory,
+    mut bench: Bench<A>,
+    growth: Growth,
     room: usize,
-) -> Result<Reached, Fail> {
-    let memory = ScarceMemory::new(alloc)?;
-    let mut bench = Bench::new(rt, memory.host(), one_type())?;
-    for request in growth.before {
-        let answer = bench.ask(rt, *request, None);
-        same(rt, "a refusal before", &answer.err(), &None);
-    }
+) -> Reached {
+    take_before(rt, &mut bench, growth);
     let before = bench.counts();
-    same_at(rt, "left are", &room, &memory.leave(room).is_ok(), &true);
-    let answer = bench.ask(rt, growth.request, None);
+    let left = memory.leave(room).is_ok();
+    same_at(rt, "left are", &room, &left, &true);
+    let refusal = bench.ask(rt, growth.ask.request(), None).err();
     memory.lift();
-    let reached = match answer {
-        Ok(_) => Reached::Block,
-        Err(error) => {
+    let reached = match refusal {
+        None => Reached::Block,
+        Some(error) => {
             let wanted = AllocationError::OutOfHostMemory;
             same_at(rt, "the refusal in", &room, &error, &wanted);
             how_far(rt, &mut bench, growth, before, room)
         }
     };
     bench.end(rt);
-    Ok(reached)
+    reached
+}
+
+/// The same with fresh memory.
+fn reached_in(
+    rt: &impl Abort,
+    alloc: Global,
+    growth: Growth,
+    room: usize,
+) -> Result<Reached, Fail> {
+    let memory = ScarceMemory::new(alloc)?;
+    let bench = Bench::new(rt, memory.host(), one_type())?;
+    Ok(ask_in(rt, &memory, bench, growth, room))
 }
 
 /// Each request for host memory is refused in turn, as 8 bytes more are left until the block is granted. Once there is an
 /// object only its second handle is wanted, so one room at most comes that far: all else was made before the question.
-fn compare_wants(rt: &impl Abort, alloc: Global, growth: Growth<'_>) -> Result<(), Fail> {
+fn compare_wants(rt: &impl Abort, alloc: Global, growth: Growth) -> Result<(), Fail> {
     let mut nothing = 0u32;
     let mut question = 0u32;
     let mut object = 0u32;
@@ -252,47 +281,58 @@ fn compare_wants(rt: &impl Abort, alloc: Global, growth: Growth<'_>) -> Result<(
     Err(Fail::from("never granted"))
 }
 
+/// First chunks of each kind.
+const FIRST: [Growth; 2] = [
+    Growth {
+        before: &[],
+        ask: Ask::Bytes(100),
+        chunk: 8192,
+    },
+    Growth {
+        before: &[],
+        ask: Ask::Transient(100),
+        chunk: 8192,
+    },
+];
+
 #[test]
 fn a_want_of_host_memory_leaves_nothing(rt: HostRuntime) -> Result<(), Fail> {
-    for request in [bytes(100), transient(100)] {
-        let growth = Growth {
-            before: &[],
-            request,
-            chunk: 8192,
-        };
-        compare_wants(&rt, rt.alloc(), growth)?;
+    for growth in &FIRST {
+        compare_wants(&rt, rt.alloc(), *growth)?;
     }
     Ok(())
 }
 
 /// A second chunk, for which the pieces of a buddy allocator grow, a fifth one of it, for which its chunks alone grow,
 /// and a fifth one of a free list, for which all its lists grow.
+const LATER: [Growth; 3] = [
+    Growth {
+        before: &[Ask::Bytes(100)],
+        ask: Ask::Bytes(8192),
+        chunk: 16384,
+    },
+    Growth {
+        before: &[
+            Ask::Bytes(100),
+            Ask::Bytes(8192),
+            Ask::Bytes(16384),
+            Ask::Bytes(32000),
+            Ask::Bytes(32000),
+        ],
+        ask: Ask::Bytes(32000),
+        chunk: 65536,
+    },
+    Growth {
+        before: &[Ask::Transient(20000); 4],
+        ask: Ask::Transient(20000),
+        chunk: 32768,
+    },
+];
+
 #[test]
 fn a_want_of_host_memory_leaves_what_is_held(rt: HostRuntime) -> Result<(), Fail> {
-    for growth in [
-        Growth {
-            before: &[bytes(100)],
-            request: bytes(8192),
-            chunk: 16384,
-        },
-        Growth {
-            before: &[
-                bytes(100),
-                bytes(8192),
-                bytes(16384),
-                bytes(32000),
-                bytes(32000),
-            ],
-            request: bytes(32000),
-            chunk: 65536,
-        },
-        Growth {
-            before: &[transient(20000); 4],
-            request: transient(20000),
-            chunk: 32768,
-        },
-    ] {
-        compare_wants(&rt, rt.alloc(), growth)?;
+    for growth in &LATER {
+        compare_wants(&rt, rt.alloc(), *growth)?;
     }
     Ok(())
 }

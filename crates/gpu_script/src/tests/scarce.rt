@@ -1,12 +1,17 @@
 //! A session over host memory that runs out, and what a command comes to there.
 
+ghost use Rattle.std.specs.Prelude.{◌≡◌, IfOk, IfErr};
+ghost use Rattle.gpu_alloc_types.specs.Properties.{IsUsable};
+ghost use Rattle.gpu_script_language.specs.Setup.{offered};
+
 use super::questions::told;
-use super::same::{holds, same, same_at};
+use super::same::{same, same_at};
+use super::scripts::{are_usable, open_session};
 use gpu_alloc::AllocationError;
-use gpu_script_language::{Script, SimSession, open};
+use gpu_script_language::{Script, Setup, SimSession};
 use gpu_session::{Command, Fault, Reply, Session, SessionOpenError};
-use gpu_sim::{HostMemory, ScarceMemory, Sim};
-use std::alloc::{AllocError, Global};
+use gpu_sim::{ScarceMemory, Sim};
+use std::alloc::{AllocError, Allocator, Global};
 use std::marker::Model;
 use std::process::Abort;
 use std::test::Fail;
@@ -33,9 +38,7 @@ pub(super) type Refusals = [bool; 3];
 
 impl Outcome {
     /// What one command was answered by.
-    pub(super) fn of(
-        replies: &Result<Vec<Reply<HostMemory<'_>>, HostMemory<'_>>, AllocError>,
-    ) -> Outcome {
+    pub(super) fn of<A: Allocator>(replies: &Result<Vec<Reply<A>, A>, AllocError>) -> Outcome {
         let Ok(replies) = replies else {
             return Outcome::NothingRan;
         };
@@ -58,12 +61,13 @@ impl Outcome {
 }
 
 /// A session over host memory that runs out. Contracts see nothing of it.
-pub(super) struct ScarceSession<'a> {
+pub(super) struct ScarceSession<'a, A: Allocator + Copy> {
     memory: &'a ScarceMemory,
-    session: SimSession<HostMemory<'a>>,
+    host: A,
+    session: SimSession<A>,
 }
 
-impl<'a> Model for ScarceSession<'a> {
+impl<'a, A: Allocator + Copy> Model for ScarceSession<'a, A> {
     ghost use Rattle.std.specs.Prelude.{ℕ};
 
     ghost Value = { ℕ };
@@ -71,20 +75,20 @@ impl<'a> Model for ScarceSession<'a> {
     ghost view = { λ _. 0 };
 }
 
-impl<'a> ScarceSession<'a> {
-    /// One over the device that a script describes.
+impl<'a, A: Allocator + Copy> ScarceSession<'a, A> {
+    /// One over the device that a script describes. Its memory is that which runs out.
     pub(super) fn new(
         rt: &impl Abort,
         memory: &'a ScarceMemory,
-        script: &Script<HostMemory<'a>>,
-    ) -> Result<ScarceSession<'a>, Fail> {
-        holds(
-            rt,
-            script.setup.properties().is_usable(),
-            "properties of no use",
-        );
-        let session = open(memory.host(), &script.setup)?;
-        Ok(ScarceSession { memory, session })
+        host: A,
+        script: &Script<A>,
+    ) -> Result<ScarceSession<'a, A>, Fail> {
+        let session = open_session(rt, host, &script.setup)?;
+        Ok(ScarceSession {
+            memory,
+            host,
+            session,
+        })
     }
 
     /// The same where so many bytes are left once the device is made. Where that was refused it is opened over the
@@ -92,72 +96,105 @@ impl<'a> ScarceSession<'a> {
     pub(super) fn in_room(
         rt: &impl Abort,
         memory: &'a ScarceMemory,
-        script: &Script<HostMemory<'a>>,
+        host: A,
+        script: &Script<A>,
         room: usize,
-    ) -> Result<(ScarceSession<'a>, bool), Fail> {
-        holds(
-            rt,
-            script.setup.properties().is_usable(),
-            "properties of no use",
-        );
-        let device = Sim::new(memory.host(), script.setup.properties())?;
+    ) -> Result<(ScarceSession<'a, A>, bool), Fail> {
+        are_usable(rt, &script.setup);
+        let device = device_of(host, &script.setup)?;
         same_at(rt, "left are", &room, &memory.leave(room).is_ok(), &true);
-        let config = script.setup.config;
-        let opened = Session::new(memory.host(), config, script.setup.properties(), device);
+        let opened = open_over(host, &script.setup, device);
         memory.lift();
-        match opened {
-            Ok(session) => Ok((ScarceSession { memory, session }, true)),
-            Err(SessionOpenError { device }) => {
-                match Session::new(memory.host(), config, script.setup.properties(), device) {
-                    Ok(session) => Ok((ScarceSession { memory, session }, false)),
-                    Err(SessionOpenError { device }) => {
-                        drop(device);
-                        Err(Fail::from("refused with ample memory"))
-                    }
-                }
-            }
-        }
+        let (session, enough) = match opened {
+            Ok(session) => (session, true),
+            Err(device) => (open_again(host, &script.setup, device)?, false),
+        };
+        let opened = ScarceSession {
+            memory,
+            host,
+            session,
+        };
+        Ok((opened, enough))
     }
 
     /// Runs commands as one list.
-    pub(super) fn run(
-        &mut self,
-        commands: &[Command<HostMemory<'a>>],
-    ) -> Result<Vec<Reply<HostMemory<'a>>, HostMemory<'a>>, AllocError> {
+    pub(super) fn run(&mut self, commands: &[Command<A>]) -> Result<Vec<Reply<A>, A>, AllocError> {
         self.session.run(commands)
+    }
+
+    /// What commands come to that are run as one list.
+    pub(super) fn outcome(&mut self, commands: &[Command<A>]) -> Outcome {
+        Outcome::of(&self.session.run(commands))
     }
 
     /// From now on so many bytes are left.
     pub(super) fn leave(&self, rt: &impl Abort, room: usize) {
-        same_at(
-            rt,
-            "left are",
-            &room,
-            &self.memory.leave(room).is_ok(),
-            &true,
-        );
+        let left = self.memory.leave(room).is_ok();
+        same_at(rt, "left are", &room, &left, &true);
     }
 
     /// Loses so many bytes, if they are left.
     pub(super) fn lose(&self, count: usize) {
-        let _lost: Result<Vec<u8, HostMemory<'_>>, AllocError> = Vec::with_capacity(
-            self.memory.host(),
-            count,
-        );
+        let _lost: Result<Vec<u8, A>, AllocError> = Vec::with_capacity(self.host, count);
     }
 
     /// What is told of what is held. From now on memory is ample.
     pub(super) fn told(&mut self, alloc: Global) -> Result<Vec<String>, AllocError> {
         self.memory.lift();
-        told(alloc, self.memory.host(), &mut self.session)
+        told(alloc, self.host, &mut self.session)
     }
 
     /// Ends it. The device holds nothing then.
     pub(super) fn end(self, rt: &impl Abort) {
-        let ScarceSession { memory: _, session } = self;
+        let ScarceSession {
+            memory: _,
+            host: _,
+            session,
+        } = self;
         let device = session.finish();
         let objects = device.objects();
         drop(device);
         same(rt, "objects at the end", &objects, &0);
+    }
+}
+
+/// The device that a script describes, which refuses nothing.
+fn device_of<A: Allocator + Copy>(host: A, setup: &Setup<A>) -> Result<Sim<A>, AllocError>
+    ensures { IfOk result (λ device. device.properties ≡ offered setup.now) }
+{
+    Sim::new(host, setup.properties())
+}
+
+/// A session over it, or the device where that is refused its memory.
+fn open_over<A: Allocator + Copy>(
+    host: A,
+    setup: &Setup<A>,
+    device: Sim<A>,
+) -> Result<SimSession<A>, Sim<A>>
+    requires usable { IsUsable (offered setup.now) }
+    requires same { device.properties ≡ offered setup.now }
+    ensures { IfErr result (λ back. back ≡ device) }
+{
+    match Session::new(host, setup.config, setup.properties(), device) {
+        Ok(session) => Ok(session),
+        Err(SessionOpenError { device }) => Err(device),
+    }
+}
+
+/// A session over the device that came back.
+fn open_again<A: Allocator + Copy>(
+    host: A,
+    setup: &Setup<A>,
+    device: Sim<A>,
+) -> Result<SimSession<A>, Fail>
+    requires usable { IsUsable (offered setup.now) }
+    requires same { device.properties ≡ offered setup.now }
+{
+    match open_over(host, setup, device) {
+        Ok(session) => Ok(session),
+        Err(device) => {
+            drop(device);
+            Err(Fail::from("refused with ample memory"))
+        }
     }
 }

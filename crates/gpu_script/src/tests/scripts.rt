@@ -1,9 +1,12 @@
 //! Scripts and what they print: small ones over one object or two.
 
-use super::same::same_at;
+ghost use Rattle.gpu_alloc_types.specs.Properties.{IsUsable};
+ghost use Rattle.gpu_script_language.specs.Setup.{offered};
+
+use super::same::{holds, same_at};
 use crate::run_script;
-use gpu_script_language::{Script, parse};
-use std::alloc::{Allocator, Global};
+use gpu_script_language::{Script, Setup, SimSession, open, parse};
+use std::alloc::{AllocError, Allocator, Global};
 use std::fmt::Debug;
 use std::process::Abort;
 use std::test::Fail;
@@ -35,6 +38,23 @@ pub(super) fn compare(rt: &impl Abort, alloc: Global, rows: &[(&str, &str, u8)])
     for (script, printed, status) in rows {
         compare_bytes(rt, alloc, script, script.as_bytes(), printed, *status);
     }
+}
+
+/// An allocator has to be able to stand on what setup lines describe.
+pub(super) fn are_usable<A: Allocator + Copy>(rt: &impl Abort, setup: &Setup<A>)
+    ensures { IsUsable (offered setup.now) }
+{
+    holds(rt, setup.properties().is_usable(), "properties of no use");
+}
+
+/// A new session over the device that setup lines describe.
+pub(super) fn open_session<A: Allocator + Copy>(
+    rt: &impl Abort,
+    alloc: A,
+    setup: &Setup<A>,
+) -> Result<SimSession<A>, AllocError> {
+    are_usable(rt, setup);
+    open(alloc, setup)
 }
 
 /// The script of lines that are good.

@@ -1,8 +1,7 @@
 //! The callers of `gpu_uses`, over the simulated device.
 
-use super::bench::{again, one_type};
-use super::same::{holds, same};
-use super::transient::transient;
+use super::bench::{Ask, again, are_usable, one_type};
+use super::same::same;
 use crate::sim::{Question, Sim, SimMemory};
 use gpu_alloc::DeviceProperties;
 use gpu_uses::opening::open_and_close;
@@ -17,9 +16,14 @@ fn an_allocator_is_opened_used_and_closed(rt: HostRuntime) -> Result<(), Fail> {
         max_memory_allocation_size: 1 << 20,
         ..one_type()
     };
-    holds(&rt, props.is_usable(), "properties of no use");
+    are_usable(&rt, &props);
     let mut device: Sim = Sim::new(rt.alloc(), again(&props))?;
-    let done = open_and_close::<SimMemory, Sim>(rt.alloc(), props, &mut device, transient(100));
+    let done = open_and_close::<SimMemory, Sim>(
+        rt.alloc(),
+        props,
+        &mut device,
+        Ask::Transient(100).request(),
+    );
     let counts = (device.asked(Question::Allocate), device.objects());
     drop(device);
     same(&rt, "whether it is served", &done.is_ok(), &true);

@@ -111,31 +111,22 @@ write 2 0 77
 write 2 0 88
 ";
 
+/// A refused write alone gives its bytes no value.
+const AFTER_A_REFUSAL: [Told; 3] = [(1, 3, &[0x61]), (1, 4, &[0x62]), (1, 5, &[0x63])];
+
+/// A put alone tells nothing, since the device may see any byte there.
+const AFTER_A_PUT: [Told; 2] = [(1, 0, &[0xaa]), (1, 1, &[0xbb])];
+
+/// A write that is refused since its block is mapped, or by a mapping that failed, gives no byte a value.
+const AFTER_PUTS: [Told; 3] = [
+    (1, 4, &[0xee, 0xaa]),
+    (1, 5, &[0x11, 0xff, 0xff, 0xdd]),
+    (2, 0, &[0x77]),
+];
+
 #[test]
 fn values_of_bytes_that_scripts_write(rt: HostRuntime) -> Result<(), Fail> {
-    // A refused write alone gives its bytes no value.
-    compare(
-        &rt,
-        rt.alloc(),
-        BYTES[0].0,
-        &[(1, 3, &[0x61]), (1, 4, &[0x62]), (1, 5, &[0x63])],
-    )?;
-    // A put alone tells nothing, since the device may see any byte there.
-    compare(
-        &rt,
-        rt.alloc(),
-        BYTES[1].0,
-        &[(1, 0, &[0xaa]), (1, 1, &[0xbb])],
-    )?;
-    // A write that is refused since its block is mapped, or by a mapping that failed, gives no byte a value.
-    compare(
-        &rt,
-        rt.alloc(),
-        PUTS,
-        &[
-            (1, 4, &[0xee, 0xaa]),
-            (1, 5, &[0x11, 0xff, 0xff, 0xdd]),
-            (2, 0, &[0x77]),
-        ],
-    )
+    compare(&rt, rt.alloc(), BYTES[0].0, &AFTER_A_REFUSAL)?;
+    compare(&rt, rt.alloc(), BYTES[1].0, &AFTER_A_PUT)?;
+    compare(&rt, rt.alloc(), PUTS, &AFTER_PUTS)
 }

@@ -5,11 +5,12 @@ use super::add_bytes;
 use crate::tests::memory::FAULTS;
 use gpu_session::{Fault, Reply};
 use std::alloc::{AllocError, Global};
+use std::slice::Iter;
 
 /// The line of a fault.
 fn fault_line(fault: Fault) -> &'static str {
-    for (of, line) in FAULTS {
-        if of == fault {
+    for (of, line) in &FAULTS {
+        if *of == fault {
             return line;
         }
     }
@@ -20,15 +21,21 @@ fn fault_line(fault: Fault) -> &'static str {
 fn fill(text: &mut String, pattern: &str, numbers: &[u64]) -> Result<(), AllocError> {
     let mut next = numbers.iter();
     for part in pattern.chars() {
-        if part == '#'
-            && let Some(number) = next.next()
-        {
-            write!(text, "{number}")?;
-        } else {
-            text.push(part)?;
+        match next_for(part, &mut next) {
+            Some(number) => write!(text, "{number}")?,
+            None => text.push(part)?,
         }
     }
     Ok(())
+}
+
+/// The next number for a `#`, if there is one.
+fn next_for(part: char, next: &mut Iter<'_, u64>) -> Option<u64> {
+    if part == '#' {
+        next.next().copied()
+    } else {
+        None
+    }
 }
 
 /// Adds the line of a reply.

@@ -1,0 +1,12 @@
+use Rattle.std.specs.Prelude.{[], ◌∷◌}
+use Rattle.gpu_alloc_tests.proofs.tests.pair.Pair.call_second.Goals as goal
+
+pub invariant_of-self : goal.invariant_of-self
+invariant_of-self g c =
+    let pair = c.self.invariant in
+    let called = c.call_block.ensures in record {
+      agrees = called.keeps.owner _ pair.owned.2.0 pair.agrees;
+      owned = called.same.all _ (c.self.inside.first ∷ []) [] pair.owned;
+      first_agrees = called.keeps.two_back _ pair.owned.1.0 pair.first_agrees;
+      second_agrees = called.agrees;
+    }
