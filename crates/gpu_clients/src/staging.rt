@@ -1,14 +1,15 @@
 //! Staging buffers, in which bytes go from the host to the device and back.
 
-ghost use Rattle.std.specs.Prelude.{◌≡◌, ◌≢◌, ⊤, ℕ, ◌+◌, ◌≤◌, Some, None, is_some, length, IfOk, IfErr, OnOk, OnErr, Err, IsTrue, option_copied};
+ghost use Rattle.std.specs.Prelude.{◌≡◌, ◌≢◌, ⊤, ℕ, ◌+◌, ◌%◌, ◌≤◌, Some, None, is_some, length, IfOk, IfErr, OnOk, OnErr, Err, IsTrue, option_copied};
 ghost use Rattle.std.specs.FinMap as map;
+ghost use Rattle.std.specs.Int.{bit_at};
 ghost use Rattle.gpu_alloc_types.specs.Properties.{IsUsable, properties_of};
 ghost use Rattle.gpu_alloc_block.specs.Contents.{HasSameDeviceBytes, Stores};
 ghost use Rattle.gpu_alloc_block.specs.State.{Block};
 ghost use Rattle.gpu_clients.specs.Staging.{AreApart, Keeps, OfBuffer, SameBuffers, SetsBuffer, beside, buffer_at};
 
 use crate::resources::{Handle, ResourceManager};
-use gpu_alloc::laws::bytes_stay;
+use gpu_alloc::laws::{bytes_stay, candidates_serve_the_request};
 use gpu_alloc::{
     AllocationError, Config, DeviceProperties, MapError, MemoryBlock, Request, UsageFlags,
 };
@@ -101,6 +102,8 @@ impl<M: MemoryObject, D: MemoryDevice<M>, A: Allocator + Copy> StagingPool<M, D,
         ensures was_free { IfOk result (λ key. buffer_at self.old key ≡ None) }
         ensures stored { IfOk result (λ key. OfBuffer self.new key
             (λ b. SetsBuffer self.old self.new key (Some b) × Stores b 0 bytes.now (D.objects self.new.device))) }
+        ensures placed { IfOk result (λ key. OfBuffer self.new key
+            (λ b. (b.offset % (align_mask + 1) ≡ 0) × (bit_at memory_types b.memory_type ≡ 1))) }
         ensures refused { OnErr result (SameBuffers self.old self.new) }
         ensures keeps { Keeps D.properties D.objects self.old self.new (λ _. ⊤) }
     {
@@ -199,10 +202,13 @@ impl<M: MemoryObject, D: MemoryDevice<M>, A: Allocator + Copy> StagingPool<M, D,
         ensures another { IfOk result (λ key. (other : ℕ) (b : Block) → buffer_at self.old other ≡ Some b → other ≢ key) }
         ensures made { IfOk result (λ key. OfBuffer self.new key
             (λ b. SetsBuffer self.old self.new key (Some b) × (request.size ≤ b.size))) }
+        ensures placed { IfOk result (λ key. OfBuffer self.new key
+            (λ b. (b.offset % (request.align_mask + 1) ≡ 0) × (bit_at request.memory_types b.memory_type ≡ 1))) }
         ensures refused { OnErr result (SameBuffers self.old self.new) }
         ensures keeps { Keeps D.properties D.objects self.old self.new (λ _. ⊤) }
     {
         bytes_stay();
+        candidates_serve_the_request();
         if !request.is_askable(false) {
             return Err(StagingError::NotAskable);
         }
