@@ -6,6 +6,7 @@
    without asking it. --shift binds them one byte off, and does nothing else with them: the validation layer has to
    tell. --incoherent tells the library that no memory is coherent, so that there are ranges to flush.
    Statuses: 0 where all went well without a message, 1, or 2 for other arguments. */
+#include "first_use.h"
 #include "random.h"
 #include "resources.h"
 
@@ -242,6 +243,7 @@ int main(int count, char **texts)
     device_open(&d);
     run r = {.device = &d, .memory = &m, .random = random_mixed(told.seed), .is_shifted = told.is_shifted};
     open_memory(&r, &told);
+    must(use_first(&m), "no memory for the first buffer");
     work(&r, &t, &told);
     memory_close(&m);
     device_close(&d);

@@ -1,4 +1,4 @@
-//! The README's first use, word for word.
+//! The README's first use, of which it shows the end.
 
 ghost use Rattle.gpu_alloc.specs.Agreement.{Agrees};
 

@@ -1,4 +1,5 @@
-//! Comparisons that tell what they compare. They stand here once, since the words of a failed one are dear to prove.
+//! Comparisons that say what they compare. Tests call these, since the words of a failed comparison are slow to prove.
+//! Each crate of tests has this file: tests of two crates share no code.
 
 ghost use Rattle.std.specs.Prelude.{◌≡◌, ◌<◌, IsTrue};
 
