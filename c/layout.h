@@ -1,7 +1,7 @@
 /* The sizes, offsets and constants of wallthyme.h, as a plain table: the one list of what C, Rust and the library have
- * in common. tests/layout.c compares each row with what the library answers to its number, and `make check-rows` sees that
- * the header has nothing without a row. The test of rust/src/ffi.rs reads this file, and finds its numbers by the names
- * in it, so a row is one line. Rows are never moved: a new one goes last, with the next number. */
+ * in common. tests/layout.c compares each row with what the library answers to its number, and `make check-rows` sees
+ * that the header has nothing without a row. The test of rust/src/ffi.rs reads this file, and finds its numbers by the
+ * names in it, so a row is one line. Rows are never moved: a new one goes last, with the next number. */
 #ifndef WALLTHYME_LAYOUT_H
 #define WALLTHYME_LAYOUT_H
 

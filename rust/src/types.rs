@@ -119,9 +119,9 @@ pub struct MappedMemoryRange<'a, M> {
 /// one that goes back was not given back before. A mapped object may go back: it needs no `unmap_memory` before.
 ///
 /// A call may panic: the allocator can be used and dropped after that. A panic of
-/// [`deallocate_memory`](MemoryDevice::deallocate_memory) loses the object that it was asked to take back, and no other:
-/// the allocator's next `dealloc` or `cleanup` goes on with the others. Where another call panics, what was made for the
-/// request goes back.
+/// [`deallocate_memory`](MemoryDevice::deallocate_memory) loses the object that it was asked to take back, and no
+/// other: the allocator's next `dealloc` or `cleanup` goes on with the others. Where another call panics, what was made
+/// for the request goes back.
 pub trait MemoryDevice<M> {
     /// Makes a memory object of `size` bytes of a memory type.
     ///
