@@ -355,6 +355,9 @@ struct Asked<'a, M, D: MemoryDevice<M>> {
 
 impl<M, D: MemoryDevice<M>> Drop for Asked<'_, M, D> {
     fn drop(&mut self) {
+        if self.made.is_none() {
+            return;
+        }
         // SAFETY: the request has ended, and the library has not taken the object that is still here.
         let mut give_back = || unsafe { self.give_back() };
         if panicking() {
