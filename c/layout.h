@@ -1,14 +1,15 @@
-/* The sizes, offsets and constants of wallthyme.h, as a plain table: tests/layout.c compares each row with what the library
- * answers to wt_layout(number).
- *
- *     uint32_t wt_layout(uint32_t number);      the row's value, and WT_LAYOUT_END for any number that is no row's
- *
- * It is no call for users, so wallthyme.h does not declare it. Rows are never moved: a new one goes last, with the next
- * number. */
+/* The sizes, offsets and constants of wallthyme.h, as a plain table: the one list of what C, Rust and the library have
+ * in common. tests/layout.c compares each row with what the library answers to its number, and `make check-rows` sees
+ * that the header has nothing without a row. The test of rust/src/ffi.rs reads this file, and finds its numbers by the
+ * names in it, so a row is one line. Rows are never moved: a new one goes last, with the next number. */
 #ifndef WALLTHYME_LAYOUT_H
 #define WALLTHYME_LAYOUT_H
 
 #include "wallthyme.h"
+
+/* The value of the row of this number; WT_LAYOUT_END where there is none. It is no call for users, so wallthyme.h does
+ * not declare it. */
+uint32_t wt_layout(uint32_t number);
 
 #define WT_LAYOUT_END UINT32_MAX
 

@@ -1,19 +1,24 @@
-/* A device with as many memory types as there can be, each of them mapped, that makes each object and maps none: no
- * request asks more, and each question is asked once. */
+/* A device with as many memory types as there can be, all of them mapped, that makes each object and maps none, or the
+ * last one alone: no request asks more, and each question is asked once. What was made in vain is the caller's to free,
+ * and the library holds none of it. */
 #include "common.h"
-
-#include <string.h>
 
 #define MOST_TYPES 32
 
-static size_t made, refused;
+/* How many mappings the device refuses before it grants one. */
+static size_t refused_first;
 
-static uint32_t makes_and_never_maps(const wt_question *question) {
+/* The device's objects: those that are there, and how many mappings were asked for. */
+static size_t objects, mappings;
+
+/* As a caller's device does: an object whose mapping is refused goes back at once. */
+static uint32_t makes_and_hardly_maps(const wt_question *question) {
     if (question->kind == WT_ALLOCATE) {
-        made++;
+        objects++;
         return WT_GRANTED;
     }
-    refused++;
+    if (mappings++ >= refused_first) return WT_GRANTED;
+    objects--;
     return WT_NO_DEVICE_MEMORY;
 }
 
@@ -25,6 +30,8 @@ static void open_many_types(wt_allocator *a) {
 }
 
 static void check_each_asked_once(const questions *talk) {
+    expect(talk->len == 2 * MOST_TYPES && talk->len == WT_MAX_QUESTIONS, "another number of questions is asked");
+    expect(mappings == MOST_TYPES, "a memory type is left out");
     for (size_t i = 0; i < talk->len; i++) {
         const wt_question *one = &talk->asked[i];
         expect(one->kind == (i % 2 ? WT_MAP_MADE : WT_ALLOCATE), "an object is not asked for and then mapped");
@@ -32,18 +39,51 @@ static void check_each_asked_once(const questions *talk) {
     }
 }
 
+/* The status of a request to the device that refuses so many mappings, after a look at what was asked for it. */
+static uint32_t ask(wt_allocator *a, size_t refused, wt_block *block) {
+    const wt_request request = { 100, 0, WT_USAGE_UPLOAD | WT_USAGE_TRANSIENT, UINT32_MAX, WT_SHARED };
+    questions talk;
+    uint32_t status;
+    refused_first = refused;
+    objects = mappings = 0;
+    status = allocate(a, &request, makes_and_hardly_maps, &talk, block);
+    check_each_asked_once(&talk);
+    return status;
+}
+
+static void check_holds_none(wt_allocator *a) {
+    wt_counts counts = counts_of(a);
+    expect(counts.blocks == 0 && counts.held == 0 && counts.told == 0 && counts.remaining == 64, "something is held");
+    expect(heap_counts_of(a, HOST_HEAP).used == 0, "a heap pays for what is not held");
+}
+
+static void check_all_refused(wt_allocator *a) {
+    wt_block block;
+    current_case = "each mapping refused";
+    expect(ask(a, MOST_TYPES, &block) == WT_OUT_OF_DEVICE_MEMORY, "it is not refused though no object was mapped");
+    expect(objects == 0, "an object is there that nothing asked for");
+    check_holds_none(a);
+}
+
+static void check_last_granted(wt_allocator *a) {
+    wt_block block;
+    uint64_t name;
+    size_t count;
+    current_case = "the last mapping granted";
+    expect(ask(a, MOST_TYPES - 1, &block) == WT_OK, "it is refused though an object was mapped");
+    expect(block.memory_type == MOST_TYPES - 1 && block.fresh == 1 && objects == 1, "the block is of another object");
+    expect(counts_of(a).held == 1 && counts_of(a).remaining == 63, "other objects are held");
+    expect(wt_free(a, block.key) == WT_OK && wt_cleanup(a) == WT_OK, "it is not taken back");
+    expect(wt_gone(a, &name, 1, &count) == WT_OK && count == 1 && name == block.object, "another object goes");
+    check_holds_none(a);
+}
+
 int main(void) {
     wt_allocator allocator = { 0, NULL };
-    wt_request request = { 100, 0, WT_USAGE_UPLOAD | WT_USAGE_TRANSIENT, UINT32_MAX, WT_SHARED };
-    wt_block block;
-    questions talk;
     open_many_types(&allocator);
-    expect(allocate(&allocator, &request, makes_and_never_maps, &talk, &block) == WT_OUT_OF_DEVICE_MEMORY,
-           "a request is not refused though no object was mapped");
-    expect(made == MOST_TYPES && refused == MOST_TYPES, "a memory type is left out");
-    check_each_asked_once(&talk);
-    expect(counts_of(&allocator).held == 0 && counts_of(&allocator).told == 0, "a refused object is held or told");
+    check_all_refused(&allocator);
+    check_last_granted(&allocator);
     expect(wt_close(&allocator) == WT_OK, "it is not closed");
-    printf("questions: %u in one call\n", (unsigned)talk.len);
+    printf("questions: %d in one call, all refused and all but the last\n", WT_MAX_QUESTIONS);
     return 0;
 }

@@ -12,8 +12,10 @@ use crate::types::{
     AllocationFlags, DeviceMapError, DeviceProperties, MemoryDevice, MemoryPropertyFlags, MemoryType, OutOfMemory,
 };
 use std::fmt::{Debug, Formatter};
+use std::panic::{catch_unwind, AssertUnwindSafe};
 use std::sync::atomic::{AtomicU64, Ordering};
 use std::sync::Arc;
+use std::thread::panicking;
 
 /// How many allocators were made. Each keeps its number, by which it knows its blocks.
 static MADE: AtomicU64 = AtomicU64::new(0);
@@ -26,6 +28,10 @@ static MADE: AtomicU64 = AtomicU64::new(0);
 pub struct GpuAllocator<M> {
     library: Library,
     objects: Objects<M>,
+    /// Names of objects that went, and that the device was not asked yet to take back.
+    gone: Vec<u64>,
+    /// Those of these objects that no other block was in. Which name is whose does not matter: all of them go.
+    own: Vec<M>,
     number: u64,
     memory_types: Box<[MemoryType]>,
     atom_mask: u64,
@@ -59,6 +65,8 @@ impl<M> GpuAllocator<M> {
         Ok(GpuAllocator {
             library,
             objects: Objects::new(),
+            gone: Vec::with_capacity(ROOM),
+            own: Vec::with_capacity(1),
             number: MADE.fetch_add(1, Ordering::Relaxed),
             memory_types: props.memory_types.iter().copied().collect(),
             atom_mask: props.non_coherent_atom_size - 1,
@@ -178,9 +186,14 @@ impl<M> GpuAllocator<M> {
                 None
             }
         };
-        self.library.free(key);
+        if let Err(status) = self.library.free(key) {
+            // SAFETY: the device is the object's, as the caller says, and done with it. Nothing else has it.
+            own.into_iter().for_each(|memory| unsafe { device.deallocate_memory(memory) });
+            unexpected("wt_free", status);
+        }
+        self.own.extend(own);
         // SAFETY: the device is the objects', as the caller says, and done with the block.
-        unsafe { self.give_back(device, own) };
+        unsafe { self.give_back(device) };
     }
 
     /// The largest size of a request, in bytes.
@@ -218,7 +231,7 @@ impl<M> GpuAllocator<M> {
     pub unsafe fn cleanup(&mut self, device: &impl MemoryDevice<M>) {
         self.library.cleanup();
         // SAFETY: the device is the objects', as the caller says, and no block is in them.
-        unsafe { self.give_back(device, None) };
+        unsafe { self.give_back(device) };
     }
 
     /// # Safety
@@ -231,23 +244,14 @@ impl<M> GpuAllocator<M> {
     ) -> Result<MemoryBlock<M>, AllocationError> {
         let mut asked = Asked { device, made: None };
         // SAFETY: the questions are the library's, of the device's own properties, as the caller says.
-        let answer = self.library.alloc(&request, |question| unsafe { asked.answer(question) });
-        let block = match answer {
-            Ok(block) => block,
-            Err(status) => {
-                // SAFETY: the call has ended, and kept no object that was made for it.
-                unsafe { asked.give_back() };
-                return Err(refusal(status));
-            }
-        };
+        let granted = self.library.alloc(&request, |question| unsafe { asked.answer(question) });
+        let block = granted.map_err(refusal)?;
         let props = self.memory_types[block.memory_type as usize].props;
         let memory = if block.fresh != 0 {
-            let made = asked.made.take().expect("a fresh block has to be in an object that was made for it");
             self.count();
+            let made = asked.made.take().expect("a fresh block has to be in an object that was made for it");
             self.keep(block.object, made, props)
         } else {
-            // SAFETY: the block lies in another object.
-            unsafe { asked.give_back() };
             Memory::Shared(self.objects.get(block.object).clone())
         };
         Ok(self.block(block, props, memory))
@@ -280,29 +284,23 @@ impl<M> GpuAllocator<M> {
         MemoryBlock::new(parts, memory)
     }
 
-    /// Gives the objects that went back to the device. The one of `own` may be among them.
+    /// Gives the objects that went back to the device, one by one. Where it panics over one, that one alone is lost to
+    /// it: the others stay in `gone`, and the next call of this goes on with them.
     ///
     /// # Safety
     ///
     /// `device` is the objects', and done with them.
-    unsafe fn give_back(&mut self, device: &impl MemoryDevice<M>, mut own: Option<M>) {
-        loop {
-            let names = self.library.gone();
-            if names.is_empty() {
-                return;
-            }
-            let more = names.len() == ROOM;
-            for &name in names {
-                let memory = self.objects.take(name).or_else(|| own.take());
-                let memory = memory.expect("an object that went has to be known, or the block's own");
-                // SAFETY: the library tells each object once, when no block is in it. The device is its, as the
-                // caller says.
-                unsafe { device.deallocate_memory(memory) };
-            }
+    unsafe fn give_back(&mut self, device: &impl MemoryDevice<M>) {
+        self.library.read_gone(&mut self.gone);
+        if !self.gone.is_empty() {
             self.count();
-            if !more {
-                return;
-            }
+        }
+        while let Some(name) = self.gone.pop() {
+            let memory = self.objects.take(name).or_else(|| self.own.pop());
+            let memory = memory.expect("an object that went has to be known, or a block's own");
+            // SAFETY: the library tells each object once, when no block is in it. The device is its, as the caller
+            // says.
+            unsafe { device.deallocate_memory(memory) };
         }
     }
 
@@ -314,15 +312,17 @@ impl<M> GpuAllocator<M> {
 impl<M> Drop for GpuAllocator<M> {
     fn drop(&mut self) {
         let counts = self.library.counts();
+        // Some may have gone, and wait since the device panicked.
+        let objects = counts.held as usize + self.gone.len();
         if counts.blocks > 0 {
             report(&format!("an allocator was dropped, with blocks that were not given back: {}", counts.blocks));
-        } else if counts.held > 0 {
-            report(&format!("an allocator was dropped without `cleanup`, with memory objects: {}", counts.held));
+        } else if objects > 0 {
+            report(&format!("an allocator was dropped without `cleanup`, with memory objects: {objects}"));
         }
         // The memory objects are lost to the device, and dropped as values. So that the library's memory is not lost
         // too, where no block is live, it lets them go.
         self.library.cleanup();
-        while !self.library.gone().is_empty() {}
+        self.library.read_gone(&mut self.gone);
         self.library.close();
     }
 }
@@ -345,10 +345,28 @@ struct Made<M> {
     start: Option<Start>,
 }
 
-/// The device as it is asked for a request.
-struct Asked<'a, M, D> {
+/// The device as it is asked for a request. However the request ends, an object that was made for it and not taken goes
+/// back: where it is refused, and also where this crate panics, or the device does.
+struct Asked<'a, M, D: MemoryDevice<M>> {
+    /// The device of each question, which has to be right for it.
     device: &'a D,
     made: Option<Made<M>>,
+}
+
+impl<M, D: MemoryDevice<M>> Drop for Asked<'_, M, D> {
+    fn drop(&mut self) {
+        if self.made.is_none() {
+            return;
+        }
+        // SAFETY: the request has ended, and the library has not taken the object that is still here.
+        let mut give_back = || unsafe { self.give_back() };
+        if panicking() {
+            // A second panic would end the process. There is nothing more to do with its cause.
+            drop(catch_unwind(AssertUnwindSafe(give_back)));
+        } else {
+            give_back();
+        }
+    }
 }
 
 impl<M, D: MemoryDevice<M>> Asked<'_, M, D> {
@@ -369,7 +387,7 @@ impl<M, D: MemoryDevice<M>> Asked<'_, M, D> {
     ///
     /// As for `answer`.
     unsafe fn allocate(&mut self, question: &ffi::Question) -> u32 {
-        // SAFETY: an object that was made before was not mapped, and the library goes on without it.
+        // SAFETY: the library goes on without what was made before, if something was.
         unsafe { self.give_back() };
         let mut flags = AllocationFlags::empty();
         flags.set(AllocationFlags::DEVICE_ADDRESS, question.flags & ffi::ALLOCATE_DEVICE_ADDRESS != 0);
@@ -392,14 +410,20 @@ impl<M, D: MemoryDevice<M>> Asked<'_, M, D> {
         let made = self.made.as_mut().expect("an object has to be made before it is mapped");
         assert_eq!(question.offset, 0, "a shared object has to be mapped from its start on");
         // SAFETY: the object is of a host-visible type and not mapped, and the range is all of it.
-        match unsafe { self.device.map_memory(&mut made.memory, question.offset, question.size) } {
+        let error = match unsafe { self.device.map_memory(&mut made.memory, question.offset, question.size) } {
             Ok(start) => {
                 made.start = Some(Start(start));
-                ffi::GRANTED
+                return ffi::GRANTED;
             }
-            Err(DeviceMapError::OutOfDeviceMemory) => ffi::NO_DEVICE_MEMORY,
-            Err(DeviceMapError::OutOfHostMemory) => ffi::NO_HOST_MEMORY,
-            Err(DeviceMapError::MapFailed) => ffi::DEVICE_MAP_FAILED,
+            Err(error) => error,
+        };
+        // At once, and not when the request has ended: should the device panic over it, no block was granted yet.
+        // SAFETY: the library goes on without it, or refuses the request.
+        unsafe { self.give_back() };
+        match error {
+            DeviceMapError::OutOfDeviceMemory => ffi::NO_DEVICE_MEMORY,
+            DeviceMapError::OutOfHostMemory => ffi::NO_HOST_MEMORY,
+            DeviceMapError::MapFailed => ffi::DEVICE_MAP_FAILED,
         }
     }
 
@@ -537,6 +561,44 @@ mod tests {
         }
     }
 
+    fn question(kind: u32, offset: u64) -> ffi::Question {
+        ffi::Question { kind, offset, size: 1, ..ffi::Question::default() }
+    }
+
+    /// A question that there is not: what was made before goes back.
+    #[test]
+    fn a_fault_of_the_librarys_loses_nothing() {
+        for wrong in [question(9, 0), question(ffi::MAP_MADE, 1)] {
+            let device = Grants::default();
+            let unwound = catch_unwind(AssertUnwindSafe(|| {
+                let mut asked = Asked { device: &device, made: None };
+                // SAFETY: the device grants all that it is asked. That the second question is wrong is what is tested.
+                unsafe {
+                    assert_eq!(asked.answer(&question(ffi::ALLOCATE, 0)), ffi::GRANTED);
+                    assert_eq!(device.held.get(), 1);
+                    asked.answer(&wrong);
+                }
+            }));
+            assert!(unwound.is_err());
+            assert_eq!(device.held.get(), 0);
+        }
+    }
+
+    /// A block that the library does not know: its own object goes back.
+    #[test]
+    fn a_block_that_the_library_forgot() {
+        let device = Grants::default();
+        let mut allocator = allocator(1, PROPS);
+        let request = Request { size: 1, align_mask: 0, usage: UsageFlags::HOST_ACCESS, memory_types: 1 };
+        // SAFETY: there is one device, which grants all that the allocator asks.
+        let block = unsafe { allocator.alloc_with_dedicated(&device, request, Dedicated::Required) }.unwrap();
+        allocator.library.free(block.key()).unwrap();
+        // SAFETY: the block is this allocator's. That it was given back is what is tested.
+        let unwound = catch_unwind(AssertUnwindSafe(|| unsafe { allocator.dealloc(&device, block) }));
+        assert!(unwound.is_err());
+        assert_eq!(device.held.get(), 0);
+    }
+
     /// More objects go at once than are read at once.
     #[test]
     fn all_names_are_read() {
@@ -548,7 +610,7 @@ mod tests {
         for block in blocks {
             // The library alone is told, so that what went waits to be read.
             let (key, _memory) = block.into_parts();
-            allocator.library.free(key);
+            allocator.library.free(key).unwrap();
         }
         // SAFETY: there is one device.
         unsafe { allocator.cleanup(&device) };

@@ -36,10 +36,12 @@ impl From<OutOfMemory> for AllocationError {
 impl Display for AllocationError {
     fn fmt(&self, formatter: &mut Formatter<'_>) -> Result {
         formatter.write_str(match self {
-            AllocationError::OutOfDeviceMemory => "too little device memory",
-            AllocationError::OutOfHostMemory => "too little host memory",
-            AllocationError::NoCompatibleMemoryTypes => "no permitted memory type serves the usage",
-            AllocationError::TooManyObjects => "as many memory objects are held as the device allows",
+            AllocationError::OutOfDeviceMemory => "Device memory exhausted",
+            AllocationError::OutOfHostMemory => "Host memory exhausted",
+            AllocationError::NoCompatibleMemoryTypes => {
+                "No compatible memory types from requested types support requested usage"
+            }
+            AllocationError::TooManyObjects => "Reached limit on allocated memory objects count",
         })
     }
 }
@@ -88,11 +90,11 @@ impl From<OutOfMemory> for MapError {
 impl Display for MapError {
     fn fmt(&self, formatter: &mut Formatter<'_>) -> Result {
         formatter.write_str(match self {
-            MapError::OutOfDeviceMemory => "too little device memory",
-            MapError::OutOfHostMemory => "too little host memory",
-            MapError::NonHostVisible => "the host does not see the block's memory",
-            MapError::MapFailed => "the device failed to map",
-            MapError::AlreadyMapped => "the block is mapped",
+            MapError::OutOfDeviceMemory => "Device memory exhausted",
+            MapError::OutOfHostMemory => "Host memory exhausted",
+            MapError::NonHostVisible => "Impossible to map non-host-visible memory",
+            MapError::MapFailed => "Failed to map memory object",
+            MapError::AlreadyMapped => "Block is already mapped",
         })
     }
 }
@@ -119,10 +121,10 @@ impl Display for NewError {
     fn fmt(&self, formatter: &mut Formatter<'_>) -> Result {
         formatter.write_str(match self {
             NewError::BadProperties => {
-                "over 32 memory types, one of a heap that is not there, or a non-coherent atom that is no power of two \
+                "Over 32 memory types, one of a heap that is not there, or a non-coherent atom that is no power of two \
                  of at most 2^62"
             }
-            NewError::OutOfHostMemory => "too little host memory",
+            NewError::OutOfHostMemory => "Host memory exhausted",
             NewError::OtherVersion => "libwallthyme.a is of another version than the crate wallthyme",
         })
     }

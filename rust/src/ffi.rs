@@ -1,125 +1,153 @@
 //! The calls of `wallthyme.h` that this crate makes, with its types, as C sees them.
+//!
+//! Each constant and each struct is declared by a macro, which notes its name in C, its value, its size and its offsets
+//! for the test below: that compares all of them with what the library tells. So none can be left out.
 
 use std::ffi::c_void;
 use std::ptr::null_mut;
 
-pub(crate) const VERSION: u32 = 0x0000_0600;
+/// Declares constants of the header. There their names begin by `WT_`.
+macro_rules! constants {
+    ($( $NAME:ident: $Type:ty = $value:expr; )*) => {
+        $( pub(crate) const $NAME: $Type = $value; )*
 
-pub(crate) const OK: u32 = 0;
-pub(crate) const ASK: u32 = 1;
-pub(crate) const OUT_OF_DEVICE_MEMORY: u32 = 2;
-pub(crate) const OUT_OF_HOST_MEMORY: u32 = 3;
-pub(crate) const NO_COMPATIBLE_MEMORY_TYPES: u32 = 4;
-pub(crate) const TOO_MANY_OBJECTS: u32 = 5;
-pub(crate) const BAD_PROPERTIES: u32 = 11;
-pub(crate) const BAD_SIZE: u32 = 15;
-pub(crate) const BAD_ALIGNMENT: u32 = 16;
-pub(crate) const BAD_USAGE: u32 = 17;
-pub(crate) const NO_DEVICE_ADDRESS: u32 = 19;
-pub(crate) const BAD_MEMORY_TYPE: u32 = 21;
-pub(crate) const NO_REMAINING: u32 = 24;
+        #[cfg(test)]
+        const CONSTANTS: &[(&str, usize)] = &[$( (concat!("WT_", stringify!($NAME)), $NAME as usize) ),*];
+    };
+}
 
-pub(crate) const GRANTED: u32 = 0;
-pub(crate) const NO_DEVICE_MEMORY: u32 = 1;
-pub(crate) const NO_HOST_MEMORY: u32 = 2;
-pub(crate) const DEVICE_MAP_FAILED: u32 = 3;
+/// Declares structs of the header, each behind its name there. Fields have the same names here and there.
+macro_rules! structs {
+    ($( $(#[$attribute:meta])* struct $c_name:ident $Name:ident { $( $field:ident: $Type:ty, )* } )*) => {
+        $(
+            $(#[$attribute])*
+            #[repr(C)]
+            pub(crate) struct $Name { $( pub(crate) $field: $Type, )* }
+        )*
 
-pub(crate) const ALLOCATE: u32 = 1;
-pub(crate) const MAP_MADE: u32 = 2;
+        #[cfg(test)]
+        const STRUCTS: &[(&str, usize, &[(&str, usize)])] = &[$(
+            (
+                stringify!($c_name),
+                std::mem::size_of::<$Name>(),
+                &[$( (stringify!($field), std::mem::offset_of!($Name, $field)) ),*],
+            )
+        ),*];
+    };
+}
 
-pub(crate) const ALLOCATE_DEVICE_ADDRESS: u32 = 1;
+constants! {
+    VERSION: u32 = 0x0000_0600;
 
-pub(crate) const SHARED: u32 = 0;
-pub(crate) const PREFERRED: u32 = 1;
-pub(crate) const REQUIRED: u32 = 2;
+    OK: u32 = 0;
+    ASK: u32 = 1;
+    OUT_OF_DEVICE_MEMORY: u32 = 2;
+    OUT_OF_HOST_MEMORY: u32 = 3;
+    NO_COMPATIBLE_MEMORY_TYPES: u32 = 4;
+    TOO_MANY_OBJECTS: u32 = 5;
+    BAD_PROPERTIES: u32 = 11;
+    BAD_SIZE: u32 = 15;
+    BAD_ALIGNMENT: u32 = 16;
+    BAD_USAGE: u32 = 17;
+    NO_DEVICE_ADDRESS: u32 = 19;
+    BAD_MEMORY_TYPE: u32 = 21;
+    NO_REMAINING: u32 = 24;
 
-pub(crate) const MAX_QUESTIONS: usize = 33;
+    GRANTED: u32 = 0;
+    NO_DEVICE_MEMORY: u32 = 1;
+    NO_HOST_MEMORY: u32 = 2;
+    DEVICE_MAP_FAILED: u32 = 3;
 
-#[repr(C)]
-pub(crate) struct Allocator {
-    pub(crate) full: u32,
-    pub(crate) state: *mut c_void,
+    ALLOCATE: u32 = 1;
+    MAP_MADE: u32 = 2;
+
+    ALLOCATE_DEVICE_ADDRESS: u32 = 1;
+
+    SHARED: u32 = 0;
+    PREFERRED: u32 = 1;
+    REQUIRED: u32 = 2;
+
+    MAX_QUESTIONS: usize = 64;
+}
+
+structs! {
+    struct wt_allocator Allocator {
+        full: u32,
+        state: *mut c_void,
+    }
+
+    struct wt_memory_type MemoryType {
+        heap: u32,
+        props: u32,
+    }
+
+    struct wt_limits Limits {
+        max_memory_allocation_size: u64,
+        non_coherent_atom_size: u64,
+        max_memory_allocation_count: u32,
+        buffer_device_address: u32,
+    }
+
+    struct wt_config Config {
+        dedicated_threshold: u64,
+        preferred_dedicated_threshold: u64,
+        transient_dedicated_threshold: u64,
+        starting_free_list_chunk: u64,
+        final_free_list_chunk: u64,
+        minimal_buddy_size: u64,
+        initial_buddy_dedicated_size: u64,
+    }
+
+    struct wt_request Request {
+        size: u64,
+        align_mask: u64,
+        usage: u32,
+        memory_types: u32,
+        dedicated: u32,
+    }
+
+    #[derive(Clone, Copy, Default)]
+    struct wt_question Question {
+        object: u64,
+        offset: u64,
+        size: u64,
+        kind: u32,
+        memory_type: u32,
+        flags: u32,
+        answer: u32,
+    }
+
+    #[derive(Default)]
+    struct wt_block Block {
+        key: u64,
+        object: u64,
+        offset: u64,
+        size: u64,
+        memory_type: u32,
+        fresh: u32,
+    }
+
+    #[derive(Default)]
+    struct wt_counts Counts {
+        blocks: u64,
+        told: u64,
+        held: u32,
+        remaining: u32,
+    }
+
+    /// A range of an object, which only tests ask for.
+    #[cfg(test)]
+    #[derive(Default)]
+    struct wt_range Range {
+        object: u64,
+        offset: u64,
+        size: u64,
+    }
 }
 
 impl Allocator {
     /// What the header calls zeroed.
     pub(crate) const CLOSED: Allocator = Allocator { full: 0, state: null_mut() };
-}
-
-#[repr(C)]
-pub(crate) struct MemoryType {
-    pub(crate) heap: u32,
-    pub(crate) props: u32,
-}
-
-#[repr(C)]
-pub(crate) struct Limits {
-    pub(crate) max_memory_allocation_size: u64,
-    pub(crate) non_coherent_atom_size: u64,
-    pub(crate) max_memory_allocation_count: u32,
-    pub(crate) buffer_device_address: u32,
-}
-
-#[repr(C)]
-pub(crate) struct Config {
-    pub(crate) dedicated_threshold: u64,
-    pub(crate) preferred_dedicated_threshold: u64,
-    pub(crate) transient_dedicated_threshold: u64,
-    pub(crate) starting_free_list_chunk: u64,
-    pub(crate) final_free_list_chunk: u64,
-    pub(crate) minimal_buddy_size: u64,
-    pub(crate) initial_buddy_dedicated_size: u64,
-}
-
-#[repr(C)]
-pub(crate) struct Request {
-    pub(crate) size: u64,
-    pub(crate) align_mask: u64,
-    pub(crate) usage: u32,
-    pub(crate) memory_types: u32,
-    pub(crate) dedicated: u32,
-}
-
-#[repr(C)]
-#[derive(Clone, Copy, Default)]
-pub(crate) struct Question {
-    pub(crate) object: u64,
-    pub(crate) offset: u64,
-    pub(crate) size: u64,
-    pub(crate) kind: u32,
-    pub(crate) memory_type: u32,
-    pub(crate) flags: u32,
-    pub(crate) answer: u32,
-}
-
-#[repr(C)]
-#[derive(Default)]
-pub(crate) struct Block {
-    pub(crate) key: u64,
-    pub(crate) object: u64,
-    pub(crate) offset: u64,
-    pub(crate) size: u64,
-    pub(crate) memory_type: u32,
-    pub(crate) fresh: u32,
-}
-
-#[repr(C)]
-#[derive(Default)]
-pub(crate) struct Counts {
-    pub(crate) blocks: u64,
-    pub(crate) told: u64,
-    pub(crate) held: u32,
-    pub(crate) remaining: u32,
-}
-
-/// A range of an object, which only tests ask for.
-#[cfg(test)]
-#[repr(C)]
-#[derive(Default)]
-pub(crate) struct Range {
-    pub(crate) object: u64,
-    pub(crate) offset: u64,
-    pub(crate) size: u64,
 }
 
 extern "C" {
@@ -157,31 +185,57 @@ extern "C" {
     pub(crate) fn wt_set_remaining(a: *mut Allocator, remaining: u32) -> u32;
     #[cfg(test)]
     pub(crate) fn wt_range_of(a: *mut Allocator, key: u64, offset: u64, size: u64, range: *mut Range) -> u32;
+    #[cfg(test)]
+    fn wt_layout(number: u32) -> u32;
 }
 
-#[cfg(all(test, target_pointer_width = "64"))]
+#[cfg(test)]
 mod tests {
     use super::*;
-    use std::mem::{align_of, offset_of, size_of};
+    use crate::{MemoryPropertyFlags, UsageFlags};
+    use std::collections::BTreeMap;
 
-    /// The sizes and places that a C compiler for x86-64 or AArch64 gives the types of the header.
+    /// The numbers of the rows of `c/layout.h`, by what they tell: `WT_OK`, `sizeof(wt_block)`,
+    /// `offsetof(wt_block, key)`. There is no second list of them.
+    fn numbers() -> BTreeMap<String, u32> {
+        let path = concat!(env!("CARGO_MANIFEST_DIR"), "/../c/layout.h");
+        let text = std::fs::read_to_string(path).expect("the rows are in c/layout.h of Wallthyme's repository");
+        text.lines()
+            .filter_map(|line| line.trim_end_matches(['\\', ' ']).trim().strip_prefix("ROW(")?.strip_suffix(')'))
+            .filter_map(|row| row.split_once(", "))
+            .map(|(number, what)| (what.to_owned(), number.parse().expect("a row begins by its number")))
+            .collect()
+    }
+
+    /// What this crate has in common with the library: each under its name in C, with its value here.
+    fn shared() -> Vec<(String, usize)> {
+        let mut shared: Vec<_> = CONSTANTS.iter().map(|&(name, value)| (name.to_owned(), value)).collect();
+        for &(name, size, fields) in STRUCTS {
+            shared.push((format!("sizeof({name})"), size));
+            shared.extend(fields.iter().map(|(field, offset)| (format!("offsetof({name}, {field})"), *offset)));
+        }
+        // Flags go to the library with the bits that they have here.
+        let usages = UsageFlags::all().iter_names().map(|(name, flag)| (format!("WT_USAGE_{name}"), flag.bits()));
+        let props = MemoryPropertyFlags::all().iter_names().map(|(name, flag)| (format!("WT_{name}"), flag.bits()));
+        shared.extend(usages.chain(props).map(|(name, bits)| (name, bits.into())));
+        shared
+    }
+
     #[test]
-    fn types_are_as_the_header_has_them() {
-        assert_eq!(size_of::<Allocator>(), 16);
-        assert_eq!(offset_of!(Allocator, state), 8);
-        assert_eq!(size_of::<MemoryType>(), 8);
-        assert_eq!(size_of::<Limits>(), 24);
-        assert_eq!(offset_of!(Limits, buffer_device_address), 20);
-        assert_eq!(size_of::<Config>(), 56);
-        assert_eq!(size_of::<Request>(), 32);
-        assert_eq!(offset_of!(Request, dedicated), 24);
-        assert_eq!(size_of::<Question>(), 40);
-        assert_eq!(offset_of!(Question, answer), 36);
-        assert_eq!(size_of::<Block>(), 40);
-        assert_eq!(offset_of!(Block, fresh), 36);
-        assert_eq!(size_of::<Counts>(), 24);
-        assert_eq!(offset_of!(Counts, remaining), 20);
-        assert_eq!(size_of::<Range>(), 24);
-        assert_eq!(align_of::<Question>(), 8);
+    fn all_is_as_the_library_has_it() {
+        let numbers = numbers();
+        let mut wrong = Vec::new();
+        for (what, value) in shared() {
+            let Some(&number) = numbers.get(&what) else {
+                wrong.push(format!("{what} is no row of c/layout.h"));
+                continue;
+            };
+            // SAFETY: it takes any number, and touches no memory of another.
+            let told = unsafe { wt_layout(number) };
+            if usize::try_from(told) != Ok(value) {
+                wrong.push(format!("row {number}, {what}, is {value} here and {told} in the library"));
+            }
+        }
+        assert!(wrong.is_empty(), "{wrong:#?}");
     }
 }

@@ -1,5 +1,24 @@
 //! Sets of bits with names, with the calls and operators that users of `bitflags` types know.
 
+/// Flags one by one: those with a name from the lowest bit on, then those without one together.
+#[derive(Clone, Debug)]
+pub struct Iter<F> {
+    pub(crate) left: u8,
+    pub(crate) named: u8,
+    pub(crate) of: fn(u8) -> F,
+}
+
+impl<F> Iterator for Iter<F> {
+    type Item = F;
+
+    fn next(&mut self) -> Option<F> {
+        let named = self.left & self.named;
+        let next = if named == 0 { self.left } else { named & named.wrapping_neg() };
+        self.left &= !next;
+        (next != 0).then(|| (self.of)(next))
+    }
+}
+
 /// Makes a type of flags, each a bit of a `u8`.
 macro_rules! flags {
     (
@@ -130,12 +149,9 @@ macro_rules! flags {
                 Self(!self.0 & Self::all().0)
             }
 
-            /// The flags that are here one by one, and then those without a name together.
-            pub fn iter(&self) -> impl Iterator<Item = Self> {
-                let flags = *self;
-                let unnamed = flags.difference(Self::all());
-                let named = flags.iter_names().map(|named| named.1);
-                named.chain((!unnamed.is_empty()).then_some(unnamed))
+            /// The flags that are here one by one, the lowest bit first, and then those without a name together.
+            pub fn iter(&self) -> $crate::flags::Iter<Self> {
+                $crate::flags::Iter { left: self.0, named: Self::all().0, of: Self }
             }
 
             /// The flags that are here and have a name, with it.
@@ -178,6 +194,15 @@ macro_rules! flags {
         impl Extend<$Name> for $Name {
             fn extend<T: IntoIterator<Item = Self>>(&mut self, flags: T) {
                 flags.into_iter().for_each(|flag| self.insert(flag));
+            }
+        }
+
+        impl IntoIterator for $Name {
+            type Item = Self;
+            type IntoIter = $crate::flags::Iter<Self>;
+
+            fn into_iter(self) -> Self::IntoIter {
+                self.iter()
             }
         }
 

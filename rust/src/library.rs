@@ -4,7 +4,7 @@ use crate::error::NewError;
 use crate::ffi;
 use crate::{Config, DeviceProperties};
 
-/// How many names one call reads at most.
+/// For how many names there is room at least where they are read.
 pub(crate) const ROOM: usize = 32;
 
 /// An open allocator, until it is closed.
@@ -13,17 +13,15 @@ pub(crate) struct Library {
 }
 
 /// What has to stay in its place: the handle, which is never copied while it is open. Beside it what a call needs for
-/// its questions and names, so that no call clears it.
+/// its questions, so that no call clears it.
 struct State {
     handle: ffi::Allocator,
     /// One more than are ever asked: each call tells where the next question may be written.
     asked: [ffi::Question; ffi::MAX_QUESTIONS + 1],
-    names: [u64; ROOM],
 }
 
-// SAFETY: the handle points to memory of the library's own, which nothing else points to. The library keeps nothing by
-// thread, and nothing that two allocators share: it asks that one thread calls with a handle at a time. Each call here
-// takes `&mut self`, so that one does.
+// SAFETY: one thread at a time calls with the handle, since each call here takes `&mut self`. That another thread may
+// call next: see c/wallthyme.h, Threads.
 unsafe impl Send for Library {}
 
 // SAFETY: no function takes `&self`, so that nothing can be done with a shared reference.
@@ -45,7 +43,6 @@ impl Library {
         let mut state = Box::new(State {
             handle: ffi::Allocator::CLOSED,
             asked: [ffi::Question::default(); ffi::MAX_QUESTIONS + 1],
-            names: [0; ROOM],
         });
         // SAFETY: each pointer is to a value that lives until the call ends, or to as many as are told. The handle is
         // zeroed.
@@ -68,7 +65,8 @@ impl Library {
         }
     }
 
-    /// Allocates a block, with the device's answers to what is asked. Where it is refused the status tells why.
+    /// Allocates a block, with the device's answers to what is asked. Where it is refused the status tells why; it is
+    /// `ASK` where more is asked than ever should be.
     pub(crate) fn alloc(
         &mut self,
         request: &ffi::Request,
@@ -89,7 +87,7 @@ impl Library {
                 status => return Err(status),
             }
         }
-        unexpected("wt_alloc", ffi::ASK)
+        Err(ffi::ASK)
     }
 
     /// Takes a range of an object of this size as a block. Where it is refused the status tells why.
@@ -102,10 +100,13 @@ impl Library {
         }
     }
 
-    /// Takes a block back.
-    pub(crate) fn free(&mut self, key: u64) {
+    /// Takes a block back. Where there is none of this key the status says so.
+    pub(crate) fn free(&mut self, key: u64) -> Result<(), u32> {
         // SAFETY: the handle is open.
-        expect("wt_free", unsafe { ffi::wt_free(&mut self.state.handle, key) });
+        match unsafe { ffi::wt_free(&mut self.state.handle, key) } {
+            ffi::OK => Ok(()),
+            status => Err(status),
+        }
     }
 
     /// Lets each object go that no block needs.
@@ -114,15 +115,24 @@ impl Library {
         expect("wt_cleanup", unsafe { ffi::wt_cleanup(&mut self.state.handle) });
     }
 
-    /// Names of objects that went: `ROOM` of them, or all where there are fewer.
-    pub(crate) fn gone(&mut self) -> &[u64] {
-        let state = &mut *self.state;
-        let mut count = 0;
-        // SAFETY: the handle is open, `names` has the room that is told, and both pointers are good until the call
-        // ends.
-        let status = unsafe { ffi::wt_gone(&mut state.handle, state.names.as_mut_ptr(), ROOM, &mut count) };
-        expect("wt_gone", status);
-        &state.names[..count]
+    /// Reads the names of all objects that went, behind those that are there.
+    pub(crate) fn read_gone(&mut self, names: &mut Vec<u64>) {
+        loop {
+            names.reserve(ROOM);
+            let room = names.spare_capacity_mut();
+            let room_len = room.len();
+            let mut count = 0;
+            // SAFETY: the handle is open, `names` has room for that many, and both pointers are good until the call
+            // ends.
+            let status =
+                unsafe { ffi::wt_gone(&mut self.state.handle, room.as_mut_ptr().cast(), room_len, &mut count) };
+            expect("wt_gone", status);
+            // SAFETY: the library wrote that many names, which is at most what there was room for.
+            unsafe { names.set_len(names.len() + count) };
+            if count < room_len {
+                return;
+            }
+        }
     }
 
     pub(crate) fn counts(&mut self) -> ffi::Counts {

@@ -118,8 +118,10 @@ pub struct MappedMemoryRange<'a, M> {
 /// invalidated is whole atoms, or ends where its object ends, and is mapped; an object is mapped once at a time; and
 /// one that goes back was not given back before. A mapped object may go back: it needs no `unmap_memory` before.
 ///
-/// A call that panics may lose objects to the device: those that were made for the request, or that go back with the
-/// block. The allocator may be used and dropped after that.
+/// A call may panic: the allocator can be used and dropped after that. A panic of
+/// [`deallocate_memory`](MemoryDevice::deallocate_memory) loses the object that it was asked to take back, and no
+/// other: the allocator's next `dealloc` or `cleanup` goes on with the others. Where another call panics, what was made
+/// for the request goes back.
 pub trait MemoryDevice<M> {
     /// Makes a memory object of `size` bytes of a memory type.
     ///

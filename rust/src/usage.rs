@@ -76,6 +76,13 @@ mod tests {
         let unnamed = UsageFlags::from_bits_retain(0x40);
         let all: Vec<_> = (BOTH | unnamed).iter().collect();
         assert_eq!(all, [UsageFlags::DOWNLOAD, UsageFlags::UPLOAD, unnamed]);
+        let mut bits = Vec::new();
+        for flag in UsageFlags::all() {
+            bits.push(flag.bits());
+        }
+        assert_eq!(bits, [0x01, 0x02, 0x04, 0x08, 0x10, 0x20]);
+        assert_eq!(UsageFlags::empty().into_iter().next(), None);
+        assert_eq!(unnamed.into_iter().collect::<Vec<_>>(), [unnamed]);
         assert_eq!(all.into_iter().collect::<UsageFlags>(), BOTH | unnamed);
         assert_eq!(BOTH.iter_names().map(|named| named.0).collect::<Vec<_>>(), ["DOWNLOAD", "UPLOAD"]);
         assert_eq!(

@@ -53,6 +53,21 @@ fn one_case() {
             }
             drop(allocator);
         }
+        "waiting" => {
+            let device = Panics { device, ..Panics::default() };
+            let lasting = Request { memory_types: 1, ..request(100, UsageFlags::TRANSIENT) };
+            // SAFETY: there is one device, and the blocks are this allocator's.
+            unsafe {
+                let other = allocator.alloc(&device, lasting).unwrap();
+                allocator.dealloc(&device, block);
+                allocator.dealloc(&device, other);
+            }
+            device.returns.set(1);
+            // SAFETY: as above.
+            let cleanup = std::panic::AssertUnwindSafe(|| unsafe { allocator.cleanup(&device) });
+            assert!(std::panic::catch_unwind(cleanup).is_err());
+            drop(allocator);
+        }
         "panic" => {
             let unwound = std::panic::catch_unwind(std::panic::AssertUnwindSafe(|| {
                 let _held = (block, allocator);
@@ -82,6 +97,14 @@ fn an_allocator_with_a_live_block_is_reported() {
 #[test]
 fn an_allocator_without_cleanup_is_reported() {
     let told = told("objects");
+    assert_eq!(told.len(), 1, "{told:?}");
+    assert!(told[0].contains("with memory objects: 1"));
+}
+
+/// One that went, and waited since the device panicked over another.
+#[test]
+fn an_allocator_with_objects_that_wait_is_reported() {
+    let told = told("waiting");
     assert_eq!(told.len(), 1, "{told:?}");
     assert!(told[0].contains("with memory objects: 1"));
 }

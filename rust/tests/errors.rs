@@ -215,10 +215,39 @@ fn too_many_remaining_panic() {
     }
 }
 
+/// The texts are gpu-alloc's, which the proved program prints too.
 #[test]
-fn texts_and_causes() {
-    let error: Box<dyn std::error::Error> = AllocationError::from(OutOfMemory::OutOfHostMemory).into();
-    assert_eq!(error.to_string(), AllocationError::OutOfHostMemory.to_string());
-    assert_eq!(MapError::from(DeviceMapError::MapFailed), MapError::MapFailed);
+fn texts() {
+    use AllocationError as A;
+    use MapError as M;
+    let types = "No compatible memory types from requested types support requested usage";
+    let texts: [(&dyn std::error::Error, &str); 10] = [
+        (&A::OutOfDeviceMemory, "Device memory exhausted"),
+        (&A::OutOfHostMemory, "Host memory exhausted"),
+        (&A::NoCompatibleMemoryTypes, types),
+        (&A::TooManyObjects, "Reached limit on allocated memory objects count"),
+        (&M::OutOfDeviceMemory, "Device memory exhausted"),
+        (&M::OutOfHostMemory, "Host memory exhausted"),
+        (&M::MapFailed, "Failed to map memory object"),
+        (&M::NonHostVisible, "Impossible to map non-host-visible memory"),
+        (&M::AlreadyMapped, "Block is already mapped"),
+        (&NewError::OutOfHostMemory, "Host memory exhausted"),
+    ];
+    let proved = concat!(env!("CARGO_MANIFEST_DIR"), "/../crates/gpu_alloc_base/src/error.rt");
+    let proved = std::fs::read_to_string(proved).expect("the proved texts are in Wallthyme's repository");
+    for (error, text) in texts {
+        assert_eq!(error.to_string(), text);
+        assert!(proved.contains(&format!("{text:?}")), "the proved program does not print {text:?}");
+    }
+}
+
+#[test]
+fn causes() {
+    assert_eq!(AllocationError::from(OutOfMemory::OutOfDeviceMemory), AllocationError::OutOfDeviceMemory);
+    assert_eq!(AllocationError::from(OutOfMemory::OutOfHostMemory), AllocationError::OutOfHostMemory);
     assert_eq!(MapError::from(OutOfMemory::OutOfDeviceMemory), MapError::OutOfDeviceMemory);
+    assert_eq!(MapError::from(OutOfMemory::OutOfHostMemory), MapError::OutOfHostMemory);
+    assert_eq!(MapError::from(DeviceMapError::OutOfDeviceMemory), MapError::OutOfDeviceMemory);
+    assert_eq!(MapError::from(DeviceMapError::OutOfHostMemory), MapError::OutOfHostMemory);
+    assert_eq!(MapError::from(DeviceMapError::MapFailed), MapError::MapFailed);
 }

@@ -2,6 +2,7 @@
 #![allow(dead_code, reason = "each test takes what it needs")]
 
 use std::borrow::Cow;
+use std::cell::Cell;
 use std::collections::BTreeMap;
 use std::ops::Range;
 use std::ptr::NonNull;
@@ -277,6 +278,56 @@ impl MemoryDevice<Memory> for Device {
     unsafe fn flush_memory_ranges(&self, ranges: &[MappedMemoryRange<'_, Memory>]) -> Result<(), OutOfMemory> {
         self.state().flushes += 1;
         self.synchronize(ranges, true)
+    }
+}
+
+/// A device whose next calls panic before they do anything: so many mappings, and so many returns of objects.
+#[derive(Default)]
+pub struct Panics {
+    pub device: Device,
+    pub mappings: Cell<u32>,
+    pub returns: Cell<u32>,
+}
+
+fn panics_if_left(calls: &Cell<u32>) {
+    if let Some(left) = calls.get().checked_sub(1) {
+        calls.set(left);
+        panic!("for the test");
+    }
+}
+
+// What these functions ask of their callers is what the device asks.
+impl MemoryDevice<Memory> for Panics {
+    unsafe fn allocate_memory(&self, size: u64, of: u32, flags: AllocationFlags) -> Result<Memory, OutOfMemory> {
+        // SAFETY: as the caller says.
+        unsafe { self.device.allocate_memory(size, of, flags) }
+    }
+
+    unsafe fn deallocate_memory(&self, memory: Memory) {
+        panics_if_left(&self.returns);
+        // SAFETY: as the caller says.
+        unsafe { self.device.deallocate_memory(memory) }
+    }
+
+    unsafe fn map_memory(&self, memory: &mut Memory, offset: u64, size: u64) -> Result<NonNull<u8>, DeviceMapError> {
+        panics_if_left(&self.mappings);
+        // SAFETY: as the caller says.
+        unsafe { self.device.map_memory(memory, offset, size) }
+    }
+
+    unsafe fn unmap_memory(&self, memory: &mut Memory) {
+        // SAFETY: as the caller says.
+        unsafe { self.device.unmap_memory(memory) }
+    }
+
+    unsafe fn invalidate_memory_ranges(&self, ranges: &[MappedMemoryRange<'_, Memory>]) -> Result<(), OutOfMemory> {
+        // SAFETY: as the caller says.
+        unsafe { self.device.invalidate_memory_ranges(ranges) }
+    }
+
+    unsafe fn flush_memory_ranges(&self, ranges: &[MappedMemoryRange<'_, Memory>]) -> Result<(), OutOfMemory> {
+        // SAFETY: as the caller says.
+        unsafe { self.device.flush_memory_ranges(ranges) }
     }
 }
 

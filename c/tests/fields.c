@@ -1,0 +1,224 @@
+/* Each field of the header's structs stands where the library has it. The library has no offsets to tell, so what is
+ * written into a field has to be seen in what the library does, and what it writes has to be found in the field.
+ *
+ * Neighbours of one type have different values, and each field is written and read by its name. So where two of them
+ * change places, in the header or in the library, something below fails; tests/exchange shows it of each two. */
+#include "common.h"
+
+#define LARGEST ((uint64_t)1 << 36)
+#define HEAP_SIZE ((uint64_t)1 << 40)
+#define OBJECTS_ALLOWED 40
+#define ADDRESS_FLAG 1u /* wt_limits.buffer_device_address: any number but 0 */
+
+enum { DEVICE_SIDE, COHERENT, NON_COHERENT, KINDS };
+
+/* The heap of each memory type is another number than its properties. */
+static const uint32_t heap_of[KINDS] = { 2, 1, 0 };
+
+static void fill_types(wt_memory_type *types) {
+    static const uint32_t props[KINDS] = { WT_DEVICE_LOCAL, WT_HOST_VISIBLE | WT_HOST_COHERENT,
+                                           WT_HOST_VISIBLE | WT_HOST_CACHED };
+    for (size_t i = 0; i < KINDS; i++) {
+        types[i].heap = heap_of[i];
+        types[i].props = props[i];
+    }
+}
+
+static void open_it(wt_allocator *a) {
+    const uint64_t heaps[KINDS] = { HEAP_SIZE, HEAP_SIZE, HEAP_SIZE };
+    wt_memory_type types[KINDS];
+    wt_limits limits;
+    wt_config config;
+    fill_types(types);
+    limits.max_memory_allocation_size = LARGEST;
+    limits.non_coherent_atom_size = ATOM;
+    limits.max_memory_allocation_count = OBJECTS_ALLOWED;
+    limits.buffer_device_address = ADDRESS_FLAG;
+    config.dedicated_threshold = 64 * KIBIBYTE;
+    config.preferred_dedicated_threshold = 4 * KIBIBYTE;
+    config.transient_dedicated_threshold = 256 * KIBIBYTE;
+    config.starting_free_list_chunk = 8 * KIBIBYTE;
+    config.final_free_list_chunk = MEBIBYTE;
+    config.minimal_buddy_size = 256;
+    config.initial_buddy_dedicated_size = 32 * KIBIBYTE;
+    expect(wt_open(a, types, KINDS, heaps, KINDS, &limits, &config) == WT_OK, "it was not opened");
+}
+
+static wt_request request_of(uint64_t size, uint32_t usage, uint32_t memory_type, uint32_t dedicated) {
+    wt_request request;
+    request.size = size;
+    request.align_mask = 0;
+    request.usage = usage;
+    request.memory_types = 1u << memory_type;
+    request.dedicated = dedicated;
+    return request;
+}
+
+static wt_block granted(wt_allocator *a, const wt_request *request, questions *talk) {
+    wt_block block;
+    expect(allocate(a, request, grants, talk, &block) == WT_OK, "a request is refused that its device grants");
+    return block;
+}
+
+/* The size of the object that a request asks for first; nothing is answered, so that nothing is changed. */
+static uint64_t size_asked(wt_allocator *a, uint64_t size, uint32_t usage, uint32_t dedicated) {
+    const wt_request request = request_of(size, usage, DEVICE_SIDE, dedicated);
+    wt_question question;
+    wt_block block;
+    expect(wt_alloc(a, &request, NULL, 0, &block, &question) == WT_ASK, "nothing is asked");
+    return question.size;
+}
+
+static void check_limits(wt_allocator *a) {
+    wt_request request = request_of(LARGEST, WT_USAGE_DEVICE_ADDRESS, DEVICE_SIDE, WT_REQUIRED);
+    wt_question question;
+    wt_block block;
+    current_case = "limits";
+    expect(counts_of(a).remaining == OBJECTS_ALLOWED, "another number of objects may be held");
+    expect(wt_alloc(a, &request, NULL, 0, &block, &question) == WT_ASK, "the largest request or addresses are refused");
+    request.size++;
+    expect(wt_alloc(a, &request, NULL, 0, &block, &question) == WT_OUT_OF_DEVICE_MEMORY, "a larger one is not refused");
+}
+
+/* Each size of the configuration decides a question's size. The smallest buddy and the last chunk of a free list are
+ * looked at where blocks are granted. */
+static void check_thresholds(wt_allocator *a) {
+    current_case = "config";
+    expect(size_asked(a, 64 * KIBIBYTE, 0, WT_SHARED) == 64 * KIBIBYTE, "dedicated_threshold: no object of its own");
+    expect(size_asked(a, 64 * KIBIBYTE - 1, 0, WT_SHARED) == 128 * KIBIBYTE, "dedicated_threshold: not shared");
+    expect(size_asked(a, 4 * KIBIBYTE, 0, WT_PREFERRED) == 4 * KIBIBYTE,
+           "preferred_dedicated_threshold: no object of its own");
+    expect(size_asked(a, 4 * KIBIBYTE - 1, 0, WT_PREFERRED) == 32 * KIBIBYTE,
+           "preferred_dedicated_threshold: not shared, or initial_buddy_dedicated_size is another");
+    expect(size_asked(a, 256 * KIBIBYTE, WT_USAGE_TRANSIENT, WT_SHARED) == 256 * KIBIBYTE,
+           "transient_dedicated_threshold: no object of its own");
+    expect(size_asked(a, 256 * KIBIBYTE - 1, WT_USAGE_TRANSIENT, WT_SHARED) != 256 * KIBIBYTE - 1,
+           "transient_dedicated_threshold: not shared");
+    expect(size_asked(a, 1, WT_USAGE_TRANSIENT, WT_SHARED) == 8 * KIBIBYTE, "starting_free_list_chunk is another");
+}
+
+/* The smallest buddy, and the objects of a free list, which grow to the last of its sizes and no further. */
+static void check_sizes_granted(wt_allocator *a) {
+    const wt_request smallest = request_of(1, 0, DEVICE_SIDE, WT_SHARED);
+    const wt_request transient = request_of(200000, WT_USAGE_TRANSIENT, DEVICE_SIDE, WT_SHARED);
+    uint64_t keys[24], largest = 0;
+    questions talk;
+    wt_block block = granted(a, &smallest, &talk);
+    expect(block.size == 256, "minimal_buddy_size is another");
+    expect(wt_free(a, block.key) == WT_OK, "a block is not taken back");
+    for (size_t i = 0; i < LENGTH(keys); i++) {
+        keys[i] = granted(a, &transient, &talk).key;
+        if (talk.len && talk.asked[0].size > largest) largest = talk.asked[0].size;
+    }
+    expect(largest == MEBIBYTE, "final_free_list_chunk is another");
+    for (size_t i = 0; i < LENGTH(keys); i++) expect(wt_free(a, keys[i]) == WT_OK, "a block is not taken back");
+}
+
+/* Reads all names, which have to be as many. */
+static void read_gone(wt_allocator *a, size_t wanted) {
+    uint64_t names[64];
+    size_t count;
+    expect(wt_gone(a, names, LENGTH(names), &count) == WT_OK && count == wanted, "another number of objects is told");
+}
+
+/* A block of an object of its own, its question, and what is asked to map a part of it. */
+static void check_own(wt_allocator *a) {
+    wt_request request = request_of(5000, WT_USAGE_HOST_ACCESS, NON_COHERENT, WT_REQUIRED);
+    wt_block block;
+    questions talk;
+    wt_range mapped;
+    current_case = "an object of its own";
+    request.align_mask = 4095;
+    block = granted(a, &request, &talk);
+    expect(talk.len == 1 && talk.asked[0].object == 0 && talk.asked[0].offset == 0, "an object is asked for otherwise");
+    expect(talk.asked[0].kind == WT_ALLOCATE && talk.asked[0].size == 5000, "an object is asked for otherwise");
+    expect(talk.asked[0].memory_type == NON_COHERENT, "another memory type is asked");
+    expect(talk.asked[0].flags == WT_ALLOCATE_DEVICE_ADDRESS, "other flags are asked");
+    expect(block.offset == 0 && block.size == 5000, "it lies elsewhere");
+    expect(block.memory_type == NON_COHERENT && block.fresh == 1, "memory_type and fresh are others");
+    expect(heap_counts_of(a, heap_of[NON_COHERENT]).used == 5000, "another heap pays");
+    expect(map(a, block.key, 2 * ATOM + 1, ATOM / 2, grants, &talk, &mapped) == WT_OK, "it is not mapped");
+    expect(talk.len == 1 && talk.asked[0].kind == WT_MAP && talk.asked[0].object == block.object, "another is mapped");
+    expect(talk.asked[0].offset == 2 * ATOM && talk.asked[0].size == ATOM, "another range is mapped");
+    expect(mapped.object == block.object && mapped.offset == 2 * ATOM + 1 && mapped.size == ATOM / 2,
+           "the mapped range is told otherwise");
+    expect(wt_free(a, block.key) == WT_OK, "it is not taken back");
+    read_gone(a, 1);
+}
+
+/* What stands in a question's answer before it is written: no answer, and none of the numbers beside it. */
+static void check_unanswered(wt_allocator *a) {
+    const wt_request request = request_of(5000, 0, DEVICE_SIDE, WT_REQUIRED);
+    wt_question question, next;
+    wt_block block;
+    current_case = "a question";
+    question.answer = WT_GRANTED;
+    expect(wt_alloc(a, &request, NULL, 0, &block, &question) == WT_ASK, "nothing is asked");
+    expect(question.answer > WT_DEVICE_MAP_FAILED, "a question is told with an answer");
+    question.answer = WT_NO_HOST_MEMORY;
+    expect(wt_alloc(a, &request, &question, 1, &block, &next) == WT_OUT_OF_HOST_MEMORY, "another answer is read");
+}
+
+/* Two blocks of one shared object, with what is told of them, of a range and of all that is held. */
+static void check_shared(wt_allocator *a) {
+    const wt_request request = request_of(640, WT_USAGE_UPLOAD | WT_USAGE_TRANSIENT, NON_COHERENT, WT_SHARED);
+    questions talk;
+    wt_block one, other, own;
+    wt_range range;
+    wt_counts counts;
+    wt_request for_own = request_of(700, 0, DEVICE_SIDE, WT_REQUIRED);
+    current_case = "a shared object";
+    one = granted(a, &request, &talk);
+    expect(talk.len == 2 && talk.asked[1].kind == WT_MAP_MADE, "it is not mapped when it was made");
+    expect(talk.asked[1].offset == 0 && talk.asked[1].size == 8 * KIBIBYTE, "it is not mapped whole");
+    other = granted(a, &request, &talk);
+    expect(talk.len == 0 && one.fresh == 1 && other.fresh == 0, "there is no room in it, or fresh is another");
+    expect(one.object == other.object && one.key != other.key, "keys are not told by blocks, or objects by objects");
+    expect(one.size == 640 && other.size == 640 && one.offset != other.offset, "offsets or sizes are others");
+    expect(one.offset % ATOM == 0 && other.offset % ATOM == 0, "a block is not aligned");
+    expect(wt_range_of(a, other.key, ATOM + 6, ATOM / 2, &range) == WT_OK, "a range is not told");
+    expect(range.object == other.object && range.offset == other.offset + ATOM && range.size == ATOM, "it is another");
+    own = granted(a, &for_own, &talk);
+    expect(wt_free(a, own.key) == WT_OK, "a block is not taken back");
+    own = granted(a, &for_own, &talk);
+    counts = counts_of(a);
+    expect(counts.blocks == 3 && counts.told == 1, "blocks and objects to free are counted otherwise");
+    expect(counts.held == 2 && counts.remaining == OBJECTS_ALLOWED - 2, "objects are counted otherwise");
+    expect(wt_free(a, own.key) == WT_OK, "a block is not taken back");
+    expect(wt_free(a, one.key) == WT_OK && wt_free(a, other.key) == WT_OK, "a block is not taken back");
+    expect(wt_cleanup(a) == WT_OK, "it is not cleaned up");
+    read_gone(a, 3);
+}
+
+/* What a heap counts is past 64 bits by imports alone. */
+static void check_heap_counts(wt_allocator *a) {
+    const uint32_t heap = heap_of[DEVICE_SIDE];
+    wt_heap_counts counts;
+    wt_block one, other;
+    current_case = "a heap";
+    expect(wt_import(a, DEVICE_SIDE, 700, 0, 700, &one) == WT_OK, "it is not imported");
+    counts = heap_counts_of(a, heap);
+    expect(counts.used == 700 && counts.used_high == 0 && counts.budget == HEAP_SIZE - 700, "it is counted otherwise");
+    expect(wt_import(a, DEVICE_SIDE, UINT64_MAX, 0, UINT64_MAX, &other) == WT_OK, "it is not imported");
+    counts = heap_counts_of(a, heap);
+    expect(counts.used == 699 && counts.used_high == 1 && counts.budget == 0, "its upper bits are counted otherwise");
+    expect(wt_free(a, one.key) == WT_OK && wt_free(a, other.key) == WT_OK, "a block is not taken back");
+    read_gone(a, 2);
+}
+
+int main(void) {
+    wt_allocator allocator = { 0, NULL };
+    open_it(&allocator);
+    check_limits(&allocator);
+    check_thresholds(&allocator);
+    check_sizes_granted(&allocator);
+    expect(wt_cleanup(&allocator) == WT_OK, "it is not cleaned up");
+    read_gone(&allocator, (size_t)counts_of(&allocator).told);
+    check_own(&allocator);
+    check_unanswered(&allocator);
+    check_shared(&allocator);
+    check_heap_counts(&allocator);
+    expect(wt_close(&allocator) == WT_OK, "it is not closed");
+    printf("fields: each where the library has it\n");
+    return 0;
+}
