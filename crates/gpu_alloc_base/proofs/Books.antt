@@ -8,7 +8,7 @@ use Rattle.gpu_alloc_types.specs.Flags.{has_bit}
 use Rattle.gpu_alloc_types.specs.Objects.{put-same, put-other}
 use Rattle.gpu_alloc_types.specs.Properties.{Properties}
 use Rattle.gpu_alloc_base.specs.Accounts.{Account, HeldChunks, chunk_bytes, chunks_and_remaining, IsCounted, Agrees, ObjectsAfter}
-use Rattle.gpu_alloc_base.specs.Case.{Case, Answers}
+use Rattle.gpu_alloc_base.specs.Case.{Case, Answers, Asks}
 use Rattle.gpu_alloc_base.specs.Chunks.{Chunk, IsThere, IsNew}
 use Rattle.gpu_alloc_base.specs.NewChunk.{ChunkQuestion, AsksBlock, HasOneChunkMore, IsGivenBack, LacksDeviceMemory, LacksHostMemory}
 use Rattle.gpu_alloc_base.specs.NewObject.{HasOneMore, ObjectsGiven}

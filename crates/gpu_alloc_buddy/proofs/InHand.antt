@@ -40,10 +40,6 @@ answers_add a new w size flags es (Ok leaf) answers granted =
     grant_adds leaf_total leaf_exact bytes_of a.allocator.live leaf new.allocator.live (live_more a new size flags es leaf answers) (omega (arith, granted.power.1, some)) granted.was_free
 answers_add a new w size flags es (Err e) refused granted = tt
 
--- a chunk is of less than 2^64 bytes
-pub asks_below : (a : Account Buddy) (size flags : ℕ) → IsSound a.allocator → Asks (buddy_case a size flags) → chunk_size a.allocator size ≤ 2 ^ 64
-asks_below a size flags sound asks = let next = pow-le sound.next_chunk.0 63 sound.next_chunk.1.0 in omega (arith, asks.has.fits, sound.next_chunk.1.1, next)
-
 -- A return.
 
 live_less : (a : Account Buddy) (leaf : Leaf) (es : List Event) (new : Account Buddy) → Frees a leaf es new → new.allocator.live ≡ set.remove a.allocator.live leaf

@@ -1,7 +1,7 @@
 //! The buddy allocator: shared chunks of one memory type, whose blocks are aligned powers of two.
 
 ghost use Rattle.std.specs.Prelude.{◌≡◌, ℕ, ◌+◌, ◌≤◌, ◌<◌, ◌↔◌, ◌^◌, IfOk, IfErr, OnErr, IfSome, Contains, IsSome, IsTrue};
-ghost use Rattle.std.specs.Prelude.{Some, None};
+ghost use Rattle.std.specs.Prelude.{Some, None, max};
 ghost use Rattle.std.specs.FinMap as map;
 ghost use Rattle.gpu_alloc_types.specs.Flags.{allocation_bits, property_bits, has_bit, with_device_address};
 ghost use Rattle.gpu_alloc_types.specs.Device.{Asked};
@@ -147,9 +147,9 @@ impl<M: MemoryObject, A: Allocator> BuddyAllocator<M, A> {
     /// host's memory is refused to the allocator or to the device, and where a chunk cannot be mapped for another
     /// reason. A chunk that was made is given back then. A block in a held chunk is given whatever `heap` counts.
     ///
-    /// `heap` has to count no less than the sum of the held chunks, and at most 2^127 bytes; what remains and the
-    /// number of held chunks have to fit 32 bits together. All but the bound of 2^127 bytes is so again after the call,
-    /// and the ledger grows by 2^64 bytes at most (`ledger`).
+    /// `heap` has to count no less than the sum of the held chunks; what remains and the number of held chunks have to fit
+    /// 32 bits together. Both is so again after the call. The ledger never passes the greater of what it was and the
+    /// heap's size (`ledger`).
     ///
     /// Each block that a caller had in hand is live still (`leaves`). The new one is live too, and shares no byte with
     /// any of them (`added`).
@@ -174,7 +174,6 @@ impl<M: MemoryObject, A: Allocator> BuddyAllocator<M, A> {
             → IsTrue (D.properties device.old).buffer_device_address }
         requires agrees { Agrees self.old (D.properties device.old) (D.objects device.old) }
         requires counted { IsCounted self.old.chunks heap.old allocations_remains.old }
-        requires bound { heap.old.used ≤ 2 ^ 127 }
 
         // What was asked of the device, the answer, and what changed.
         ensures allocates { Asked D.step device.old device.new
@@ -188,7 +187,7 @@ impl<M: MemoryObject, A: Allocator> BuddyAllocator<M, A> {
         ensures granted { IfOk result (IsGranted self.old (requested size align_mask flags) self.new) }
         ensures added { IfOk result (Adds self.old self.new) }
         ensures leaves { Leaves self.old self.new }
-        ensures ledger { heap.new.used ≤ heap.old.used + 2 ^ 64 }
+        ensures ledger { heap.new.used ≤ max heap.old.used heap.old.size }
         ensures refused { OnErr result
             ((self.new ≡ self.old) × ((heap.new ≡ heap.old) × (allocations_remains.new ≡ allocations_remains.old))) }
         ensures sound { IsSound self.new }
@@ -424,7 +423,6 @@ impl<M: MemoryObject, A: Allocator> BuddyAllocator<M, A> {
             → IsTrue (D.properties device.old).buffer_device_address }
         requires agrees { Agrees self.old (D.properties device.old) (D.objects device.old) }
         requires counted { IsCounted self.old.chunks heap.old allocations_remains.old }
-        requires bound { heap.old.used ≤ 2 ^ 127 }
         ensures answers { Asked D.step device.old device.new
             (CallAnswers self.old heap.old allocations_remains.old (2 ^ order) flags result
             self.new heap.new allocations_remains.new) }
@@ -482,7 +480,6 @@ impl<M: MemoryObject, A: Allocator> BuddyAllocator<M, A> {
             → IsTrue (D.properties device.old).buffer_device_address }
         requires agrees { Agrees self.old (D.properties device.old) (D.objects device.old) }
         requires counted { IsCounted self.old.chunks heap.old allocations_remains.old }
-        requires bound { heap.old.used ≤ 2 ^ 127 }
         ensures answers { Asked D.step device.old device.new
             (CallAnswers self.old heap.old allocations_remains.old (2 ^ order) flags result
             self.new heap.new allocations_remains.new) }
