@@ -4,10 +4,10 @@ use Rattle.std.specs.FinMap as map
 use Rattle.std.specs.FinSet as set
 use Rattle.gpu_alloc_base.specs.Chunks.{Chunk}
 use Rattle.gpu_alloc_base.specs.declared.free_list_block.Slot.{Slot}
-use Rattle.gpu_alloc_base.proofs.InHand.{grant_adds, no_chunks, none_in, return_removes}
+use Rattle.gpu_alloc_base.proofs.InHand.{grant_adds, grant_leaves, leaves_same, no_chunks, none_in, return_removes}
 use Rattle.gpu_alloc_base.proofs.Slots.{slot_total, slot_exact}
 use Rattle.gpu_alloc_base.proofs.Sums.{len_less}
-use Rattle.gpu_alloc_freelist.specs.FreeList.{AddsBlock, IsTail, MayGo, RemovesBlock, chunk_bytes_of, first_tail, with_chunk, with_slot, without_chunk, without_slot}
+use Rattle.gpu_alloc_freelist.specs.FreeList.{AddsBlock, IsTail, LeavesBlocks, MayGo, RemovesBlock, chunk_bytes_of, first_tail, with_chunk, with_slot, without_chunk, without_slot}
 use Rattle.gpu_alloc_freelist.specs.FreeListSound.{IsSoundSpace}
 use Rattle.gpu_alloc_freelist.specs.FreeListState.{Space, IsLiveSlot}
 use Rattle.gpu_alloc_freelist.proofs.FreeListAnswers.{first_enough, tail_enough, tail_free}
@@ -28,6 +28,14 @@ first_adds s new object whole size alignment slot sound some fits first is =
     grant_adds slot_total slot_exact chunk_bytes_of s.live slot new.live (ap (λ (x : Space). x.live) is)
     (omega (arith, some, first_enough s object whole size alignment fits, ap (λ (q : Slot). q.size) first))
     (λ q live same at in_q in_slot. none_in_next s sound q live (let number = ap (λ (x : Slot). x.chunk) first in cc))
+
+-- and each of those is live still
+
+pub slot_leaves : (s new : Space) (slot : Slot) → new ≡ with_slot s slot → LeavesBlocks s new
+slot_leaves s new slot is = grant_leaves slot_total slot_exact chunk_bytes_of s.live slot new.live (ap (λ (x : Space). x.live) is)
+
+pub same_leaves : (s new : Space) → new ≡ s → LeavesBlocks s new
+same_leaves s new is = leaves_same chunk_bytes_of s.live new.live (ap (λ (x : Space). x.live) is)
 
 -- A block goes, and no other.
 

@@ -43,6 +43,10 @@ chunk_bytes_of slot = record { object = slot.chunk; offset = slot.offset; size =
 abbrev pub AddsBlock : Space → Space → Slot → Type 0
 AddsBlock s new slot = in_hand.Adds chunk_bytes_of s.live new.live slot
 
+-- each block that was in hand is left
+abbrev pub LeavesBlocks : Space → Space → Type 0
+LeavesBlocks s new = in_hand.Leaves chunk_bytes_of s.live new.live
+
 -- a return takes its block away, and no other
 abbrev pub RemovesBlock : Space → Slot → Space → Type 0
 RemovesBlock s slot new = in_hand.Removes chunk_bytes_of s.live slot new.live

@@ -11,7 +11,7 @@ ghost use Rattle.gpu_alloc_types.specs.Device.{Asked, IsAskable};
 ghost use Rattle.gpu_alloc_freelist.specs.Chunks.{IsWholeChunk};
 ghost use Rattle.gpu_alloc_freelist.specs.FreeList.{TakesTail, IsFirstToGo, MayGo, HasNumber, HasPlace, with_slot};
 ghost use Rattle.gpu_alloc_freelist.specs.FreeList.{without_slot, with_chunk, without_chunk, first_tail, no_space};
-ghost use Rattle.gpu_alloc_freelist.specs.FreeList.{AddsBlock, RemovesBlock};
+ghost use Rattle.gpu_alloc_freelist.specs.FreeList.{AddsBlock, LeavesBlocks, RemovesBlock};
 ghost use Rattle.gpu_alloc_freelist.specs.FreeListInside.{MayBeTaken, IsFirstWhole};
 ghost use Rattle.gpu_alloc_freelist.specs.FreeListSound.{IsSoundSpace};
 ghost use Rattle.gpu_alloc_freelist.specs.FreeListState.{IsLiveSlot, IsFreeIn};
@@ -110,8 +110,8 @@ impl<M: MemoryObject, A: Allocator> FreeList<M, A> {
     /// `align_mask + 1` a power of two of at most 2^63, room has to be made ([`reserve`](FreeList::reserve)), and a
     /// number be left ([`has_number`](FreeList::has_number)). The call takes one chunk's room at most.
     ///
-    /// Each block that a caller had in hand is live still. The new one is live too, and shares no byte with any of them
-    /// (`added`).
+    /// Each block that a caller had in hand is live still (`leaves`). The new one is live too, and shares no byte with
+    /// any of them (`added`).
     ///
     /// Where there is no host memory for a second handle of the object, `memory` itself is handed back and nothing has
     /// changed.
@@ -132,6 +132,7 @@ impl<M: MemoryObject, A: Allocator> FreeList<M, A> {
         ensures chunk { IfOk result
             (λ slot. self.new.space ≡ with_slot (with_chunk self.old.space (M.object memory) memory_size) slot) }
         ensures added { IfOk result (AddsBlock self.old.space self.new.space) }
+        ensures leaves { LeavesBlocks self.old.space self.new.space }
         ensures refused { IfErr result (λ back. (back ≡ memory) × (self.new ≡ self.old)) }
         ensures room { OnOk result (self.old.room ≤ self.new.room + 1) }
         ensures sound { IsSoundSpace self.new.space }
@@ -211,8 +212,8 @@ impl<M: MemoryObject, A: Allocator> FreeList<M, A> {
     /// second handle of the chunk's object, and then the list is as it was. A block takes one chunk's room at most, and
     /// a refusal none.
     ///
-    /// Each block that a caller had in hand is live still. The new one is live too, and shares no byte with any of them
-    /// (`added`).
+    /// Each block that a caller had in hand is live still (`leaves`). The new one is live too, and shares no byte with
+    /// any of them (`added`).
     pub fn get_block(
         &mut self,
         align_mask: u64,
@@ -222,6 +223,7 @@ impl<M: MemoryObject, A: Allocator> FreeList<M, A> {
         requires alignment { IsAlignMask align_mask }
         ensures takes { TakesTail self.old.space size (align_mask + 1) result self.new.space }
         ensures added { IfOk result (λ block. IfSome block (AddsBlock self.old.space self.new.space)) }
+        ensures leaves { LeavesBlocks self.old.space self.new.space }
         ensures none { IfOk result (λ block. IfNone block (self.new ≡ self.old)) }
         ensures room { OnOk result (self.old.room ≤ self.new.room + 1) }
         ensures stays { OnErr result (self.old.room ≤ self.new.room) }
@@ -305,8 +307,7 @@ impl<M: MemoryObject, A: Allocator> FreeList<M, A> {
     /// Where `keep_last` says so, the chunk in which the last run lies is passed over. None where there is no such
     /// chunk. It takes no memory, and room that was made stays.
     ///
-    /// Each block that a caller has in hand is live still (`leaves`). Each chunk that goes leaves one fewer (`fewer`), so
-    /// a loop until None ends. None without `keep_last`, while no block is live, means that no chunk is held (`rest`):
+    /// The same blocks are live (`live`). Each chunk that goes leaves one fewer (`fewer`), so a loop until None ends. None without `keep_last`, while no block is live, means that no chunk is held (`rest`):
     /// then [`close`](FreeList::close) may be called without a test.
     #[inline(always)]
     pub fn take_whole(&mut self, keep_last: bool) -> Option<(M, u64, u64)>
@@ -317,7 +318,7 @@ impl<M: MemoryObject, A: Allocator> FreeList<M, A> {
             (λ taken. map.get (self.old.space).chunks taken.2 ≡ Some
             (record { object = M.object taken.0; size = taken.1 })) }
         ensures gone { IfSome result (λ taken. self.new.space ≡ without_chunk self.old.space taken.2) }
-        ensures leaves { (self.new.space).live ≡ (self.old.space).live }
+        ensures live { (self.new.space).live ≡ (self.old.space).live }
         ensures fewer { IfSome result (λ taken. map.len (self.new.space).chunks + 1 ≡ map.len (self.old.space).chunks) }
         ensures rest { IfNone result (keep_last ≡ false → set.len (self.old.space).live ≡ 0
             → map.len (self.new.space).chunks ≡ 0) }

@@ -10,7 +10,7 @@ use Rattle.gpu_alloc_freelist.specs.FreeListState.{Space, Store}
 use Rattle.gpu_alloc_freelist.proofs.CutBlocks.{cut_taken, cut_counts}
 use Rattle.gpu_alloc_freelist.proofs.FreeListGrants.{IsFoundAt, IsTailOf, found_again, found_room, is_tail_of, last_tail, listed, no_place, place_at, refused, some_room, tail_within}
 use Rattle.gpu_alloc_freelist.proofs.FreeListReturns.{region_held}
-use Rattle.gpu_alloc_freelist.proofs.ListInHand.{tail_adds}
+use Rattle.gpu_alloc_freelist.proofs.ListInHand.{same_leaves, slot_leaves, tail_adds}
 use Rattle.gpu_alloc_freelist.proofs.WholeRuns.{one_counts, one_is}
 use Rattle.gpu_alloc_freelist.proofs.freelist.list.FreeList.get_block.Given.{Over}
 use Rattle.gpu_alloc_freelist.proofs.freelist.list.FreeList.get_block.Goals as goal
@@ -133,6 +133,20 @@ returns-clause-takes g c = rw (c.new.ensures) (took g c)
 pub returns-clause-added : goal.returns-clause-added
 returns-clause-added g c =
     rw (c.new.ensures) (tail_adds c.args.self.now.space _ c.args.size (c.args.align_mask + 1) c.tail_of-slot.result c.requires.nonempty (took g c).0 (took g c).1)
+
+-- and those are live still
+
+pub returns-clause-leaves : goal.returns-clause-leaves
+returns-clause-leaves g c = slot_leaves c.args.self.now.space _ c.tail_of-slot.result (took g c).1
+
+pub returns-in_default-clause-leaves : goal.returns-in_default-clause-leaves
+returns-in_default-clause-leaves g c = same_leaves c.args.self.now.space c.args.self.now.space refl
+
+pub returns-in_err-reserve-clause-leaves : goal.returns-in_err-reserve-clause-leaves
+returns-in_err-reserve-clause-leaves g c = same_leaves c.args.self.now.space _ c.reserve.ensures.kept
+
+pub returns-in_err-memory-clause-leaves : goal.returns-in_err-memory-clause-leaves
+returns-in_err-memory-clause-leaves g c = same_leaves c.args.self.now.space _ c.reserve.ensures.kept
 
 pub returns-clause-sound : goal.returns-clause-sound
 returns-clause-sound g c = (invariant_of-self g c).sound
