@@ -502,6 +502,8 @@ impl<M: MemoryObject, A: Allocator> BuddyAllocator<M, A> {
         let leaf = self.pairs.begin(memory, chunk_order, order, splits);
         self.pairs.keeps_exact();
         self.next_order = chunk_order;
+        // (the heap's size is a u64, so a ledger that stays within it does not overflow)
+        let _ = heap.size();
         heap.alloc(size);
         *allocations_remains -= 1;
         Ok(BuddyBlock::new(handle, leaf))
