@@ -17,7 +17,7 @@ ghost use Rattle.gpu_alloc_base.specs.RangeOrder.{AreInOrder};
 ghost use Rattle.gpu_alloc_base.specs.Wanted.{requested, wanted};
 ghost use Rattle.gpu_alloc_buddy.specs.BuddySound.{IsSound};
 ghost use Rattle.gpu_alloc_buddy.specs.BuddyState.{IsLiveLeaf, space_of};
-ghost use Rattle.gpu_alloc_buddy.specs.BuddySteps.{AreFewRanges, AreFewReleases, CountsSplits, CountsSteps};
+ghost use Rattle.gpu_alloc_buddy.specs.BuddySteps.{AreFewRanges, AreFewReleases, CountsRefusing, CountsSplits, CountsSteps};
 ghost use Rattle.gpu_alloc_pairs.specs.Store.{CountsLooks, CountsTaking};
 ghost use Rattle.gpu_alloc_base.specs.AlignMasks.{IsAlignMask};
 
@@ -219,8 +219,11 @@ impl<M: MemoryObject, A: Allocator> BuddyAllocator<M, A> {
     /// objects may be held, and else `OutOfDeviceMemory` where a chunk is wanted that `heap` has no room for
     /// (`Heap::fits`). None where it goes further. It takes no memory.
     ///
-    /// The size has to be at least 1, and `align_mask + 1` a power of two of at most 2^63, as of `alloc`. `looks` counts
-    /// as it does there (`looked`).
+    /// The size has to be at least 1, and `align_mask + 1` a power of two of at most 2^63, as of `alloc`.
+    ///
+    /// `looks` counts the lengths at which a free piece was looked for, at most 63 (`looked`). It looks only where a chunk
+    /// could not be asked for: where a shortest free piece that is long enough has 2^k times the block's size it looks
+    /// k + 1 times, and where there is none once at each length from the block's up to 2^62 bytes (`steps`).
     pub fn refuses<L: Ledger>(
         &self,
         size: u64,
@@ -235,6 +238,9 @@ impl<M: MemoryObject, A: Allocator> BuddyAllocator<M, A> {
             → RefusesFirst (case_of (account self.now heap.now allocations_remains) (wanted size align_mask flags))
             result }
         ensures looked { CountsLooks looks.old looks.new }
+        ensures steps { (flags : ℕ)
+            → CountsRefusing (account self.now heap.now allocations_remains)
+            (rounded self.now (wanted size align_mask flags)) looks.old looks.new }
     {
         let order = self.rounded_order(size, align_mask);
         if order > 62 {
