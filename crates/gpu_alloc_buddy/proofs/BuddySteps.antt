@@ -13,9 +13,9 @@ use Rattle.gpu_alloc_base.specs.declared.piece.Piece.{Piece}
 use Rattle.gpu_alloc_base.proofs.AlignedPowers.{order-le, pow-le}
 use Rattle.gpu_alloc_base.specs.declared.error.AllocationError.{AllocationError}
 use Rattle.gpu_alloc_base.specs.declared.error.AllocationError.TheVariants.{OutOfDeviceMemory, OutOfHostMemory, NoCompatibleMemoryTypes, TooManyObjects}
-use Rattle.gpu_alloc_buddy.specs.Buddy.{BeginsChunk, Fits, buddy_case, chunk_size}
+use Rattle.gpu_alloc_buddy.specs.Buddy.{BeginsChunk, Fits, IsFront, buddy_case, chunk_size}
 use Rattle.gpu_alloc_buddy.specs.BuddyState.{Buddy, IsFreeAt, IsLiveLeaf, space_of}
-use Rattle.gpu_alloc_buddy.specs.BuddySteps.{AreFewRanges, AreFewReleases, CountsRefusing, CountsSteps, LooksFirst}
+use Rattle.gpu_alloc_buddy.specs.BuddySteps.{AreFewRanges, AreFewReleases, CountsBeginning, CountsHalving, CountsRefusing, CountsSteps, LooksFirst}
 use Rattle.gpu_alloc_pairs.specs.Space.{IsSoundSpace}
 use Rattle.gpu_alloc_pairs.specs.Store.{CountsFront, CountsSearch, range_of}
 use Rattle.gpu_alloc_buddy.proofs.BuddyAnswers.{fits, fits_not}
@@ -56,6 +56,22 @@ new_counts b order leaf looks now splits after begins k piece =
 pub granted_counts : (b : Buddy) (order : ℕ) (answer : Result Leaf AllocationError) (looks now splits after : ℕ) → IfOk answer (BeginsChunk b (2 ^ order)) → IfOk answer (CountsSteps b looks now splits after)
 granted_counts b order (Ok leaf) looks now splits after begins = new_counts b order leaf looks now splits after begins
 granted_counts b order (Err e) looks now splits after begins = tt
+
+-- a block in a place begins no chunk
+pub front_begins_none : (b : Buddy) (order : ℕ) (leaf : Leaf) (looks now splits after : ℕ) → IsFront b (2 ^ order) leaf → CountsBeginning b looks now splits after leaf
+front_begins_none b order leaf looks now splits after front none k is = let held = front.held in absurd (cc)
+
+new_begins : (b : Buddy) (order : ℕ) (leaf : Leaf) (looks now splits after : ℕ) → BeginsChunk b (2 ^ order) leaf → CountsSearch (space_of b) (2 ^ order) looks now → CountsHalving b order splits after → CountsBeginning b looks now splits after leaf
+new_begins b order leaf looks now splits after begins search (n, size, split) none k is =
+    let long : 2 ^ n ≡ 2 ^ (order + k) = sym size ∙ ap (chunk_size b) (sym begins.of_size) ∙ is ∙ ap (λ x. x * 2 ^ k) begins.of_size ∙ sym (pow-add 2 order k) in (
+      rw (begins.of_size) search,
+      omega (arith, split, order-le n (order + k) (omega (arith, long)), order-le (order + k) n (omega (arith, long))),
+    )
+
+pub granted_begins : (b : Buddy) (order : ℕ) (answer : Result Leaf AllocationError) (looks now splits after : ℕ) → IfOk answer (BeginsChunk b (2 ^ order)) → CountsSearch (space_of b) (2 ^ order) looks now → IfOk answer (λ _. CountsHalving b order splits after)
+    → IfOk answer (CountsBeginning b looks now splits after)
+granted_begins b order (Ok leaf) looks now splits after begins search halved = new_begins b order leaf looks now splits after begins search halved
+granted_begins b order (Err e) looks now splits after begins search halved = tt
 
 -- A refusal that is told.
 

@@ -91,6 +91,7 @@ IsLastLook s size length = IsShortest s size length ⊎ ((HasPlace s size → �
 -- each length is looked at once, from the block's size on: where the last is 2^k times that, it takes k + 1 looks
 pub record CountsSearch (s : Space) (size looks now : ℕ) : Type 0 where
   pub doublings : ℕ
+  pub few : doublings ≤ 62
   pub last : IsLastLook s size (size * 2 ^ doublings)
   pub looked : now ≡ looks + doublings + 1
 
@@ -102,10 +103,11 @@ pub record CountsFront (s : Space) (leaf : Leaf) (looks now splits after : ℕ) 
   pub looked : now ≡ looks + doublings + 1
   pub split : after ≡ splits + doublings
 
-abbrev pub CountsTaking : {E : Type 0} → Space → Result (Option Leaf) E → ℕ → ℕ → ℕ → ℕ → Type 0
-CountsTaking s (Ok (Some leaf)) looks now splits after = CountsFront s leaf looks now splits after
-CountsTaking s (Ok None) looks now splits after = CountsLooks looks now × (after ≡ splits)
-CountsTaking s (Err e) looks now splits after = CountsLooks looks now × (after ≡ splits)
+-- the steps of a search for a place, and of taking the block
+abbrev pub CountsTaking : {E : Type 0} → Space → ℕ → Result (Option Leaf) E → ℕ → ℕ → ℕ → ℕ → Type 0
+CountsTaking s size (Ok (Some leaf)) looks now splits after = CountsFront s leaf looks now splits after
+CountsTaking s size (Ok None) looks now splits after = CountsSearch s size looks now × (after ≡ splits)
+CountsTaking s size (Err e) looks now splits after = CountsSearch s size looks now × (after ≡ splits)
 
 -- no held chunk is of this object
 abbrev pub IsUnheld : Space → ℕ → Type 0

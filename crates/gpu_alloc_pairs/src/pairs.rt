@@ -124,7 +124,7 @@ impl<M: MemoryObject, A: Allocator> Pairs<M, A> {
     ) -> Result<Option<BuddyBlock<M>>, AllocError>
         requires { order ≤ 62 }
         ensures takes { TakesPlace (self.old).space (2 ^ order) result (self.new).space }
-        ensures counted { CountsTaking (self.old).space result looks.old looks.new splits.old splits.new }
+        ensures counted { CountsTaking (self.old).space (2 ^ order) result looks.old looks.new splits.old splits.new }
     {
         let Some(found) = lengths::find(self.lengths.as_slice(), order, looks) else {
             return Ok(None);

@@ -103,3 +103,8 @@ alloc-requires g c =
     let asks = rw (← c.self.view_is) at c.requires.asks in
     let size = rw (← c.self.view_is) at c.chunk_order-chunk_order.ensures.is in
     omega (arith, asks.within, size, c.bytes-size.ensures, c.size.ensures, c.size.type_inv)
+
+pub returns-clause-halved : goal.returns-clause-halved
+returns-clause-halved g c =
+    let size = rw (← c.self.view_is) at c.chunk_order-chunk_order.ensures.is in
+    rw (← c.self.view_is) (c.chunk_order-chunk_order.result, size, c.begin-leaf.ensures.counted)
