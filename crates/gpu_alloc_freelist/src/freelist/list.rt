@@ -307,8 +307,9 @@ impl<M: MemoryObject, A: Allocator> FreeList<M, A> {
     /// Where `keep_last` says so, the chunk in which the last run lies is passed over. None where there is no such
     /// chunk. It takes no memory, and room that was made stays.
     ///
-    /// The same blocks are live (`live`). Each chunk that goes leaves one fewer (`fewer`), so a loop until None ends. None without `keep_last`, while no block is live, means that no chunk is held (`rest`):
-    /// then [`close`](FreeList::close) may be called without a test.
+    /// The same blocks are live (`live`). Each chunk that goes leaves one fewer (`fewer`), so a loop until None ends.
+    /// None without `keep_last`, while no block is live, means that no chunk is held (`rest`): then
+    /// [`close`](FreeList::close) may be called without a test.
     #[inline(always)]
     pub fn take_whole(&mut self, keep_last: bool) -> Option<(M, u64, u64)>
         ensures none { IfNone result
