@@ -1,7 +1,7 @@
 -- What follows from an answer to a request, whatever kind of chunks it is about: nothing changes where it is refused, the totals,
 -- what is counted, and agreement with the device.
 use Rattle.std.proofs.Common.{◌≡◌, ◌≢◌, inl, inr, ℕ, ◌+◌, ◌-◌, ◌≤◌, Bool, IsTrue, List, Option, Some, None, Result, Ok, Err, refl, sym, ◌∙◌, ap, subst, arith}
-use Rattle.std.specs.Prelude.{IfSome}
+use Rattle.std.specs.Prelude.{IfSome, max}
 use Rattle.std.specs.FinMap as map
 use Rattle.gpu_alloc_types.specs.Device.{Object, Event, HeldWith, put}
 use Rattle.gpu_alloc_types.specs.Flags.{has_bit}
@@ -55,6 +55,8 @@ new_chunk_of c b = record { object = c.object b; size = c.question.size }
 -- a block in a place leaves the books, which have its chunk, and one in a new object adds that as a chunk
 pub record KeepsBooks {B S : Type 0} (chunks : S → HeldChunks) (key : B → ℕ) (c : Case B (Account S)) : Type 0 where
   pub count : c.remaining ≡ c.before.remaining
+  pub ledger : c.ledger ≡ c.before.heap.used
+  pub heap_size : c.heap_size ≡ c.before.heap.size
   pub place_held : (b : B) → c.IsInPlace b → (chunk : Chunk) × (map.get (chunks c.before.allocator) (key b) ≡ Some chunk)
   pub in_place : (b : B) → c.IsInPlace b → HasSameBooks chunks c.before (c.with_block b)
   pub in_new : (b : B) → c.IsInNewObject b → IsEntered chunks (key b) (new_chunk_of c b) c.before (c.with_object b)
@@ -108,15 +110,15 @@ module _ {B S : Type 0} {chunks : S → HeldChunks} {key : B → ℕ} {c : Case 
       rw (gives.state, entered.chunks_are) (omega (arith, more, entered.used, counted))
   answers_bytes es (Err e) new counted refused = rw (refused_keeps c es e new refused) counted
 
-  -- the ledger grows by the size of a chunk at most
-  pub answers_used : (most : ℕ) → (Asks c → c.question.size ≤ most) → (es : List Event) (answer : Result B AllocationError) (new : Account S) → Answers c es answer new → new.heap.used ≤ c.before.heap.used + most
-  answers_used most bound es (Ok b) new (inl gives) =
+  -- the ledger never passes the greater of what it was and the heap's size
+  pub answers_within : (es : List Event) (answer : Result B AllocationError) (new : Account S) → Answers c es answer new → new.heap.used ≤ max c.before.heap.used c.before.heap.size
+  answers_within es (Ok b) new (inl gives) =
       let same = books.in_place b gives.place in
       rw (gives.state, same.used) (omega arith)
-  answers_used most bound es (Ok b) new (inr gives) =
+  answers_within es (Ok b) new (inr gives) =
       let entered = books.in_new b gives.place in
-      rw (gives.state, entered.used) (omega (arith, bound gives.asks))
-  answers_used most bound es (Err e) new refused = rw (refused_keeps c es e new refused) (omega arith)
+      rw (gives.state, entered.used) (omega (arith, books.ledger, books.heap_size, gives.asks.within))
+  answers_within es (Err e) new refused = rw (refused_keeps c es e new refused) (omega arith)
 
   pub answers_counted : (es : List Event) (answer : Result B AllocationError) (new : Account S) → IsCounted before c.before.heap c.before.remaining → Answers c es answer new → IsCounted (chunks new.allocator) new.heap new.remaining
   answers_counted es answer new counted answers = record {

@@ -1,20 +1,24 @@
 -- How many steps a call takes, and how many pieces are free.
-use Rattle.std.proofs.Common.{◌≡◌, inl, inr, ℕ, ◌+◌, ◌*◌, ◌-◌, ◌^◌, ◌<◌, ◌≤◌, ◌==◌, Bool, cond, List, [], ◌∷◌, map, Result, Ok, Err, IfOk, refl, sym, ◌∙◌, ap, subst, arith, count_by}
+use Rattle.std.proofs.Common.{◌≡◌, ◌⊎◌, inl, inr, ℕ, ◌+◌, ◌*◌, ◌-◌, ◌^◌, ◌<◌, ◌≤◌, ◌==◌, Bool, cond, Some, None, List, [], ◌∷◌, map, Result, Ok, Err, IfOk, refl, sym, ◌∙◌, ap, subst, arith, count_by}
 use Rattle.std.proofs.lemmas.Bool.{cases_lt}
 use Rattle.std.proofs.lemmas.Bool.Decides.{Decides-eqb, same_from_decides}
 use Rattle.std.proofs.lemmas.List.Sums.{sum_by-cons}
 use Rattle.std.proofs.lemmas.Nat.{pow-add}
 use Rattle.std.specs.FinSet as set
+use Rattle.gpu_alloc_base.specs.Accounts.{Account}
+use Rattle.gpu_alloc_base.specs.Case.{RefusesQuestion}
 use Rattle.gpu_alloc_base.specs.FreeSpace.{IsFreePiece, IsIn}
 use Rattle.gpu_alloc_base.specs.declared.buddy_block.Leaf.{Leaf}
 use Rattle.gpu_alloc_base.specs.declared.piece.Piece.{Piece}
 use Rattle.gpu_alloc_base.proofs.AlignedPowers.{order-le, pow-le}
 use Rattle.gpu_alloc_base.specs.declared.error.AllocationError.{AllocationError}
-use Rattle.gpu_alloc_buddy.specs.Buddy.{BeginsChunk}
+use Rattle.gpu_alloc_base.specs.declared.error.AllocationError.TheVariants.{OutOfDeviceMemory, OutOfHostMemory, NoCompatibleMemoryTypes, TooManyObjects}
+use Rattle.gpu_alloc_buddy.specs.Buddy.{BeginsChunk, Fits, IsFront, buddy_case, chunk_size}
 use Rattle.gpu_alloc_buddy.specs.BuddyState.{Buddy, IsFreeAt, IsLiveLeaf, space_of}
-use Rattle.gpu_alloc_buddy.specs.BuddySteps.{AreFewRanges, AreFewReleases, CountsSteps}
+use Rattle.gpu_alloc_buddy.specs.BuddySteps.{AreFewRanges, AreFewReleases, CountsBeginning, CountsHalving, CountsRefusing, CountsSteps, LooksFirst}
 use Rattle.gpu_alloc_pairs.specs.Space.{IsSoundSpace}
-use Rattle.gpu_alloc_pairs.specs.Store.{CountsFront, range_of}
+use Rattle.gpu_alloc_pairs.specs.Store.{CountsFront, CountsSearch, range_of}
+use Rattle.gpu_alloc_buddy.proofs.BuddyAnswers.{fits, fits_not}
 
 -- A grant.
 
@@ -52,6 +56,47 @@ new_counts b order leaf looks now splits after begins k piece =
 pub granted_counts : (b : Buddy) (order : ℕ) (answer : Result Leaf AllocationError) (looks now splits after : ℕ) → IfOk answer (BeginsChunk b (2 ^ order)) → IfOk answer (CountsSteps b looks now splits after)
 granted_counts b order (Ok leaf) looks now splits after begins = new_counts b order leaf looks now splits after begins
 granted_counts b order (Err e) looks now splits after begins = tt
+
+-- a block in a place begins no chunk
+pub front_begins_none : (b : Buddy) (order : ℕ) (leaf : Leaf) (looks now splits after : ℕ) → IsFront b (2 ^ order) leaf → CountsBeginning b looks now splits after leaf
+front_begins_none b order leaf looks now splits after front none k is = let held = front.held in absurd (cc)
+
+new_begins : (b : Buddy) (order : ℕ) (leaf : Leaf) (looks now splits after : ℕ) → BeginsChunk b (2 ^ order) leaf → CountsSearch (space_of b) (2 ^ order) looks now → CountsHalving b order splits after → CountsBeginning b looks now splits after leaf
+new_begins b order leaf looks now splits after begins search (n, size, split) none k is =
+    let long : 2 ^ n ≡ 2 ^ (order + k) = sym size ∙ ap (chunk_size b) (sym begins.of_size) ∙ is ∙ ap (λ x. x * 2 ^ k) begins.of_size ∙ sym (pow-add 2 order k) in (
+      rw (begins.of_size) search,
+      omega (arith, split, order-le n (order + k) (omega (arith, long)), order-le (order + k) n (omega (arith, long))),
+    )
+
+pub granted_begins : (b : Buddy) (order : ℕ) (answer : Result Leaf AllocationError) (looks now splits after : ℕ) → IfOk answer (BeginsChunk b (2 ^ order)) → CountsSearch (space_of b) (2 ^ order) looks now → IfOk answer (λ _. CountsHalving b order splits after)
+    → IfOk answer (CountsBeginning b looks now splits after)
+granted_begins b order (Ok leaf) looks now splits after begins search halved = new_begins b order leaf looks now splits after begins search halved
+granted_begins b order (Err e) looks now splits after begins search halved = tt
+
+-- A refusal that is told.
+
+-- a chunk would be too large
+pub too_long : (a : Account Buddy) (order size looks now : ℕ) → size ≡ 2 ^ order → 62 < order → now ≡ looks → CountsRefusing a size looks now
+too_long a order size looks now is long same = inr ((λ (first, _). fits_not order long (subst Fits is first)), same)
+
+-- a chunk may be asked for
+pub may_be_asked : (a : Account Buddy) (order flags size looks now : ℕ) → size ≡ 2 ^ order → RefusesQuestion (buddy_case a (2 ^ order) flags) None → now ≡ looks → CountsRefusing a size looks now
+may_be_asked a order flags size looks now is asks same = inr ((λ first. not_first (subst (LooksFirst a) is first)), same)
+  where
+    not_first : LooksFirst a (2 ^ order) → ⊥
+    not_first (fits, inl none) = absurd (omega (arith, none, asks.0.objects))
+    not_first (fits, inr over) = absurd (omega (arith, over, asks.1))
+
+-- none may be asked for, so a place was looked for
+pub looked_first : (a : Account Buddy) (order flags size looks now : ℕ) → size ≡ 2 ^ order → order ≤ 62 → (e : AllocationError) → RefusesQuestion (buddy_case a (2 ^ order) flags) (Some e) → CountsSearch (space_of a.allocator) (2 ^ order) looks now → CountsRefusing a size looks now
+looked_first a order flags size looks now is short e refuses search = rw is (inl ((fits order short, first e refuses), search))
+  where
+    first : (e : AllocationError) → RefusesQuestion (buddy_case a (2 ^ order) flags) (Some e) → (a.remaining ≡ 0) ⊎ (a.heap.size < a.heap.used + chunk_size a.allocator (2 ^ order))
+    first TooManyObjects (inl none) = inl none
+    first TooManyObjects (inr spent) = absurd (spent tt)
+    first OutOfDeviceMemory over = inr over.1
+    first OutOfHostMemory refuses = absurd refuses
+    first NoCompatibleMemoryTypes refuses = absurd refuses
 
 -- A return.
 

@@ -1,20 +1,19 @@
 -- What a buddy allocator's calls leave of the blocks in hand.
-use Rattle.std.proofs.Common.{◌≡◌, inl, inr, ℕ, ◌≤◌, ◌^◌, List, Option, Result, Ok, Err, IfOk, refl, ap, arith}
+use Rattle.std.proofs.Common.{◌≡◌, inl, inr, ℕ, ◌≤◌, List, Option, Result, Ok, Err, IfOk, refl, ap, arith}
 use Rattle.std.proofs.lemmas.Nat.{pow_pos}
 use Rattle.std.specs.FinSet as set
 use Rattle.gpu_alloc_types.specs.Device.{Object, Event}
 use Rattle.gpu_alloc_types.specs.Properties.{Properties}
 use Rattle.gpu_alloc_base.specs.InHand.{Offers}
 use Rattle.gpu_alloc_base.specs.Accounts.{Account}
-use Rattle.gpu_alloc_base.specs.Case.{Answers, Asks}
+use Rattle.gpu_alloc_base.specs.Case.{Answers}
 use Rattle.gpu_alloc_base.specs.Leaves.{leaf_cmp}
 use Rattle.gpu_alloc_base.specs.Wanted.{Wanted}
 use Rattle.gpu_alloc_base.specs.declared.buddy_block.Leaf.{Leaf}
 use Rattle.gpu_alloc_base.specs.declared.error.AllocationError.{AllocationError}
-use Rattle.gpu_alloc_buddy.specs.Buddy.{Adds, Agrees, buddy_case, bytes_of, chunk_size, Frees, HoldsNothing, IsGranted, Leaves, LeavesNoRest, Removes}
+use Rattle.gpu_alloc_buddy.specs.Buddy.{Adds, Agrees, buddy_case, bytes_of, Frees, HoldsNothing, IsGranted, Leaves, LeavesNoRest, Removes}
 use Rattle.gpu_alloc_buddy.specs.BuddySound.{IsSound}
 use Rattle.gpu_alloc_buddy.specs.BuddyState.{Buddy, IsLiveLeaf}
-use Rattle.gpu_alloc_base.proofs.AlignedPowers.{pow-le}
 use Rattle.gpu_alloc_base.proofs.Books.{refused_keeps}
 use Rattle.gpu_alloc_base.proofs.InHand.{leaves_same, none_in, grant_leaves, grant_adds, return_removes, granted_live, no_chunks}
 use Rattle.gpu_alloc_base.proofs.Leaves.{leaf_total, leaf_exact}
@@ -39,10 +38,6 @@ answers_add a new w size flags es (Ok leaf) answers granted =
     let some = pow_pos granted.power.0 in
     grant_adds leaf_total leaf_exact bytes_of a.allocator.live leaf new.allocator.live (live_more a new size flags es leaf answers) (omega (arith, granted.power.1, some)) granted.was_free
 answers_add a new w size flags es (Err e) refused granted = tt
-
--- a chunk is of less than 2^64 bytes
-pub asks_below : (a : Account Buddy) (size flags : ℕ) → IsSound a.allocator → Asks (buddy_case a size flags) → chunk_size a.allocator size ≤ 2 ^ 64
-asks_below a size flags sound asks = let next = pow-le sound.next_chunk.0 63 sound.next_chunk.1.0 in omega (arith, asks.has.fits, sound.next_chunk.1.1, next)
 
 -- A return.
 

@@ -1,13 +1,16 @@
 -- How many steps a buddy allocator's calls take, and how many pieces are free: lengths looked at, pieces split, halves
 -- given back.
-use Rattle.std.specs.Prelude.{◌≡◌, ℕ, ◌+◌, ◌-◌, ◌*◌, ◌^◌, ◌≤◌, ◌==◌, Some, List, count_by}
+use Rattle.std.specs.Prelude.{◌≡◌, ◌⊎◌, ℕ, ◌+◌, ◌-◌, ◌*◌, ◌^◌, ◌<◌, ◌≤◌, ◌==◌, Some, None, List, count_by}
 use Rattle.std.specs.FinMap as map
 use Rattle.std.specs.FinSet as set
 use Rattle.gpu_alloc_types.specs.declared.types.FreeRange.{FreeRange}
+use Rattle.gpu_alloc_base.specs.Accounts.{Account}
 use Rattle.gpu_alloc_base.specs.Chunks.{Chunk}
 use Rattle.gpu_alloc_base.specs.FreeSpace.{IsFreePiece}
 use Rattle.gpu_alloc_base.specs.declared.buddy_block.Leaf.{Leaf}
-use Rattle.gpu_alloc_buddy.specs.BuddyState.{Buddy, IsFreeAt}
+use Rattle.gpu_alloc_buddy.specs.Buddy.{Fits, chunk_size}
+use Rattle.gpu_alloc_buddy.specs.BuddyState.{Buddy, IsFreeAt, space_of}
+use Rattle.gpu_alloc_pairs.specs.Store.{CountsSearch}
 
 -- at most 62 pieces are split
 abbrev pub CountsSplits : ℕ → ℕ → Type 0
@@ -18,6 +21,28 @@ abbrev pub CountsSteps : Buddy → ℕ → ℕ → ℕ → ℕ → Leaf → Type
 CountsSteps b looks now splits after leaf =
     (k : ℕ) → IsFreePiece (IsFreeAt b) leaf.chunk leaf.offset (leaf.size * 2 ^ k)
     → (now ≡ looks + k + 1) × (after ≡ splits + k)
+
+-- where the block begins a new chunk of 2^k times its size, no place was found, and k - 1 pieces were split: a chunk comes
+-- as its two halves
+abbrev pub CountsBeginning : Buddy → ℕ → ℕ → ℕ → ℕ → Leaf → Type 0
+CountsBeginning b looks now splits after leaf =
+    map.get b.chunks leaf.chunk ≡ None → (k : ℕ) → chunk_size b leaf.size ≡ leaf.size * 2 ^ k
+    → CountsSearch (space_of b) leaf.size looks now × (after + 1 ≡ splits + k)
+
+-- the same of a block of 2^order bytes in a chunk of 2^n bytes
+abbrev pub CountsHalving : Buddy → ℕ → ℕ → ℕ → Type 0
+CountsHalving b order splits after = (n : ℕ) × (chunk_size b (2 ^ order) ≡ 2 ^ n) × (after + order + 1 ≡ splits + n)
+
+-- a place is looked for first where a chunk for the block is below 2^64 bytes, and may not be asked for: nothing
+-- remains, or the heap has too few bytes left
+abbrev pub LooksFirst : Account Buddy → ℕ → Type 0
+LooksFirst a size = Fits size × ((a.remaining ≡ 0) ⊎ (a.heap.size < a.heap.used + chunk_size a.allocator size))
+
+-- the looks of what tells a refusal: those for a place, and none where it is not looked for
+abbrev pub CountsRefusing : Account Buddy → ℕ → ℕ → ℕ → Type 0
+CountsRefusing a size looks now =
+    (LooksFirst a size × CountsSearch (space_of a.allocator) size looks now)
+    ⊎ ((LooksFirst a size → ⊥) × (now ≡ looks))
 
 -- in a chunk of 2^k times the block's size at most k halves are given back
 abbrev pub AreFewReleases : Buddy → Leaf → ℕ → ℕ → Type 0

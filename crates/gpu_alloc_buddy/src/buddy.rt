@@ -1,7 +1,7 @@
 //! The buddy allocator: shared chunks of one memory type, whose blocks are aligned powers of two.
 
 ghost use Rattle.std.specs.Prelude.{◌≡◌, ℕ, ◌+◌, ◌≤◌, ◌<◌, ◌↔◌, ◌^◌, IfOk, IfErr, OnErr, IfSome, Contains, IsSome, IsTrue};
-ghost use Rattle.std.specs.Prelude.{Some, None};
+ghost use Rattle.std.specs.Prelude.{Some, None, max};
 ghost use Rattle.std.specs.FinMap as map;
 ghost use Rattle.gpu_alloc_types.specs.Flags.{allocation_bits, property_bits, has_bit, with_device_address};
 ghost use Rattle.gpu_alloc_types.specs.Device.{Asked};
@@ -17,7 +17,8 @@ ghost use Rattle.gpu_alloc_base.specs.RangeOrder.{AreInOrder};
 ghost use Rattle.gpu_alloc_base.specs.Wanted.{requested, wanted};
 ghost use Rattle.gpu_alloc_buddy.specs.BuddySound.{IsSound};
 ghost use Rattle.gpu_alloc_buddy.specs.BuddyState.{IsLiveLeaf, space_of};
-ghost use Rattle.gpu_alloc_buddy.specs.BuddySteps.{AreFewRanges, AreFewReleases, CountsSplits, CountsSteps};
+ghost use Rattle.gpu_alloc_buddy.specs.BuddySteps.{AreFewRanges, AreFewReleases, CountsBeginning, CountsHalving};
+ghost use Rattle.gpu_alloc_buddy.specs.BuddySteps.{CountsRefusing, CountsSplits, CountsSteps};
 ghost use Rattle.gpu_alloc_pairs.specs.Store.{CountsLooks, CountsTaking};
 ghost use Rattle.gpu_alloc_base.specs.AlignMasks.{IsAlignMask};
 
@@ -147,16 +148,17 @@ impl<M: MemoryObject, A: Allocator> BuddyAllocator<M, A> {
     /// host's memory is refused to the allocator or to the device, and where a chunk cannot be mapped for another
     /// reason. A chunk that was made is given back then. A block in a held chunk is given whatever `heap` counts.
     ///
-    /// `heap` has to count no less than the sum of the held chunks, and at most 2^127 bytes; what remains and the
-    /// number of held chunks have to fit 32 bits together. All but the bound of 2^127 bytes is so again after the call,
-    /// and the ledger grows by 2^64 bytes at most (`ledger`).
+    /// `heap` has to count no less than the sum of the held chunks; what remains and the number of held chunks have to fit
+    /// 32 bits together. Both is so again after the call. The ledger never passes the greater of what it was and the
+    /// heap's size (`ledger`).
     ///
     /// Each block that a caller had in hand is live still (`leaves`). The new one is live too, and shares no byte with
     /// any of them (`added`).
     ///
     /// `looks` counts the lengths at which a free piece was looked for, at most 63 (`looked`), and `splits` how often a
     /// piece was halved, at most 62 (`split`): whatever is live, a piece of 2^k times the block's size takes k + 1 looks
-    /// and k splits (`steps`).
+    /// and k splits (`steps`). A new chunk of 2^k times the block's size, which comes as its two halves, takes k - 1
+    /// splits, after a look at each length from the block's up to 2^62 bytes (`begun`).
     pub fn alloc<D: ObjectDevice<M>, L: Ledger, K: Ledger>(
         &mut self,
         device: &mut D,
@@ -174,7 +176,6 @@ impl<M: MemoryObject, A: Allocator> BuddyAllocator<M, A> {
             → IsTrue (D.properties device.old).buffer_device_address }
         requires agrees { Agrees self.old (D.properties device.old) (D.objects device.old) }
         requires counted { IsCounted self.old.chunks heap.old allocations_remains.old }
-        requires bound { heap.old.used ≤ 2 ^ 127 }
 
         // What was asked of the device, the answer, and what changed.
         ensures allocates { Asked D.step device.old device.new
@@ -188,7 +189,7 @@ impl<M: MemoryObject, A: Allocator> BuddyAllocator<M, A> {
         ensures granted { IfOk result (IsGranted self.old (requested size align_mask flags) self.new) }
         ensures added { IfOk result (Adds self.old self.new) }
         ensures leaves { Leaves self.old self.new }
-        ensures ledger { heap.new.used ≤ heap.old.used + 2 ^ 64 }
+        ensures ledger { heap.new.used ≤ max heap.old.used heap.old.size }
         ensures refused { OnErr result
             ((self.new ≡ self.old) × ((heap.new ≡ heap.old) × (allocations_remains.new ≡ allocations_remains.old))) }
         ensures sound { IsSound self.new }
@@ -200,6 +201,7 @@ impl<M: MemoryObject, A: Allocator> BuddyAllocator<M, A> {
         ensures looked { CountsLooks looks.old looks.new }
         ensures split { CountsSplits splits.old splits.new }
         ensures steps { IfOk result (CountsSteps self.old looks.old looks.new splits.old splits.new) }
+        ensures begun { IfOk result (CountsBeginning self.old looks.old looks.new splits.old splits.new) }
     {
         let order = self.rounded_order(size, align_mask);
         let answer = self.alloc_rounded(
@@ -220,8 +222,12 @@ impl<M: MemoryObject, A: Allocator> BuddyAllocator<M, A> {
     /// objects may be held, and else `OutOfDeviceMemory` where a chunk is wanted that `heap` has no room for
     /// (`Heap::fits`). None where it goes further. It takes no memory.
     ///
-    /// The size has to be at least 1, and `align_mask + 1` a power of two of at most 2^63, as of `alloc`. `looks` counts
-    /// as it does there (`looked`).
+    /// The size has to be at least 1, and `align_mask + 1` a power of two of at most 2^63, as of `alloc`.
+    ///
+    /// `looks` counts the lengths at which a free piece was looked for, at most 63 (`looked`). It looks only where a chunk
+    /// would have less than 2^64 bytes and may not be asked for: k + 1 times where a shortest free piece that is long
+    /// enough has 2^k times the block's size, and where there is none once at each length from the block's up to 2^62
+    /// bytes (`steps`).
     pub fn refuses<L: Ledger>(
         &self,
         size: u64,
@@ -236,6 +242,9 @@ impl<M: MemoryObject, A: Allocator> BuddyAllocator<M, A> {
             → RefusesFirst (case_of (account self.now heap.now allocations_remains) (wanted size align_mask flags))
             result }
         ensures looked { CountsLooks looks.old looks.new }
+        ensures steps { (flags : ℕ)
+            → CountsRefusing (account self.now heap.now allocations_remains)
+            (rounded self.now (wanted size align_mask flags)) looks.old looks.new }
     {
         let order = self.rounded_order(size, align_mask);
         if order > 62 {
@@ -424,7 +433,6 @@ impl<M: MemoryObject, A: Allocator> BuddyAllocator<M, A> {
             → IsTrue (D.properties device.old).buffer_device_address }
         requires agrees { Agrees self.old (D.properties device.old) (D.objects device.old) }
         requires counted { IsCounted self.old.chunks heap.old allocations_remains.old }
-        requires bound { heap.old.used ≤ 2 ^ 127 }
         ensures answers { Asked D.step device.old device.new
             (CallAnswers self.old heap.old allocations_remains.old (2 ^ order) flags result
             self.new heap.new allocations_remains.new) }
@@ -433,6 +441,7 @@ impl<M: MemoryObject, A: Allocator> BuddyAllocator<M, A> {
         ensures looked { CountsLooks looks.old looks.new }
         ensures split { CountsSplits splits.old splits.new }
         ensures steps { IfOk result (CountsSteps self.old looks.old looks.new splits.old splits.new) }
+        ensures begun { IfOk result (CountsBeginning self.old looks.old looks.new splits.old splits.new) }
     {
         if order > 62 {
             return Err(AllocationError::OutOfDeviceMemory);
@@ -458,7 +467,7 @@ impl<M: MemoryObject, A: Allocator> BuddyAllocator<M, A> {
     ) -> Result<Option<BuddyBlock<M>>, AllocError>
         requires { order ≤ 62 }
         ensures takes { TakesPlace self.old (2 ^ order) result self.new }
-        ensures counted { CountsTaking (space_of self.old) result looks.old looks.new splits.old splits.new }
+        ensures counted { CountsTaking (space_of self.old) (2 ^ order) result looks.old looks.new splits.old splits.new }
     {
         let taken = self.pairs.take(order, looks, splits);
         self.pairs.keeps_exact();
@@ -482,7 +491,6 @@ impl<M: MemoryObject, A: Allocator> BuddyAllocator<M, A> {
             → IsTrue (D.properties device.old).buffer_device_address }
         requires agrees { Agrees self.old (D.properties device.old) (D.objects device.old) }
         requires counted { IsCounted self.old.chunks heap.old allocations_remains.old }
-        requires bound { heap.old.used ≤ 2 ^ 127 }
         ensures answers { Asked D.step device.old device.new
             (CallAnswers self.old heap.old allocations_remains.old (2 ^ order) flags result
             self.new heap.new allocations_remains.new) }
@@ -490,6 +498,7 @@ impl<M: MemoryObject, A: Allocator> BuddyAllocator<M, A> {
         ensures properties { D.properties device.new ≡ D.properties device.old }
         ensures split { CountsSplits splits.old splits.new }
         ensures begins { IfOk result (BeginsChunk self.old (2 ^ order)) }
+        ensures halved { IfOk result (λ _. CountsHalving self.old order splits.old splits.new) }
     {
         let chunk_order = self.chunk_order(order);
         if self.pairs.reserve(order, chunk_order).is_err() {
@@ -505,6 +514,8 @@ impl<M: MemoryObject, A: Allocator> BuddyAllocator<M, A> {
         let leaf = self.pairs.begin(memory, chunk_order, order, splits);
         self.pairs.keeps_exact();
         self.next_order = chunk_order;
+        // (the heap's size is a u64, so a ledger that stays within it does not overflow)
+        let _ = heap.size();
         heap.alloc(size);
         *allocations_remains -= 1;
         Ok(BuddyBlock::new(handle, leaf))

@@ -1,5 +1,5 @@
 -- Rows in a slab, and beside it their numbers in rising order, each with its row's key: what is found by a number.
-use Rattle.std.proofs.Common.{◌≡◌, inl, inr, ℕ, ◌<◌, List, length, get_or, Some, IfSome, IsSome, slice_get, refl, sym, ◌∙◌, ap, subst}
+use Rattle.std.proofs.Common.{◌≡◌, inl, inr, ℕ, ◌<◌, List, [], ◌∷◌, length, get_or, Some, IfSome, IsSome, slice_get, refl, sym, ◌∙◌, ap, subst, arith}
 use Rattle.std.specs.Cmp.{nat_cmp_total}
 use Rattle.std.specs.FinMap as map
 use Rattle.std.specs.FinMap.{nat_cmp-IsAntisymmetric}
@@ -8,8 +8,10 @@ use Rattle.slab.specs.Slab.{Slab, get, entries}
 use Rattle.slab.proofs.SlabLemmas.{Contains-entries}
 use Rattle.gpu_alloc_base.specs.SlabViews.{HasOneKeyEach}
 use Rattle.gpu_alloc_base.proofs.ListViews.{seek_name}
-use Rattle.gpu_alloc_base.proofs.Lists.{none_is_some}
+use Rattle.gpu_alloc_base.proofs.InHand.{no_chunks}
+use Rattle.gpu_alloc_base.proofs.Lists.{contains_head, none_is_some}
 use Rattle.gpu_alloc_base.proofs.SlabViews.{map_there, map_absent}
+use Rattle.gpu_alloc_base.proofs.Sums.{len_less}
 use Rattle.gpu_alloc_freelist.specs.Chunks.{AreFiled, IsFiled, chunk_of, held_in, keys_in}
 use Rattle.gpu_alloc_freelist.specs.declared.freelist.chunks.NumberedChunk.{NumberedChunk}
 use Rattle.gpu_alloc_freelist.specs.declared.freelist.chunks.NumberedKey.{NumberedKey}
@@ -63,6 +65,24 @@ module _ {M : Type 0} where
         let h = held_stands k some in
         let there = row_found number_of key_of numbers (entry (number_in h.1) h.0) filed.rising ((filed.exact (entry (number_in h.1) h.0)).1 (h.1, h.2, refl)) in
         subst (λ q. IsSome (map.get (keys_in numbers) q)) h.3 (rw there refl)
+
+    -- nothing is held where nothing is listed
+    pub none_listed : length numbers ≡ 0 → map.len (held_in object rows) ≡ 0
+    none_listed none = no_chunks (held_in object rows) (λ k chunk is.
+        let h = held_stands k (rw is refl) in
+        let has = (filed.exact (entry (number_in h.1) h.0)).1 (h.1, h.2, refl) in
+        omega (arith, has.1, none))
+
+    -- and nothing is listed where nothing is held
+    pub none_held : map.len (held_in object rows) ≡ 0 → length numbers ≡ 0
+    none_held none = elim numbers as (λ ns. numbers ≡ ns → length ns ≡ 0) [
+      | [] ↦ λ is. refl
+      | n ∷ ns ↦ λ is.
+          let f = (filed.exact n).0 (subst (λ l. Contains l n) (sym is) (contains_head n ns)) in
+          let there = row_says n.key f.0 f.1 in
+          let less = len_less (held_in object rows) (number_in f.0) (chunk_of object f.0) there in
+          absurd (omega (arith, less, none))
+    ] refl
 
     -- what is above each held number is above each that is listed
     pub above_listed : (k : ℕ) → ((q : ℕ) → IsSome (map.get (held_in object rows) q) → q < k) → (n : NumberedKey) → Contains numbers n → n.number < k

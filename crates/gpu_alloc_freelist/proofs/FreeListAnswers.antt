@@ -11,7 +11,7 @@ use Rattle.gpu_alloc_base.specs.Wanted.{Wanted}
 use Rattle.gpu_alloc_base.specs.Chunks.{Chunk, IsNew, IsThere}
 use Rattle.gpu_alloc_freelist.specs.FreeList.{IsTail, with_slot, with_chunk, first_tail}
 use Rattle.gpu_alloc_base.specs.Accounts.{Account}
-use Rattle.gpu_alloc_base.specs.Case.{Answers, RefusesFirst, RefusesQuestion}
+use Rattle.gpu_alloc_base.specs.Case.{Answers, RefusesFirst}
 use Rattle.gpu_alloc_base.specs.NewObject.{HasOneMore}
 use Rattle.gpu_alloc_freelist.specs.FreeListAllocator.{Agrees, ObjectsAfter, IsGranted, case_of, chunk_size, list_case, next_size, question, sees_chunks, listing_with_slot, rounded, alignment as alignment_of}
 use Rattle.gpu_alloc_base.proofs.Books.{KeepsBooks, refused_keeps, made_new, answers_agree as chunks_agree}
@@ -223,6 +223,8 @@ module _ (a : Account Listing) (size alignment flags : ℕ) (s : IsSound a.alloc
   pub keeps_books : KeepsBooks (λ l. l.space.chunks) (λ slot. slot.chunk) (list_case a size alignment flags)
   keeps_books = record {
     count = refl;
+    ledger = refl;
+    heap_size = refl;
     place_held = λ slot tail. (tail.object.0, tail.object.1);
     in_place = λ slot tail. record { chunks_are = refl; used = refl; remaining = refl };
     in_new = λ slot is.

@@ -1,5 +1,5 @@
 -- What the calls of a free list's allocator leave of the blocks in hand.
-use Rattle.std.proofs.Common.{◌≡◌, inl, inr, ℕ, ◌<◌, ◌≤◌, ◌^◌, ◌∷◌, [], true, false, List, Option, Some, None, Result, Ok, Err, IfOk, refl, sym, ◌∙◌, ap, subst, arith}
+use Rattle.std.proofs.Common.{◌≡◌, inl, inr, ℕ, ◌<◌, ◌≤◌, ◌∷◌, [], true, false, List, Option, Some, None, Result, Ok, Err, IfOk, refl, sym, ◌∙◌, ap, subst, arith}
 use Rattle.std.specs.FinMap as map
 use Rattle.std.specs.FinSet as set
 use Rattle.std.specs.List.{Contains}
@@ -13,8 +13,7 @@ use Rattle.gpu_alloc_base.specs.Slots.{slot_cmp}
 use Rattle.gpu_alloc_base.specs.Wanted.{Wanted}
 use Rattle.gpu_alloc_base.specs.declared.error.AllocationError.{AllocationError}
 use Rattle.gpu_alloc_base.specs.declared.free_list_block.Slot.{Slot}
-use Rattle.gpu_alloc_freelist.specs.FreeListAllocator.{Adds, Agrees, AreGone, bytes_of, chunk_size, Cleans, Frees, HoldsNothing, IsGranted, KeepsSettings, Leaves, LeavesNoRest, LetsGo, list_case, listing_without, Removes, without_numbers}
-use Rattle.gpu_alloc_freelist.specs.FreeListSound.{IsSound}
+use Rattle.gpu_alloc_freelist.specs.FreeListAllocator.{Adds, Agrees, AreGone, bytes_of, Cleans, Frees, HoldsNothing, IsGranted, KeepsSettings, Leaves, LeavesNoRest, LetsGo, list_case, listing_without, Removes, without_numbers}
 use Rattle.gpu_alloc_freelist.specs.FreeListState.{Listing, IsLiveSlot}
 use Rattle.gpu_alloc_base.proofs.Books.{refused_keeps}
 use Rattle.gpu_alloc_base.proofs.InHand.{leaves_same, none_in, grant_leaves, grant_adds, return_removes, granted_live, no_chunks}
@@ -22,7 +21,6 @@ use Rattle.gpu_alloc_base.proofs.Lists.{contains_cases}
 use Rattle.gpu_alloc_base.proofs.Maps.{gone}
 use Rattle.gpu_alloc_base.proofs.Slots.{slot_total, slot_exact}
 use Rattle.gpu_alloc_freelist.proofs.ForCallers.{held_before}
-use Rattle.gpu_alloc_freelist.proofs.FreeListSizes.{chunk_size_bound}
 
 abbrev live_in : Account Listing → set.FinSet slot_cmp
 live_in a = a.allocator.space.live
@@ -51,10 +49,6 @@ pub answers_add : (a new : Account Listing) (w : Wanted) (size alignment flags :
 answers_add a new w size alignment flags es (Ok slot) some answers granted =
     grant_adds slot_total slot_exact bytes_of a.allocator.space.live slot new.allocator.space.live (live_more a new size alignment flags es slot answers) (omega (arith, granted.enough, some)) granted.was_free
 answers_add a new w size alignment flags es (Err e) some refused granted = tt
-
--- a chunk is of less than 2^64 bytes
-pub asks_below : (l : Listing) (size : ℕ) → IsSound l → chunk_size l size ≤ 2 ^ 64
-asks_below l size sound = omega (arith, chunk_size_bound l size sound, sound.final_chunk.1)
 
 -- A return.
 

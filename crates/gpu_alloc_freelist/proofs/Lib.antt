@@ -11,6 +11,7 @@ pub mod FreeListReturns
 pub mod FreeListSizes
 pub mod GoneChunks
 pub mod InHand
+pub mod ListInHand
 pub mod LiveBlocks
 pub mod NewWholes
 pub mod NumberSearch

@@ -4,6 +4,8 @@ use Rattle.std.specs.Prelude.{IsSome}
 use Rattle.std.specs.FinMap as map
 use Rattle.std.specs.FinSet as set
 use Rattle.gpu_alloc_base.specs.Chunks.{Chunk}
+use Rattle.gpu_alloc_base.specs.InHand as in_hand
+use Rattle.gpu_alloc_base.specs.InHand.{Bytes}
 use Rattle.gpu_alloc_freelist.specs.FreeListState.{Space, IsLiveSlot, IsFreeIn}
 use Rattle.gpu_alloc_base.specs.FreeRuns.{IsListPlace, IsLastWithRoom, IsLastRun, tail_start}
 use Rattle.gpu_alloc_base.specs.declared.free_list_block.Slot.{Slot}
@@ -32,6 +34,22 @@ with_slot s slot = record s { live = set.insert s.live slot }
 -- one block less
 abbrev pub without_slot : Space → Slot → Space
 without_slot s slot = record s { live = set.remove s.live slot }
+
+-- the bytes of a block, by its chunk's number: a list may be given two chunks of one object
+abbrev pub chunk_bytes_of : Slot → Bytes
+chunk_bytes_of slot = record { object = slot.chunk; offset = slot.offset; size = slot.size }
+
+-- a grant adds its block to those in hand
+abbrev pub AddsBlock : Space → Space → Slot → Type 0
+AddsBlock s new slot = in_hand.Adds chunk_bytes_of s.live new.live slot
+
+-- each block that was in hand is left
+abbrev pub LeavesBlocks : Space → Space → Type 0
+LeavesBlocks s new = in_hand.Leaves chunk_bytes_of s.live new.live
+
+-- a return takes its block away, and no other
+abbrev pub RemovesBlock : Space → Slot → Space → Type 0
+RemovesBlock s slot new = in_hand.Removes chunk_bytes_of s.live slot new.live
 
 -- a run that has room is looked for: a block in the last one, or none there, or no host memory for a block in one
 abbrev pub TakesTail : {E : Type 0} → Space → ℕ → ℕ → Result (Option Slot) E → Space → Type 0

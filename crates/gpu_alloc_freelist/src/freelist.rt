@@ -1,7 +1,7 @@
 //! The free-list allocator: shared chunks of one memory type, whose blocks are the tails of free runs.
 
 ghost use Rattle.std.specs.Prelude.{◌≡◌, ℕ, ◌+◌, ◌≤◌, ◌<◌, ◌^◌, ◌↔◌, Contains, IfOk, IfSome, OnErr};
-ghost use Rattle.std.specs.Prelude.{IsSome, IsTrue, Some, None, length, true, false};
+ghost use Rattle.std.specs.Prelude.{IsSome, IsTrue, Some, None, length, max, true, false};
 ghost use Rattle.std.specs.FinMap as map;
 ghost use Rattle.std.specs.FinSet as set;
 ghost use Rattle.std.specs.Int.{is_power_of_two};
@@ -166,9 +166,9 @@ impl<M: MemoryObject, A: Allocator> FreeListAllocator<M, A> {
     /// host's memory is refused to the allocator or to the device, and where a chunk cannot be mapped for another
     /// reason. A chunk that was made is given back then. A block in a held chunk is given whatever `heap` counts.
     ///
-    /// `heap` has to count no less than the sum of the held chunks, and at most 2^127 bytes; what remains and the
-    /// number of held chunks have to fit 32 bits together. All but the bound of 2^127 bytes is so again after the call,
-    /// and the ledger grows by 2^64 bytes at most (`ledger`).
+    /// `heap` has to count no less than the sum of the held chunks; what remains and the number of held chunks have to
+    /// fit 32 bits together. Both is so again after the call. The ledger never passes the greater of what it was and the
+    /// heap's size (`ledger`).
     ///
     /// Each block that a caller had in hand is live still (`leaves`). The new one is live too, and shares no byte with
     /// any of them (`added`). What may be asked next is what might be asked before (`settings`).
@@ -188,7 +188,6 @@ impl<M: MemoryObject, A: Allocator> FreeListAllocator<M, A> {
             → IsTrue (D.properties device.old).buffer_device_address }
         requires agrees { Agrees self.old (D.properties device.old) (D.objects device.old) }
         requires counted { IsCounted (self.old).space.chunks heap.old allocations_remains.old }
-        requires bound { heap.old.used ≤ 2 ^ 127 }
 
         // What was asked of the device, the answer, and what changed.
         ensures allocates { Asked D.step device.old device.new
@@ -202,7 +201,7 @@ impl<M: MemoryObject, A: Allocator> FreeListAllocator<M, A> {
         ensures granted { IfOk result (IsGranted self.old (requested size align_mask flags) self.new) }
         ensures added { IfOk result (Adds self.old self.new) }
         ensures leaves { Leaves self.old self.new }
-        ensures ledger { heap.new.used ≤ heap.old.used + 2 ^ 64 }
+        ensures ledger { heap.new.used ≤ max heap.old.used heap.old.size }
         ensures settings { KeepsSettings self.old self.new }
         ensures refused { OnErr result
             ((self.new ≡ self.old) × ((heap.new ≡ heap.old) × (allocations_remains.new ≡ allocations_remains.old))) }
@@ -415,7 +414,6 @@ impl<M: MemoryObject, A: Allocator> FreeListAllocator<M, A> {
             → IsTrue (D.properties device.old).buffer_device_address }
         requires agrees { Agrees self.old (D.properties device.old) (D.objects device.old) }
         requires counted { IsCounted (self.old).space.chunks heap.old allocations_remains.old }
-        requires bound { heap.old.used ≤ 2 ^ 127 }
         ensures answers { Asked D.step device.old device.new
             (CallAnswers self.old heap.old allocations_remains.old size (align_mask + 1) flags result
             self.new heap.new allocations_remains.new) }
@@ -497,7 +495,6 @@ impl<M: MemoryObject, A: Allocator> FreeListAllocator<M, A> {
             → IsTrue (D.properties device.old).buffer_device_address }
         requires agrees { Agrees self.old (D.properties device.old) (D.objects device.old) }
         requires counted { IsCounted (self.old).space.chunks heap.old allocations_remains.old }
-        requires bound { heap.old.used ≤ 2 ^ 127 }
         ensures answers { Asked D.step device.old device.new
             (CallAnswers self.old heap.old allocations_remains.old size (align_mask + 1) flags result
             self.new heap.new allocations_remains.new) }
@@ -519,6 +516,8 @@ impl<M: MemoryObject, A: Allocator> FreeListAllocator<M, A> {
             size,
         )?;
         self.chunk_size = (2 * chunk_size).min(self.final_chunk_size);
+        // (the heap's size is a u64, so a ledger that stays within it does not overflow)
+        let _ = heap.size();
         heap.alloc(chunk_size);
         *allocations_remains -= 1;
         Ok(block)

@@ -21,7 +21,7 @@ use Rattle.gpu_alloc_pairs.specs.Halves.{HalfAt, leaf_of, live_leaves, free_piec
 use Rattle.gpu_alloc_pairs.specs.InHand.{IsTakenMore}
 use Rattle.gpu_alloc_pairs.specs.Lengths.{FindsNoneUpTo, HasRoomsFor, HasSameSlots, IsFound, IsFrontTaken, piece_of}
 use Rattle.gpu_alloc_pairs.specs.Space.{Space, IsFreeAt, IsSoundSpace, HasPlace, IsFront, LiesInChunk, with_leaf}
-use Rattle.gpu_alloc_pairs.specs.Store.{IsStored, KeepsStore, rooms_in, space_in, store_in}
+use Rattle.gpu_alloc_pairs.specs.Store.{IsShortest, IsStored, KeepsStore, rooms_in, space_in, store_in}
 use Rattle.gpu_alloc_pairs.specs.Tree.{Pairs, IsReady, IsTree, pair_at, no_pairs}
 use Rattle.gpu_alloc_pairs.specs.declared.lengths.Found.{Found}
 use Rattle.gpu_alloc_pairs.specs.declared.lengths.Front.{Front}
@@ -135,6 +135,13 @@ module _ (chunks : HeldChunks) (lengths : List (Slab Entry)) (i : IsStored chunk
           | inl short ↦ absurd (found.first j at_least short r.key r.half.entry r.side r.half.pair r.half.used)
           | inr long ↦ omega (arith, e, pow-le f.order j long)
         ]
+
+    pub found_is_shortest : IsShortest s (2 ^ order) (2 ^ f.order)
+    found_is_shortest = record {
+      enough = pow-le order f.order found.from;
+      there = ((f.half).chunk, half_start (2 ^ f.order) (f.half).offset (f.half).side, found_is_piece);
+      shortest = found_shortest;
+    }
 
     -- the chunk in which it lies
     pub found_lies : (c : Chunk) × ((finite.get chunks (f.half).chunk ≡ Some c) × (half_start (2 ^ f.order) (f.half).offset (f.half).side + 2 ^ f.order ≤ c.size))

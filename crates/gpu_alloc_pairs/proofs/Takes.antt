@@ -1,5 +1,5 @@
 -- A block is taken from a free half that was found, once room was made.
-use Rattle.std.proofs.Common.{◌≡◌, ℕ, ◌+◌, ◌-◌, ◌*◌, ◌^◌, ◌<◌, ◌≤◌, List, length, Some, sym, ◌∙◌, ap, subst, arith}
+use Rattle.std.proofs.Common.{◌≡◌, inl, inr, ℕ, ◌+◌, ◌-◌, ◌*◌, ◌^◌, ◌<◌, ◌≤◌, List, length, Option, Some, None, IfSome, IfNone, sym, ◌∙◌, ap, subst, arith}
 use Rattle.std.specs.FinMap as finite
 use Rattle.slab.specs.Slab.{Slab}
 use Rattle.gpu_alloc_base.specs.Accounts.{HeldChunks}
@@ -9,16 +9,31 @@ use Rattle.gpu_alloc_base.specs.Pieces.{IsCanonical}
 use Rattle.gpu_alloc_base.specs.declared.buddy_block.Leaf.{Leaf}
 use Rattle.gpu_alloc_base.proofs.AlignedPowers.{pow-from_shorter, pow-le}
 use Rattle.gpu_alloc_pairs.specs.Entry.{Entry, half_start}
-use Rattle.gpu_alloc_pairs.specs.Lengths.{HasSameSlots, IsFound, IsFreeHalf, IsFrontTaken, piece_of}
+use Rattle.gpu_alloc_pairs.specs.Lengths.{FindsNoneUpTo, HasSameSlots, IsFound, IsFreeHalf, IsFrontTaken, LooksUpTo, piece_of}
 use Rattle.gpu_alloc_pairs.specs.Space.{Space, HasPlace, IsFreeAt, IsFront, with_leaf}
-use Rattle.gpu_alloc_pairs.specs.Store.{CountsFront, IsStored, space_in}
+use Rattle.gpu_alloc_pairs.specs.Store.{CountsFront, CountsSearch, IsShortest, IsStored, space_in}
 use Rattle.gpu_alloc_pairs.specs.Tree.{Pairs, IsReady, IsTree, pair_at}
 use Rattle.gpu_alloc_pairs.specs.declared.lengths.Found.{Found}
 use Rattle.gpu_alloc_pairs.specs.declared.lengths.Front.{Front}
 use Rattle.gpu_alloc_pairs.specs.declared.pair.Side.{Side}
 use Rattle.gpu_alloc_pairs.specs.declared.pair.Side.TheVariants.{Left, Right}
 use Rattle.gpu_alloc_pairs.proofs.Space.{IsLeafOf}
-use Rattle.gpu_alloc_pairs.proofs.Stored.{found_is_piece, found_lies, found_place, front_found, same_pairing, same_space, stored_same, stored_taken, taken_live}
+use Rattle.gpu_alloc_pairs.proofs.Stored.{found_is_piece, found_is_shortest, no_place, found_lies, found_place, front_found, same_pairing, same_space, stored_same, stored_taken, taken_live}
+
+-- how many lengths are looked at until then
+pub counts_search : (chunks : HeldChunks) (lengths : List (Slab Entry)) (order : ℕ) (found : Option Found) (looks now : ℕ) → IsStored chunks lengths → order ≤ 62 → IfNone found (FindsNoneUpTo (pair_at lengths) order 63) → IfSome found (IsFound (pair_at lengths) order)
+    → LooksUpTo order found looks now → CountsSearch (space_in chunks lengths) (2 ^ order) looks now
+counts_search chunks lengths order (Some f) looks now i short none some looked =
+    let long : 2 ^ order * 2 ^ (f.order - order) ≡ 2 ^ f.order = omega (arith, pow-from_shorter order f.order some.from) in
+    record {
+      doublings = f.order - order;
+      few = omega (arith, some.to);
+      last = inl (subst (IsShortest (space_in chunks lengths) (2 ^ order)) (sym long) (found_is_shortest chunks lengths i order f some));
+      looked = omega (arith, looked, some.from);
+    }
+counts_search chunks lengths order None looks now i short none some looked =
+    let long : 2 ^ order * 2 ^ (62 - order) ≡ 2 ^ 62 = omega (arith, pow-from_shorter order 62 short) in
+    record { doublings = 62 - order; few = omega arith; last = inr (no_place chunks lengths i order none, long); looked = omega (arith, looked, short) }
 
 -- the block that is taken
 abbrev pub front_leaf : ℕ → Front → ℕ → Leaf

@@ -1,6 +1,6 @@
 -- What is stored of chunks and pairs, as contracts see it.
 use Rattle.std.specs.Prelude.{◌≡◌, ℕ, ◌+◌, ◌-◌, ◌*◌, ◌^◌, ◌<◌, ◌≤◌, ◌==◌, List, length, map, slice_index_or, count_by}
-use Rattle.std.specs.Prelude.{Option, Some, None, Result, Ok, Err, ◌↔◌}
+use Rattle.std.specs.Prelude.{◌⊎◌, Option, Some, None, Result, Ok, Err, ◌↔◌}
 use Rattle.std.specs.FinMap as finite
 use Rattle.std.specs.FinSet as set
 use Rattle.std.specs.List.{Contains, IsDistinct}
@@ -78,6 +78,23 @@ TakesPlace s size (Err e) new = HasPlace s size × (new ≡ s)
 abbrev pub CountsLooks : ℕ → ℕ → Type 0
 CountsLooks old new = (old ≤ new) × (new ≤ old + 63)
 
+-- the length of a shortest free piece that is long enough for a block of this size
+pub record IsShortest (s : Space) (size length : ℕ) : Type 0 where
+  pub enough : size ≤ length
+  pub there : (chunk start : ℕ) × IsFreePiece (IsFreeAt s) chunk start length
+  pub shortest : (chunk start other : ℕ) → IsFreePiece (IsFreeAt s) chunk start other → size ≤ other → length ≤ other
+
+-- the last length that is looked at for a place: that of a shortest free piece, or where there is no place 2^62 bytes
+abbrev pub IsLastLook : Space → ℕ → ℕ → Type 0
+IsLastLook s size length = IsShortest s size length ⊎ ((HasPlace s size → ⊥) × (length ≡ 2 ^ 62))
+
+-- each length is looked at once, from the block's size on: where the last is 2^k times that, it takes k + 1 looks
+pub record CountsSearch (s : Space) (size looks now : ℕ) : Type 0 where
+  pub doublings : ℕ
+  pub few : doublings ≤ 62
+  pub last : IsLastLook s size (size * 2 ^ doublings)
+  pub looked : now ≡ looks + doublings + 1
+
 -- a block is the front of a free piece of 2^k times its size: that took k + 1 looks and k splits
 pub record CountsFront (s : Space) (leaf : Leaf) (looks now splits after : ℕ) : Type 0 where
   pub doublings : ℕ
@@ -86,10 +103,11 @@ pub record CountsFront (s : Space) (leaf : Leaf) (looks now splits after : ℕ) 
   pub looked : now ≡ looks + doublings + 1
   pub split : after ≡ splits + doublings
 
-abbrev pub CountsTaking : {E : Type 0} → Space → Result (Option Leaf) E → ℕ → ℕ → ℕ → ℕ → Type 0
-CountsTaking s (Ok (Some leaf)) looks now splits after = CountsFront s leaf looks now splits after
-CountsTaking s (Ok None) looks now splits after = CountsLooks looks now × (after ≡ splits)
-CountsTaking s (Err e) looks now splits after = CountsLooks looks now × (after ≡ splits)
+-- the steps of a search for a place, and of taking the block
+abbrev pub CountsTaking : {E : Type 0} → Space → ℕ → Result (Option Leaf) E → ℕ → ℕ → ℕ → ℕ → Type 0
+CountsTaking s size (Ok (Some leaf)) looks now splits after = CountsFront s leaf looks now splits after
+CountsTaking s size (Ok None) looks now splits after = CountsSearch s size looks now × (after ≡ splits)
+CountsTaking s size (Err e) looks now splits after = CountsSearch s size looks now × (after ≡ splits)
 
 -- no held chunk is of this object
 abbrev pub IsUnheld : Space → ℕ → Type 0

@@ -8,8 +8,8 @@ ghost use Rattle.gpu_alloc_base.specs.Chunks.{Chunk as HeldChunk};
 ghost use Rattle.gpu_alloc_base.specs.FreeSpace.{IsPowerOfTwo};
 ghost use Rattle.gpu_alloc_pairs.specs.Space.{HasPlace, IsLiveLeaf, IsSoundSpace, IsUnusedChunk, BeginsChunk};
 ghost use Rattle.gpu_alloc_pairs.specs.Space.{with_chunk, with_leaf, without_chunk, without_leaf};
-ghost use Rattle.gpu_alloc_pairs.specs.Store.{AreFew, CountsLooks, CountsTaking, HasRooms, IsExact, IsUnheld, KeepsStore};
-ghost use Rattle.gpu_alloc_pairs.specs.Store.{HasSide, StartsHalf, TakesPlace, range_of};
+ghost use Rattle.gpu_alloc_pairs.specs.Store.{AreFew, CountsLooks, CountsSearch, CountsTaking, HasRooms, IsExact, IsUnheld};
+ghost use Rattle.gpu_alloc_pairs.specs.Store.{HasSide, KeepsStore, StartsHalf, TakesPlace, range_of};
 
 use crate::length::Length;
 use crate::lengths::{self, Found, Front, Lengths, ORDERS};
@@ -103,11 +103,13 @@ impl<M: MemoryObject, A: Allocator> Pairs<M, A> {
         lengths::make_room(&mut self.lengths, order, chunk_order)
     }
 
-    /// Whether there is a place for a block of 2^order bytes. Each length is looked at once, from that of the block up.
+    /// Whether there is a place for a block of 2^order bytes. Each length is looked at once, from that of the block up to
+    /// that of a shortest free piece that is long enough, or else to the longest (`steps`).
     pub fn has_place<L: Ledger>(&self, order: u32, looks: &mut Steps<L>) -> bool
         requires { order ≤ 62 }
         ensures place { IsTrue result ↔ HasPlace (self.now).space (2 ^ order) }
         ensures looked { CountsLooks looks.old looks.new }
+        ensures steps { CountsSearch (self.now).space (2 ^ order) looks.old looks.new }
     {
         lengths::find(self.lengths.as_slice(), order, looks).is_some()
     }
@@ -122,7 +124,7 @@ impl<M: MemoryObject, A: Allocator> Pairs<M, A> {
     ) -> Result<Option<BuddyBlock<M>>, AllocError>
         requires { order ≤ 62 }
         ensures takes { TakesPlace (self.old).space (2 ^ order) result (self.new).space }
-        ensures counted { CountsTaking (self.old).space result looks.old looks.new splits.old splits.new }
+        ensures counted { CountsTaking (self.old).space (2 ^ order) result looks.old looks.new splits.old splits.new }
     {
         let Some(found) = lengths::find(self.lengths.as_slice(), order, looks) else {
             return Ok(None);

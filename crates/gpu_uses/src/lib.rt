@@ -5,6 +5,7 @@
 pub mod buffers;
 pub mod bytes;
 pub mod first_use;
+pub mod free_list;
 pub mod imports;
 pub mod mapping;
 pub mod opening;

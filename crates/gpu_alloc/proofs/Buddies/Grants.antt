@@ -32,7 +32,7 @@ use Rattle.gpu_alloc_base.proofs.Maps.{other_inserted, name_test, eq-true}
 use Rattle.gpu_alloc.proofs.HeapLists.{properties_kept, state_kept}
 use Rattle.gpu_alloc.proofs.Ledgers.{Held}
 use Rattle.gpu_alloc.proofs.Buddies.Links.{IsBeside, HasLeafMore, linked_with_leaf, linked_with_chunk}
-use Rattle.gpu_alloc.proofs.Buddies.Served.{buddy_counted, ledger_bounded}
+use Rattle.gpu_alloc.proofs.Buddies.Served.{buddy_counted}
 use Rattle.gpu_alloc.proofs.Buddies.Serving.{Serves, question_is}
 use Rattle.gpu_alloc.proofs.Buddies.States.{next_at, types_set, types_kept, lists_next, lists_next_at}
 
@@ -84,9 +84,6 @@ module _ {A : Type 0} (l : Limits A) (heaps : List Heap) (buddies : List Buddy) 
 
     pub counted_before : IsCounted b.chunks heap remaining
     counted_before = buddy_counted s t.places t.room index b serves heaps i heap is.books here heap_in at_heap
-
-    pub bounded_before : heap.used ≤ 2 ^ 127
-    bounded_before = ledger_bounded s t.places t.room index b serves heaps i heap is.books heap_in at_heap
 
     -- the fields with another buddy allocator, heap, table and count
     abbrev state_with : Buddy → Heap → Table → ℕ → State

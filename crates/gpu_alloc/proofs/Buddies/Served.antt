@@ -1,5 +1,5 @@
 -- The blocks of a memory type's buddy allocator in the whole allocator's state, and on the device.
-use Rattle.std.proofs.Common.{◌≡◌, ℕ, ◌<◌, ◌≤◌, ◌^◌, List, length, get_or, Option, Some, None, IfSome, refl, sym, ◌∙◌, ap, subst, arith}
+use Rattle.std.proofs.Common.{◌≡◌, ℕ, ◌<◌, ◌≤◌, List, length, get_or, Option, Some, None, IfSome, refl, sym, ◌∙◌, ap, subst, arith}
 use Rattle.std.specs.Prelude.{sum_by}
 use Rattle.std.specs.FinMap as map
 use Rattle.gpu_alloc_types.specs.Device.{Object, HeldWith}
@@ -19,7 +19,6 @@ use Rattle.gpu_alloc_block.specs.State.{HeldObject, Span, span_cmp, span_of, Blo
 use Rattle.gpu_alloc_base.specs.declared.buddy_block.Leaf.{Leaf}
 use Rattle.gpu_alloc_base.specs.declared.heap.Heap.{Heap}
 use Rattle.gpu_alloc_base.proofs.Leaves.{leaf_removed}
-use Rattle.gpu_alloc.proofs.Ledgers.{sum_by-small}
 use Rattle.gpu_alloc_base.proofs.Sums.{sum_by-within, len-within}
 use Rattle.gpu_alloc_base.proofs.Maps.{eq-true, one_value}
 use Rattle.gpu_alloc_block.proofs.LiveSpans.{live_kept, live_other}
@@ -118,7 +117,3 @@ module _ (s : State) (places : map.FinMap span_cmp Place) (room index : ℕ) (b 
 
       count : map.len b.chunks ≤ map.len s.held
       count = len-within (λ (c : Chunk). c.object) b.chunks s.held (λ k c is. (chunk_object b c, serves.of.linked.chunks k c is)) serves.of.sound.space.one_object
-
-  pub ledger_bounded : (heaps : List Heap) (i : ℕ) (heap : Heap) → IsBooked s.properties heaps (table_of s places room) s.remaining → i < length heaps → heap ≡ get_or heaps i heap → heap.used ≤ 2 ^ 127
-  ledger_bounded heaps i heap booked inside at =
-      omega (arith, ledger_at s.properties heaps i heap (map.entries s.held) booked.ledgers inside at, sum_by-small s.properties i (map.entries s.held) booked.small, map.len-entries s.held, booked.count)

@@ -31,7 +31,7 @@ use Rattle.gpu_alloc.proofs.HeapLists.{properties_kept, state_kept}
 use Rattle.gpu_alloc.proofs.Ledgers.{Held}
 use Rattle.gpu_alloc.proofs.Buddies.Links.{IsBeside}
 use Rattle.gpu_alloc.proofs.FreeLists.Links.{HasSlotMore, list_linked_with_slot, list_linked_with_chunk}
-use Rattle.gpu_alloc.proofs.FreeLists.Served.{list_counted, list_ledger_bounded}
+use Rattle.gpu_alloc.proofs.FreeLists.Served.{list_counted}
 use Rattle.gpu_alloc.proofs.FreeLists.Serving.{ServesList, question_is}
 use Rattle.gpu_alloc.proofs.FreeLists.States.{list_types_set, list_types_kept}
 use Rattle.gpu_alloc_base.proofs.Maps.{own_inserted, other_inserted}
@@ -82,9 +82,6 @@ module _ {A : Type 0} (limits : Limits A) (heaps : List Heap) (buddies : List Bu
 
     pub counted_before : IsCounted l.space.chunks heap remaining
     counted_before = list_counted s t.places t.room index l serving heaps i heap is.books here heap_in at_heap
-
-    pub bounded_before : heap.used ≤ 2 ^ 127
-    bounded_before = list_ledger_bounded s t.places t.room index l serving heaps i heap is.books heap_in at_heap
 
     -- the fields with another free list, heap, table and count
     abbrev state_with : Listing → Heap → Table → ℕ → State

@@ -1,5 +1,5 @@
 -- The blocks of a memory type's free list in the whole allocator's state, and on the device.
-use Rattle.std.proofs.Common.{◌≡◌, ℕ, ◌<◌, ◌≤◌, ◌^◌, List, length, get_or, Option, Some, None, IfSome, refl, sym, ◌∙◌, ap, subst, arith}
+use Rattle.std.proofs.Common.{◌≡◌, ℕ, ◌<◌, ◌≤◌, List, length, get_or, Option, Some, None, IfSome, refl, sym, ◌∙◌, ap, subst, arith}
 use Rattle.std.specs.Prelude.{sum_by}
 use Rattle.std.specs.FinMap as map
 use Rattle.gpu_alloc_types.specs.Device.{Object, HeldWith, put}
@@ -18,7 +18,6 @@ use Rattle.gpu_alloc_block.specs.State.{HeldObject, Span, span_cmp, State, IsLiv
 use Rattle.gpu_alloc_base.specs.declared.heap.Heap.{Heap}
 use Rattle.gpu_alloc.proofs.Agreeing.{agrees_returned}
 use Rattle.gpu_alloc.proofs.HeapLists.{ledger_at}
-use Rattle.gpu_alloc.proofs.Ledgers.{sum_by-small}
 use Rattle.gpu_alloc_base.proofs.Sums.{sum_by-within, len-within}
 use Rattle.gpu_alloc.proofs.FreeLists.Serving.{ServesList, numbered_held}
 use Rattle.gpu_alloc_base.proofs.Maps.{eq-true}
@@ -91,8 +90,3 @@ module _ (s : State) (places : map.FinMap span_cmp Place) (room index : ℕ) (l 
 
       count : map.len l.space.chunks ≤ map.len s.held
       count = len-within (λ (c : Chunk). c.object) l.space.chunks s.held (λ k c is. (list_object l k c, serves.of.linked.chunks k c is)) serves.of.sound.one_object
-
-  -- and is far below the largest number
-  pub list_ledger_bounded : (heaps : List Heap) (i : ℕ) (heap : Heap) → IsBooked s.properties heaps (table_of s places room) s.remaining → i < length heaps → heap ≡ get_or heaps i heap → heap.used ≤ 2 ^ 127
-  list_ledger_bounded heaps i heap booked inside at =
-      omega (arith, ledger_at s.properties heaps i heap (map.entries s.held) booked.ledgers inside at, sum_by-small s.properties i (map.entries s.held) booked.small, map.len-entries s.held, booked.count)

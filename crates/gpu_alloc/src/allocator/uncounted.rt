@@ -61,7 +61,6 @@ pub(super) fn alloc<M: MemoryObject, A: Allocator, D: ObjectDevice<M>, L: Ledger
         → IsTrue (D.properties device.old).buffer_device_address }
     requires agrees { Agrees buddy.old (D.properties device.old) (D.objects device.old) }
     requires counted { IsCounted (buddy.old).chunks heap.old allocations_remains.old }
-    requires bound { heap.old.used ≤ 2 ^ 127 }
     ensures allocates { Asked D.step device.old device.new
         (CallAllocates buddy.old heap.old allocations_remains.old (requested size align_mask flags) result
         buddy.new heap.new allocations_remains.new) }

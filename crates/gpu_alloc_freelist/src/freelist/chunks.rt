@@ -64,6 +64,13 @@ impl<M: MemoryObject, A: Allocator + Copy> Chunks<M, A> {
 }
 
 impl<M: MemoryObject, A: Allocator> Chunks<M, A> {
+    /// Whether no chunk is held.
+    pub(super) fn is_empty(&self) -> bool
+        ensures { IsTrue result ↔ map.len self.now.held ≡ 0 }
+    {
+        self.numbers.is_empty()
+    }
+
     /// Makes room for one more chunk, so that one `push` cannot fail.
     ///
     /// The only refusal is want of memory. Nothing but the room changes, which is no less, after a refusal too.

@@ -1,7 +1,7 @@
 //! A free list: chunks of memory by number, their free runs, and the blocks that are live in them.
 
 ghost use Rattle.std.specs.Prelude.{◌≡◌, ◌≤◌, ◌<◌, ◌+◌, ◌↔◌, ℕ, List, length, slice_index_or, Some};
-ghost use Rattle.std.specs.Prelude.{IfSome, IfNone, IfOk, IfErr, OnOk, OnErr, IsOk, IsSome, IsTrue};
+ghost use Rattle.std.specs.Prelude.{IfSome, IfNone, IfOk, IfErr, OnOk, OnErr, IsOk, IsSome, IsTrue, false};
 ghost use Rattle.std.specs.FinMap as map;
 ghost use Rattle.std.specs.FinSet as set;
 ghost use Rattle.std.specs.List.{Contains};
@@ -11,6 +11,7 @@ ghost use Rattle.gpu_alloc_types.specs.Device.{Asked, IsAskable};
 ghost use Rattle.gpu_alloc_freelist.specs.Chunks.{IsWholeChunk};
 ghost use Rattle.gpu_alloc_freelist.specs.FreeList.{TakesTail, IsFirstToGo, MayGo, HasNumber, HasPlace, with_slot};
 ghost use Rattle.gpu_alloc_freelist.specs.FreeList.{without_slot, with_chunk, without_chunk, first_tail, no_space};
+ghost use Rattle.gpu_alloc_freelist.specs.FreeList.{AddsBlock, LeavesBlocks, RemovesBlock};
 ghost use Rattle.gpu_alloc_freelist.specs.FreeListInside.{MayBeTaken, IsFirstWhole};
 ghost use Rattle.gpu_alloc_freelist.specs.FreeListSound.{IsSoundSpace};
 ghost use Rattle.gpu_alloc_freelist.specs.FreeListState.{IsLiveSlot, IsFreeIn};
@@ -68,8 +69,12 @@ impl<M: MemoryObject, A: Allocator> Model for FreeList<M, A> {
 
 impl<M: MemoryObject, A: Allocator + Copy> FreeList<M, A> {
     /// A list of no chunk. `alloc` gives the memory of its stores, of which this call takes none.
+    ///
+    /// No block is live (`live`), and the list may be closed (`held`).
     pub fn new(alloc: A) -> Self
         ensures empty { result.space ≡ no_space }
+        ensures live { set.len (result.space).live ≡ 0 }
+        ensures held { map.len (result.space).chunks ≡ 0 }
         ensures sound { IsSoundSpace result.space }
     {
         FreeList {
@@ -102,8 +107,11 @@ impl<M: MemoryObject, A: Allocator> FreeList<M, A> {
     /// bytes to the chunk's end. The rest of the chunk is a free run. The chunk gets the next number.
     ///
     /// `memory` is the chunk's object, of `memory_size` bytes. The size has to be at least 1 and at most that,
-    /// `align_mask + 1` a power of two of at most 2^63, room has to be made (`reserve`), and the latest number below
-    /// 2^64 - 1. The call takes one chunk's room at most.
+    /// `align_mask + 1` a power of two of at most 2^63, room has to be made ([`reserve`](FreeList::reserve)), and a
+    /// number be left ([`has_number`](FreeList::has_number)). The call takes one chunk's room at most.
+    ///
+    /// Each block that a caller had in hand is live still (`leaves`). The new one is live too, and shares no byte with
+    /// any of them (`added`).
     ///
     /// Where there is no host memory for a second handle of the object, `memory` itself is handed back and nothing has
     /// changed.
@@ -123,6 +131,8 @@ impl<M: MemoryObject, A: Allocator> FreeList<M, A> {
             (λ slot. slot ≡ first_tail self.old.space (M.object memory) memory_size size (align_mask + 1)) }
         ensures chunk { IfOk result
             (λ slot. self.new.space ≡ with_slot (with_chunk self.old.space (M.object memory) memory_size) slot) }
+        ensures added { IfOk result (AddsBlock self.old.space self.new.space) }
+        ensures leaves { LeavesBlocks self.old.space self.new.space }
         ensures refused { IfErr result (λ back. (back ≡ memory) × (self.new ≡ self.old)) }
         ensures room { OnOk result (self.old.room ≤ self.new.room + 1) }
         ensures sound { IsSoundSpace self.new.space }
@@ -201,6 +211,9 @@ impl<M: MemoryObject, A: Allocator> FreeList<M, A> {
     /// `reserve` itself, only once a run has room. The only refusal is want of host memory, for that room or for a
     /// second handle of the chunk's object, and then the list is as it was. A block takes one chunk's room at most, and
     /// a refusal none.
+    ///
+    /// Each block that a caller had in hand is live still (`leaves`). The new one is live too, and shares no byte with
+    /// any of them (`added`).
     pub fn get_block(
         &mut self,
         align_mask: u64,
@@ -209,6 +222,8 @@ impl<M: MemoryObject, A: Allocator> FreeList<M, A> {
         requires nonempty { 0 < size }
         requires alignment { IsAlignMask align_mask }
         ensures takes { TakesTail self.old.space size (align_mask + 1) result self.new.space }
+        ensures added { IfOk result (λ block. IfSome block (AddsBlock self.old.space self.new.space)) }
+        ensures leaves { LeavesBlocks self.old.space self.new.space }
         ensures none { IfOk result (λ block. IfNone block (self.new ≡ self.old)) }
         ensures room { OnOk result (self.old.room ≤ self.new.room + 1) }
         ensures stays { OnErr result (self.old.room ≤ self.new.room) }
@@ -236,19 +251,29 @@ impl<M: MemoryObject, A: Allocator> FreeList<M, A> {
         self.runs.last_with_room(size, align_mask).is_some()
     }
 
-    /// Whether there is a number for one more chunk: not after 2^64 - 1 chunks.
-    pub(crate) fn has_number(&self) -> bool
+    /// Whether there is a number for one more chunk: not after 2^64 - 1 chunks. A call that takes a new chunk needs one.
+    pub fn has_number(&self) -> bool
         ensures { IsTrue result ↔ HasNumber self.now.space }
     {
         self.latest < u64::MAX
     }
 
+    /// Whether no chunk is held, so that the list may be closed.
+    pub fn is_empty(&self) -> bool
+        ensures { IsTrue result ↔ map.len (self.now.space).chunks ≡ 0 }
+    {
+        self.chunks.is_empty()
+    }
+
     /// Takes a block back, and joins it with the free runs beside it. It takes no memory and cannot fail, and room that
     /// was made stays.
     ///
-    /// The block has to be live here, by its object, chunk, offset and size. `steps` counts the comparisons of a run
-    /// with the block: no more than the number of runs has binary digits (`few`), and one at least where there is a run
-    /// (`some`). A caller who counts nothing makes a counter in a ledger that nothing else uses:
+    /// The block has to be live here, by its object, chunk, offset and size. Each other block that a caller has in hand
+    /// is live still, and may be returned next (`removed`).
+    ///
+    /// `steps` counts the comparisons of a run with the block: no more than the number of runs has binary digits
+    /// (`few`), and one at least where there is a run (`some`). It never falls (`counted`). A caller who counts nothing
+    /// makes a counter in a ledger that nothing else uses:
     ///
     /// ```text
     /// put_back::<M, Brand>(&mut list, block, Blank::new(1));
@@ -263,12 +288,14 @@ impl<M: MemoryObject, A: Allocator> FreeList<M, A> {
     pub fn insert_block<L: Ledger>(&mut self, block: FreeListBlock<M>, steps: &mut Steps<L>)
         requires { IsLiveSlot self.old.space block }
         ensures back { self.new.space ≡ without_slot self.old.space block }
+        ensures removed { RemovesBlock self.old.space block self.new.space }
         ensures room { self.old.room ≤ self.new.room }
         ensures sound { IsSoundSpace self.new.space }
         ensures few { (runs : List Region)
             → ((r : Region) → Contains runs r ↔ IsFreeRun (IsFreeIn self.old.space) r.chunk r.start r.end)
             → AreRising runs → AreFewComparisons (length runs) steps.old steps.new }
         ensures some { (r : Region) → IsFreeRun (IsFreeIn self.old.space) r.chunk r.start r.end → steps.old < steps.new }
+        ensures counted { steps.old ≤ steps.new }
     {
         self.live.forget(key_of(&block), slot_of(&block));
         let joint = self.runs.put_back(&block, steps);
@@ -279,6 +306,10 @@ impl<M: MemoryObject, A: Allocator> FreeList<M, A> {
     /// Takes the wholly free chunk of the least number out of the list: its memory, its size in bytes and its number.
     /// Where `keep_last` says so, the chunk in which the last run lies is passed over. None where there is no such
     /// chunk. It takes no memory, and room that was made stays.
+    ///
+    /// The same blocks are live (`live`). Each chunk that goes leaves one fewer (`fewer`), so a loop until None ends.
+    /// None without `keep_last`, while no block is live, means that no chunk is held (`rest`): then
+    /// [`close`](FreeList::close) may be called without a test.
     #[inline(always)]
     pub fn take_whole(&mut self, keep_last: bool) -> Option<(M, u64, u64)>
         ensures none { IfNone result
@@ -288,6 +319,10 @@ impl<M: MemoryObject, A: Allocator> FreeList<M, A> {
             (λ taken. map.get (self.old.space).chunks taken.2 ≡ Some
             (record { object = M.object taken.0; size = taken.1 })) }
         ensures gone { IfSome result (λ taken. self.new.space ≡ without_chunk self.old.space taken.2) }
+        ensures live { (self.new.space).live ≡ (self.old.space).live }
+        ensures fewer { IfSome result (λ taken. map.len (self.new.space).chunks + 1 ≡ map.len (self.old.space).chunks) }
+        ensures rest { IfNone result (keep_last ≡ false → set.len (self.old.space).live ≡ 0
+            → map.len (self.new.space).chunks ≡ 0) }
         ensures room { self.old.room ≤ self.new.room }
         ensures sound { IsSoundSpace self.new.space }
     {
@@ -333,7 +368,7 @@ impl<M: MemoryObject, A: Allocator> FreeList<M, A> {
         self.runs.allocator()
     }
 
-    /// Ends a list that holds no chunk.
+    /// Ends a list that holds no chunk ([`is_empty`](FreeList::is_empty)).
     pub fn close(self)
         requires { map.len (self.space).chunks ≡ 0 }
     {

@@ -24,7 +24,7 @@ use Rattle.gpu_alloc.proofs.OwnObjects.{consistent-room}
 use Rattle.gpu_alloc.proofs.Buddies.Served.{buddy_agrees}
 use Rattle.gpu_alloc.proofs.Buddies.Serving.{Serves, told_of, rounded_is}
 use Rattle.gpu_alloc.proofs.Buddies.Answers.{span_is_free, IsServed, served}
-use Rattle.gpu_alloc.proofs.Buddies.Grants.{serves, counted_before, bounded_before, consistent_refused, state_refused}
+use Rattle.gpu_alloc.proofs.Buddies.Grants.{serves, counted_before, consistent_refused, state_refused}
 use Rattle.gpu_alloc_base.proofs.ToldTwice.{first_is, refused_is, wants_is}
 use Rattle.gpu_alloc.proofs.Trials.{refused_tries, nothing_made}
 use Rattle.gpu_alloc.proofs.allocator.GpuAllocator.try_buddy.Given.{Over}
@@ -78,11 +78,6 @@ pub alloc-answer-requires-clause-counted : goal.alloc-answer-requires-clause-cou
 alloc-answer-requires-clause-counted g c =
     let known = rw (← c.self.view_is) at c.requires.known in
     counted_before c.self.inside.limits _ _ _ _ _ c.args.memory_type _ c.self.invariant known c.index_mut.ensures.value _ c.index_mut-2.result.now c.heap_index-heap.ensures c.index_mut-2.ensures.value
-
-pub alloc-answer-requires-clause-bound : goal.alloc-answer-requires-clause-bound
-alloc-answer-requires-clause-bound g c =
-    let known = rw (← c.self.view_is) at c.requires.known in
-    bounded_before c.self.inside.limits _ _ _ _ _ c.args.memory_type _ c.self.invariant known c.index_mut.ensures.value _ c.index_mut-2.result.now c.heap_index-heap.ensures c.index_mut-2.ensures.value
 
 -- A grant.
 

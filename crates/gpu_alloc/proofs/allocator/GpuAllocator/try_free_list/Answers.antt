@@ -21,7 +21,7 @@ use Rattle.gpu_alloc_base.specs.declared.free_list_block.Slot.{Slot}
 use Rattle.gpu_alloc_base.proofs.Outcomes.{when_ok}
 use Rattle.gpu_alloc.proofs.Consistency.{heap_there}
 use Rattle.gpu_alloc.proofs.FreeLists.Answers.{slot_is_free, IsServed, list_served}
-use Rattle.gpu_alloc.proofs.FreeLists.Grants.{fits_list, counted_before, bounded_before, consistent_refused, state_refused}
+use Rattle.gpu_alloc.proofs.FreeLists.Grants.{fits_list, counted_before, consistent_refused, state_refused}
 use Rattle.gpu_alloc_base.proofs.ToldTwice.{first_is, refused_is, wants_is}
 use Rattle.gpu_alloc.proofs.FreeLists.Served.{list_agrees}
 use Rattle.gpu_alloc.proofs.FreeLists.Serving.{ServesList, told_of, rounded_is, alignment_is}
@@ -86,11 +86,6 @@ pub alloc-answer-requires-clause-counted : goal.alloc-answer-requires-clause-cou
 alloc-answer-requires-clause-counted g c =
     let known = rw (← c.self.view_is) at c.requires.known in
     counted_before c.self.inside.limits _ _ _ _ _ c.args.memory_type _ c.self.invariant known c.index_mut.ensures.value _ c.index_mut-2.result.now c.heap_index-heap.ensures c.index_mut-2.ensures.value
-
-pub alloc-answer-requires-clause-bound : goal.alloc-answer-requires-clause-bound
-alloc-answer-requires-clause-bound g c =
-    let known = rw (← c.self.view_is) at c.requires.known in
-    bounded_before c.self.inside.limits _ _ _ _ _ c.args.memory_type _ c.self.invariant known c.index_mut.ensures.value _ c.index_mut-2.result.now c.heap_index-heap.ensures c.index_mut-2.ensures.value
 
 -- A grant.
 

@@ -4,9 +4,9 @@ use Rattle.gpu_alloc_base.specs.Accounts.{account}
 use Rattle.gpu_alloc_base.specs.Case.{Answers}
 use Rattle.gpu_alloc_base.specs.Wanted.{wanted}
 use Rattle.gpu_alloc_buddy.specs.Buddy.{buddy_case, rounded}
-use Rattle.gpu_alloc_base.proofs.Books.{answers_total, answers_counted, answers_used}
+use Rattle.gpu_alloc_base.proofs.Books.{answers_total, answers_counted, answers_within}
 use Rattle.gpu_alloc_buddy.proofs.BuddyAnswers.{rounds, keeps_books, answers_agree, answers_all_granted}
-use Rattle.gpu_alloc_buddy.proofs.InHand.{answers_leave, answers_add, asks_below}
+use Rattle.gpu_alloc_buddy.proofs.InHand.{answers_leave, answers_add}
 use Rattle.gpu_alloc_buddy.proofs.buddy.BuddyAllocator.alloc.Goals as goal
 
 pub returns-clause-allocates : goal.returns-clause-allocates
@@ -75,5 +75,4 @@ returns-clause-ledger g c =
     let old = account c.args.self.now c.args.heap.now c.args.allocations_remains.now in
     let new = account c.alloc_rounded-answer.new.self c.alloc_rounded-answer.new.heap c.alloc_rounded-answer.new.allocations_remains in
     let told = c.alloc_rounded-answer.ensures.answers in
-    answers_used (keeps_books old (2 ^ c.rounded_order-order.result) (allocation_bits c.args.flags)) (2 ^ 64) (asks_below old (2 ^ c.rounded_order-order.result) (allocation_bits c.args.flags) c.rounded_order-order.ensures.sound) told.0
-    c.alloc_rounded-answer.result new told.2
+    answers_within (keeps_books old (2 ^ c.rounded_order-order.result) (allocation_bits c.args.flags)) told.0 c.alloc_rounded-answer.result new told.2

@@ -97,3 +97,14 @@ returns-clause-objects g c =
 pub returns-clause-split : goal.returns-clause-split
 returns-clause-split g c =
     (omega (arith, c.begin-leaf.ensures.counted, c.chunk_order-chunk_order.ensures.longer), omega (arith, c.begin-leaf.ensures.counted, c.chunk_order-chunk_order.ensures.bound))
+
+pub alloc-requires : goal.alloc-requires
+alloc-requires g c =
+    let asks = rw (← c.self.view_is) at c.requires.asks in
+    let size = rw (← c.self.view_is) at c.chunk_order-chunk_order.ensures.is in
+    omega (arith, asks.within, size, c.bytes-size.ensures, c.size.ensures, c.size.type_inv)
+
+pub returns-clause-halved : goal.returns-clause-halved
+returns-clause-halved g c =
+    let size = rw (← c.self.view_is) at c.chunk_order-chunk_order.ensures.is in
+    rw (← c.self.view_is) (c.chunk_order-chunk_order.result, size, c.begin-leaf.ensures.counted)

@@ -1,4 +1,4 @@
-use Rattle.std.proofs.Common.{◌≡◌, ℕ, ◌+◌, ◌^◌, List, Result, Ok, Err, ap, subst, arith}
+use Rattle.std.proofs.Common.{◌≡◌, ℕ, ◌+◌, List, Result, Ok, Err, ap, subst, arith}
 use Rattle.std.specs.Result.{OnErr}
 use Rattle.gpu_alloc_types.specs.Device.{Event}
 use Rattle.gpu_alloc_types.specs.Flags.{allocation_bits}
@@ -6,13 +6,13 @@ use Rattle.gpu_alloc_base.specs.Wanted.{Wanted, wanted}
 use Rattle.gpu_alloc_base.specs.Accounts.{Account, account}
 use Rattle.gpu_alloc_base.specs.Case.{Answers}
 use Rattle.gpu_alloc_freelist.specs.FreeListAllocator.{alignment, list_case}
-use Rattle.gpu_alloc_base.proofs.Books.{answers_counted, answers_total, answers_used, refused_keeps}
+use Rattle.gpu_alloc_base.proofs.Books.{answers_counted, answers_total, answers_within, refused_keeps}
 use Rattle.gpu_alloc_freelist.specs.FreeListState.{Listing}
 use Rattle.gpu_alloc_base.specs.declared.error.AllocationError.{AllocationError}
 use Rattle.gpu_alloc_base.specs.declared.free_list_block.Slot.{Slot}
 use Rattle.gpu_alloc_freelist.proofs.FreeListAnswers.{IsRoundedTo, rounds, keeps_books, answers_agree, answers_granted, answers_sound}
 use Rattle.gpu_alloc_base.proofs.ChunkSizes.{greater_mask}
-use Rattle.gpu_alloc_freelist.proofs.InHand.{answers_leave, answers_add, answers_keep, asks_below}
+use Rattle.gpu_alloc_freelist.proofs.InHand.{answers_leave, answers_add, answers_keep}
 use Rattle.gpu_alloc_freelist.proofs.freelist.FreeListAllocator.alloc.Given.{Over}
 use Rattle.gpu_alloc_freelist.proofs.freelist.FreeListAllocator.alloc.Goals.{After-alloc_rounded}
 use Rattle.gpu_alloc_freelist.proofs.freelist.FreeListAllocator.alloc.Goals as goal
@@ -117,5 +117,4 @@ returns-clause-added g c =
 pub returns-clause-ledger : goal.returns-clause-ledger
 returns-clause-ledger g c =
     let told = c.alloc_rounded.ensures.answers in
-    answers_used (keeps_books (old g c) c.rounded_size-size.result (c.max-align_mask.result + 1) (allocation_bits c.args.flags) c.alloc_rounded.ensures.sound) (2 ^ 64) (λ asks. asks_below c.args.self.now c.rounded_size-size.result c.alloc_rounded.ensures.sound) told.0
-    c.alloc_rounded.result (new g c) told.2
+    answers_within (keeps_books (old g c) c.rounded_size-size.result (c.max-align_mask.result + 1) (allocation_bits c.args.flags) c.alloc_rounded.ensures.sound) told.0 c.alloc_rounded.result (new g c) told.2

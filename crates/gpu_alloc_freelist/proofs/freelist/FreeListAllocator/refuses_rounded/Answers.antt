@@ -1,4 +1,4 @@
-use Rattle.std.proofs.Common.{◌≡◌, ◌+◌, inl, inr, subst}
+use Rattle.std.proofs.Common.{◌+◌, inl, inr, subst}
 use Rattle.std.proofs.lemmas.Bool.{iff_false}
 use Rattle.gpu_alloc_types.specs.Flags.{property_bits}
 use Rattle.gpu_alloc_base.specs.Accounts.{account}

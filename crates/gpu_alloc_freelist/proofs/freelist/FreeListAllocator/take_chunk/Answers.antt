@@ -83,7 +83,9 @@ pub overflow_mul-chunk_size : goal.overflow_mul-chunk_size
 overflow_mul-chunk_size g c = omega (arith, c.chunk_size_for-chunk_size.ensures.bound)
 
 pub alloc-requires : goal.alloc-requires
-alloc-requires g c = omega (arith, c.requires.bound, c.chunk_size_for-chunk_size.ensures.bound)
+alloc-requires g c =
+    let asks = rw (← c.self.view_is) at c.requires.asks in
+    omega (arith, asks.within, c.chunk_size_for-chunk_size.ensures.is, c.size.ensures, c.size.type_inv)
 
 pub overflow_sub-allocations_remains : goal.overflow_sub-allocations_remains
 overflow_sub-allocations_remains g c =

@@ -9,6 +9,7 @@ use Rattle.gpu_alloc_pairs.specs.Store.{IsStored, space_in}
 use Rattle.gpu_alloc_pairs.specs.Tree.{pair_at}
 use Rattle.gpu_alloc_pairs.specs.declared.lengths.Found.{Found}
 use Rattle.gpu_alloc_pairs.proofs.Stored.{no_place, found_place}
+use Rattle.gpu_alloc_pairs.proofs.Takes.{counts_search}
 use Rattle.gpu_alloc_pairs.proofs.pairs.Pairs.has_place.Goals as goal
 
 -- a look-up tells whether there is a place
@@ -20,3 +21,8 @@ found_or_none chunks lengths order None i none some = ((λ t. absurd (cc)), (λ 
 pub returns-clause-place : goal.returns-clause-place
 returns-clause-place g c =
     rw (← c.self.view_is, c.is_some.ensures) (found_or_none _ c.self.inside.lengths.items c.args.order c.find.result c.self.invariant (rw (c.as_slice.ensures.value) at c.find.ensures.none) (rw (c.as_slice.ensures.value) at c.find.ensures.some))
+
+pub returns-clause-steps : goal.returns-clause-steps
+returns-clause-steps g c =
+    rw (← c.self.view_is) (counts_search _ c.self.inside.lengths.items c.args.order c.find.result c.args.looks.now c.find.new.looks c.self.invariant c.requires
+    (rw (c.as_slice.ensures.value) at c.find.ensures.none) (rw (c.as_slice.ensures.value) at c.find.ensures.some) c.find.ensures.looked)

@@ -7,17 +7,22 @@ use Rattle.gpu_alloc_base.specs.declared.buddy_block.Leaf.{Leaf}
 use Rattle.gpu_alloc_base.proofs.SlabViews.{found_by_key, get_by_key}
 use Rattle.gpu_alloc_pairs.specs.Lengths.{IsFound}
 use Rattle.gpu_alloc_pairs.specs.Space.{Space, HasPlace}
-use Rattle.gpu_alloc_pairs.specs.Store.{TakesPlace}
+use Rattle.gpu_alloc_pairs.specs.Store.{CountsSearch, CountsTaking, TakesPlace}
 use Rattle.gpu_alloc_pairs.specs.Tree.{pair_at}
 use Rattle.gpu_alloc_pairs.specs.declared.pairs.Chunk.{Chunk as StoredChunk}
 use Rattle.gpu_alloc_pairs.proofs.Stored.{no_place, same_space, stored_same}
-use Rattle.gpu_alloc_pairs.proofs.Takes.{chunk_held, counts_front, front_leaf, half_bounded, mid_half, mid_range, place_old, stored_new, takes_front}
+use Rattle.gpu_alloc_pairs.proofs.Takes.{chunk_held, counts_front, counts_search, front_leaf, half_bounded, mid_half, mid_range, place_old, stored_new, takes_front}
 use Rattle.gpu_alloc_pairs.proofs.pairs.Pairs.take.Given.{Over}
 use Rattle.gpu_alloc_pairs.proofs.pairs.Pairs.take.Goals as goal
 
 -- how a stored chunk is seen
 abbrev seen : (g : Over) → StoredChunk g.row.M.Denot → Chunk
 seen g chunk = record { object = g.M.MemoryObject.object chunk.memory; size = 2 ^ chunk.order }
+
+-- a search and no block
+searched : {E : Type 0} (s : Space) (size looks now splits : ℕ) (answer : Result (Option Leaf) E) → IsErr answer → CountsSearch s size looks now → CountsTaking s size answer looks now splits splits
+searched s size looks now splits (Ok x) is search = absurd (cc)
+searched s size looks now splits (Err e) is search = (search, refl)
 
 -- there is a place, but no memory
 refused : {E : Type 0} (s new : Space) (size : ℕ) (answer : Result (Option Leaf) E) → IsErr answer → HasPlace s size → new ≡ s → TakesPlace s size answer new
@@ -29,6 +34,11 @@ returns-in_default-clause-takes g c =
     let none = rw (c.as_slice.ensures.value) at c.in_default.ensures.none in
     rw (← c.self.view_is) (no_place _ c.self.inside.lengths.items c.self.invariant c.args.order none, refl)
 
+pub returns-in_default-clause-counted : goal.returns-in_default-clause-counted
+returns-in_default-clause-counted g c =
+    rw (← c.self.view_is)
+    (counts_search _ c.self.inside.lengths.items c.args.order c.find.result c.args.looks.now c.find.new.looks c.self.invariant c.requires (rw (c.as_slice.ensures.value) at c.find.ensures.none) (rw (c.as_slice.ensures.value) at c.find.ensures.some) c.find.ensures.looked, refl)
+
 pub invariant_of-self : goal.invariant_of-self
 invariant_of-self g c = stored_same _ _ _ c.make_room.ensures.kept c.self.invariant
 
@@ -37,6 +47,11 @@ returns-in_err-make_room-clause-takes g c =
     let found : IsFound (pair_at c.self.inside.lengths.items) c.args.order c.in-Some.found = rw (c.as_slice.ensures.value) at c.in-Some.ensures.some in
     rw (← c.self.view_is) (refused _ _ _ c.from_residual.result c.from_residual.ensures.0 (place_old (by_key (seen g) c.self.inside.chunks) c.self.inside.lengths.items c.make_room.new.lengths.items c.self.invariant c.make_room.ensures.kept c.args.order c.in-Some.found found)
     (same_space _ _ _ c.make_room.ensures.kept))
+
+pub returns-in_err-make_room-clause-counted : goal.returns-in_err-make_room-clause-counted
+returns-in_err-make_room-clause-counted g c =
+    searched _ _ _ _ _ c.from_residual.result c.from_residual.ensures.0
+    (rw (← c.self.view_is) (counts_search _ c.self.inside.lengths.items c.args.order c.find.result c.args.looks.now c.find.new.looks c.self.invariant c.requires (rw (c.as_slice.ensures.value) at c.find.ensures.none) (rw (c.as_slice.ensures.value) at c.find.ensures.some) c.find.ensures.looked))
 
 pub index-requires : goal.index-requires
 index-requires g c =
@@ -53,6 +68,11 @@ returns-in_err-memory-clause-takes g c =
     let found : IsFound (pair_at c.self.inside.lengths.items) c.args.order c.in-Some.found = rw (c.as_slice.ensures.value) at c.in-Some.ensures.some in
     rw (← c.self.view_is) (refused _ _ _ c.from_residual-in_err-memory.result c.from_residual-in_err-memory.ensures.0 (place_old (by_key (seen g) c.self.inside.chunks) c.self.inside.lengths.items c.make_room.new.lengths.items c.self.invariant c.make_room.ensures.kept c.args.order c.in-Some.found found)
     (same_space _ _ _ c.make_room.ensures.kept))
+
+pub returns-in_err-memory-clause-counted : goal.returns-in_err-memory-clause-counted
+returns-in_err-memory-clause-counted g c =
+    searched _ _ _ _ _ c.from_residual-in_err-memory.result c.from_residual-in_err-memory.ensures.0
+    (rw (← c.self.view_is) (counts_search _ c.self.inside.lengths.items c.args.order c.find.result c.args.looks.now c.find.new.looks c.self.invariant c.requires (rw (c.as_slice.ensures.value) at c.find.ensures.none) (rw (c.as_slice.ensures.value) at c.find.ensures.some) c.find.ensures.looked))
 
 pub take_front-front-requires-clause-in_range : goal.take_front-front-requires-clause-in_range
 take_front-front-requires-clause-in_range g c =

@@ -10,7 +10,9 @@ use Rattle.gpu_alloc_freelist.specs.FreeListState.{Space, Store}
 use Rattle.gpu_alloc_freelist.proofs.CutBlocks.{cut_taken, cut_counts}
 use Rattle.gpu_alloc_freelist.proofs.FreeListGrants.{IsFoundAt, IsTailOf, found_again, found_room, is_tail_of, last_tail, listed, no_place, place_at, refused, some_room, tail_within}
 use Rattle.gpu_alloc_freelist.proofs.FreeListReturns.{region_held}
+use Rattle.gpu_alloc_freelist.proofs.ListInHand.{same_leaves, slot_leaves, tail_adds}
 use Rattle.gpu_alloc_freelist.proofs.WholeRuns.{one_counts, one_is}
+use Rattle.gpu_alloc_freelist.proofs.freelist.list.FreeList.get_block.Given.{Over}
 use Rattle.gpu_alloc_freelist.proofs.freelist.list.FreeList.get_block.Goals as goal
 
 pub returns-in_default-clause-takes : goal.returns-in_default-clause-takes
@@ -108,8 +110,8 @@ invariant_of-self g c =
     (omega (arith, some.1.1, c.cut.ensures.room, c.keep-key.ensures.count))
     (omega (arith, counted, told, c.from.ensures, c.self-2.invariant.whole))
 
-pub returns-clause-takes : goal.returns-clause-takes
-returns-clause-takes g c =
+took : (g : Over) (c : goal.After-new g) → IsTail c.args.self.now.space c.args.size (c.args.align_mask + 1) c.tail_of-slot.result × (space_in c.self-2.inside.chunks.held c.keep-key.new.self.slots c.self-2.inside.latest ≡ with_slot c.args.self.now.space c.tail_of-slot.result)
+took g c =
     let at : IsFoundAt c.self-2.inside.runs.regions c.args.size (c.args.align_mask + 1) c.in-Some.index =
     found_again _ _ c.self-2.inside.runs.regions c.self.inside.runs.regions c.args.size (c.args.align_mask + 1) c.in-Some.index (ap (λ (s : Store). s.space) c.self-2.view_is ∙ c.reserve.ensures.kept ∙ ap (λ (s : Store). s.space) (sym c.self.view_is)) c.self-2.invariant.runs c.self.invariant.runs c.in-Some.ensures.some
     in
@@ -118,11 +120,33 @@ returns-clause-takes g c =
     let is_held : map.get c.self-2.inside.chunks.held c.get-region.result.chunk ≡ Some chunk = rw (← c.self-2.view_is) at c.chunk.ensures in
     let object : c.tail_of-slot.result.object ≡ chunk.object = ap (λ (s : Slot). s.object) c.tail_of-slot.ensures ∙ c.object.ensures ∙ c.in_ok-memory.ensures in
     let before : Space = space_in c.self-2.inside.chunks.held c.self-2.inside.live.slots c.self-2.inside.latest in
-    let before_is : before ≡ c.args.self.now.space = ap (λ (s : Store). s.space) c.self-2.view_is ∙ c.reserve.ensures.kept in
-    rw (c.new.ensures) (
+    let before_is : before ≡ c.args.self.now.space = ap (λ (s : Store). s.space) c.self-2.view_is ∙ c.reserve.ensures.kept in (
       subst (λ s. IsTail s c.args.size (c.args.align_mask + 1) c.tail_of-slot.result) before_is (last_tail _ _ _ _ _ _ tail before c.self-2.invariant.runs chunk is_held object),
       ap (λ (l : set.FinSet slot_cmp). space_in c.self-2.inside.chunks.held l c.self-2.inside.latest) c.keep-key.ensures.slots ∙ ap (λ s. with_slot s c.tail_of-slot.result) before_is,
     )
+
+pub returns-clause-takes : goal.returns-clause-takes
+returns-clause-takes g c = rw (c.new.ensures) (took g c)
+
+-- it is another block than each that was live
+
+pub returns-clause-added : goal.returns-clause-added
+returns-clause-added g c =
+    rw (c.new.ensures) (tail_adds c.args.self.now.space _ c.args.size (c.args.align_mask + 1) c.tail_of-slot.result c.requires.nonempty (took g c).0 (took g c).1)
+
+-- and those are live still
+
+pub returns-clause-leaves : goal.returns-clause-leaves
+returns-clause-leaves g c = slot_leaves c.args.self.now.space _ c.tail_of-slot.result (took g c).1
+
+pub returns-in_default-clause-leaves : goal.returns-in_default-clause-leaves
+returns-in_default-clause-leaves g c = same_leaves c.args.self.now.space c.args.self.now.space refl
+
+pub returns-in_err-reserve-clause-leaves : goal.returns-in_err-reserve-clause-leaves
+returns-in_err-reserve-clause-leaves g c = same_leaves c.args.self.now.space _ c.reserve.ensures.kept
+
+pub returns-in_err-memory-clause-leaves : goal.returns-in_err-memory-clause-leaves
+returns-in_err-memory-clause-leaves g c = same_leaves c.args.self.now.space _ c.reserve.ensures.kept
 
 pub returns-clause-sound : goal.returns-clause-sound
 returns-clause-sound g c = (invariant_of-self g c).sound

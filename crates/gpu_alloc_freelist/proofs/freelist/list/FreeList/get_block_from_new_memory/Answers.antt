@@ -12,6 +12,7 @@ use Rattle.gpu_alloc_freelist.specs.Live.{LiveBlocks}
 use Rattle.gpu_alloc_freelist.specs.Wholes.{wholes}
 use Rattle.gpu_alloc_freelist.specs.declared.freelist.list.FreeList.TheInside.{Inside}
 use Rattle.gpu_alloc_freelist.proofs.FreeListGrants.{IsFirstTail, IsTaken, begun_at_0, begun_behind, begun_taken, listed_with_chunk, some_room, with_chunk_in}
+use Rattle.gpu_alloc_freelist.proofs.ListInHand.{first_adds, same_leaves, slot_leaves}
 use Rattle.gpu_alloc_freelist.proofs.NewWholes.{wholes_begun, wholes_begun_behind}
 use Rattle.gpu_alloc_freelist.proofs.RunsKept.{last_by_chunk}
 use Rattle.gpu_alloc_freelist.proofs.freelist.list.FreeList.get_block_from_new_memory.Given.{Over}
@@ -104,3 +105,14 @@ returns-clause-chunk g c =
 
 pub returns-clause-sound : goal.returns-clause-sound
 returns-clause-sound g c = subst IsSoundSpace (sym (after_is g c)) (took g c).sound
+
+pub returns-clause-added : goal.returns-clause-added
+returns-clause-added g c =
+    rw (← c.self.view_is, c.new.ensures)
+    (first_adds (before g c) _ (g.M.MemoryObject.object c.args.memory) c.args.memory_size c.args.size (c.args.align_mask + 1) c.tail_of-slot.result c.self.invariant.sound c.requires.nonempty c.requires.inside (first g c).is (after_is g c))
+
+pub returns-clause-leaves : goal.returns-clause-leaves
+returns-clause-leaves g c = rw (← c.self.view_is) (slot_leaves (more g c) _ c.tail_of-slot.result (after_is g c))
+
+pub returns-in-Err-clause-leaves : goal.returns-in-Err-clause-leaves
+returns-in-Err-clause-leaves g c = same_leaves c.args.self.now.space c.args.self.now.space refl

@@ -1,13 +1,14 @@
 use Rattle.std.proofs.Common.{◌+◌, ◌<◌, length, sym, ◌∙◌, ap, subst, arith}
 use Rattle.std.proofs.lemmas.List.Sums.{count_by-le-length}
 use Rattle.std.specs.FinSet as set
-use Rattle.gpu_alloc_base.specs.Slots.{region_of}
+use Rattle.gpu_alloc_base.specs.Slots.{region_of, slot_cmp}
 use Rattle.gpu_alloc_freelist.specs.FreeListInside.{space_in}
 use Rattle.gpu_alloc_freelist.specs.FreeListState.{IsFreeIn, IsLiveSlot}
 use Rattle.gpu_alloc_freelist.specs.Runs.{AreFewComparisons}
 use Rattle.gpu_alloc_freelist.specs.Wholes.{is_whole}
 use Rattle.gpu_alloc_freelist.proofs.FreeListGrants.{one_list}
 use Rattle.gpu_alloc_freelist.proofs.FreeListReturns.{listed_without_slot, runs_beside_slot}
+use Rattle.gpu_alloc_freelist.proofs.ListInHand.{slot_removes}
 use Rattle.gpu_alloc_freelist.proofs.RunsKept.{beside_apart, put_back_runs}
 use Rattle.gpu_alloc_freelist.proofs.WholeRuns.{one_is, wholes_back}
 use Rattle.gpu_alloc_freelist.proofs.freelist.list.FreeList.insert_block.Goals as goal
@@ -50,3 +51,9 @@ returns-clause-few g c =
     rw (← c.self.view_is) (λ list are rising.
     let same = one_list (IsFreeIn (space_in c.self.inside.chunks.held c.self.inside.live.slots c.self.inside.latest)) list c.self.inside.runs.regions are rising c.self.invariant.runs in
     subst (λ n. AreFewComparisons n c.args.steps.now c.put_back-joint.new.steps) (sym (ap length same)) c.put_back-joint.ensures.few)
+
+pub returns-clause-removed : goal.returns-clause-removed
+returns-clause-removed g c =
+    let s = space_in c.self.inside.chunks.held c.self.inside.live.slots c.self.inside.latest in
+    let live : IsLiveSlot s c.args.block = rw (← c.self.view_is) at c.requires in
+    rw (← c.self.view_is) (slot_removes s _ c.args.block live (ap (λ (l : set.FinSet slot_cmp). space_in c.self.inside.chunks.held l c.self.inside.latest) (c.forget.ensures.slots ∙ ap (set.remove c.self.inside.live.slots) c.slot_of.ensures)))
