@@ -687,7 +687,11 @@ impl<M: MemoryObject, A: Allocator> GpuAllocator<M, A> {
     pub fn remaining_allocations(&self) -> u32
         ensures { result ≡ self.now.remaining }
     {
-        self.allocations_remains
+        let GpuAllocator {
+            allocations_remains,
+            ..
+        } = self;
+        *allocations_remains
     }
 
     /// From now on this many more objects may be held, however many are. Together with the objects that are held

@@ -209,7 +209,8 @@ impl<M: MemoryObject> MemoryBlock<M> {
     pub fn mapping(&self) -> Option<Mapping>
         ensures { result ≡ self.now.mapping }
     {
-        self.mapping
+        let MemoryBlock { mapping, .. } = self;
+        *mapping
     }
 
     /// Maps `size` bytes of the block from `offset` on, in bytes from its start, so that the host sees them until

@@ -115,7 +115,7 @@ impl Chunks {
     {
         let told = self.told::<Brand>(case.align_mask, Blank::new(1));
         same(rt, "what is told", &told, &case.told);
-        match self.ask(rt, 1, case.align_mask) {
+        match self.ask(1, case.align_mask) {
             Ok(block) => panic!(rt; "a block at {}", block.offset()),
             Err(error) => same(rt, "a refusal", &error, &case.error),
         }
@@ -134,7 +134,6 @@ impl Chunks {
     /// Asks for a block of at least so many bytes at a multiple of the mask and one, and counts nothing.
     fn ask_uncounted<L: Ledger, K: Ledger>(
         &mut self,
-        rt: &impl Abort,
         size: u64,
         align_mask: u64,
         looks: Blank,
@@ -147,11 +146,6 @@ impl Chunks {
         ensures added { IfOk result (Adds self.old self.new) }
         ensures leaves { Leaves self.old self.new }
     {
-        holds(
-            rt,
-            self.heap.used() <= 1 << 127,
-            "more than a ledger counts",
-        );
         self.allocator.alloc(
             &mut self.device,
             size,
@@ -167,7 +161,6 @@ impl Chunks {
     /// Asks for a block of at least so many bytes at a multiple of the mask and one.
     pub(super) fn ask(
         &mut self,
-        rt: &impl Abort,
         size: u64,
         align_mask: u64,
     ) -> Result<BuddyBlock<SimMemory>, AllocationError>
@@ -176,7 +169,7 @@ impl Chunks {
         ensures added { IfOk result (Adds self.old self.new) }
         ensures leaves { Leaves self.old self.new }
     {
-        self.ask_uncounted::<Brand, Brand>(rt, size, align_mask, Blank::new(1), Blank::new(1))
+        self.ask_uncounted::<Brand, Brand>(size, align_mask, Blank::new(1), Blank::new(1))
     }
 
     /// A block of at least so many bytes.
@@ -185,7 +178,7 @@ impl Chunks {
         ensures leaves { Leaves self.old self.new }
     {
         holds(rt, size > 0, "a block of no bytes");
-        match self.ask(rt, size, 0) {
+        match self.ask(size, 0) {
             Ok(block) => block,
             Err(error) => panic!(rt; "{error}"),
         }

@@ -285,11 +285,6 @@ impl Chunks {
         ensures leaves { Leaves self.old self.new }
     {
         assert!(rt; size <= LARGEST);
-        holds(
-            rt,
-            self.heap.used() <= 1 << 127,
-            "more than a ledger counts",
-        );
         self.allocator.alloc(
             &mut self.device,
             size,

@@ -454,7 +454,7 @@ impl Hand {
             self.blocks.len() < self.blocks.capacity(),
             "no place for a block",
         );
-        match self.chunks.ask(rt, size, align_mask) {
+        match self.chunks.ask(size, align_mask) {
             Ok(block) => {
                 let place = place_of(&block);
                 self.blocks.push_reserved(block);
