@@ -200,8 +200,8 @@ pub fn heaps_are_not_overdrawn()
         → ledger s heap + heap_budget s heap ≡ heap_bytes s.properties heap }
 {}
 
-/// A memory type that would have to be asked for an object which its heap has room for is not passed for the budget: the
-/// device is asked, and only its own answer passes the type.
+/// A memory type that would have to be asked for an object which its heap has room for is not passed for the budget. Where
+/// the host's memory does not end the call first, the device is asked, and only its own answer passes the type.
 pub fn questions_within_the_budget_are_asked()
     ensures { IsAskedWithinBudget }
 {}
