@@ -4,6 +4,7 @@ ghost use Rattle.std.specs.Prelude.{◌≡◌, ◌↔◌, [], ◌∷◌, ◌++�
 ghost use Rattle.gpu_alloc_types.specs.Properties.{properties_of};
 ghost use Rattle.gpu_answers.specs.Asking.{begun, open_in};
 ghost use Rattle.gpu_answers.specs.Device.{IsFresh};
+ghost use Rattle.gpu_answers.specs.Held.{AreNamed};
 ghost use Rattle.gpu_answers.specs.declared.run.Stop.TheVariants.{Strayed};
 
 use crate::held::HeldObjects;
@@ -58,6 +59,14 @@ impl AnsweredDevice {
             run: Run::new(alloc),
             held: HeldObjects::new(alloc),
         })
+    }
+
+    /// Nothing is done: its contract tells what always holds of the names of objects. Each that was given back and not
+    /// taken is at most the latest, is that of no object that is held, and is there once.
+    pub fn keeps_names(&self)
+        ensures { AreNamed self.now.held }
+    {
+        self.held.keeps_names();
     }
 
     /// Begins a run with these answers, in the order in which their questions are asked. Of the answers of the run before
