@@ -1,12 +1,12 @@
 -- What the calls make of objects that are kept is kept.
-use Rattle.std.proofs.Common.{◌≡◌, ◌≢◌, ◌⊎◌, ℕ, suc, ◌+◌, ◌-◌, ◌^◌, ◌<◌, ◌≤◌, Some, None, Bool, true, false, List, [], ◌∷◌, ◌++◌, length, take, cond, ap, inl, inr, nat_eq, nat_lt, refl, subst, sym, ◌∙◌, arith}
+use Rattle.std.proofs.Common.{◌≡◌, ◌≢◌, ◌⊎◌, ℕ, suc, ◌+◌, ◌-◌, ◌^◌, ◌<◌, ◌≤◌, Some, None, Bool, true, false, List, All, [], ◌∷◌, ◌++◌, length, take, Option, cond, ap, inl, inr, nat_eq, nat_lt, refl, subst, sym, ◌∙◌, arith}
 use Rattle.std.proofs.lemmas.Bool.Decides.{nat_tests}
 use Rattle.std.proofs.lemmas.Cmp.{nat_eq_equiv}
-use Rattle.std.proofs.lemmas.List.Elements.{All-nil, All-push, All-take, All-weaker}
+use Rattle.std.proofs.lemmas.List.Elements.{All-nil, All-pop, All-push, All-take, All-weaker}
 use Rattle.std.proofs.lemmas.List.Sorted.{IsPermutation-to_front}
 use Rattle.std.proofs.lemmas.Map.Keys.{IsDistinct-IsPermutation, IsDistinct-tail}
 use Rattle.std.specs.List.{Contains, IsDistinct}
-use Rattle.std.specs.Option.{is_some, IsSome}
+use Rattle.std.specs.Option.{is_some, IsSome, IfSome, option_to_list}
 use Rattle.std.specs.Map.{lookup}
 use Rattle.std.specs.Cmp.{nat_cmp_total}
 use Rattle.std.specs.FinMap as map
@@ -33,7 +33,7 @@ less_or_not a b = elim (nat_lt a b) as (λ t. nat_lt a b ≡ t → (a < b) ⊎ (
 -- Names that were given back, each once.
 
 -- the last one stands nowhere else
-pub last_is_other : (xs : List ℕ) (name : ℕ) → IsDistinct nat_eq (xs ++ name ∷ []) → IsDistinct nat_eq xs × (Contains xs name → ⊥)
+last_is_other : (xs : List ℕ) (name : ℕ) → IsDistinct nat_eq (xs ++ name ∷ []) → IsDistinct nat_eq xs × (Contains xs name → ⊥)
 last_is_other xs name once =
     let moved = IsDistinct-IsPermutation nat_eq nat_eq_equiv.symm (xs ++ name ∷ []) (name ∷ xs) (IsPermutation-to_front xs name) once in (
       IsDistinct-tail nat_eq name xs moved,
@@ -114,6 +114,15 @@ module _ (last : ℕ) (gone : List ℕ) (taken places : ℕ) (objects : FinMap n
     once = distinct_first count gone kept.once;
     names_fit = let fits = kept.names_fit in omega (arith, fits, less);
   }
+
+-- a name that is taken waits no longer
+pub taken_is_spent : (last : ℕ) (objects : FinMap nat_cmp HeldObject) (old new : List ℕ) (taken : Option ℕ) → All (IsUsed last objects) old
+    → IsDistinct nat_eq old → old ≡ new ++ option_to_list taken → IfSome taken (λ name. IsUsed last objects name × (Contains new name → ⊥))
+taken_is_spent last objects old new None used once is = tt
+taken_is_spent last objects old new (Some name) used once is = (
+  (All-pop (IsUsed last objects) old new (Some name) is used).1,
+  (last_is_other new name (subst (IsDistinct nat_eq) is once)).1,
+)
 
 -- where one more object fits in, so does its name
 pub room_is : (entries last taken places : ℕ) (objects : FinMap nat_cmp HeldObject) → 0 < room_in entries last taken places objects

@@ -1,11 +1,10 @@
 -- What steps of the device make of the names of objects.
-use Rattle.std.proofs.Common.{◌≡◌, ◌≢◌, ℕ, ◌≤◌, List, [], ◌∷◌, ◌++◌, take, nat_eq, Option, Some, None, Ok, Err, inl, inr, option_map, refl, subst, sym, ◌∙◌, ap, arith}
+use Rattle.std.proofs.Common.{◌≡◌, ◌≢◌, ℕ, ◌≤◌, List, [], ◌∷◌, take, Option, Some, None, Ok, Err, inl, inr, option_map, refl, subst, sym, ◌∙◌, ap, arith}
 use Rattle.std.proofs.Math.ListN.{drop}
 use Rattle.std.proofs.lemmas.List.{take-append-drop}
-use Rattle.std.proofs.lemmas.List.Elements.{Contains-append_left, Contains-push, Contains-push_cases}
+use Rattle.std.proofs.lemmas.List.Elements.{Contains-append_left, Contains-push_cases}
 use Rattle.std.specs.FinMap as map
-use Rattle.std.specs.List.{Contains, IsDistinct}
-use Rattle.gpu_alloc_base.proofs.Lists.{all_contained}
+use Rattle.std.specs.List.{Contains}
 use Rattle.gpu_alloc_base.proofs.Names.{is_there, one_or_two}
 use Rattle.gpu_alloc_types.specs.Device.{Chain, Changes, Event, InTurn, Object, Range, put}
 use Rattle.gpu_alloc_types.specs.Device.Event.{Allocated, Deallocated, Mapped, Unmapped, Flushed, Invalidated, BytesPut, BytesGot}
@@ -13,9 +12,8 @@ use Rattle.gpu_alloc_types.specs.Objects.{put-other, put-same}
 use Rattle.gpu_alloc_types.specs.Properties.{Properties}
 use Rattle.gpu_answers.specs.Device.{IsStep, objects_of, shown}
 use Rattle.gpu_answers.specs.DeviceState.{DeviceState}
-use Rattle.gpu_answers.specs.Held.{AreNamed, HeldState, IsPast, IsSpent, KeepsNames}
+use Rattle.gpu_answers.specs.Held.{HeldState, IsPast, KeepsNames}
 use Rattle.gpu_answers.specs.declared.held.HeldObject.{HeldObject}
-use Rattle.gpu_answers.proofs.Keeping.{last_is_other}
 
 -- An object that is not there.
 
@@ -110,21 +108,7 @@ run_keeps_names old [] new same = subst (λ (s : DeviceState). KeepsNames old.he
 run_keeps_names old (e ∷ es) new run =
     names_kept_twice old.held run.0.held new.held (step_keeps_names old e run.0 run.1) (run_keeps_names run.0 es new run.2)
 
--- a name that is read is spent
-pub read_is_spent : (old new : HeldState) (name : ℕ) → AreNamed old → old.gone ≡ new.gone ++ name ∷ [] → new.objects ≡ old.objects
-    → new.last_name ≡ old.last_name → IsSpent new name
-read_is_spent old new name named read objects last = (
-  (
-    let below = past.0 in omega (arith, below, last),
-    ap (λ m. map.get m name) objects ∙ past.1,
-  ),
-  (last_is_other new.gone name (subst (IsDistinct nat_eq) read named.once)).1,
-)
-  where
-    past : IsPast old name
-    past = all_contained (IsPast old) old.gone name named.waiting (subst (λ xs. Contains xs name) (sym read) (Contains-push new.gone name))
-
--- and a state with the same objects and the same latest name keeps names, where no more wait
+-- names are kept by a state with the same objects and the same latest name, where no more wait
 pub fewer_wait : (old new : HeldState) → new.objects ≡ old.objects → new.last_name ≡ old.last_name
     → ((name : ℕ) → Contains new.gone name → Contains old.gone name) → KeepsNames old new
 fewer_wait old new objects last waits =

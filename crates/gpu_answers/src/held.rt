@@ -2,7 +2,7 @@
 
 ghost use Rattle.std.specs.Prelude.{◌≡◌, ◌+◌, ◌<◌, [], ◌∷◌, ◌++◌, take, None, Some, IsSome, OnOk, IfSome};
 ghost use Rattle.std.specs.FinMap as map;
-ghost use Rattle.gpu_answers.specs.Held.{new_object, mapped_as, AreNamed, ChangesAt};
+ghost use Rattle.gpu_answers.specs.Held.{new_object, mapped_as, AreNamed, ChangesAt, IsSpent};
 
 use indexmap::IndexMap;
 use std::alloc::{AllocError, Global};
@@ -148,6 +148,7 @@ impl HeldObjects {
     pub(crate) fn take_gone(&mut self) -> Option<u64>
         ensures taken { IfSome result (λ name. self.old.gone ≡ self.new.gone ++ name ∷ []) }
         ensures none { result ≡ None → (self.old.gone ≡ []) × (self.new.gone ≡ []) }
+        ensures spent { IfSome result (IsSpent self.new) }
         ensures objects { self.new.objects ≡ self.old.objects }
         ensures last_name { self.new.last_name ≡ self.old.last_name }
     {

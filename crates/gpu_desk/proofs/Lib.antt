@@ -1,2 +1,3 @@
 pub mod GoneNames
 pub mod Kept
+pub mod NamesEver

@@ -3,7 +3,9 @@
 ghost use Rattle.std.specs.Prelude.{◌≡◌, ◌↔◌, ◌≤◌, ◌+◌, ◌^◌, ◌++◌, ◌∷◌, [], None, length, IfOk, IfErr, IfSome, OnOk, OnErr};
 ghost use Rattle.std.specs.FinMap as map;
 ghost use Rattle.gpu_session.specs.Does.{IsEachFreeRange};
+ghost use Rattle.gpu_answers.specs.Held.{KeepsNames};
 ghost use Rattle.gpu_desk.specs.Calls.{CountsOf, HeapCountsOf, OnlyReads};
+ghost use Rattle.gpu_desk.specs.Names.{IsSpent};
 
 use super::Desk;
 use crate::{Counts, Denial, Fault, FreeRange, HeapCounts};
@@ -11,10 +13,14 @@ use crate::{Counts, Denial, Fault, FreeRange, HeapCounts};
 impl Desk {
     /// Reads the name of an object that was given back, the latest of those that were not read, or answers `None` where
     /// each was. The object is the caller's to free. Nothing else changes.
+    ///
+    /// A name is read once: it never waits again, and no later object has it.
     pub fn next_gone(&mut self) -> Option<u64>
         ensures read { IfSome result (λ name. self.old.device.held.gone ≡ self.new.device.held.gone ++ name ∷ []) }
         ensures none { result ≡ None → (self.old.device.held.gone ≡ []) × (self.new.device.held.gone ≡ []) }
+        ensures spent { IfSome result (IsSpent self.new) }
         ensures kept { OnlyReads self.old self.new }
+        ensures names { KeepsNames (self.old.device).held (self.new.device).held }
     {
         let name = self.device.take_gone();
         name
@@ -55,6 +61,7 @@ impl Desk {
         ensures denied { IfErr result (λ e. (e ≡ Denial.Fault Fault.TooManyRemaining)
             × (2 ^ 32 ≤ remaining + map.len (self.old.allocator).held)) }
         ensures unchanged { OnErr result (self.new ≡ self.old) }
+        ensures names { KeepsNames (self.old.device).held (self.new.device).held }
     {
         if remaining > u32::MAX - self.allocator.held_objects() {
             return Err(Denial::Fault(Fault::TooManyRemaining));
