@@ -1,3 +1,4 @@
+pub mod Asked
 pub mod Keeping
 pub mod Naming
 pub mod Rows
