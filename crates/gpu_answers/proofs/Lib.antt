@@ -1,2 +1,4 @@
+pub mod Asked
 pub mod Keeping
+pub mod Naming
 pub mod Rows

@@ -1,5 +1,5 @@
 -- What the device makes of its objects, as every device shows it.
-use Rattle.std.proofs.Common.{◌≡◌, ℕ, suc, ◌+◌, ◌≤◌, Bool, true, false, cond, List, [], ◌∷◌, slice_get, All, Option, Some, None, Ok, refl, ap, subst, sym, ◌∙◌, arith, option_map, nat_le}
+use Rattle.std.proofs.Common.{◌≡◌, ℕ, suc, ◌+◌, ◌≤◌, Bool, true, false, cond, List, [], ◌∷◌, slice_get, All, IsSome, Option, Some, None, Ok, refl, ap, subst, sym, ◌∙◌, arith, option_map, nat_le}
 use Rattle.std.proofs.Math.Path.{fun_ext}
 use Rattle.std.proofs.lemmas.Bool.Decides.{nat_tests}
 use Rattle.std.specs.Cmp.{nat_cmp_total}
@@ -39,6 +39,11 @@ within_is size r le = ap (λ b. cond b (Some r) None) fits
   where
     fits : nat_le (r.0 + r.1) size ≡ true
     fits = grind (arith, nat_tests)
+
+-- what is shown is there
+pub shown_is_there : (p : Properties) (found : Option HeldObject) → IsSome (option_map (shown p) found) → IsSome found
+shown_is_there p None is = is
+shown_is_there p (Some o) is = refl
 
 pushed : {X Y : Type 0} (f : X → Y) (b : Bool) (x y : Option X) → option_map f (cond b x y) ≡ cond b (option_map f x) (option_map f y)
 pushed f true x y = refl

@@ -1,6 +1,6 @@
 -- The device that is asked from outside, and what its calls do.
 use Rattle.std.specs.Prelude.{◌≡◌, ◌≢◌, ◌⊎◌, ℕ, ◌+◌, cond, List, [], ◌∷◌, ◌++◌, replicate, Option, Some, None}
-use Rattle.std.specs.Prelude.{option_map, Ok, Err, nat_le}
+use Rattle.std.specs.Prelude.{option_map, IsSome, Ok, Err, nat_le}
 use Rattle.std.specs.FinMap as map
 use Rattle.std.specs.FinMap.{FinMap}
 use Rattle.std.specs.Ordering.{nat_cmp}
@@ -73,11 +73,12 @@ Answers old (Invalidated rs (Err error)) new = ⊥
 Answers old e new = new ≡ old
 
 -- What a call does to the names: a new object has the next one, which was never used, and the name of an object that is
--- given back goes last among those.
+-- given back, which was held, goes last among those.
 abbrev pub Names : HeldState → Event → HeldState → Type 0
 Names old (Allocated size t flags (Ok name)) new =
     (name ≡ old.last_name + 1) × (new.last_name ≡ name) × (new.gone ≡ old.gone)
-Names old (Deallocated name) new = (new.last_name ≡ old.last_name) × (new.gone ≡ old.gone ++ name ∷ [])
+Names old (Deallocated name) new =
+    (new.last_name ≡ old.last_name) × (new.gone ≡ old.gone ++ name ∷ []) × IsSome (map.get old.objects name)
 Names old e new = (new.last_name ≡ old.last_name) × (new.gone ≡ old.gone)
 
 -- what a call of the device does

@@ -1,8 +1,9 @@
 -- The objects that are held, and the names of those that were given back.
-use Rattle.std.specs.Prelude.{◌≡◌, ℕ, ◌+◌, ◌-◌, ◌^◌, ◌<◌, ◌≤◌, min, List, Option, Some, None, refl}
+use Rattle.std.specs.Prelude.{◌≡◌, ℕ, ◌+◌, ◌-◌, ◌^◌, ◌<◌, ◌≤◌, min, nat_eq, List, All, Option, Some, None, refl}
 use Rattle.std.specs.Coded.{Coded, code_by, coded×, coded_ℕ, coded_list}
 use Rattle.std.specs.FinMap as map
 use Rattle.std.specs.FinMap.{FinMap}
+use Rattle.std.specs.List.{Contains, IsDistinct}
 use Rattle.std.specs.Ordering.{nat_cmp}
 use Rattle.gpu_answers.specs.declared.held.HeldObject.{HeldObject}
 use Rattle.gpu_answers.specs.contracts.held.HeldObject as held_object
@@ -39,10 +40,16 @@ ChangesAt change old name new =
 abbrev pub AreNamedUpTo : ℕ → FinMap nat_cmp HeldObject → Type 0
 AreNamedUpTo last objects = (name : ℕ) → last < name → map.get objects name ≡ None
 
--- What always holds: no name is above the latest. And of the places for names of objects that were given back, some are
--- taken, and one is left for each object that is held.
-pub record AreKept (last taken places : ℕ) (objects : FinMap nat_cmp HeldObject) : Type 0 where
+-- the name was used, and no object has it
+abbrev pub IsUsed : ℕ → FinMap nat_cmp HeldObject → ℕ → Type 0
+IsUsed last objects name = (name ≤ last) × (map.get objects name ≡ None)
+
+-- What always holds: no name is above the latest, and the names that were given back are those of no object, each there
+-- once. And of the places for such names some are taken, and one is left for each object that is held.
+pub record AreKept (last : ℕ) (gone : List ℕ) (taken places : ℕ) (objects : FinMap nat_cmp HeldObject) : Type 0 where
   pub named : AreNamedUpTo last objects
+  pub used : All (IsUsed last objects) gone
+  pub once : IsDistinct nat_eq gone
   pub names_fit : taken + map.len objects ≤ places
 
 -- How many more objects fit in: for each an entry, a place for its name once it is given back, and a name. Names end at
@@ -50,3 +57,26 @@ pub record AreKept (last taken places : ℕ) (objects : FinMap nat_cmp HeldObjec
 abbrev pub room_in : (entries last taken places : ℕ) → FinMap nat_cmp HeldObject → ℕ
 room_in entries last taken places objects =
     min entries (min (places - (taken + map.len objects)) (2 ^ 64 - 1 - last))
+
+-- Names as callers see them.
+
+-- the name was given, and no object has it any more
+abbrev pub IsPast : HeldState → ℕ → Type 0
+IsPast s name = IsUsed s.last_name s.objects name
+
+-- and it does not wait to be read: it was read, or is not to be
+abbrev pub IsSpent : HeldState → ℕ → Type 0
+IsSpent s name = IsPast s name × (Contains s.gone name → ⊥)
+
+-- What always holds of the names: none is above the latest, and each that waits to be read is that of no object, and waits
+-- once.
+pub record AreNamed (s : HeldState) : Type 0 where
+  pub held : AreNamedUpTo s.last_name s.objects
+  pub waiting : All (IsPast s) s.gone
+  pub once : IsDistinct nat_eq s.gone
+
+-- Names rise, and none comes twice: no object gets a name that was given before, and no name that is spent waits again.
+pub record KeepsNames (old new : HeldState) : Type 0 where
+  pub rises : old.last_name ≤ new.last_name
+  pub past : (name : ℕ) → IsPast old name → IsPast new name
+  pub spent : (name : ℕ) → IsSpent old name → IsSpent new name

@@ -4,6 +4,7 @@ ghost use Rattle.std.specs.Prelude.{◌≡◌, ◌↔◌, [], ◌∷◌, ◌++�
 ghost use Rattle.gpu_alloc_types.specs.Properties.{properties_of};
 ghost use Rattle.gpu_answers.specs.Asking.{begun, open_in};
 ghost use Rattle.gpu_answers.specs.Device.{IsFresh};
+ghost use Rattle.gpu_answers.specs.Held.{AreNamed, IsSpent};
 ghost use Rattle.gpu_answers.specs.declared.run.Stop.TheVariants.{Strayed};
 
 use crate::held::HeldObjects;
@@ -60,6 +61,14 @@ impl AnsweredDevice {
         })
     }
 
+    /// Nothing is done: its contract tells what always holds of the names of objects. Each that was given back and not
+    /// taken is at most the latest, is that of no object that is held, and is there once.
+    pub fn keeps_names(&self)
+        ensures { AreNamed self.now.held }
+    {
+        self.held.keeps_names();
+    }
+
     /// Begins a run with these answers, in the order in which their questions are asked. Of the answers of the run before
     /// it nothing is told any more. The objects stay as they are, the next name is the same, and the names that were
     /// given back and not taken are still told.
@@ -108,10 +117,12 @@ impl AnsweredDevice {
         self.held.gone()
     }
 
-    /// Takes the name that was given back last, or answers `None` where none is left. Nothing else changes.
+    /// Takes the name that was given back last, or answers `None` where none is left. It is taken once: it never waits
+    /// again, and no later object has it. Nothing else changes.
     pub fn take_gone(&mut self) -> Option<u64>
         ensures taken { IfSome result (λ name. self.old.held.gone ≡ self.new.held.gone ++ name ∷ []) }
         ensures none { result ≡ None → (self.old.held.gone ≡ []) × (self.new.held.gone ≡ []) }
+        ensures spent { IfSome result (IsSpent self.new.held) }
         ensures run { self.new.run ≡ self.old.run }
         ensures offers { self.new.properties ≡ self.old.properties }
         ensures objects { self.new.held.objects ≡ self.old.held.objects }

@@ -2,7 +2,7 @@
 
 ghost use Rattle.std.specs.Prelude.{◌≡◌, ◌+◌, ◌<◌, [], ◌∷◌, ◌++◌, take, None, Some, IsSome, OnOk, IfSome};
 ghost use Rattle.std.specs.FinMap as map;
-ghost use Rattle.gpu_answers.specs.Held.{new_object, mapped_as, ChangesAt};
+ghost use Rattle.gpu_answers.specs.Held.{new_object, mapped_as, AreNamed, ChangesAt, IsSpent};
 
 use indexmap::IndexMap;
 use std::alloc::{AllocError, Global};
@@ -54,7 +54,7 @@ impl Model for HeldObjects {
           (map.from_entries held.objects.entries);
     } };
 
-    ghost invariant = { λ held. AreKept held.last_name (vec_len held.gone) (vec_capacity held.gone)
+    ghost invariant = { λ held. AreKept held.last_name held.gone.items (vec_len held.gone) (vec_capacity held.gone)
         (map.from_entries held.objects.entries) };
 }
 
@@ -70,6 +70,13 @@ impl HeldObjects {
             last_name: 0,
             gone: Vec::new(alloc),
         }
+    }
+
+    /// Nothing is done: its contract tells what always holds of the names.
+    pub(crate) fn keeps_names(&self)
+        ensures { AreNamed self.now }
+    {
+        let _ = &self.gone;
     }
 
     /// Makes room for one more object, for its name and for that name among those that were given back. Fails for want
@@ -141,6 +148,7 @@ impl HeldObjects {
     pub(crate) fn take_gone(&mut self) -> Option<u64>
         ensures taken { IfSome result (λ name. self.old.gone ≡ self.new.gone ++ name ∷ []) }
         ensures none { result ≡ None → (self.old.gone ≡ []) × (self.new.gone ≡ []) }
+        ensures spent { IfSome result (IsSpent self.new) }
         ensures objects { self.new.objects ≡ self.old.objects }
         ensures last_name { self.new.last_name ≡ self.old.last_name }
     {

@@ -1,10 +1,10 @@
 -- What the parts of a call keep of a desk.
-use Rattle.std.proofs.Common.{◌≡◌, ◌≢◌, ◌⊎◌, ◌↔◌, inl, inr, ℕ, ◌+◌, nat_lt, arith, Option, Some, None, true, false, IsTrue, refl, sym, ◌∙◌, ap, subst}
+use Rattle.std.proofs.Common.{◌≡◌, ◌≢◌, ◌⊎◌, ◌↔◌, inl, inr, ℕ, List, take, ◌+◌, nat_lt, arith, Option, Some, None, true, false, IsTrue, refl, sym, ◌∙◌, ap, subst}
 use Rattle.std.proofs.lemmas.Bool.Decides.{nat_tests}
 use Rattle.std.specs.Option.{IsSome}
 use Rattle.std.specs.FinMap as map
 use Rattle.std.specs.Ordering.{nat_cmp}
-use Rattle.gpu_alloc_types.specs.Device.{Object}
+use Rattle.gpu_alloc_types.specs.Device.{Chain, Event, Object}
 use Rattle.gpu_alloc_types.specs.Objects.{put-other}
 use Rattle.gpu_alloc_types.specs.Properties.{Properties}
 use Rattle.gpu_alloc.specs.Allocation.{IsAsCounted}
@@ -14,8 +14,10 @@ use Rattle.gpu_alloc.specs.State.{Block, HeldObject, State, IsOwned}
 use Rattle.gpu_alloc.specs.Types.Mapping.{Mapping}
 use Rattle.gpu_alloc_base.proofs.Names.{get_put-other, len_put}
 use Rattle.gpu_answers.specs.Asking.{RunState}
-use Rattle.gpu_answers.specs.Device.{all_shown, objects_of}
+use Rattle.gpu_answers.specs.Device.{all_shown, IsStep, objects_of}
 use Rattle.gpu_answers.specs.DeviceState.{DeviceState}
+use Rattle.gpu_answers.specs.Held.{HeldState, KeepsNames}
+use Rattle.gpu_answers.proofs.Naming.{fewer_wait, first_wait, names_kept_twice, run_keeps_names}
 use Rattle.gpu_session.specs.Books.{Books}
 use Rattle.gpu_session.specs.Sound.{IsKept}
 use Rattle.gpu_session.specs.declared.offer.Offer.{Offer}
@@ -43,6 +45,17 @@ pub kept_over : {A : Type 0} {s : Books} {o : Offer A} (old new : DeviceState) �
     → IsKept old.properties (objects_of old) s o → IsKept new.properties (objects_of new) s o
 kept_over {s = s} {o = o} old new offers holds kept =
     subst (λ f. IsKept new.properties f s o) (sym (same_objects old new offers holds)) (subst (λ p. IsKept p (objects_of old) s o) (sym offers) kept)
+
+-- a run that was begun keeps names
+pub begun_keeps_names : (old begun : DeviceState) (es : List Event) (new : DeviceState) → begun.held ≡ old.held → Chain IsStep begun es new
+    → KeepsNames old.held new.held
+begun_keeps_names old begun es new same run = subst (λ h. KeepsNames h new.held) same (run_keeps_names begun es new run)
+
+-- and so it is where only the first names wait that did then
+pub forgetting_keeps_names : (old mid new : HeldState) (count : ℕ) → KeepsNames old mid → new.gone ≡ take count mid.gone → new.objects ≡ mid.objects
+    → new.last_name ≡ mid.last_name → KeepsNames old new
+forgetting_keeps_names old mid new count keeps gone objects last =
+    names_kept_twice old mid new keeps (fewer_wait mid new objects last (first_wait count mid.gone new.gone gone))
 
 -- Keys.
 

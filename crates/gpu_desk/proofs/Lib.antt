@@ -1,2 +1,4 @@
 pub mod GoneNames
 pub mod Kept
+pub mod NamesEver
+pub mod Questions

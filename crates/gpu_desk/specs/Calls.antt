@@ -1,5 +1,5 @@
 -- What the calls of a desk do.
-use Rattle.std.specs.Prelude.{◌≡◌, ◌≢◌, ◌⊎◌, ◌↔◌, ℕ, ◌+◌, ◌==◌, ◌&&◌, ◌≤◌, true, false, not, cond, List}
+use Rattle.std.specs.Prelude.{◌≡◌, ◌≢◌, ◌⊎◌, ◌↔◌, ℕ, ◌+◌, ◌==◌, ◌&&◌, ◌≤◌, false, not, cond, List}
 use Rattle.std.specs.Prelude.{◌++◌, length, Option, Some, None, is_some, Ok, Err, IsTrue}
 use Rattle.std.specs.FinMap as map
 use Rattle.gpu_alloc_types.specs.Device.{Chain, Event, HeldWith}
@@ -23,6 +23,7 @@ use Rattle.gpu_alloc.specs.declared.request.Request.{Request}
 use Rattle.gpu_answers.specs.Asking.{begun}
 use Rattle.gpu_answers.specs.Device.{IsStep, objects_of}
 use Rattle.gpu_answers.specs.DeviceState.{DeviceState}
+use Rattle.gpu_answers.specs.Held.{KeepsNames}
 use Rattle.gpu_answers.specs.declared.question.Answered.{Answered}
 use Rattle.gpu_answers.specs.declared.run.Stop.{Stop}
 use Rattle.gpu_answers.specs.declared.run.Stop.TheVariants as Stopped
@@ -41,11 +42,12 @@ use Rattle.gpu_desk.specs.declared.told.ObjectRange.{ObjectRange}
 
 -- What stays.
 
--- what was given to the allocator, how many objects may be held in all, and each key that is gone
+-- what was given to the allocator, how many objects may be held in all, each key that is gone, and each name that is past
 pub record Keeps (old new : DeskState) : Type 0 where
   pub given : KeepsGiven old.allocator new.allocator
   pub total : total new.allocator ≡ total old.allocator
   pub gone : StaysGone old.blocks new.blocks
+  pub names : KeepsNames old.device.held new.device.held
 
 -- Nothing changed but the room for keys, which names are spent, and what the run tells.
 pub record IsAsBefore (old new : DeskState) : Type 0 where

@@ -7,6 +7,7 @@ use Rattle.gpu_alloc.specs.Codes.{block_code, state_code}
 use Rattle.gpu_alloc.specs.State.{Block, State}
 use Rattle.gpu_answers.specs.Device.{objects_of}
 use Rattle.gpu_answers.specs.DeviceState.{DeviceState, device_code}
+use Rattle.gpu_answers.specs.Held.{AreNamed}
 use Rattle.gpu_session.specs.Books.{Books}
 use Rattle.gpu_session.specs.Sound as session
 use Rattle.gpu_slots.specs.SlotMap.{SlotState, slots_code}
@@ -32,9 +33,11 @@ abbrev pub objects : DeskState → ℕ → Option Object
 objects s = objects_of s.device
 
 -- Memory of its own, as in a session: each key's block is a live span of a held object, no two share a byte (nor an
--- object where one of them has its own), nothing else is live, and allocator and device agree.
-abbrev pub IsSound : DeskState → Type 0
-IsSound s = session.IsSound s.device.properties (objects s) (books s)
+-- object where one of them has its own), nothing else is live, and allocator and device agree. And each name that waits
+-- to be read is that of no held object, and waits once.
+pub record IsSound (s : DeskState) : Type 0 where
+  pub memory : session.IsSound s.device.properties (objects s) (books s)
+  pub names : AreNamed s.device.held
 
 -- a block has the key, and it is so
 abbrev pub OfKey : DeskState → ℕ → (Block → Type 0) → Type 0

@@ -92,11 +92,11 @@ impl Desk {
     }
 
     /// Nothing is done: its contract tells what every desk keeps, whatever calls were made. Live blocks are memory of
-    /// their own.
+    /// their own. Each name that waits to be read is that of no held object, and waits once.
     pub fn keeps_sound(&self)
         ensures { IsSound self.now }
     {
-        let _ = &self.offer;
+        self.device.keeps_names();
     }
 
     /// Ends the desk, once no block is live, no object is held and each name was read (`counts` tells).

@@ -4,6 +4,7 @@
 
 mod denial;
 mod desk;
+pub mod laws;
 mod told;
 
 pub use denial::{Denial, OpenError};

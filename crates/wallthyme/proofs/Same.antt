@@ -1,5 +1,6 @@
 -- What holds of a desk that is left alone.
 use Rattle.std.proofs.Common.{refl}
+use Rattle.gpu_answers.proofs.Naming.{names_stay}
 use Rattle.gpu_desk.specs.Calls.{IsAsBefore, Keeps}
 use Rattle.gpu_desk.specs.Desk.{DeskState}
 
@@ -7,6 +8,6 @@ pub IsAsBefore-same : (s : DeskState) → IsAsBefore s s
 IsAsBefore-same s = record { allocator = refl; live = refl; keys = refl; objects = refl; names = refl }
 
 pub Keeps-same : (s : DeskState) → Keeps s s
-Keeps-same s = record { given = record { properties = refl; config = refl }; total = refl; gone = λ key gone. gone }
+Keeps-same s = record { given = record { properties = refl; config = refl }; total = refl; gone = λ key gone. gone; names = names_stay s.device.held }
 
 pub ruleset same = (IsAsBefore-same, Keeps-same)

@@ -1,6 +1,6 @@
 //! The calls that give blocks out and take them back.
 
-ghost use Rattle.std.specs.Prelude.{◌≡◌, ◌≢◌, ◌↔◌, ◌⊎◌, ◌≤◌, IsNone, map};
+ghost use Rattle.std.specs.Prelude.{◌≡◌, ◌≢◌, ◌↔◌, ◌⊎◌, ◌<◌, ◌≤◌, IsNone, length, map};
 ghost use Rattle.gpu_desk.specs.Calls.{AllocationDenied, Allocated, ImportDenied, Imported, IsAsBefore, Keeps, Returns, Told};
 ghost use Rattle.wallthyme.specs.Handles.{KeepsSound, NoBlock, OnDesks, desk_of};
 ghost use Rattle.wallthyme.specs.Malformed.{IsAsked, IsMalformed, IsWellFormed};
@@ -37,6 +37,7 @@ pub extern "C" fn wt_alloc(
     ensures formed { (result ≡ OK) ⊎ (result ≡ ASK) → IsWellFormed request.now asked.now }
     ensures flag { result ≡ OK → block.new.fresh ≤ 1 }
     ensures unanswered { result ≡ ASK → IsAsked question.new }
+    ensures limit { result ≡ ASK → length asked.now < 64 }
     ensures unchanged { result ≢ OK → OnDesks IsAsBefore handle.old handle.new }
     ensures keeps { OnDesks KeepsSound handle.old handle.new }
 {
@@ -76,6 +77,7 @@ fn allocate(
     ensures formed { (result ≡ OK) ⊎ (result ≡ ASK) → IsWellFormed request.now asked.now }
     ensures flag { result ≡ OK → block.new.fresh ≤ 1 }
     ensures unanswered { result ≡ ASK → IsAsked question.new }
+    ensures limit { result ≡ ASK → length asked.now < 64 }
     ensures unchanged { result ≢ OK → IsAsBefore desk.old desk.new }
     ensures keeps { Keeps desk.old desk.new }
 {

@@ -1,6 +1,6 @@
 //! The calls that map blocks, and tell what to flush.
 
-ghost use Rattle.std.specs.Prelude.{◌≡◌, ◌≢◌, ◌↔◌, ◌⊎◌, IsNone, None, Some, map};
+ghost use Rattle.std.specs.Prelude.{◌≡◌, ◌≢◌, ◌↔◌, ◌⊎◌, IsNone, None, Some, length, map};
 ghost use Rattle.gpu_desk.specs.Calls.{IsAsBefore, Keeps, MapDenied, Maps, RangeDenied, RangeTold, Unmaps};
 ghost use Rattle.wallthyme.specs.Handles.{KeepsSound, NoBlock, OnDesks, desk_of};
 ghost use Rattle.wallthyme.specs.Malformed.{AreAnswered, HasNoAnswer, IsAsked};
@@ -39,6 +39,7 @@ pub extern "C" fn wt_map(
         Denies (MapDenied old key offset size (map answered_of asked.now)) result) handle.old handle.new }
     ensures formed { (result ≡ OK) ⊎ (result ≡ ASK) → AreAnswered asked.now }
     ensures unanswered { result ≡ ASK → IsAsked question.new }
+    ensures limit { result ≡ ASK → length asked.now ≡ 0 }
     ensures unchanged { result ≢ OK → OnDesks IsAsBefore handle.old handle.new }
     ensures keeps { OnDesks KeepsSound handle.old handle.new }
 {
@@ -87,6 +88,7 @@ fn map_part(
         ⊎ Denies (MapDenied desk.old part.key part.offset part.size (map answered_of asked.now)) result }
     ensures formed { (result ≡ OK) ⊎ (result ≡ ASK) → AreAnswered asked.now }
     ensures unanswered { result ≡ ASK → IsAsked question.new }
+    ensures limit { result ≡ ASK → length asked.now ≡ 0 }
     ensures unchanged { result ≢ OK → IsAsBefore desk.old desk.new }
     ensures keeps { Keeps desk.old desk.new }
 {

@@ -1,9 +1,11 @@
 //! Calls that tell and set counts.
 
-ghost use Rattle.std.specs.Prelude.{◌≡◌, ◌↔◌, ◌≤◌, ◌+◌, ◌^◌, ◌++◌, ◌∷◌, [], None, length, IfOk, IfErr, IfSome, OnOk, OnErr};
+ghost use Rattle.std.specs.Prelude.{◌≡◌, ◌⊎◌, ◌↔◌, ◌<◌, ◌≤◌, ◌+◌, ◌^◌, ◌++◌, ◌∷◌, [], None, length, IfOk, IfErr, IfSome, OnOk, OnErr};
 ghost use Rattle.std.specs.FinMap as map;
 ghost use Rattle.gpu_session.specs.Does.{IsEachFreeRange};
+ghost use Rattle.gpu_answers.specs.Held.{KeepsNames};
 ghost use Rattle.gpu_desk.specs.Calls.{CountsOf, HeapCountsOf, OnlyReads};
+ghost use Rattle.gpu_desk.specs.Names.{IsSpent};
 
 use super::Desk;
 use crate::{Counts, Denial, Fault, FreeRange, HeapCounts};
@@ -11,10 +13,14 @@ use crate::{Counts, Denial, Fault, FreeRange, HeapCounts};
 impl Desk {
     /// Reads the name of an object that was given back, the latest of those that were not read, or answers `None` where
     /// each was. The object is the caller's to free. Nothing else changes.
+    ///
+    /// A name is read once: it never waits again, and no later object has it.
     pub fn next_gone(&mut self) -> Option<u64>
         ensures read { IfSome result (λ name. self.old.device.held.gone ≡ self.new.device.held.gone ++ name ∷ []) }
         ensures none { result ≡ None → (self.old.device.held.gone ≡ []) × (self.new.device.held.gone ≡ []) }
+        ensures spent { IfSome result (IsSpent self.new) }
         ensures kept { OnlyReads self.old self.new }
+        ensures names { KeepsNames (self.old.device).held (self.new.device).held }
     {
         let name = self.device.take_gone();
         name
@@ -32,10 +38,10 @@ impl Desk {
         }
     }
 
-    /// How much is held of a heap, or `None` where there is no such heap.
+    /// How much is held of a heap, or `None` exactly where there is no such heap.
     pub fn heap(&self, heap: u32) -> Option<HeapCounts>
         ensures told { IfSome result (HeapCountsOf self.now heap) }
-        ensures none { result ≡ None → length ((self.now.allocator).properties).memory_heaps ≤ heap }
+        ensures none { (result ≡ None) ↔ (length ((self.now.allocator).properties).memory_heaps ≤ heap) }
     {
         if heap >= self.offer.heaps {
             return None;
@@ -55,6 +61,7 @@ impl Desk {
         ensures denied { IfErr result (λ e. (e ≡ Denial.Fault Fault.TooManyRemaining)
             × (2 ^ 32 ≤ remaining + map.len (self.old.allocator).held)) }
         ensures unchanged { OnErr result (self.new ≡ self.old) }
+        ensures names { KeepsNames (self.old.device).held (self.new.device).held }
     {
         if remaining > u32::MAX - self.allocator.held_objects() {
             return Err(Denial::Fault(Fault::TooManyRemaining));
@@ -65,11 +72,14 @@ impl Desk {
 
     /// The free ranges of a memory type's shared objects, in the order of their objects and offsets.
     ///
-    /// Takes memory for them. Denied are a memory type that is not there, by `Fault::BadType`, and `Fault::NoMemory`.
+    /// Takes memory for them. Denied are each memory type that is not there, by `Fault::BadType`, and want of memory, by
+    /// `Fault::NoMemory`; nothing else is.
     pub fn free_ranges(&self, memory_type: u32) -> Result<Vec<FreeRange>, Denial>
         ensures told { IfOk result (λ ranges. IsEachFreeRange self.now.allocator memory_type ranges.items) }
         ensures denied { IfErr result (λ e. (e ≡ Denial.Fault Fault.BadType)
             ↔ (length ((self.now.allocator).properties).memory_types ≤ memory_type)) }
+        ensures known { OnOk result (memory_type < length ((self.now.allocator).properties).memory_types) }
+        ensures causes { IfErr result (λ e. (e ≡ Denial.Fault Fault.BadType) ⊎ (e ≡ Denial.Fault Fault.NoMemory)) }
     {
         if !self.offer.has_type(memory_type) {
             return Err(Denial::Fault(Fault::BadType));

@@ -1,6 +1,6 @@
 //! Calls that grant blocks and take them back.
 
-ghost use Rattle.std.specs.Prelude.{◌≡◌, ◌<◌, List, Some, IfOk, IfErr, OnOk, OnErr};
+ghost use Rattle.std.specs.Prelude.{◌≡◌, ◌<◌, List, length, Some, Err, IfOk, IfErr, OnOk, OnErr};
 ghost use Rattle.gpu_alloc_types.specs.Device.{Event, Chain};
 ghost use Rattle.gpu_alloc_block.specs.Agreement.{Agrees, BlockAgrees, KeepsBlocks};
 ghost use Rattle.gpu_alloc_block.specs.State.{total};
@@ -89,6 +89,9 @@ impl Desk {
     /// Denied are: a request that is not askable, by the fault that it misses first; `Fault::NoMemory` for want of
     /// memory for the key or the answers; `Open`, with the question that has no answer; `Strayed`; and `Refused`, as
     /// the allocator refuses. Nothing has changed then.
+    ///
+    /// A question is open after at most 63 answers: each of at most 32 candidates has at most two, for an object and for
+    /// its mapping.
     #[tactic(auto, unfolding(crate::specs::Calls::AllocationDenied))]
     pub fn alloc(
         &mut self,
@@ -98,6 +101,7 @@ impl Desk {
     ) -> Result<Grant, Denial>
         ensures granted { IfOk result (Allocated self.old request dedicated answers.now self.new) }
         ensures denied { IfErr result (AllocationDenied self.old request dedicated answers.now) }
+        ensures asks { (question : Question) → result ≡ Err (Denial.Open question) → length answers.now < 64 }
         ensures unchanged { OnErr result (IsAsBefore self.old self.new) }
         ensures keeps { Keeps self.old self.new }
     {

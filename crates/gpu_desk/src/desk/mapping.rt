@@ -1,6 +1,6 @@
 //! Calls that map blocks, and tell where they lie.
 
-ghost use Rattle.std.specs.Prelude.{◌≡◌, IfOk, IfErr, OnErr};
+ghost use Rattle.std.specs.Prelude.{◌≡◌, length, Err, IfOk, IfErr, OnErr};
 ghost use Rattle.gpu_desk.specs.Calls.{IsAsBefore, IsUnknown, Keeps, MapDenied, Maps, RangeDenied, RangeTold, Told};
 ghost use Rattle.gpu_desk.specs.Calls.{Unmaps, object_to_unmap};
 
@@ -10,7 +10,7 @@ use crate::denial::denial_after;
 use crate::{Denial, Fault, Grant, MapError, MemoryPropertyFlags, ObjectRange};
 use gpu_alloc::MemoryBlock;
 use gpu_alloc_types::MemoryObject;
-use gpu_answers::{Answered, ObjectName};
+use gpu_answers::{Answered, ObjectName, Question};
 use gpu_session::passes_end;
 
 /// The object that is unmapped with a block: its own, where the block is mapped.
@@ -44,7 +44,8 @@ impl Desk {
     ///
     /// Denied are: `Fault::UnknownName`, `BadSize` for 0 bytes, `BadRange` for a range that passes the block's end, and
     /// `NoMemory` for want of memory for the answers; `Open`, with the question that has no answer; `Strayed`; and
-    /// `MapRefused`, as the block refuses. Nothing has changed then.
+    /// `MapRefused`, as the block refuses. Nothing has changed then. At most one question is asked, so none is open after
+    /// an answer.
     #[tactic(auto, unfolding(crate::specs::Calls::MapDenied))]
     pub fn map(
         &mut self,
@@ -55,6 +56,7 @@ impl Desk {
     ) -> Result<ObjectRange, Denial>
         ensures mapped { IfOk result (Maps self.old key offset size answers.now self.new) }
         ensures denied { IfErr result (MapDenied self.old key offset size answers.now) }
+        ensures asks { (question : Question) → result ≡ Err (Denial.Open question) → length answers.now ≡ 0 }
         ensures unchanged { OnErr result (IsAsBefore self.old self.new) }
         ensures keeps { Keeps self.old self.new }
     {

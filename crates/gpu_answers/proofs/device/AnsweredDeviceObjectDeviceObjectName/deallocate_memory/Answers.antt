@@ -1,6 +1,8 @@
-use Rattle.std.proofs.Common.{[], ◌∷◌, ◌++◌, ◌∙◌, ap, refl}
+use Rattle.std.proofs.Common.{[], ◌∷◌, ◌++◌, ◌∙◌, ap, refl, subst, sym}
 use Rattle.std.specs.FinMap as map
-use Rattle.gpu_answers.proofs.Rows.{given_back_row}
+use Rattle.gpu_alloc_types.specs.Device.{IsHeld}
+use Rattle.gpu_answers.specs.Device.{objects_of}
+use Rattle.gpu_answers.proofs.Rows.{given_back_row, shown_is_there}
 use Rattle.gpu_answers.proofs.device.AnsweredDeviceObjectDeviceObjectName.deallocate_memory.Goals as goal
 
 pub returns : goal.returns
@@ -11,5 +13,10 @@ returns c =
           (gone.objects ∙ ap (map.remove c.self.inside.held.objects) c.object.ensures);
       offers = refl;
       answers = refl;
-      names = (gone.last_name, gone.gone ∙ ap (λ name. c.self.inside.held.gone ++ name ∷ []) c.object.ensures);
+      names = (
+        gone.last_name,
+        gone.gone ∙ ap (λ name. c.self.inside.held.gone ++ name ∷ []) c.object.ensures,
+        shown_is_there c.self.inside.properties (map.get c.self.inside.held.objects c.args.memory.now)
+            (subst (λ s. IsHeld (objects_of s) c.args.memory.now) (sym c.self.view_is) c.requires),
+      );
     })

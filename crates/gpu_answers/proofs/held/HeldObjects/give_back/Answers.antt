@@ -15,8 +15,8 @@ push_reserved-requires c =
 pub invariant_of-self : goal.invariant_of-self
 invariant_of-self c =
     let there = held_in _ _ c.args.name c.self.view_is c.requires in
-    rw (c.push_reserved.ensures.len, c.push_reserved.ensures.capacity, removed_by_name _ _ c.args.name c.swap_remove.ensures.updates.0)
-    (kept-given_back _ _ _ _ c.self.invariant c.args.name there.0 there.1)
+    rw (c.push_reserved.ensures.items, c.push_reserved.ensures.len, c.push_reserved.ensures.capacity, removed_by_name _ _ c.args.name c.swap_remove.ensures.updates.0)
+    (kept-given_back _ _ _ _ _ c.self.invariant c.args.name there.0 there.1)
 
 pub returns-clause-objects : goal.returns-clause-objects
 returns-clause-objects c =

@@ -9,7 +9,7 @@ pub invariant_of-self : goal.invariant_of-self
 invariant_of-self c =
     let puts = rw c.unwrap.ensures at c.insert.ensures.updates in
     rw (put_by_name _ _ _ _ puts.0)
-    (kept-held _ _ _ _ c.self.invariant _ (room_is _ _ _ _ _ (subst (λ (s : HeldState). 0 < s.room) (sym c.self.view_is) c.requires)))
+    (kept-held _ _ _ _ _ c.self.invariant _ (room_is _ _ _ _ _ (subst (λ (s : HeldState). 0 < s.room) (sym c.self.view_is) c.requires)))
 
 pub returns-clause-objects : goal.returns-clause-objects
 returns-clause-objects c =

@@ -14,7 +14,7 @@ unreachable-requires c =
 
 pub invariant_of-self : goal.invariant_of-self
 invariant_of-self c =
-    kept-changed _ _ _ _ c.self.invariant (mapped_as c.args.range) c.args.name _
+    kept-changed _ _ _ _ _ c.self.invariant (mapped_as c.args.range) c.args.name _
     (changed_by _ _ _ c.args.name c.in-Some.object.now (sym c.get_mut.ensures.value ∙ ap option_copied_mut c.in-Some.is)
     (λ some. ((c.get_mut.follows.holds _).3 some).0))
 

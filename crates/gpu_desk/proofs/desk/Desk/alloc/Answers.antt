@@ -1,4 +1,4 @@
-use Rattle.std.proofs.Common.{◌≡◌, None, length, take, sym, ◌∙◌, ap, subst, inr, List, ℕ}
+use Rattle.std.proofs.Common.{rules, ◌≡◌, None, length, take, sym, ◌∙◌, ap, subst, inr, List, ℕ, arith}
 use Rattle.std.specs.FinMap as map
 use Rattle.gpu_alloc_types.specs.Device.{Chain}
 use Rattle.gpu_alloc.specs.State.{Block}
@@ -10,9 +10,10 @@ use Rattle.gpu_session.proofs.Grants.{grant_is_kept}
 use Rattle.gpu_session.proofs.Returns.{kept_block}
 use Rattle.gpu_slots.specs.SlotMap.{SlotState}
 use Rattle.gpu_desk.specs.Calls.{AllocationDenied, denial_after}
-use Rattle.gpu_desk.specs.declared.denial.Denial.TheVariants.{Refused}
+use Rattle.gpu_desk.specs.declared.denial.Denial.TheVariants.{Open, Refused}
 use Rattle.gpu_desk.proofs.GoneNames.{names_of_before}
-use Rattle.gpu_desk.proofs.Kept.{begun_is, free_key, fresh_is, given_others, has_key, kept_over, same_objects}
+use Rattle.gpu_desk.proofs.Kept.{begun_is, begun_keeps_names, forgetting_keeps_names, free_key, fresh_is, given_others, has_key, kept_over, same_objects}
+use Rattle.gpu_desk.proofs.Questions.{allocation_asks_few}
 use Rattle.gpu_desk.proofs.desk.Desk.alloc.Goals as goal
 
 pub invariant_of-self-in-Ok-answer : goal.invariant_of-self-in-Ok-answer
@@ -92,3 +93,36 @@ returns-in-Err-clause-unchanged c =
       names = forgets.gone ∙ ap (λ (xs : List ℕ). take (length xs) mid.held.gone) c.gone-told.ensures ∙ names_of_before c.begin.new.self done.decided.0 mid done.decided.1
           ∙ ap (λ (h : HeldState). h.gone) c.begin.ensures.held;
     })
+
+pub returns-in-Ok-answer-clause-keeps : goal.returns-in-Ok-answer-clause-keeps
+returns-in-Ok-answer-clause-keeps c =
+    let done = c.in-Ok-answer.ensures in
+    let mid = c.allocate-answer.new.device in
+    let forgets = c.forget_gone_after.ensures in
+    let run = begun_keeps_names c.self.inside.device c.begin.new.self done.decided.0 mid c.begin.ensures.held done.decided.1 in
+    rw (← c.self.view_is) (record {
+      given = search rules;
+      total = search rules;
+      gone = search rules;
+      names = forgetting_keeps_names c.self.inside.device.held mid.held c.forget_gone_after.new.self.held _ run forgets.gone forgets.objects forgets.last_name;
+    })
+
+pub returns-in-Err-clause-keeps : goal.returns-in-Err-clause-keeps
+returns-in-Err-clause-keeps c =
+    let done = c.in-Err.ensures in
+    let mid = c.allocate-answer.new.device in
+    let forgets = c.forget_gone_after.ensures in
+    let run = begun_keeps_names c.self.inside.device c.begin.new.self done.decided.0 mid c.begin.ensures.held done.decided.1 in
+    rw (← c.self.view_is) (record {
+      given = search rules;
+      total = search rules;
+      gone = search rules;
+      names = forgetting_keeps_names c.self.inside.device.held mid.held c.forget_gone_after.new.self.held _ run forgets.gone forgets.objects forgets.last_name;
+    })
+
+pub returns-in-Err-clause-asks : goal.returns-in-Err-clause-asks
+returns-in-Err-clause-asks c = λ question is.
+    let denied : AllocationDenied c.args.self.now c.args.request c.args.dedicated c.args.answers.now c.denial_after.result = returns-in-Err-clause-denied c in
+    let open_is : c.denial_after.result ≡ Open question = cc in
+    allocation_asks_few c.args.self.now c.args.request c.args.dedicated c.args.answers.now question (omega arith)
+    (subst (AllocationDenied c.args.self.now c.args.request c.args.dedicated c.args.answers.now) open_is denied)

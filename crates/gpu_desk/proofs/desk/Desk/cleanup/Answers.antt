@@ -1,6 +1,7 @@
-use Rattle.std.proofs.Common.{refl}
+use Rattle.std.proofs.Common.{refl, rules}
 use Rattle.gpu_session.proofs.Returns.{cleanup_is_kept, nothing_held, nothing_live}
 use Rattle.gpu_desk.proofs.GoneNames.{returns_add}
+use Rattle.gpu_answers.proofs.Naming.{run_keeps_names}
 use Rattle.gpu_desk.proofs.desk.Desk.cleanup.Goals as goal
 
 pub invariant_of-self : goal.invariant_of-self
@@ -16,4 +17,14 @@ returns-clause-cleaned c =
       goes = record { back = done.gone; names = returns_add c.self.inside.device done.gone.gone c.cleanup.new.device done.gone.asked };
       blocks = refl;
       rest = λ empty. let ended = done.ends (nothing_live c.self.invariant.sound empty) in nothing_held _ _ done.total ended.0 ended.1;
+    })
+
+pub returns-clause-keeps : goal.returns-clause-keeps
+returns-clause-keeps c =
+    let done = c.cleanup.ensures in
+    rw (← c.self.view_is) (record {
+      given = search rules;
+      total = search rules;
+      gone = search rules;
+      names = run_keeps_names c.self.inside.device done.cleaned.0 c.cleanup.new.device done.cleaned.1;
     })

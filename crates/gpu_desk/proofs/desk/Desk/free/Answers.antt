@@ -1,7 +1,8 @@
-use Rattle.std.proofs.Common.{◌≡◌, Some, sym, ◌∙◌}
+use Rattle.std.proofs.Common.{◌≡◌, Some, rules, sym, ◌∙◌}
 use Rattle.std.specs.FinMap as map
 use Rattle.gpu_session.proofs.Returns.{return_is_kept}
 use Rattle.gpu_desk.proofs.GoneNames.{returns_add}
+use Rattle.gpu_answers.proofs.Naming.{run_keeps_names}
 use Rattle.gpu_desk.proofs.desk.Desk.free.Goals as goal
 
 pub invariant_of-self : goal.invariant_of-self
@@ -22,4 +23,14 @@ returns-in-Some-clause-freed c =
       goes = record { back = done.gone; names = returns_add c.self.inside.device done.gone.gone c.dealloc.new.device done.gone.asked };
       live = c.remove.ensures.live;
       refused = c.in-Some.ensures.refused;
+    })
+
+pub returns-in-Some-clause-keeps : goal.returns-in-Some-clause-keeps
+returns-in-Some-clause-keeps c =
+    let done = c.dealloc.ensures in
+    rw (← c.self.view_is) (record {
+      given = search rules;
+      total = search rules;
+      gone = search rules;
+      names = run_keeps_names c.self.inside.device done.freed.0 c.dealloc.new.device done.freed.1;
     })

@@ -1,4 +1,4 @@
-use Rattle.std.proofs.Common.{◌≡◌, ◌+◌, false, [], ◌∷◌, Some, Ok, length, take, refl, sym, ◌∙◌, ap, subst, List, ℕ}
+use Rattle.std.proofs.Common.{rules, ◌≡◌, ◌+◌, false, [], ◌∷◌, Some, Ok, length, take, refl, sym, ◌∙◌, ap, subst, List, ℕ}
 use Rattle.std.specs.FinMap as map
 use Rattle.gpu_alloc_types.specs.Device.{HeldWith}
 use Rattle.gpu_alloc_types.specs.Device.Event.{Allocated, Deallocated}
@@ -16,7 +16,7 @@ use Rattle.gpu_session.proofs.Imports.{faultless, import_agrees, importable_is_h
 use Rattle.gpu_session.proofs.Moves.{agreed_is_kept}
 use Rattle.gpu_slots.specs.SlotMap.{SlotState}
 use Rattle.gpu_desk.proofs.GoneNames.{names_of_before}
-use Rattle.gpu_desk.proofs.Kept.{free_key, has_key, kept_over, same_objects}
+use Rattle.gpu_desk.proofs.Kept.{begun_keeps_names, forgetting_keeps_names, free_key, has_key, kept_over, same_objects}
 use Rattle.gpu_desk.proofs.desk.Desk.import.Goals as goal
 
 pub invariant_of-self-in-Ok-import_memory : goal.invariant_of-self-in-Ok-import_memory
@@ -119,4 +119,35 @@ returns-in-Err-clause-unchanged c =
           ∙ shown_at_first;
       names = forgets.gone ∙ ap (λ (xs : List ℕ). take (length xs) last.held.gone) c.gone-told.ensures
           ∙ names_of_before c.begin.new.self asked last (c.allocate_memory-made.new.self, made, (last, gone, refl)) ∙ ap (λ (h : HeldState). h.gone) c.begin.ensures.held;
+    })
+
+pub returns-in_default-made-clause-keeps : goal.returns-in_default-made-clause-keeps
+returns-in_default-made-clause-keeps c =
+    rw (← c.self.view_is) (record {
+      given = search rules;
+      total = search rules;
+      gone = search rules;
+      names = begun_keeps_names c.self.inside.device c.begin.new.self (_ ∷ []) c.allocate_memory-made.new.self c.begin.ensures.held (c.allocate_memory-made.new.self, c.allocate_memory-made.ensures, refl);
+    })
+
+pub returns-in-Ok-import_memory-clause-keeps : goal.returns-in-Ok-import_memory-clause-keeps
+returns-in-Ok-import_memory-clause-keeps c =
+    rw (← c.self.view_is) (record {
+      given = search rules;
+      total = search rules;
+      gone = search rules;
+      names = begun_keeps_names c.self.inside.device c.begin.new.self (_ ∷ []) c.allocate_memory-made.new.self c.begin.ensures.held (c.allocate_memory-made.new.self, c.allocate_memory-made.ensures, refl);
+    })
+
+pub returns-in-Err-clause-keeps : goal.returns-in-Err-clause-keeps
+returns-in-Err-clause-keeps c =
+    let mid = c.allocate_memory-made.new.self in
+    let last = c.deallocate_memory.new.self in
+    let forgets = c.forget_gone_after.ensures in
+    let run = begun_keeps_names c.self.inside.device c.begin.new.self (_ ∷ _ ∷ []) last c.begin.ensures.held (mid, c.allocate_memory-made.ensures, (last, c.deallocate_memory.ensures, refl)) in
+    rw (← c.self.view_is) (record {
+      given = search rules;
+      total = search rules;
+      gone = search rules;
+      names = forgetting_keeps_names c.self.inside.device.held last.held c.forget_gone_after.new.self.held _ run forgets.gone forgets.objects forgets.last_name;
     })

@@ -12,7 +12,7 @@ use Rattle.gpu_session.proofs.Moves.{move_is_kept}
 use Rattle.gpu_session.proofs.Names.{put_again}
 use Rattle.gpu_desk.specs.Calls.{MapDenied}
 use Rattle.gpu_desk.proofs.GoneNames.{mapping_adds_none, refused_adds_none}
-use Rattle.gpu_desk.proofs.Kept.{begun_is, gone_over_write, kept_over, range_is, same_objects}
+use Rattle.gpu_desk.proofs.Kept.{begun_is, begun_keeps_names, gone_over_write, kept_over, range_is, same_objects}
 use Rattle.gpu_desk.proofs.desk.Desk.map.Goals as goal
 use Rattle.gpu_desk.proofs.desk.Desk.map.Goals.{in-Ok-answer, in-Err}
 
@@ -84,8 +84,10 @@ returns-clause-unchanged c =
 
 pub returns-clause-keeps : goal.returns-clause-keeps
 returns-clause-keeps c =
+    let asked = c.map-answer.ensures.asked in
     rw (← c.self.view_is) (record {
       given = record { properties = refl; config = refl };
       total = refl;
       gone = gone_over_write c.self.inside.blocks c.args.key c.in-Some-get_mut.block.now c.map-answer.new.self (sym c.in-Some-get_mut.ensures.value);
+      names = begun_keeps_names c.self.inside.device c.begin.new.self asked.0 c.map-answer.new.device c.begin.ensures.held asked.1;
     })

@@ -1,0 +1,33 @@
+-- What becomes of the names of objects as calls follow one another.
+use Rattle.std.specs.Prelude.{◌≡◌, ℕ, List, [], ◌∷◌, All, Contains, None}
+use Rattle.gpu_answers.specs.Held as held
+use Rattle.gpu_answers.specs.Held.{KeepsNames}
+use Rattle.gpu_desk.specs.Desk.{DeskState, IsSound, OfKey, objects}
+
+-- The states of a desk as calls follow one another: each is sound, and each call keeps names.
+abbrev pub Follows : DeskState → List DeskState → Type 0
+Follows s [] = IsSound s
+Follows s (next ∷ rest) = IsSound s × KeepsNames s.device.held next.device.held × Follows next rest
+
+-- no held object has the name, and no live block's object
+pub record NamesNothing (s : DeskState) (name : ℕ) : Type 0 where
+  pub object : objects s name ≡ None
+  pub block : (key : ℕ) → OfKey s key (λ b. b.object ≡ name) → ⊥
+
+-- what is so of a name makes this be so of it, then and in each later state
+abbrev pub MakesEver : (DeskState → ℕ → Type 0) → (DeskState → ℕ → Type 0) → Type 0
+MakesEver P Q =
+    (first : DeskState) (states : List DeskState) → Follows first states → (name : ℕ) → P first name
+    → All (λ s. Q s name) (first ∷ states)
+
+-- the name was given, and no held object has it
+abbrev pub IsPast : DeskState → ℕ → Type 0
+IsPast s name = held.IsPast s.device.held name
+
+-- and it does not wait to be read
+abbrev pub IsSpent : DeskState → ℕ → Type 0
+IsSpent s name = held.IsSpent s.device.held name
+
+-- it waits to be read
+abbrev pub Waits : DeskState → ℕ → Type 0
+Waits s name = Contains s.device.held.gone name
