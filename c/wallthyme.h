@@ -13,12 +13,20 @@
  *
  * What is proved of the calls (the contracts of the crates gpu_desk and wallthyme): each live block is a range of a
  * memory object, inside it, aligned and as large as was asked for, and no two share a byte; a call that ends otherwise
- * than in WT_OK leaves all as it was; each memory object is told once to be freed, when no block needs it; after all blocks
- * were freed and wt_cleanup none is held.
+ * than in WT_OK leaves all as it was; names of objects rise and none comes twice; each object is reported once to be freed,
+ * when no block needs it; after all blocks were freed and wt_cleanup none is held.
  *
- * What the caller owes, and nothing checks: pointers are valid (a pointer to 0 elements may be null); a wt_allocator is
- * zeroed before its first use, then written by these calls alone, and never copied while it is open; one thread at a time
- * calls with it; and the answers are true.
+ * What the caller owes, and nothing checks:
+ * - Pointers are valid; one to 0 elements may be null. Nothing that a call writes overlaps anything else that the call is
+ *   given, but that *question may lie right behind the asked ones in their array.
+ * - A wt_allocator is zeroed before its first use, and then written by these calls alone. Between two calls it may be moved:
+ *   its bytes are copied to another place, and the old place is not used again. It is copied in no other way while it is open.
+ * - Answers are true.
+ * - Threads: one call at a time for each allocator. A lock, or the start or join of a thread, orders each call before the
+ *   next. Different threads may make them: that all that lies behind a wt_allocator may cross to another thread is proved
+ *   (the bound Send in crates/wallthyme/src/handle.rt). Two allocators share nothing.
+ * - The library takes memory by malloc, realloc and free. A program that replaces one of them replaces all three. No call is
+ *   made from a signal handler, nor in a child process between fork and exec.
  *
  * Sizes, offsets and alignments are bytes. A status has a text: wt_text.
  */
@@ -112,8 +120,8 @@ enum { WT_SHARED = 0, WT_PREFERRED = 1, WT_REQUIRED = 2 };
 #define WT_LAZILY_ALLOCATED 0x10u
 #define WT_PROTECTED 0x20u
 
-/* The most questions that one call asks: an object of each memory type, and its mapping, since a type is passed too where
-   the mapping lacks device memory. */
+/* The most questions that one call asks (proved): wt_alloc an object of each of 32 memory types, and its mapping, since a
+   type is passed too where the mapping lacks device memory; wt_map one. So with this many answers WT_ASK never comes. */
 #define WT_MAX_QUESTIONS 64
 
 /* An allocator: zeroed at first, which is closed. Its fields are the library's own. */
@@ -203,7 +211,8 @@ uint32_t wt_version(void);
 uint32_t wt_open(wt_allocator *a, const wt_memory_type *types, size_t types_len, const uint64_t *heap_sizes,
                  size_t heaps_len, const wt_limits *limits, const wt_config *config);
 
-/* Closes it. WT_NOT_OPEN, WT_STILL_HELD, WT_STILL_TOLD: it is as before. */
+/* Closes it, and gives all of its memory back to free (tested under valgrind, since no contract can say so).
+   WT_NOT_OPEN, WT_STILL_HELD, WT_STILL_TOLD: it is as before. */
 uint32_t wt_close(wt_allocator *a);
 
 /* Allocates a block.
@@ -281,11 +290,11 @@ static inline const char *wt_text(uint32_t status) {
     case WT_ASK: return "A question to the device has no answer yet";
     case WT_OUT_OF_DEVICE_MEMORY: return "Device memory exhausted";
     case WT_OUT_OF_HOST_MEMORY: return "Host memory exhausted";
-    case WT_NO_COMPATIBLE_MEMORY_TYPES: return "No permitted memory type serves the usage";
-    case WT_TOO_MANY_OBJECTS: return "As many memory objects are held as the device allows";
-    case WT_NON_HOST_VISIBLE: return "The host does not see the block's memory";
-    case WT_ALREADY_MAPPED: return "The block is mapped";
-    case WT_MAP_FAILED: return "The device failed to map";
+    case WT_NO_COMPATIBLE_MEMORY_TYPES: return "No compatible memory types from requested types support requested usage";
+    case WT_TOO_MANY_OBJECTS: return "Reached limit on allocated memory objects count";
+    case WT_NON_HOST_VISIBLE: return "Impossible to map non-host-visible memory";
+    case WT_ALREADY_MAPPED: return "Block is already mapped";
+    case WT_MAP_FAILED: return "Failed to map memory object";
     case WT_NOT_OPEN: return "The allocator is closed";
     case WT_ALREADY_OPEN: return "The allocator is open";
     case WT_BAD_PROPERTIES: return "No device has such properties";

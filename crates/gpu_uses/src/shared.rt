@@ -45,7 +45,6 @@ pub fn two_in_a_buddy_chunk<M: MemoryObject, D: MemoryDevice<M>, L: Ledger, K: L
     requires counted { IsCounted allocator.chunks heap.old allocations_remains.old }
     requires live { set.len allocator.live ≡ 0 }
     requires held { map.len allocator.chunks ≡ 0 }
-    requires bound { heap.old.used ≤ 2 ^ 126 }
     ensures looked { looks.new ≤ looks.old + 2 * 63 }
     ensures split { splits.new ≤ splits.old + 2 * 62 }
     ensures released { releases.new ≤ releases.old + 2 * 63 }
@@ -110,7 +109,6 @@ fn two_uncounted<M: MemoryObject, D: MemoryDevice<M>, L: Ledger, K: Ledger, R: L
     requires counted { IsCounted allocator.chunks heap.old allocations_remains.old }
     requires live { set.len allocator.live ≡ 0 }
     requires held { map.len allocator.chunks ≡ 0 }
-    requires bound { heap.old.used ≤ 2 ^ 126 }
     requires looks { Begins looks L.name L.parts }
     requires splits { Begins splits K.name K.parts }
     requires releases { Begins releases R.name R.parts }
@@ -144,7 +142,6 @@ pub fn two_in_a_free_list<M: MemoryObject, D: MemoryDevice<M>>(
     requires agrees { ListAgrees allocator (D.properties device.old) (D.objects device.old) }
     requires counted { IsCounted (allocator.space).chunks heap.old allocations_remains.old }
     requires live { set.len (allocator.space).live ≡ 0 }
-    requires bound { heap.old.used ≤ 2 ^ 126 }
 {
     let mut allocator = allocator;
     let flags = AllocationFlags::empty();
@@ -204,7 +201,6 @@ pub fn open_a_buddy_allocator<M: MemoryObject, D: MemoryDevice<M>>(
     requires atom_bound { align_mask + 1 ≤ 2 ^ 62 }
     requires alignment { IsAlignMask align_mask }
     requires nonempty { 0 < size }
-    requires bound { heap.old.used ≤ 2 ^ 126 }
 {
     let allocator: BuddyAllocator<M> = BuddyAllocator::new(
         alloc,
@@ -257,7 +253,6 @@ pub fn open_a_free_list<M: MemoryObject, D: MemoryDevice<M>>(
     requires chunk_bound { chunk_size ≤ 2 ^ 62 }
     requires nonempty { 0 < size }
     requires fits { up size (align_mask + 1) ≤ chunk_size }
-    requires bound { heap.old.used ≤ 2 ^ 126 }
 {
     let allocator: FreeListAllocator<M> = FreeListAllocator::new(
         alloc,

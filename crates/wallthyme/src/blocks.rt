@@ -112,6 +112,7 @@ pub extern "C" fn wt_import(
         Imported old memory_type object_size offset size new (grant_of block.new)) handle.old handle.new }
     ensures denied { result ≢ OK → result ≢ NOT_OPEN → OnDesks (λ old _.
         Denies (ImportDenied old memory_type object_size offset size) result) handle.old handle.new }
+    ensures flag { result ≡ OK → block.new.fresh ≡ 0 }
     ensures unchanged { result ≢ OK → OnDesks IsAsBefore handle.old handle.new }
     ensures keeps { OnDesks KeepsSound handle.old handle.new }
 {
@@ -121,8 +122,8 @@ pub extern "C" fn wt_import(
     let imported = kept.desk.import(memory_type, object_size, offset, size);
     handle.put(kept);
     match imported {
-        Ok(grant) => {
-            *block = grant.into();
+        Ok(imported) => {
+            *block = imported.into();
             OK
         }
         Err(denial) => denied(denial),
@@ -139,6 +140,7 @@ pub extern "C" fn wt_block_of(
     ensures closed { (result ≡ NOT_OPEN) ↔ IsNone (desk_of handle.old) }
     ensures status { (result ≡ OK) ⊎ ((result ≡ NOT_OPEN) ⊎ (result ≡ UNKNOWN_KEY)) }
     ensures told { result ≡ OK → OnDesks (λ old _. Told old key (grant_of block.new)) handle.old handle.new }
+    ensures flag { result ≡ OK → block.new.fresh ≡ 0 }
     ensures unknown { result ≢ OK → OnDesks (λ old _. NoBlock old key) handle.old handle.new }
     ensures same { desk_of handle.new ≡ desk_of handle.old }
 {
@@ -148,8 +150,8 @@ pub extern "C" fn wt_block_of(
     let found = kept.desk.block(key);
     handle.put(kept);
     match found {
-        Ok(grant) => {
-            *block = grant.into();
+        Ok(found) => {
+            *block = found.into();
             OK
         }
         Err(denial) => denied(denial),

@@ -55,6 +55,7 @@ impl Handle {
         ensures held { desk_of self.new ≡ Some desk.value }
         ensures sound { IsSound desk.value }
     {
+        may_change_threads(&desk);
         desk.desk.keeps_sound();
         *self = Handle {
             full: 1,
@@ -62,3 +63,7 @@ impl Handle {
         };
     }
 }
+
+/// Nothing is done: the bound asks for a proof that what lies behind a handle may change threads. So a call may be made on
+/// another thread than the one before it, as `c/wallthyme.h` says.
+fn may_change_threads<T: Send>(_desk: &T) {}

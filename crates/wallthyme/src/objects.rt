@@ -11,7 +11,9 @@ ghost use Rattle.wallthyme.specs.Layout.{counts_of, heap_counts_of};
 
 use crate::handle::Handle;
 use crate::layout;
-use crate::status::{BAD_HEAP, BAD_MEMORY_TYPE, NOT_OPEN, OK, TOO_MANY_REMAINING, denied};
+use crate::status::{
+    BAD_HEAP, BAD_MEMORY_TYPE, NOT_OPEN, OK, OUT_OF_HOST_MEMORY, TOO_MANY_REMAINING, denied,
+};
 use gpu_desk::{Desk, FreeRange};
 use std::alloc::Global;
 
@@ -97,6 +99,8 @@ pub extern "C" fn wt_heap(
         handle.old handle.new }
     ensures bad { result ≢ OK → OnDesks (λ old _. length old.allocator.properties.memory_heaps ≤ heap)
         handle.old handle.new }
+    ensures known { result ≡ OK → OnDesks (λ old _. heap < length old.allocator.properties.memory_heaps)
+        handle.old handle.new }
     ensures same { desk_of handle.new ≡ desk_of handle.old }
 {
     let Some(kept) = handle.take(alloc) else {
@@ -144,11 +148,14 @@ pub extern "C" fn wt_free_ranges(
     count: &mut usize,
 ) -> u32
     ensures closed { (result ≡ NOT_OPEN) ↔ IsNone (desk_of handle.old) }
+    ensures status { (result ≡ OK) ⊎ ((result ≡ NOT_OPEN) ⊎ ((result ≡ BAD_MEMORY_TYPE) ⊎ (result ≡ OUT_OF_HOST_MEMORY))) }
     ensures told { result ≡ OK → OnDesks (λ old _. (found : List FreeRange)
         × IsEachFreeRange old.allocator memory_type found × (count.new ≡ length found)
         × AreTold (drop first found) ranges.new) handle.old handle.new }
     ensures bad { result ≡ BAD_MEMORY_TYPE → OnDesks (λ old _.
         length old.allocator.properties.memory_types ≤ memory_type) handle.old handle.new }
+    ensures known { result ≢ BAD_MEMORY_TYPE → OnDesks (λ old _.
+        memory_type < length old.allocator.properties.memory_types) handle.old handle.new }
     ensures same { desk_of handle.new ≡ desk_of handle.old }
 {
     let Some(kept) = handle.take(alloc) else {
