@@ -24,7 +24,7 @@ OnDesks R old new = Relates R (desk_of old) (desk_of new)
 abbrev pub NoBlock : DeskState → ℕ → Type 0
 NoBlock s key = map.get s.blocks.live key ≡ None
 
--- what was given stays given, and live blocks are memory of their own
+-- what was given stays given, live blocks are memory of their own, and no name of an object comes twice
 pub record KeepsSound (old new : DeskState) : Type 0 where
   pub keeps : Keeps old new
   pub sound : IsSound new
