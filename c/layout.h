@@ -44,7 +44,7 @@ uint32_t wt_layout(uint32_t number);
     ROW(26, WT_NO_REMAINING)                                    \
     ROW(27, WT_TOO_MANY_REMAINING)                              \
     ROW(28, WT_STILL_HELD)                                      \
-    ROW(29, WT_STILL_TOLD)                                      \
+    ROW(29, WT_UNREAD_NAMES)                                    \
     ROW(30, WT_GRANTED)                                         \
     ROW(31, WT_NO_DEVICE_MEMORY)                                \
     ROW(32, WT_NO_HOST_MEMORY)                                  \
@@ -114,7 +114,7 @@ uint32_t wt_layout(uint32_t number);
     ROW(96, offsetof(wt_range, size))                           \
     ROW(97, sizeof(wt_counts))                                  \
     ROW(98, offsetof(wt_counts, blocks))                        \
-    ROW(99, offsetof(wt_counts, told))                          \
+    ROW(99, offsetof(wt_counts, unread))                        \
     ROW(100, offsetof(wt_counts, held))                         \
     ROW(101, offsetof(wt_counts, remaining))                    \
     ROW(102, sizeof(wt_heap_counts))                            \

@@ -1,7 +1,7 @@
-/* Wallthyme: the GPU memory allocator gpu-alloc 0.6.0, ported to Rattle and proved, for C (C99 and later) and C++ (C++11
- * and later).
+/* Wallthyme: a proved GPU memory allocator, for C (C99 and later) and C++ (C++11 and later). It is a port of
+ * gpu-alloc 0.6.0 to Rattle (Rust with contracts).
  *
- * It never calls back, and never touches a device. A call that needs the device answers WT_ASK with a question: the
+ * It never calls back, and never touches a device. A call that needs the device answers WT_ASK with a question. The
  * caller puts it to its device, writes the answer into it, and makes the same call again with the questions so far:
  *
  *     wt_question asked[WT_MAX_QUESTIONS + 1];
@@ -11,22 +11,38 @@
  *         n++;
  *     }
  *
- * What is proved of the calls (the contracts of the crates gpu_desk and wallthyme): each live block is a range of a
- * memory object, inside it, aligned and as large as was asked for, and no two share a byte; a call that ends otherwise
- * than in WT_OK leaves all as it was; names of objects rise and none comes twice; each object is reported once to be freed,
- * when no block needs it; after all blocks were freed and wt_cleanup none is held.
+ * What is proved of the calls (the contracts of the crates gpu_desk and wallthyme):
+ * - Each live block is a range of a memory object, inside it, aligned and as large as was asked for. No two share a
+ *   byte.
+ * - A call that ends otherwise than in WT_OK leaves all as it was.
+ * - Names of objects rise, and none comes twice. Each object is reported once to be freed, when no block needs it.
+ * - After all blocks are freed and wt_cleanup, no object is held.
  *
  * What the caller owes, and nothing checks:
- * - Pointers are valid; one to 0 elements may be null. Nothing that a call writes overlaps anything else that the call is
- *   given, but that *question may lie right behind the asked ones in their array.
- * - A wt_allocator is zeroed before its first use, and then written by these calls alone. Between two calls it may be moved:
- *   its bytes are copied to another place, and the old place is not used again. It is copied in no other way while it is open.
+ * - Pointers are valid; one to 0 elements may be null. Nothing that a call writes overlaps anything else that the
+ *   call is given, but that *question may lie right behind the asked ones in their array.
+ * - A wt_allocator is zeroed before its first use, and then written by these calls alone. Between two calls it may be
+ *   moved: its bytes are copied to another place, and the old place is not used again. It is never copied otherwise
+ *   while open.
  * - Answers are true.
- * - Threads: one call at a time for each allocator. A lock, or the start or join of a thread, orders each call before the
- *   next. Different threads may make them: that all that lies behind a wt_allocator may cross to another thread is proved
- *   (the bound Send in crates/wallthyme/src/handle.rt). Two allocators share nothing.
- * - The library takes memory by malloc, realloc and free. A program that replaces one of them replaces all three. No call is
- *   made from a signal handler, nor in a child process between fork and exec.
+ * - Threads: one call at a time for each allocator. A lock, or the start or join of a thread, orders each call before
+ *   the next; different threads may make them. (That all that lies behind a wt_allocator may cross to another thread
+ *   is proved: the bound Send in crates/wallthyme/src/handle.rt.) With a lock of your own, hold it from the first
+ *   call of a request until its object is made and mapped, and from wt_free until what wt_gone reports is freed. Two
+ *   allocators share nothing but the device.
+ * - The library takes memory by malloc, realloc and free. A program that replaces one of them replaces all three. No
+ *   call is made from a signal handler, nor in a child process between fork and exec.
+ *
+ * What to know besides:
+ * - An object whose name wt_gone reports counts as free already: free it before more is made, or the device may hold
+ *   more objects and bytes than the allocator counts.
+ * - A shared object that the host sees is mapped whole when it is made (WT_MAP_MADE), and stays mapped until it is
+ *   freed. Any other object is mapped while its block is (wt_map to wt_unmap or wt_free).
+ * - Sizes cost. A block in a buddy chunk is a power of two; one of a free list is the whole tail of a free range.
+ *   1,000 requests like a renderer's hold 1.3 to 1.5 times what they ask, and as WT_USAGE_TRANSIENT ones 1.0 to 1.7
+ *   times (bench/held; docs/COSTS.md).
+ * - A block may be lent to several resources, one after the other or at once: the library knows blocks alone.
+ * - Without a device it is a virtual allocator: grant every question, and use the ranges for what you like.
  *
  * Sizes, offsets and alignments are bytes. A status has a text: wt_text.
  */
@@ -50,7 +66,7 @@ enum {
 
     /* Refusals. Nothing was changed. */
     WT_OUT_OF_DEVICE_MEMORY = 2,       /* by the device or a heap's budget, or the size is over the limit */
-    WT_OUT_OF_HOST_MEMORY = 3,         /* for the device or for the library, or a new shared object could not be mapped */
+    WT_OUT_OF_HOST_MEMORY = 3,         /* the device's or the library's, or a new shared object could not be mapped */
     WT_NO_COMPATIBLE_MEMORY_TYPES = 4, /* no permitted memory type serves the usage */
     WT_TOO_MANY_OBJECTS = 5,           /* as many objects are held as the device allows */
     WT_NON_HOST_VISIBLE = 6,           /* the host does not see the block's memory */
@@ -60,16 +76,16 @@ enum {
     /* Misuses. Nothing was changed. */
     WT_NOT_OPEN = 9,                   /* the allocator is closed */
     WT_ALREADY_OPEN = 10,              /* the allocator is open */
-    WT_BAD_PROPERTIES = 11,            /* over 32 memory types, one of a heap that is not there, 2^32 heaps or more, or an
-                                          atom that is no power of two of at most 2^62 */
-    WT_UNKNOWN_KEY = 12,               /* no live block has this key: it was freed, or is none of this allocator's. (Keys of
+    WT_BAD_PROPERTIES = 11,            /* over 32 memory types, one of a heap that is not there, 2^32 heaps or more, or
+                                          an atom that is not a power of two of at most 2^62 */
+    WT_UNKNOWN_KEY = 12,               /* no live block has this key: it was freed, or is another allocator's. (Keys of
                                           two allocators may be the same numbers.) */
     WT_OTHER_QUESTION = 13,            /* an answer is to another question than is asked in its place */
-    WT_BAD_ANSWER = 14,                /* an answer is none of WT_GRANTED .. WT_DEVICE_MAP_FAILED, or its question is none */
+    WT_BAD_ANSWER = 14,                /* an answer is not one of the four below, or its question is invalid */
     WT_BAD_SIZE = 15,                  /* a size of 0 */
-    WT_BAD_ALIGNMENT = 16,             /* align_mask + 1 is no power of two of at most 2^63 */
+    WT_BAD_ALIGNMENT = 16,             /* align_mask + 1 is not a power of two of at most 2^63 */
     WT_BAD_USAGE = 17,                 /* usage bits without a name */
-    WT_BAD_DEDICATED = 18,             /* none of WT_SHARED, WT_PREFERRED, WT_REQUIRED */
+    WT_BAD_DEDICATED = 18,             /* not WT_SHARED, WT_PREFERRED or WT_REQUIRED */
     WT_NO_DEVICE_ADDRESS = 19,         /* WT_USAGE_DEVICE_ADDRESS without the device's feature */
     WT_BAD_RANGE = 20,                 /* a range that passes the end of its block or object */
     WT_BAD_MEMORY_TYPE = 21,           /* no such memory type */
@@ -79,7 +95,7 @@ enum {
     WT_NO_REMAINING = 24,              /* an import, and as many objects are held as the device allows */
     WT_TOO_MANY_REMAINING = 25,        /* together with the held objects not below 2^32 */
     WT_STILL_HELD = 26,                /* an object is held: free all blocks, and call wt_cleanup */
-    WT_STILL_TOLD = 27                 /* objects to free were not read by wt_gone */
+    WT_UNREAD_NAMES = 27               /* names of objects to free are still to be read by wt_gone */
 };
 
 /* How a question was answered: wt_question.answer. */
@@ -100,19 +116,23 @@ enum {
 /* wt_question.flags: the object has to have VK_MEMORY_ALLOCATE_DEVICE_ADDRESS_BIT */
 #define WT_ALLOCATE_DEVICE_ADDRESS 1u
 
-/* wt_request.usage */
-#define WT_USAGE_FAST_DEVICE_ACCESS 0x01u
-#define WT_USAGE_HOST_ACCESS 0x02u
-#define WT_USAGE_DOWNLOAD 0x04u
-#define WT_USAGE_UPLOAD 0x08u
-#define WT_USAGE_TRANSIENT 0x10u
-#define WT_USAGE_DEVICE_ADDRESS 0x20u
+/* wt_request.usage: what the block is for. It says which memory types may serve and in which order they are tried;
+   0 means WT_USAGE_FAST_DEVICE_ACCESS. With HOST_ACCESS, DOWNLOAD or UPLOAD only types that the host sees serve.
+   Without FAST_DEVICE_ACCESS types that are not device-local come first: add it to the last two flags where the
+   device works on the block. */
+#define WT_USAGE_FAST_DEVICE_ACCESS 0x01u /* the device uses it often: device-local types first */
+#define WT_USAGE_HOST_ACCESS 0x02u        /* the host maps it: uncached types first, then those that are not coherent */
+#define WT_USAGE_DOWNLOAD 0x04u           /* the host reads what the device wrote: cached first, then coherent */
+#define WT_USAGE_UPLOAD 0x08u             /* the device reads what the host wrote: uncached first, then coherent */
+#define WT_USAGE_TRANSIENT 0x10u          /* it lives briefly: served from a free list, and not from buddy chunks */
+#define WT_USAGE_DEVICE_ADDRESS 0x20u     /* its address is used: bufferDeviceAddress has to be enabled */
 
-/* wt_request.dedicated: whether the block has to be a whole object of its own */
+/* wt_request.dedicated: whether the block has to be a whole object of its own. WT_PREFERRED: it gets one from
+   wt_config.preferred_dedicated_threshold on. */
 enum { WT_SHARED = 0, WT_PREFERRED = 1, WT_REQUIRED = 2 };
 
-/* wt_memory_type.props: the lower six bits of VkMemoryType::propertyFlags. Others are refused by nobody and cut off; leave
-   such types out of wt_request.memory_types. */
+/* wt_memory_type.props: the lower six bits of VkMemoryType::propertyFlags. Other bits are ignored; leave such
+   types out of wt_request.memory_types. Lazily allocated and protected types are never chosen. */
 #define WT_DEVICE_LOCAL 0x01u
 #define WT_HOST_VISIBLE 0x02u
 #define WT_HOST_COHERENT 0x04u
@@ -120,8 +140,9 @@ enum { WT_SHARED = 0, WT_PREFERRED = 1, WT_REQUIRED = 2 };
 #define WT_LAZILY_ALLOCATED 0x10u
 #define WT_PROTECTED 0x20u
 
-/* The most questions that one call asks (proved): wt_alloc an object of each of 32 memory types, and its mapping, since a
-   type is passed too where the mapping lacks device memory; wt_map one. So with this many answers WT_ASK never comes. */
+/* The most questions that one call asks (proved): wt_alloc an object of each of 32 memory types, and its mapping,
+   since a type is passed too where the mapping lacks device memory; wt_map one. So with this many answers WT_ASK
+   never comes. */
 #define WT_MAX_QUESTIONS 64
 
 /* An allocator: zeroed at first, which is closed. Its fields are the library's own. */
@@ -143,16 +164,31 @@ typedef struct wt_limits {
     uint32_t buffer_device_address;       /* not 0: the feature is enabled */
 } wt_limits;
 
-/* The sizes by which the allocator decides, as of gpu-alloc's Config. Any values serve. */
+/* The sizes by which the allocator decides, in bytes, as gpu-alloc's Config has them. Any values serve. A request
+   gets an object of its own, a block of a buddy chunk, or, with WT_USAGE_TRANSIENT, a block of a free list's
+   chunk; from 1/32 of its heap on always an object of its own. Sizes of chunks are cut down to 1/32 of their heap,
+   a buddy's then rounded up to a power of two. */
 typedef struct wt_config {
+    /* A request of this size or more gets an object of its own. Lower it to hold fewer bytes in more objects. */
     uint64_t dedicated_threshold;
+    /* The same for WT_PREFERRED requests; the lesser of the two counts. */
     uint64_t preferred_dedicated_threshold;
+    /* The same for WT_USAGE_TRANSIENT requests; the greater of this and the first counts. */
     uint64_t transient_dedicated_threshold;
+    /* The size of a free list's first chunk, in whole atoms. Each later one is twice the one before. */
     uint64_t starting_free_list_chunk;
+    /* The size at which they stop growing, where it is greater than the one before and the transient threshold. */
     uint64_t final_free_list_chunk;
+    /* The least block of a buddy chunk, rounded up to a power of two; at most 1/1024 of the heap. */
     uint64_t minimal_buddy_size;
+    /* The least size of the first buddy chunk, rounded up to a power of two. Each has at least twice the size of its
+       first block, and at least that of the chunk made before it. Raise it for fewer objects. */
     uint64_t initial_buddy_dedicated_size;
 } wt_config;
+
+/* The two configurations of gpu-alloc as initialisers: for little device memory, and for a start. */
+#define WT_CONFIG_POTATO { 32768, 1024, 131072, 8192, 131072, 1, 8192 }
+#define WT_CONFIG_PROTOTYPING { 33554432, 1048576, 134217728, 8388608, 134217728, 1024, 8388608 }
 
 typedef struct wt_request {
     uint64_t size;         /* at least 1 */
@@ -170,7 +206,7 @@ typedef struct wt_question {
     uint32_t kind;
     uint32_t memory_type; /* WT_ALLOCATE; else 0 */
     uint32_t flags;       /* WT_ALLOCATE; else 0 */
-    uint32_t answer;      /* the caller's to write; told as one that is none, so that none is forgotten */
+    uint32_t answer;      /* the caller's to write. A question comes with an invalid one, so that none is forgotten */
 } wt_question;
 
 /* A block. Its key is never 0. Objects are named by numbers that rise, none of them twice. */
@@ -192,7 +228,7 @@ typedef struct wt_range {
 
 typedef struct wt_counts {
     uint64_t blocks;    /* live ones */
-    uint64_t told;      /* objects to free that wt_gone was not asked for yet */
+    uint64_t unread;    /* names of objects to free that wt_gone has not read yet */
     uint32_t held;      /* objects */
     uint32_t remaining; /* objects that may be held beside those */
 } wt_counts;
@@ -212,66 +248,67 @@ uint32_t wt_open(wt_allocator *a, const wt_memory_type *types, size_t types_len,
                  size_t heaps_len, const wt_limits *limits, const wt_config *config);
 
 /* Closes it, and gives all of its memory back to free (tested under valgrind, since no contract can say so).
-   WT_NOT_OPEN, WT_STILL_HELD, WT_STILL_TOLD: it is as before. */
+   WT_NOT_OPEN, WT_STILL_HELD, WT_UNREAD_NAMES: it is as before. */
 uint32_t wt_close(wt_allocator *a);
 
 /* Allocates a block.
-   WT_OK: *block tells it. Where it is fresh, its object is the one that the last WT_GRANTED to WT_ALLOCATE that counts
-   made, which has the name block->object from then on. Any other object that was made for this request is the caller's
-   to free: one whose mapping failed, or one that is not needed any more since another call came between. Answers that
-   are left over count nowhere, but have to be answers.
+   WT_OK: *block says where it lies. Where it is fresh, its object is the one that the last WT_GRANTED to
+   WT_ALLOCATE that counts made, which has the name block->object from then on. Any other object that was made for
+   this request is the caller's to free: one whose mapping failed, or one that is not needed any more since another
+   call came between. Answers that are left over count nowhere, but have to be answers.
    WT_ASK: *question is the next one, to be answered and appended. It may lie behind the asked ones in their array.
-   Any other status ends the request: the four refusals of an allocation; WT_NOT_OPEN, WT_BAD_SIZE, WT_BAD_ALIGNMENT,
-   WT_BAD_USAGE, WT_BAD_DEDICATED, WT_NO_DEVICE_ADDRESS, WT_BAD_ANSWER, or WT_OTHER_QUESTION, as where another call came
-   between and something else is asked now. Nothing is changed then, and each object that was made for this request is the caller's to free. */
+   Any other status ends the request: the four refusals of an allocation; WT_NOT_OPEN, WT_BAD_SIZE,
+   WT_BAD_ALIGNMENT, WT_BAD_USAGE, WT_BAD_DEDICATED, WT_NO_DEVICE_ADDRESS, WT_BAD_ANSWER, or WT_OTHER_QUESTION, as
+   where another call came between and something else is asked now. Nothing is changed then, and each object that
+   was made for this request is the caller's to free. */
 uint32_t wt_alloc(wt_allocator *a, const wt_request *request, const wt_question *asked, size_t asked_len,
                   wt_block *block, wt_question *question);
 
-/* Takes a range of an object of the caller's as a block. The object has object_size bytes and is not mapped; it is the
-   allocator's from then on, under the name block->object, and told by wt_gone once the block was freed. Its heap counts
-   the block's size for it, and not the object's.
+/* Takes a range of an object of the caller's as a block. The object has object_size bytes and is not mapped; it is
+   the allocator's from then on, under the name block->object, and reported by wt_gone once the block is freed. Its
+   heap counts the block's size for it, and not the object's.
    WT_NOT_OPEN, WT_BAD_MEMORY_TYPE, WT_BAD_SIZE, WT_BAD_RANGE, WT_BAD_IMPORT_END, WT_NO_REMAINING,
    WT_OUT_OF_HOST_MEMORY: nothing is changed, and the object stays the caller's. */
 uint32_t wt_import(wt_allocator *a, uint32_t memory_type, uint64_t object_size, uint64_t offset, uint64_t size,
                    wt_block *block);
 
-/* Tells a block again. WT_NOT_OPEN, WT_UNKNOWN_KEY. */
+/* Says again where a block lies. WT_NOT_OPEN, WT_UNKNOWN_KEY. */
 uint32_t wt_block_of(wt_allocator *a, uint64_t key, wt_block *block);
 
 /* Maps size bytes of a block from offset on, counted from its start.
-   WT_OK: *mapped tells where they lie in the object. A block of a shared object asks nothing, as that was mapped whole
-   when it was made (WT_MAP_MADE). Where asked (WT_ASK, as of wt_alloc), the range of the question covers them, where the
-   memory is not coherent in whole atoms, cut at the block's end. WT_NOT_OPEN, WT_UNKNOWN_KEY, WT_BAD_SIZE, WT_BAD_RANGE, WT_NON_HOST_VISIBLE, WT_ALREADY_MAPPED,
-   WT_BAD_ANSWER, WT_OTHER_QUESTION, and what the device answered: nothing is changed, and what was mapped for it is the
-   caller's to unmap. */
+   WT_OK: *mapped says where they lie in the object. A block of a shared object asks nothing, as that was mapped
+   whole when it was made (WT_MAP_MADE). Where asked (WT_ASK, as of wt_alloc), the range of the question covers
+   them, where the memory is not coherent in whole atoms, cut at the block's end. WT_NOT_OPEN, WT_UNKNOWN_KEY,
+   WT_BAD_SIZE, WT_BAD_RANGE, WT_NON_HOST_VISIBLE, WT_ALREADY_MAPPED, WT_BAD_ANSWER, WT_OTHER_QUESTION, and what
+   the device answered: nothing is changed, and what was mapped for it is the caller's to unmap. */
 uint32_t wt_map(wt_allocator *a, uint64_t key, uint64_t offset, uint64_t size, const wt_question *asked,
                 size_t asked_len, wt_range *mapped, wt_question *question);
 
-/* Ends a block's mapping, if it has one. *object is the name of the object to unmap (vkUnmapMemory), or 0 where there is
-   none: a shared object stays mapped. WT_NOT_OPEN, WT_UNKNOWN_KEY. */
+/* Ends a block's mapping, if it has one. *object is the name of the object to unmap (vkUnmapMemory), or 0 where
+   nothing has to be unmapped: a shared object stays mapped. WT_NOT_OPEN, WT_UNKNOWN_KEY. */
 uint32_t wt_unmap(wt_allocator *a, uint64_t key, uint64_t *object);
 
-/* The range to flush once the host wrote size bytes of a block from offset on, or to invalidate before it reads them:
-   whole atoms, cut at the block's end. Its size is 0 where nothing has to be: the memory is coherent, or size is 0. That
-   of an import may begin before the block, by less than an atom. WT_NOT_OPEN, WT_UNKNOWN_KEY, WT_BAD_RANGE,
-   WT_NON_HOST_VISIBLE. */
+/* The range to flush once the host wrote size bytes of a block from offset on, or to invalidate before it reads
+   them: whole atoms, cut at the block's end. Its size is 0 where nothing has to be: the memory is coherent, or
+   size is 0. That of an import may begin before the block, by less than an atom. WT_NOT_OPEN, WT_UNKNOWN_KEY,
+   WT_BAD_RANGE, WT_NON_HOST_VISIBLE. */
 uint32_t wt_range_of(wt_allocator *a, uint64_t key, uint64_t offset, uint64_t size, wt_range *range);
 
-/* Takes a block back, mapped or not. The device must be done with it. Objects that no block needs any more are told by
-   wt_gone. The key is refused from then on. WT_NOT_OPEN, WT_UNKNOWN_KEY. */
+/* Takes a block back, mapped or not. The device must be done with it. wt_gone reports the objects that no block
+   needs any more. The key is refused from then on. WT_NOT_OPEN, WT_UNKNOWN_KEY. */
 uint32_t wt_free(wt_allocator *a, uint64_t key);
 
-/* Lets each object go that no block needs. WT_NOT_OPEN. */
+/* Lets each object go that no block needs; wt_gone reports them. WT_NOT_OPEN. */
 uint32_t wt_cleanup(wt_allocator *a);
 
-/* Reads names of objects that are the caller's to free (vkFreeMemory): as many as there are and as fit in room, *count.
-   Each is read once, in no certain order; the others stay to be read. WT_NOT_OPEN. */
+/* Reads names of objects that are the caller's to free (vkFreeMemory): as many as there are and as fit in room,
+   *count. Each is read once, in no certain order; the others wait. WT_NOT_OPEN. */
 uint32_t wt_gone(wt_allocator *a, uint64_t *names, size_t room, size_t *count);
 
-/* WT_NOT_OPEN. */
+/* How many blocks are live, and so on. WT_NOT_OPEN. */
 uint32_t wt_count(wt_allocator *a, wt_counts *counts);
 
-/* WT_NOT_OPEN, WT_BAD_HEAP. */
+/* What is held of a heap, and what may still be asked of it. WT_NOT_OPEN, WT_BAD_HEAP. */
 uint32_t wt_heap(wt_allocator *a, uint32_t heap, wt_heap_counts *counts);
 
 /* From now on this many objects may be held beside those that are. WT_NOT_OPEN, WT_TOO_MANY_REMAINING. */
@@ -290,7 +327,8 @@ static inline const char *wt_text(uint32_t status) {
     case WT_ASK: return "A question to the device has no answer yet";
     case WT_OUT_OF_DEVICE_MEMORY: return "Device memory exhausted";
     case WT_OUT_OF_HOST_MEMORY: return "Host memory exhausted";
-    case WT_NO_COMPATIBLE_MEMORY_TYPES: return "No compatible memory types from requested types support requested usage";
+    case WT_NO_COMPATIBLE_MEMORY_TYPES:
+        return "No compatible memory types from requested types support requested usage";
     case WT_TOO_MANY_OBJECTS: return "Reached limit on allocated memory objects count";
     case WT_NON_HOST_VISIBLE: return "Impossible to map non-host-visible memory";
     case WT_ALREADY_MAPPED: return "Block is already mapped";
@@ -300,9 +338,9 @@ static inline const char *wt_text(uint32_t status) {
     case WT_BAD_PROPERTIES: return "No device has such properties";
     case WT_UNKNOWN_KEY: return "No live block has this key";
     case WT_OTHER_QUESTION: return "An answer is to another question than is asked in its place";
-    case WT_BAD_ANSWER: return "An answer or its question is none";
+    case WT_BAD_ANSWER: return "An answer or its question is invalid";
     case WT_BAD_SIZE: return "A size of 0";
-    case WT_BAD_ALIGNMENT: return "The alignment is no power of two of at most 2^63";
+    case WT_BAD_ALIGNMENT: return "The alignment is not a power of two of at most 2^63";
     case WT_BAD_USAGE: return "The usage has bits without a name";
     case WT_BAD_DEDICATED: return "No such wish for an object of its own";
     case WT_NO_DEVICE_ADDRESS: return "The device does not offer buffer device addresses";
@@ -313,7 +351,7 @@ static inline const char *wt_text(uint32_t status) {
     case WT_NO_REMAINING: return "No more objects may be held";
     case WT_TOO_MANY_REMAINING: return "Remaining and held objects together are too many";
     case WT_STILL_HELD: return "Objects are still held";
-    case WT_STILL_TOLD: return "Names of objects to free are still to be read";
+    case WT_UNREAD_NAMES: return "Names of objects to free are still to be read";
     default: return "No such status";
     }
 }

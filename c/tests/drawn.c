@@ -118,9 +118,9 @@ static void check_books(void) {
     wt_counts counts = counts_of(&allocator);
     wt_block told;
     expect(counts.blocks == blocks_len, "other blocks are counted than are live");
-    expect(counts.held + counts.told == objects_len, "other objects are counted than are there");
+    expect(counts.held + counts.unread == objects_len, "other objects are counted than are there");
     expect((uint64_t)counts.held + counts.remaining == total, "held and remaining objects are other ones in all");
-    for (uint32_t heap = 0; heap < HEAPS; heap++) check_heap(heap, counts.told == 0);
+    for (uint32_t heap = 0; heap < HEAPS; heap++) check_heap(heap, counts.unread == 0);
     for (size_t i = 0; i < blocks_len; i++) {
         expect(wt_block_of(&allocator, blocks[i].at.key, &told) == WT_OK, "a live block is not told");
         expect(is_same_block(&told, &blocks[i].at), "a live block was changed");
@@ -385,11 +385,11 @@ static void take_gone(uint64_t name) {
 static void read_gone(size_t room) {
     uint64_t names[8];
     size_t count = SIZE_MAX;
-    uint64_t before = counts_of(&allocator).told;
+    uint64_t before = counts_of(&allocator).unread;
     expect(wt_gone(&allocator, names, room, &count) == WT_OK, "what is gone is not told");
     expect(count == (before < room ? before : room), "other names are read than there are and fit");
     for (size_t i = 0; i < count; i++) take_gone(names[i]);
-    expect(counts_of(&allocator).told == before - count, "a name is lost, or stays after it was read");
+    expect(counts_of(&allocator).unread == before - count, "a name is lost, or stays after it was read");
 }
 
 static void step_gone(void) {
@@ -501,7 +501,7 @@ static void finish(void) {
     while (blocks_len) step_free();
     step_cleanup();
     while (objects_len) {
-        expect(counts_of(&allocator).told > 0, "an object is neither needed nor told");
+        expect(counts_of(&allocator).unread > 0, "an object is neither needed nor told");
         read_gone(1);
     }
     check_books();

@@ -182,7 +182,7 @@ static void check_shared(wt_allocator *a) {
     expect(wt_free(a, own.key) == WT_OK, "a block is not taken back");
     own = granted(a, &for_own, &talk);
     counts = counts_of(a);
-    expect(counts.blocks == 3 && counts.told == 1, "blocks and objects to free are counted otherwise");
+    expect(counts.blocks == 3 && counts.unread == 1, "blocks and objects to free are counted otherwise");
     expect(counts.held == 2 && counts.remaining == OBJECTS_ALLOWED - 2, "objects are counted otherwise");
     expect(wt_free(a, own.key) == WT_OK, "a block is not taken back");
     expect(wt_free(a, one.key) == WT_OK && wt_free(a, other.key) == WT_OK, "a block is not taken back");
@@ -213,7 +213,7 @@ int main(void) {
     check_thresholds(&allocator);
     check_sizes_granted(&allocator);
     expect(wt_cleanup(&allocator) == WT_OK, "it is not cleaned up");
-    read_gone(&allocator, (size_t)counts_of(&allocator).told);
+    read_gone(&allocator, (size_t)counts_of(&allocator).unread);
     check_own(&allocator);
     check_unanswered(&allocator);
     check_shared(&allocator);

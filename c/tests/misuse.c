@@ -485,7 +485,7 @@ static const test_case cases[] = {
     { "2^32 objects may be held", WT_TOO_MANY_REMAINING, NULL, remain_too_many, OF_OWN, NULL, 0 },
     { "it is closed with live blocks", WT_STILL_HELD, NULL, close_it, OF_OWN, NULL, 0 },
     { "it is closed with a shared object", WT_STILL_HELD, free_blocks_alone, close_it, OF_OWN, NULL, 0 },
-    { "it is closed with names to read", WT_STILL_TOLD, free_and_clean_alone, close_it, OF_OWN, NULL, 0 },
+    { "it is closed with names to read", WT_UNREAD_NAMES, free_and_clean_alone, close_it, OF_OWN, NULL, 0 },
 };
 
 static void run(const test_case *c) {
@@ -528,7 +528,7 @@ int main(void) {
     check_answers_left_over();
     for (size_t i = 0; i < LENGTH(cases); i++) run(&cases[i]);
     current_case = "";
-    for (uint32_t status = WT_OUT_OF_DEVICE_MEMORY; status <= WT_STILL_TOLD; status++) {
+    for (uint32_t status = WT_OUT_OF_DEVICE_MEMORY; status <= WT_UNREAD_NAMES; status++) {
         int is_seen = 0;
         for (size_t i = 0; i < LENGTH(cases); i++) is_seen |= cases[i].wanted == status;
         expect(is_seen, "a status is wanted by no case");

@@ -53,7 +53,7 @@ static uint32_t ask(wt_allocator *a, size_t refused, wt_block *block) {
 
 static void check_holds_none(wt_allocator *a) {
     wt_counts counts = counts_of(a);
-    expect(counts.blocks == 0 && counts.held == 0 && counts.told == 0 && counts.remaining == 64, "something is held");
+    expect(counts.blocks == 0 && counts.held == 0 && counts.unread == 0 && counts.remaining == 64, "something is held");
     expect(heap_counts_of(a, HOST_HEAP).used == 0, "a heap pays for what is not held");
 }
 

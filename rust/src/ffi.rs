@@ -130,7 +130,7 @@ structs! {
     #[derive(Default)]
     struct wt_counts Counts {
         blocks: u64,
-        told: u64,
+        unread: u64,
         held: u32,
         remaining: u32,
     }

@@ -238,7 +238,7 @@ RangeDenied s key offset size d =
 
 pub record CountsOf (s : DeskState) (c : Counts) : Type 0 where
   pub blocks : c.blocks ≡ map.len s.blocks.live
-  pub told : c.told ≡ length s.device.held.gone
+  pub unread : c.unread ≡ length s.device.held.gone
   pub held : c.held ≡ map.len s.allocator.held
   pub remaining : c.remaining ≡ s.allocator.remaining
 

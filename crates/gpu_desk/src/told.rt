@@ -42,7 +42,7 @@ pub struct Counts {
     pub blocks: u64,
 
     /// How many names of objects that were given back are not read yet.
-    pub told: u64,
+    pub unread: u64,
 
     /// How many objects are held.
     pub held: u32,

@@ -107,7 +107,7 @@ abbrev pub free_range_of : FreeRange → Range
 free_range_of r = record { object = r.object; offset = r.start; size = r.end - r.start }
 
 abbrev pub counts_of : Counts → desk_counts.Counts
-counts_of c = record { blocks = c.blocks; told = c.told; held = c.held; remaining = c.remaining }
+counts_of c = record { blocks = c.blocks; unread = c.unread; held = c.held; remaining = c.remaining }
 
 abbrev pub heap_counts_of : HeapCounts → desk_heap.HeapCounts
 heap_counts_of c = record { used = c.used + 2 ^ 64 * c.used_high; budget = c.budget }

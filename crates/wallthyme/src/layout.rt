@@ -124,7 +124,7 @@ pub struct Range {
 #[derive(Clone, Copy)]
 pub struct Counts {
     pub blocks: u64,
-    pub told: u64,
+    pub unread: u64,
     pub held: u32,
     pub remaining: u32,
 }
@@ -343,7 +343,7 @@ impl From<gpu_desk::Counts> for Counts {
     fn from(counts: gpu_desk::Counts) -> Counts {
         Counts {
             blocks: counts.blocks,
-            told: counts.told,
+            unread: counts.unread,
             held: counts.held,
             remaining: counts.remaining,
         }

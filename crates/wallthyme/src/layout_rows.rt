@@ -48,7 +48,7 @@ static NUMBERS: [u32; 40] = [
     status::NO_REMAINING,
     status::TOO_MANY_REMAINING,
     status::STILL_HELD,
-    status::STILL_TOLD,
+    status::UNREAD_NAMES,
     GRANTED,
     NO_DEVICE_MEMORY,
     NO_HOST_MEMORY,

@@ -12,7 +12,7 @@ use crate::handle::Handle;
 use crate::kept::KeptDesk;
 use crate::layout;
 use crate::status::{
-    ALREADY_OPEN, BAD_PROPERTIES, NOT_OPEN, OK, OUT_OF_HOST_MEMORY, STILL_HELD, STILL_TOLD,
+    ALREADY_OPEN, BAD_PROPERTIES, NOT_OPEN, OK, OUT_OF_HOST_MEMORY, STILL_HELD, UNREAD_NAMES,
     not_opened,
 };
 use gpu_desk::{Desk, DeviceProperties, MemoryHeap, MemoryType, OpenError};
@@ -121,12 +121,12 @@ fn memory_heaps(alloc: Global, heap_sizes: &[u64]) -> Result<Vec<MemoryHeap>, Al
 #[unsafe(no_mangle)]
 pub extern "C" fn wt_close(alloc: Global, handle: &mut Handle) -> u32
     ensures closed { (result ≡ NOT_OPEN) ↔ IsNone (desk_of handle.old) }
-    ensures status { (result ≡ OK) ⊎ ((result ≡ NOT_OPEN) ⊎ ((result ≡ STILL_HELD) ⊎ (result ≡ STILL_TOLD))) }
+    ensures status { (result ≡ OK) ⊎ ((result ≡ NOT_OPEN) ⊎ ((result ≡ STILL_HELD) ⊎ (result ≡ UNREAD_NAMES))) }
     ensures ended { result ≡ OK → desk_of handle.new ≡ None }
     ensures held_nothing { result ≡ OK → IsSomeAnd (desk_of handle.old) HasNothing }
     ensures still_held { result ≡ STILL_HELD → IsSomeAnd (desk_of handle.old)
         (λ s. finite.len s.blocks.live + finite.len s.allocator.held ≢ 0) }
-    ensures still_told { result ≡ STILL_TOLD → IsSomeAnd (desk_of handle.old) (λ s. s.device.held.gone ≢ []) }
+    ensures unread { result ≡ UNREAD_NAMES → IsSomeAnd (desk_of handle.old) (λ s. s.device.held.gone ≢ []) }
     ensures refused { result ≢ OK → desk_of handle.new ≡ desk_of handle.old }
 {
     let Some(kept) = handle.take(alloc) else {
@@ -137,9 +137,9 @@ pub extern "C" fn wt_close(alloc: Global, handle: &mut Handle) -> u32
         handle.put(kept);
         return STILL_HELD;
     }
-    if counts.told != 0 {
+    if counts.unread != 0 {
         handle.put(kept);
-        return STILL_TOLD;
+        return UNREAD_NAMES;
     }
     Box::into_inner(kept).into_desk().close();
     OK

@@ -59,7 +59,7 @@ pub(crate) const TOO_MANY_REMAINING: u32 = 25;
 
 pub(crate) const STILL_HELD: u32 = 26;
 
-pub(crate) const STILL_TOLD: u32 = 27;
+pub(crate) const UNREAD_NAMES: u32 = 27;
 
 /// The status of what a desk denies.
 pub(crate) fn denied(denial: Denial) -> u32

@@ -32,7 +32,7 @@ impl Desk {
     {
         Counts {
             blocks: self.blocks.len() as u64,
-            told: self.device.gone().len() as u64,
+            unread: self.device.gone().len() as u64,
             held: self.allocator.held_objects(),
             remaining: self.allocator.remaining_allocations(),
         }
