@@ -1,7 +1,9 @@
-//! Finds libwallthyme.a: in the folder that WALLTHYME_LIB names, or else by pkg-config.
+//! Finds libwallthyme.a: in the folder that WALLTHYME_LIB names; where that is not set, in `lib/` of this crate's
+//! folder, where released archives have it; where there is none, in the folder that pkg-config names.
 //!
-//! Where there is none the crate is compiled with the cfg `wallthyme_missing`, under which it stops with a message.
-//! It is not this script that stops, since `cargo doc` runs it too, and documents need no archive.
+//! Where it is in none of these the crate is compiled with the cfg `wallthyme_missing`, under which it stops with a
+//! message that says what to do. It is not this script that stops, since `cargo doc` runs it too, and documents need
+//! no library.
 
 use std::env;
 use std::path::{Path, PathBuf};
@@ -17,12 +19,16 @@ fn main() {
     }
     let folder = match env::var_os("WALLTHYME_LIB") {
         Some(folder) => Some(named(PathBuf::from(folder))),
-        None => asked_of_pkg_config(),
+        None => beside_this_script().or_else(asked_of_pkg_config),
     };
     match folder {
         Some(folder) => link(&folder),
         None if env::var_os("DOCS_RS").is_some() => {}
-        None => println!("cargo:rustc-cfg=wallthyme_missing"),
+        None => {
+            // Cargo runs this script again as long as that file is not there.
+            println!("cargo:rerun-if-changed=lib/{ARCHIVE}");
+            println!("cargo:rustc-cfg=wallthyme_missing");
+        }
     }
 }
 
@@ -31,12 +37,19 @@ fn named(folder: PathBuf) -> PathBuf {
     if !folder.join(ARCHIVE).is_file() {
         let folder = folder.display();
         eprintln!(
-            "WALLTHYME_LIB is {folder}, which has no {ARCHIVE}. It has to be the folder that `cd c && make` put it in."
+            "WALLTHYME_LIB is {folder}, which has no {ARCHIVE}. It has to be the folder that it lies in: lib/ of a \
+             released archive, or c/build in Wallthyme's repository."
         );
         std::process::exit(1);
     }
     // Cargo runs this script and the linker in different folders.
     folder.canonicalize().unwrap_or(folder)
+}
+
+/// The folder `lib/` of this crate, where it has the archive.
+fn beside_this_script() -> Option<PathBuf> {
+    let folder = Path::new(&env::var_os("CARGO_MANIFEST_DIR")?).join("lib");
+    folder.join(ARCHIVE).is_file().then_some(folder)
 }
 
 /// The first folder that pkg-config tells for `wallthyme` and that has the archive; none where there is no such

@@ -117,7 +117,9 @@ class Gate:
 
     def __init__(self, root, log, jobs):
         self.log, self.block, self.is_reason = log, None, False
-        self.proved, self.tests, self.refused, self.bad, self.ran, self.last = [], 0, 0, 0, 0, ""
+        # The crates that are proved, or kept as an earlier run proved them, and those whose tests are, and pass.
+        self.proved, self.tested = set(), set()
+        self.tests, self.refused, self.bad, self.ran, self.last = 0, 0, 0, 0, ""
         self.edits = bodies(root)
         begun = time.monotonic()
         with tempfile.TemporaryDirectory(prefix="wallthyme-gate-") as room:
@@ -145,6 +147,10 @@ class Gate:
     def hear(self, line):
         """Tells what a line of rt ci says, where a reader wants it: what ended, and the reasons of what failed."""
         ended = re.fullmatch(r"rt: (\w+?)(: its tests are)? (NOT )?PROVED.*|rt: (\w+?)(: its tests are)? proved", line)
+        # (rt ci says nothing of tests that it keeps, and runs them all the same)
+        kept = re.match(r"rt: (\w+)( is kept: |: its tests passed$)", line)
+        if kept:
+            (self.tested if "tests" in kept[2] else self.proved).add(kept[1])
         if LAST.fullmatch(line):
             self.last = line
         elif line.startswith("== "):
@@ -152,9 +158,9 @@ class Gate:
         elif ended:
             crate, of_tests = ended[1] or ended[4], ended[2] or ended[5]
             tell(line[len("rt: "):] + self.watch.since("tests" if of_tests else "proof", crate))
-            if ended[4]:
-                self.proved.append((crate, bool(of_tests)))
-            else:
+            if ended[4] and not of_tests:
+                self.proved.add(crate)
+            elif not ended[4]:
                 for it in [it[:300] for it in self.block or [] if REASON.search(it)][:20]:
                     print(it, flush=True)
             self.block = None
@@ -180,11 +186,15 @@ class Gate:
             # (the rest of what failed)
             tell(line)
 
-    def counts(self):
-        """What passed, in one sentence."""
-        crates, tested = (sum(it[1] == of_tests for it in self.proved) for of_tests in (False, True))
+    def passed(self):
+        """What passed, in one sentence, which is the same for the same sources."""
         held = sum(len(functions) for functions, _ in self.edits.values())
         return (
-            f"{crates} crates proved and the tests of {tested}, {self.refused} of {len(self.edits)} edits refused ({held} wrong bodies), "
-            f"{self.tests} tests passed, {self.ran} runs of programs; {self.minutes:.0f} min, {self.processor:.0f} min of processor time"
+            f"{len(self.proved)} crates proved and the tests of {len(self.tested)}, "
+            f"{self.refused} of {len(self.edits)} edits refused ({held} wrong bodies), "
+            f"{self.tests} tests passed, {self.ran} runs of programs"
         )
+
+    def counts(self):
+        """What passed, and what it took."""
+        return f"{self.passed()}; {self.minutes:.0f} min, {self.processor:.0f} min of processor time"

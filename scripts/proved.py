@@ -48,6 +48,19 @@ class Program:
 SCRIPT, VIEW = PROGRAMS = Program("gpu_script"), Program("gpu_view")
 
 
+def record(sources):
+    """Where it is kept what the gate passed of the sources of this hash."""
+    return f"{OUT}/passed-{sources}"
+
+
+def keep_record(place, text):
+    """Keeps what the gate passed of the sources from which the program at this place was proved, and of no others."""
+    for old in glob.glob(record("*")):
+        os.remove(old)
+    with open(record(place.rpartition("-")[2]), "w", encoding="utf-8") as file:
+        file.write(f"{text}\n")
+
+
 @contextlib.contextmanager
 def alone():
     """Waits until no other run of these scripts proves, and holds others back meanwhile. Makes out/ where there is none."""

@@ -195,11 +195,14 @@ mod tests {
     use crate::{MemoryPropertyFlags, UsageFlags};
     use std::collections::BTreeMap;
 
-    /// The numbers of the rows of `c/layout.h`, by what they tell: `WT_OK`, `sizeof(wt_block)`,
-    /// `offsetof(wt_block, key)`. There is no second list of them.
+    /// The numbers of the rows of `layout.h`, by what they tell: `WT_OK`, `sizeof(wt_block)`,
+    /// `offsetof(wt_block, key)`. There is no second list of them. A released archive has that file beside the crate's
+    /// library, Wallthyme's repository in `c/`.
     fn numbers() -> BTreeMap<String, u32> {
+        let released = concat!(env!("CARGO_MANIFEST_DIR"), "/lib/layout.h");
         let path = concat!(env!("CARGO_MANIFEST_DIR"), "/../c/layout.h");
-        let text = std::fs::read_to_string(path).expect("the rows are in c/layout.h of Wallthyme's repository");
+        let text = std::fs::read_to_string(released).or_else(|_| std::fs::read_to_string(path));
+        let text = text.expect("the rows are in lib/layout.h, or in c/layout.h of Wallthyme's repository");
         text.lines()
             .filter_map(|line| line.trim_end_matches(['\\', ' ']).trim().strip_prefix("ROW(")?.strip_suffix(')'))
             .filter_map(|row| row.split_once(", "))
@@ -227,7 +230,7 @@ mod tests {
         let mut wrong = Vec::new();
         for (what, value) in shared() {
             let Some(&number) = numbers.get(&what) else {
-                wrong.push(format!("{what} is no row of c/layout.h"));
+                wrong.push(format!("{what} is no row of layout.h"));
                 continue;
             };
             // SAFETY: it takes any number, and touches no memory of another.
@@ -237,5 +240,11 @@ mod tests {
             }
         }
         assert!(wrong.is_empty(), "{wrong:#?}");
+    }
+
+    #[test]
+    fn the_crate_has_the_version_of_the_library() {
+        let [_, first, second, third] = VERSION.to_be_bytes();
+        assert_eq!(env!("CARGO_PKG_VERSION"), format!("{first}.{second}.{third}"));
     }
 }

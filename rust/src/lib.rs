@@ -5,9 +5,9 @@
 
 #[cfg(all(wallthyme_missing, not(doc)))]
 compile_error!(
-    "The library libwallthyme.a was not found. Build it by `cd c && make` in Wallthyme's repository, and then either \
-     set WALLTHYME_LIB to the folder that it is in, or `make install` it, for pkg-config to find. \
-     (To check or document without it: set DOCS_RS=1.)"
+    "The library libwallthyme.a was not found. A released archive has it, in lib/ of this crate's folder too: take the \
+     crate from there. Or set WALLTHYME_LIB to the folder that it is in. Or, in Wallthyme's repository, build it by \
+     `cd c && make` and `make install` it, for pkg-config to find. (To check or document without it: set DOCS_RS=1.)"
 );
 
 mod allocator;

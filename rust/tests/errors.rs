@@ -233,10 +233,15 @@ fn texts() {
         (&M::AlreadyMapped, "Block is already mapped"),
         (&NewError::OutOfHostMemory, "Host memory exhausted"),
     ];
+    for (error, text) in &texts {
+        assert_eq!(error.to_string(), *text);
+    }
+    if std::fs::exists(concat!(env!("CARGO_MANIFEST_DIR"), "/lib/libwallthyme.a")).unwrap() {
+        return println!("left out: that the proved program prints them too. A released archive has no texts of that");
+    }
     let proved = concat!(env!("CARGO_MANIFEST_DIR"), "/../crates/gpu_alloc_base/src/error.rt");
     let proved = std::fs::read_to_string(proved).expect("the proved texts are in Wallthyme's repository");
-    for (error, text) in texts {
-        assert_eq!(error.to_string(), text);
+    for (_, text) in texts {
         assert!(proved.contains(&format!("{text:?}")), "the proved program does not print {text:?}");
     }
 }
