@@ -38,9 +38,9 @@
  *   more objects and bytes than the allocator counts.
  * - A shared object that the host sees is mapped whole when it is made (WT_MAP_MADE), and stays mapped until it is
  *   freed. Any other object is mapped while its block is (wt_map to wt_unmap or wt_free).
- * - Sizes cost. A block in a buddy chunk is a power of two; one of a free list is the whole tail of a free range.
- *   1,000 requests like a renderer's hold 1.3 to 1.5 times what they ask, and as WT_USAGE_TRANSIENT ones 1.0 to 1.7
- *   times (bench/held; docs/COSTS.md).
+ * - Sizes cost. A block in a buddy chunk is a power of two; one of a free list is the whole tail of a free range. With
+ *   WT_CONFIG_PROTOTYPING 1,000 requests like a renderer's hold 1.5 times what they ask, and 1.7 times after many
+ *   exchanges; as WT_USAGE_TRANSIENT ones 1.0 to 1.1, and 1.5 times (COSTS.md).
  * - A block may be lent to several resources, one after the other or at once: the library knows blocks alone.
  * - Without a device it is a virtual allocator: grant every question, and use the ranges for what you like.
  *
@@ -56,8 +56,8 @@
 extern "C" {
 #endif
 
-/* The version of this header: 0xMMmmpp. wt_version tells the library's. */
-#define WT_VERSION 0x000600u
+/* The version of header and library, their own: 0xMMmmpp. While MM is 0, those of another mm do not fit together. */
+#define WT_VERSION 0x000700u
 
 /* What a call answers. */
 enum {

@@ -37,7 +37,7 @@ macro_rules! structs {
 }
 
 constants! {
-    VERSION: u32 = 0x0000_0600;
+    VERSION: u32 = 0x0000_0700;
 
     OK: u32 = 0;
     ASK: u32 = 1;
