@@ -55,8 +55,8 @@ fn sizes_in(text: &str, function: &str) -> Vec<u64> {
 fn the_header_has_the_same_configurations() {
     let header = found(&["c/wallthyme.h", "include/wallthyme.h"]).expect("the header is not there");
     let header = read_to_string(header).unwrap();
-    assert_eq!(numbers_behind(&header, "WT_CONFIG_POTATO "), sizes(&Config::i_am_potato()));
-    assert_eq!(numbers_behind(&header, "WT_CONFIG_PROTOTYPING "), sizes(&Config::i_am_prototyping()));
+    assert_eq!(numbers_behind(&header, "define WT_CONFIG_POTATO "), sizes(&Config::i_am_potato()));
+    assert_eq!(numbers_behind(&header, "define WT_CONFIG_PROTOTYPING "), sizes(&Config::i_am_prototyping()));
 }
 
 #[test]
