@@ -12,8 +12,8 @@
  *     }
  *
  * What is proved of the calls (the contracts of the crates gpu_desk and wallthyme):
- * - Each live block is a range of a memory object, inside it, aligned and as large as was asked for. No two share a
- *   byte.
+ * - Each live block is a range of a memory object, inside it, aligned as asked and at least as large. No two share a
+ *   byte; in shared objects of memory that is not coherent, blocks begin and end at whole atoms, so none share one.
  * - A call that ends otherwise than in WT_OK leaves all as it was.
  * - Names of objects rise, and none comes twice. Each object is reported once to be freed, when no block needs it.
  * - After all blocks are freed and wt_cleanup, no object is held.
@@ -27,20 +27,23 @@
  * - Answers are true.
  * - Threads: one call at a time for each allocator. A lock, or the start or join of a thread, orders each call before
  *   the next; different threads may make them. (That all that lies behind a wt_allocator may cross to another thread
- *   is proved: the bound Send in crates/wallthyme/src/handle.rt.) With a lock of your own, hold it from the first
- *   call of a request until its object is made and mapped, and from wt_free until what wt_gone reports is freed. Two
- *   allocators share nothing but the device.
+ *   is proved: the bound Send in crates/wallthyme/src/handle.rt.) There is no lock
+ *   inside. Hold yours from the first call of a request (of wt_map too) until its last call has answered and the
+ *   object stands under its name in your table, and from wt_free or wt_cleanup until what wt_gone reports is freed.
+ *   Two allocators share nothing but the device.
  * - The library takes memory by malloc, realloc and free. A program that replaces one of them replaces all three. No
  *   call is made from a signal handler, nor in a child process between fork and exec.
  *
  * What to know besides:
  * - An object whose name wt_gone reports counts as free already: free it before more is made, or the device may hold
  *   more objects and bytes than the allocator counts.
- * - A shared object that the host sees is mapped whole when it is made (WT_MAP_MADE), and stays mapped until it is
- *   freed. Any other object is mapped while its block is (wt_map to wt_unmap or wt_free).
- * - Sizes cost. A block in a buddy chunk is a power of two; one of a free list is the whole tail of a free range. With
- *   WT_CONFIG_PROTOTYPING 1,000 requests like a renderer's hold 1.5 times what they ask, and 1.7 times after many
- *   exchanges; as WT_USAGE_TRANSIENT ones 1.0 to 1.1, and 1.5 times (COSTS.md).
+ * - A shared object of a host-visible type is mapped whole when it is made (WT_MAP_MADE), and stays mapped until it is
+ *   freed. Any other object is mapped while its block is (wt_map to wt_unmap or wt_free). "The host sees" means a
+ *   host-visible type.
+ * - Sizes cost. A block in a buddy chunk is a power of two; one of a free list reaches from its start to the end of a
+ *   free range, so a large alignment costs. With WT_CONFIG_PROTOTYPING 1,000 requests like a renderer's hold 1.5
+ *   times what they ask, and 1.7 times after many exchanges; as WT_USAGE_TRANSIENT ones 1.0 to 1.1, and 1.5 times
+ *   (doc/COSTS.md).
  * - A block may be lent to several resources, one after the other or at once: the library knows blocks alone.
  * - Without a device it is a virtual allocator: grant every question, and use the ranges for what you like.
  *
@@ -98,7 +101,8 @@ enum {
     WT_UNREAD_NAMES = 27               /* names of objects to free are still to be read by wt_gone */
 };
 
-/* How a question was answered: wt_question.answer. */
+/* How a question was answered: wt_question.answer. To an allocation WT_NO_DEVICE_MEMORY means that it goes on to the
+   next memory type, and the next two end it. */
 enum {
     WT_GRANTED = 0,                    /* it was done */
     WT_NO_DEVICE_MEMORY = 1,           /* VK_ERROR_OUT_OF_DEVICE_MEMORY */
@@ -117,13 +121,14 @@ enum {
 #define WT_ALLOCATE_DEVICE_ADDRESS 1u
 
 /* wt_request.usage: what the block is for. It says which memory types may serve and in which order they are tried;
-   0 means WT_USAGE_FAST_DEVICE_ACCESS. With HOST_ACCESS, DOWNLOAD or UPLOAD only types that the host sees serve.
-   Without FAST_DEVICE_ACCESS types that are not device-local come first: add it to the last two flags where the
-   device works on the block. */
+   0 means WT_USAGE_FAST_DEVICE_ACCESS. With HOST_ACCESS, DOWNLOAD or UPLOAD only types that the host sees serve. What
+   decides first is whether a type is device-local: with FAST_DEVICE_ACCESS such types come first, without it last. So
+   TRANSIENT or DEVICE_ADDRESS alone takes memory that is not device-local first: add FAST_DEVICE_ACCESS where the
+   device works on the block. Then come types that the host does not see, where it need not; then what stands below. */
 #define WT_USAGE_FAST_DEVICE_ACCESS 0x01u /* the device uses it often: device-local types first */
-#define WT_USAGE_HOST_ACCESS 0x02u        /* the host maps it: uncached types first, then those that are not coherent */
-#define WT_USAGE_DOWNLOAD 0x04u           /* the host reads what the device wrote: cached first, then coherent */
-#define WT_USAGE_UPLOAD 0x08u             /* the device reads what the host wrote: uncached first, then coherent */
+#define WT_USAGE_HOST_ACCESS 0x02u        /* the host maps it: uncached first, of those not coherent ones first */
+#define WT_USAGE_DOWNLOAD 0x04u           /* the host reads what the device wrote: cached first, then coherent ones */
+#define WT_USAGE_UPLOAD 0x08u             /* the device reads what the host wrote: uncached first, then coherent ones */
 #define WT_USAGE_TRANSIENT 0x10u          /* it lives briefly: served from a free list, and not from buddy chunks */
 #define WT_USAGE_DEVICE_ADDRESS 0x20u     /* its address is used: bufferDeviceAddress has to be enabled */
 
@@ -142,7 +147,7 @@ enum { WT_SHARED = 0, WT_PREFERRED = 1, WT_REQUIRED = 2 };
 
 /* The most questions that one call asks (proved): wt_alloc an object of each of 32 memory types, and its mapping,
    since a type is passed too where the mapping lacks device memory; wt_map one. So with this many answers WT_ASK
-   never comes. */
+   never comes; the array has one place more, since *question has to be writable at every call. */
 #define WT_MAX_QUESTIONS 64
 
 /* An allocator: zeroed at first, which is closed. Its fields are the library's own. */
@@ -177,9 +182,10 @@ typedef struct wt_config {
     uint64_t transient_dedicated_threshold;
     /* The size of a free list's first chunk, in whole atoms. Each later one is twice the one before. */
     uint64_t starting_free_list_chunk;
-    /* The size at which they stop growing, where it is greater than the one before and the transient threshold. */
+    /* The size at which they stop growing: the greatest of this, the one before and the transient threshold. */
     uint64_t final_free_list_chunk;
-    /* The least block of a buddy chunk, rounded up to a power of two; at most 1/1024 of the heap. */
+    /* The least block of a buddy chunk, rounded up to a power of two; a greater one counts as 1/1024 of the heap. Raise
+       it where many tiny blocks would fall apart into pieces that nothing else fits; lower it to waste less on them. */
     uint64_t minimal_buddy_size;
     /* The least size of the first buddy chunk, rounded up to a power of two. Each has at least twice the size of its
        first block, and at least that of the chunk made before it. Raise it for fewer objects. */
@@ -214,7 +220,7 @@ typedef struct wt_block {
     uint64_t key;
     uint64_t object;
     uint64_t offset;
-    uint64_t size;
+    uint64_t size; /* at least what was asked for */
     uint32_t memory_type;
     uint32_t fresh; /* wt_alloc: 1 where the object is the one that was made for it, and else 0. Elsewhere 0 */
 } wt_block;
@@ -257,7 +263,7 @@ uint32_t wt_close(wt_allocator *a);
    this request is the caller's to free: one whose mapping failed, or one that is not needed any more since another
    call came between. Answers that are left over count nowhere, but have to be answers.
    WT_ASK: *question is the next one, to be answered and appended. It may lie behind the asked ones in their array.
-   Any other status ends the request: the four refusals of an allocation; WT_NOT_OPEN, WT_BAD_SIZE,
+   Any other status ends the request: WT_OUT_OF_DEVICE_MEMORY to WT_TOO_MANY_OBJECTS; WT_NOT_OPEN, WT_BAD_SIZE,
    WT_BAD_ALIGNMENT, WT_BAD_USAGE, WT_BAD_DEDICATED, WT_NO_DEVICE_ADDRESS, WT_BAD_ANSWER, or WT_OTHER_QUESTION, as
    where another call came between and something else is asked now. Nothing is changed then, and each object that
    was made for this request is the caller's to free. */
@@ -294,11 +300,13 @@ uint32_t wt_unmap(wt_allocator *a, uint64_t key, uint64_t *object);
    WT_BAD_RANGE, WT_NON_HOST_VISIBLE. */
 uint32_t wt_range_of(wt_allocator *a, uint64_t key, uint64_t offset, uint64_t size, wt_range *range);
 
-/* Takes a block back, mapped or not. The device must be done with it. wt_gone reports the objects that no block
-   needs any more. The key is refused from then on. WT_NOT_OPEN, WT_UNKNOWN_KEY. */
+/* Takes a block back, mapped or not. The device must be done with it. Its object goes with it where it was the last
+   block there, but for one chunk of a free list, which waits for wt_cleanup; wt_gone reports what goes. The key is
+   refused from then on. WT_NOT_OPEN, WT_UNKNOWN_KEY. */
 uint32_t wt_free(wt_allocator *a, uint64_t key);
 
-/* Lets each object go that no block needs; wt_gone reports them. WT_NOT_OPEN. */
+/* Lets each free list's last free chunk go too; wt_gone reports them. After it no object is held without a live
+   block. WT_NOT_OPEN. */
 uint32_t wt_cleanup(wt_allocator *a);
 
 /* Reads names of objects that are the caller's to free (vkFreeMemory): as many as there are and as fit in room,

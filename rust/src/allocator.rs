@@ -83,7 +83,7 @@ impl<M> GpuAllocator<M> {
     ///
     /// # Panics
     ///
-    /// Where `request.align_mask` is none, a bit of `request.usage` has no name, or [`UsageFlags::DEVICE_ADDRESS`] is
+    /// Where `request.align_mask` is not one less than a power of two, a bit of `request.usage` has no name, or [`UsageFlags::DEVICE_ADDRESS`] is
     /// asked for without [`DeviceProperties::buffer_device_address`]. Nothing is changed.
     ///
     /// [`UsageFlags::DEVICE_ADDRESS`]: crate::UsageFlags::DEVICE_ADDRESS

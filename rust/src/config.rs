@@ -22,11 +22,12 @@ pub struct Config {
     /// The size that the memory objects of a free list grow to.
     pub final_free_list_chunk: u64,
 
-    /// The size of the smallest block of a buddy allocator, rounded up to a power of two.
+    /// The size of the smallest block of a buddy allocator, rounded up to a power of two. A greater one counts as the
+    /// 1,024th part of its heap.
     pub minimal_buddy_size: u64,
 
-    /// What decides the size of a buddy allocator's first memory object, rounded up to a power of two. Where it is
-    /// less than `minimal_buddy_size`, that counts.
+    /// The least size of a buddy allocator's first memory object, rounded up to a power of two. Where it is less than
+    /// `minimal_buddy_size`, that counts.
     pub initial_buddy_dedicated_size: u64,
 }
 

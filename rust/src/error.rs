@@ -57,8 +57,8 @@ pub enum MapError {
     /// The host has too little memory.
     OutOfHostMemory,
 
-    /// The host does not see the block's memory: its request lacked
-    /// [`UsageFlags::HOST_ACCESS`](crate::UsageFlags::HOST_ACCESS).
+    /// The block's memory is not host-visible. It is where the request had
+    /// [`UsageFlags::HOST_ACCESS`](crate::UsageFlags::HOST_ACCESS), `UPLOAD` or `DOWNLOAD`.
     NonHostVisible,
 
     /// The device failed for a reason of its own, such as no address space of that size.

@@ -100,7 +100,7 @@ impl Library {
         }
     }
 
-    /// Takes a block back. Where there is none of this key the status says so.
+    /// Takes a block back. Where no block has this key the status says so.
     pub(crate) fn free(&mut self, key: u64) -> Result<(), u32> {
         // SAFETY: the handle is open.
         match unsafe { ffi::wt_free(&mut self.state.handle, key) } {

@@ -24,6 +24,8 @@ flags! {
 
         /// It is given back soon, as a buffer that one batch of copies goes through: it is taken from a free list.
         /// Held for long it keeps its memory object from being given back.
+        /// Alone it prefers memory that is not device-local: add
+        /// [`FAST_DEVICE_ACCESS`](UsageFlags::FAST_DEVICE_ACCESS) where the device works on it.
         const TRANSIENT = 0x10;
 
         /// The device address of what is bound to it can be fetched. Asks for
