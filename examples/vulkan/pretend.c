@@ -97,10 +97,18 @@ VKAPI_ATTR void VKAPI_CALL vkGetPhysicalDeviceMemoryProperties(VkPhysicalDevice 
     memcpy(told->memoryHeaps, HEAPS, sizeof HEAPS);
 }
 
-static void widen(VkMemoryRequirements2 *told)
+static void widen(VkMemoryRequirements *told)
 {
-    must((told->memoryRequirements.memoryTypeBits & 1) != 0, "a resource is not for the first type");
-    told->memoryRequirements.memoryTypeBits = (1u << TYPES_COUNT) - 1;
+    must((told->memoryTypeBits & 1) != 0, "a resource is not for the first type");
+    told->memoryTypeBits = (1u << TYPES_COUNT) - 1;
+}
+
+VKAPI_ATTR void VKAPI_CALL vkGetBufferMemoryRequirements(VkDevice device, VkBuffer buffer, VkMemoryRequirements *told)
+{
+    PFN_vkGetBufferMemoryRequirements real;
+    find(&real, "vkGetBufferMemoryRequirements");
+    real(device, buffer, told);
+    widen(told);
 }
 
 VKAPI_ATTR void VKAPI_CALL vkGetBufferMemoryRequirements2(VkDevice device,
@@ -110,7 +118,7 @@ VKAPI_ATTR void VKAPI_CALL vkGetBufferMemoryRequirements2(VkDevice device,
     PFN_vkGetBufferMemoryRequirements2 real;
     find(&real, "vkGetBufferMemoryRequirements2");
     real(device, buffer, told);
-    widen(told);
+    widen(&told->memoryRequirements);
 }
 
 VKAPI_ATTR void VKAPI_CALL vkGetImageMemoryRequirements2(VkDevice device, const VkImageMemoryRequirementsInfo2 *image,
@@ -119,7 +127,7 @@ VKAPI_ATTR void VKAPI_CALL vkGetImageMemoryRequirements2(VkDevice device, const 
     PFN_vkGetImageMemoryRequirements2 real;
     find(&real, "vkGetImageMemoryRequirements2");
     real(device, image, told);
-    widen(told);
+    widen(&told->memoryRequirements);
 }
 
 static VkDeviceSize used_of_heap(uint32_t heap)
