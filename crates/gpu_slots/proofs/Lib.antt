@@ -1,3 +1,4 @@
 pub mod Lookups
 pub mod Sound
 pub mod Taken
+pub mod Walk

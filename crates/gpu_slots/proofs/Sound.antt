@@ -56,11 +56,15 @@ module _ {T : Type 0} where
   pub some_live : (m : finite.FinMap nat_cmp T) (k : ℕ) → IsSome (finite.get m k) → 0 < finite.len m
   some_live m k there = let one = len_out m k there in omega (arith, one)
 
+  none_past : (i : ℕ) → (place_at {T = T} [] i).value ≡ None
+  none_past i = ap (λ (p : Place T). p.value) {x = place_at {T = T} [] i} {y = record { generation = 0; value = None }} (get_or_past [] i _ (omega arith))
+
   pub sound_new : (capacity : ℕ) → IsSound {T = T} [] [] 0 capacity
   sound_new capacity = record {
     few = omega arith;
     counted = sym (finite.len-empty nat_cmp T);
     begun = λ i within. absurd (omega (arith, within));
+    unspent = λ i some. absurd (no_value {T = T} _ (none_past i) some);
     all_free = λ k within. absurd (omega (arith, within));
     distinct = λ j k less within. absurd (omega (arith, within));
     fits = omega arith;
@@ -80,15 +84,27 @@ module _ {T : Type 0} where
     | inr ne ↦ subst (λ (q : Place T). 0 < q.generation) (sym (c.others j ne)) (begun j (others j within ne))
   ]
 
+  -- the place of each value has a generation that is one
+  abbrev pub AreUnspent : List (Place T) → Type 0
+  AreUnspent places = (j : ℕ) → IsSome (place_at places j).value → (place_at places j).generation < 2 ^ 32
+
+  unspent_kept : (old new : List (Place T)) (i : ℕ) (p : Place T) → Changes old new i p → (IsSome p.value → p.generation < 2 ^ 32) → AreUnspent old → AreUnspent new
+  unspent_kept old new i p c this others j some = elim (one_or_two j i) [
+    | inl e ↦
+        let there : place_at new j ≡ p = ap (place_at new) e ∙ c.changed in
+        subst (λ (q : Place T). q.generation < 2 ^ 32) (sym there) (this (subst (λ (q : Place T). IsSome q.value) there some))
+    | inr ne ↦ subst (λ (q : Place T). q.generation < 2 ^ 32) (sym (c.others j ne)) (others j (subst (λ (q : Place T). IsSome q.value) (c.others j ne) some))
+  ]
+
   -- A value goes into an empty place, which is then no longer free.
   module _ (old new : List (Place T)) (i g : ℕ) (v : T) (c : Changes old new i (record { generation = g; value = Some v })) (empty : (place_at old i).value ≡ None) (few_old : length old ≤ 2 ^ 32) (few : length new < 2 ^ 32) (fits : i < 2 ^ 32) where
     le : length new ≤ 2 ^ 32
     le = omega (arith, few)
 
-    pub sound_put : (free left : List ℕ) (len capacity : ℕ) → IsSound old free len capacity → 0 < g → length old ≤ length new → ((j : ℕ) → j < length new → j ≢ i → j < length old)
+    pub sound_put : (free left : List ℕ) (len capacity : ℕ) → IsSound old free len capacity → 0 < g → g < 2 ^ 32 → length old ≤ length new → ((j : ℕ) → j < length new → j ≢ i → j < length old)
         → ((k : ℕ) → k < length left → (k < length free) × (get_or left k 0 ≡ get_or free k 0)) → ((k : ℕ) → k < length left → get_or left k 0 ≢ i)
         → length left + (len + 1) ≤ capacity → IsSound new left (len + 1) capacity
-    sound_put free left len capacity s begins longer others within apart room = record {
+    sound_put free left len capacity s begins few_times longer others within apart room = record {
       few = few;
       counted =
           let counted = s.counted in
@@ -96,6 +112,7 @@ module _ {T : Type 0} where
           ∙ len_put (live_in old) (g * 2 ^ 32 + i) v (get_none old new i g few_old le fits empty) in
           omega (arith, counted, more);
       begun = begun_kept old new i _ c others begins s.begun;
+      unspent = unspent_kept old new i _ c (λ some. few_times) s.unspent;
       all_free = λ k below. free_kept old new i _ _ c longer (apart k below) (subst (IsFree old) (sym (within k below).1) (s.all_free k (within k below).0));
       distinct = λ j k less below. λ e.
           let j_below : j < length left = omega (arith, less, below) in
@@ -196,7 +213,7 @@ module _ {T : Type 0} where
 
     pub sound_push : (free left : List ℕ) (len capacity : ℕ) → IsSound old free len capacity → length left ≡ 0 → len + 1 ≤ capacity → IsSound new left (len + 1) capacity
     sound_push free left len capacity s none room =
-        sound_put old new (length old) 1 v added past_empty few_old few_new last_fits free left len capacity s (omega arith) (omega (arith, one_more))
+        sound_put old new (length old) 1 v added past_empty few_old few_new last_fits free left len capacity s (omega arith) (omega arith) (omega (arith, one_more))
         (λ j below ne. omega (arith, below, ne, one_more)) (λ k below. absurd (omega (arith, below, none))) (λ k below. absurd (omega (arith, below, none))) (omega (arith, none, room))
 
     pub push_live : live_in new ≡ finite.insert (live_in old) (2 ^ 32 + length old) v
@@ -269,7 +286,7 @@ module _ {T : Type 0} where
 
     pub sound_fill : IsSound refilled left (len + 1) capacity
     sound_fill =
-        sound_put old _ i p.generation v filled fill_empty le_old few_filled place_fits free left len capacity s fill_begun (omega (arith, as_long))
+        sound_put old _ i p.generation v filled fill_empty le_old few_filled place_fits free left len capacity s fill_begun fill_unspent (omega (arith, as_long))
         (λ j below ne. omega (arith, below, as_long)) within apart (let fits = s.fits in omega (arith, fits, one_less))
       where
         within : (k : ℕ) → k < length left → (k < length free) × (get_or left k 0 ≡ get_or free k 0)
@@ -327,6 +344,7 @@ module _ {T : Type 0} where
         few = few_now;
         counted = let less = less_counted in omega (arith, less);
         begun = begun_now;
+        unspent = unspent_kept old new i _ c (λ some. absurd (no_value {T = T} None refl some)) s.unspent;
         all_free = still_free;
         distinct = s.distinct;
         fits = let fits = s.fits in omega (arith, fits);
@@ -338,6 +356,7 @@ module _ {T : Type 0} where
         few = few_now;
         counted = let less = less_counted in omega (arith, less);
         begun = begun_now;
+        unspent = unspent_kept old new i _ c (λ some. absurd (no_value {T = T} None refl some)) s.unspent;
         all_free = λ k below. elim (one_or_two k (length free)) [
           | inl e ↦ subst (IsFree new) (sym (at_last k e)) this_free
           | inr ne ↦ subst (IsFree new) (sym (at_others k (inside k below ne))) (still_free k (inside k below ne))
@@ -529,6 +548,9 @@ module _ {T : Type 0} where
         let f = subst (IsFree old) e (s.all_free k below) in
         no_value _ (place.value ∙ f.empty) live
 
+    few_times : key / 2 ^ 32 < 2 ^ 32
+    few_times = subst (λ n. n < 2 ^ 32) place.of_it (s.unspent (key % 2 ^ 32) (subst IsSome place.value live))
+
     pub change_sound : IsSound changed_at free len capacity
     change_sound = record {
       few = let few = s.few in omega (arith, few, same_length);
@@ -538,6 +560,7 @@ module _ {T : Type 0} where
           ∙ finite.len-insert nat_cmp_total (live_in old) key v
           ∙ ap (λ b. cond b (finite.len (live_in old)) (finite.len (live_in old) + 1)) live);
       begun = begun_kept old changed_at (key % 2 ^ 32) _ change (λ j below ne. omega (arith, below, same_length)) (let begun = s.begun (key % 2 ^ 32) place.within in let of_it = place.of_it in omega (arith, begun, of_it)) s.begun;
+      unspent = unspent_kept old changed_at (key % 2 ^ 32) _ change (λ some. few_times) s.unspent;
       all_free = λ k below. free_kept old changed_at (key % 2 ^ 32) _ _ change (omega (arith, same_length)) (not_free_there k below) (s.all_free k below);
       distinct = s.distinct;
       fits = s.fits;

@@ -1,5 +1,5 @@
 -- How a `SlotMap` lays out its values. No public clause cites this module.
-use Rattle.std.specs.Prelude.{◌≡◌, ◌≢◌, ℕ, ◌+◌, ◌-◌, ◌*◌, ◌^◌, ◌<◌, ◌≤◌, min, List, [], ◌∷◌, length, Option, Some, None, slice_index, slice_index_or}
+use Rattle.std.specs.Prelude.{◌≡◌, ◌≢◌, ℕ, ◌+◌, ◌-◌, ◌*◌, ◌^◌, ◌<◌, ◌≤◌, min, List, [], ◌∷◌, length, Option, Some, None, IsSome, slice_index, slice_index_or}
 use Rattle.std.specs.FinMap as map
 use Rattle.std.specs.FinMap.{FinMap}
 use Rattle.std.specs.Ordering.{nat_cmp}
@@ -41,6 +41,7 @@ module _ {T : Type 0} where
     pub few : length places < 2 ^ 32
     pub counted : len ≡ map.len (live_in places)
     pub begun : (i : ℕ) → i < length places → 0 < (place_at places i).generation
+    pub unspent : (i : ℕ) → IsSome (place_at places i).value → (place_at places i).generation < 2 ^ 32
     pub all_free : (k : ℕ) → k < length free → IsFree places (slice_index free k)
     pub distinct : (j k : ℕ) → j < k → k < length free → slice_index free j ≢ slice_index free k
     pub fits : length free + len ≤ free_capacity

@@ -1,5 +1,5 @@
 -- What a contract sees of a `SlotMap`.
-use Rattle.std.specs.Prelude.{◌≡◌, ◌≢◌, ◌⊎◌, ℕ, ◌+◌, ◌/◌, ◌%◌, ◌^◌, ◌<◌, List, Some, None, IsSome, slice_index, refl}
+use Rattle.std.specs.Prelude.{◌≡◌, ◌≢◌, ◌⊎◌, ℕ, ◌+◌, ◌/◌, ◌%◌, ◌^◌, ◌<◌, ◌≤◌, List, length, Some, None, IsSome, slice_index, refl}
 use Rattle.std.specs.Coded.{Coded, code_by, coded×, coded_ℕ, coded_list}
 use Rattle.std.specs.FinMap as map
 use Rattle.std.specs.FinMap.{FinMap}
@@ -63,3 +63,29 @@ pub record TakesAt {T : Type 0} (old : FinMap nat_cmp T) (key : ℕ) (value : T)
 pub record HasNone {T : Type 0} (live : FinMap nat_cmp T) : Type 0 where
   pub none : (key : ℕ) → map.get live key ≡ None
   pub count : map.len live ≡ 0
+
+-- Where values lie.
+
+-- each live key's place is one that there is, and no other live key has it
+pub record ArePlaced {T : Type 0} (s : SlotState T) : Type 0 where
+  pub within : (key : ℕ) → IsSome (map.get s.live key) → place_of key < length s.generations
+  pub alone : (key other : ℕ) → IsSome (map.get s.live key) → IsSome (map.get s.live other)
+      → place_of key ≡ place_of other → key ≡ other
+
+-- the key's place is one that there was, or was added behind them
+abbrev pub TakesPlace : {T : Type 0} → SlotState T → ℕ → SlotState T → Type 0
+TakesPlace old key new =
+    ((place_of key < length old.generations) × (length new.generations ≡ length old.generations))
+    ⊎ ((place_of key ≡ length old.generations) × (length new.generations ≡ length old.generations + 1))
+
+-- no value lies at that place or at a later one
+abbrev pub HasNoneFrom : {T : Type 0} → SlotState T → ℕ → Type 0
+HasNoneFrom s place = (key : ℕ) → IsSome (map.get s.live key) → place_of key < place
+
+-- The key is that of the first value at that place or at a later one: each other value lies before the place, or behind
+-- the key's.
+pub record IsFirstFrom {T : Type 0} (s : SlotState T) (place key : ℕ) : Type 0 where
+  pub live : IsSome (map.get s.live key)
+  pub from : place ≤ place_of key
+  pub others : (other : ℕ) → IsSome (map.get s.live other)
+      → (other ≡ key) ⊎ ((place_of other < place) ⊎ (place_of key < place_of other))

@@ -1,11 +1,12 @@
 //! Values under keys with generations.
 
-ghost use Rattle.std.specs.Prelude.{◌≡◌, ◌≢◌, ℕ, ◌+◌, ◌^◌, ◌<◌, ◌≤◌, ◌==◌, ◌↔◌, ◌⊎◌, [], OnOk, IsOk, OnSome, IfSome, IsSome, Some, None, option_copied};
+ghost use Rattle.std.specs.Prelude.{◌≡◌, ◌≢◌, ℕ, ◌+◌, ◌^◌, ◌<◌, ◌≤◌, ◌==◌, ◌↔◌, ◌⊎◌, [], length, OnOk, IsOk, OnSome, IfSome, IsSome, Some, None, option_copied};
 ghost use Rattle.std.specs.Option.{option_copied_mut};
 ghost use Rattle.std.specs.Borrow.{sem};
 ghost use Rattle.std.specs.FinMap as map;
 ghost use Rattle.gpu_slots.specs.SlotMap.{generation_of, IsGiven, IsGone, StaysGone};
 ghost use Rattle.gpu_slots.specs.SlotMap.{HasNone, PutsAt, TakesAt};
+ghost use Rattle.gpu_slots.specs.SlotMap.{ArePlaced, HasNoneFrom, IsFirstFrom, TakesPlace};
 
 use std::alloc::{AllocError, Allocator, Global};
 use std::marker::Model;
@@ -131,6 +132,7 @@ impl<T, A: Allocator> SlotMap<T, A> {
         ensures puts { PutsAt self.old.live result value self.new.live }
         ensures given { (key : ℕ) → IsGiven self.new key ↔ (IsGiven self.old key ⊎ (key ≡ result)) }
         ensures gone { StaysGone self.old self.new }
+        ensures place { TakesPlace self.old result self.new }
         ensures room { self.old.room ≡ self.new.room + 1 }
     {
         self.len += 1;
@@ -189,6 +191,7 @@ impl<T, A: Allocator> SlotMap<T, A> {
         ensures given { (other : ℕ) → IsGiven self.new other ↔ IsGiven self.old other }
         ensures refused { OnSome result (IsGone self.new key) }
         ensures gone { StaysGone self.old self.new }
+        ensures places { length self.new.generations ≡ length self.old.generations }
         ensures room { self.old.room ≤ self.new.room }
         ensures reused { IsSome result → generation_of key + 1 < 2 ^ 32 → self.new.room ≡ self.old.room + 1 }
         ensures absent { map.get self.old.live key ≡ None → self.new ≡ self.old }
@@ -205,6 +208,33 @@ impl<T, A: Allocator> SlotMap<T, A> {
             self.free.push_reserved(at as u32);
         }
         value
+    }
+
+    /// Nothing is done: its contract tells where values lie in every map. Each live key's place is one of those that
+    /// there are, and no other live key has it.
+    pub fn keeps_places(&self)
+        ensures { ArePlaced self.now }
+    {
+        let _ = &self.places;
+    }
+
+    /// The key of the first value at this place or at a later one, or `None` where there is none.
+    ///
+    /// Whoever goes on behind the place of each key that is answered, from place 0 on, meets the values in the order of
+    /// their places. It takes a step for each place without a value that it passes.
+    pub fn first_from(&self, place: u64) -> Option<u64>
+        ensures first { IfSome result (IsFirstFrom self.now place) }
+        ensures none { result ≡ None → HasNoneFrom self.now place }
+    {
+        let mut at = place;
+        while at < self.places.len() as u64 {
+            let found = &self.places[at as usize];
+            if found.value.is_some() {
+                return Some(found.generation * SPAN + at);
+            }
+            at += 1;
+        }
+        None
     }
 
     /// Ends the map, and gives its values one after another.
