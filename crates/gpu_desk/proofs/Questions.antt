@@ -35,6 +35,7 @@ use Rattle.gpu_answers.proofs.Asked.{open_uses_all, questions}
 use Rattle.gpu_desk.specs.Calls.{AllocationDenied, denial_after}
 use Rattle.gpu_desk.specs.Desk.{DeskState}
 use Rattle.gpu_desk.specs.declared.denial.Denial.{Denial}
+use Rattle.gpu_desk.specs.declared.wish.Wish.{Wish}
 use Rattle.gpu_desk.specs.declared.denial.Denial.TheVariants.{Open, Refused}
 
 -- Candidates.
@@ -157,12 +158,12 @@ opened None refusal question other is = absurd (other is)
 opened (Some (Stopped.Open asked)) refusal question other is = cc
 opened (Some Stopped.Strayed) refusal question other is = absurd (cc)
 
-pub allocation_asks_few : (s : DeskState) (r : Request) (hint : Option Dedicated) (answers : List Answered) (question : Question) → r.memory_types < 2 ^ 32
-    → AllocationDenied s r hint answers (Open question) → length answers < 64
+pub allocation_asks_few : (s : DeskState) (r : Request) (w : Wish) (answers : List Answered) (question : Question) → r.memory_types < 2 ^ 32
+    → AllocationDenied s r w answers (Open question) → length answers < 64
 unfolding AllocationDenied
-allocation_asks_few s r hint answers question small (inl fault) = absurd (let is = fault.1 in cc)
-allocation_asks_few s r hint answers question small (inr (able, (es, after, run, (e, decided, why)))) =
+allocation_asks_few s r w answers question small (inl fault) = absurd (let is = fault.1 in cc)
+allocation_asks_few s r w answers question small (inr (able, (es, after, run, (e, decided, why)))) =
     let used = open_uses_all (record (s.device) { run = begun answers }) es after run refl question (opened after.run.stop (Refused e) question (λ is. cc) why) in
-    let asked = allocation_asks s.allocator r hint es (Err e) s.allocator decided in
+    let asked = allocation_asks s.allocator r w.dedicated es (Err e) s.allocator decided in
     let few = few_candidates s.allocator.properties.memory_types (usage_bits r.usage) r.memory_types small in
     omega (arith, used, asked, few)

@@ -1,6 +1,6 @@
 -- What the calls of a desk do.
 use Rattle.std.specs.Prelude.{◌≡◌, ◌≢◌, ◌⊎◌, ◌↔◌, ℕ, ◌+◌, ◌==◌, ◌&&◌, ◌≤◌, false, not, cond, List}
-use Rattle.std.specs.Prelude.{◌++◌, length, Option, Some, None, is_some, Ok, Err, IsTrue}
+use Rattle.std.specs.Prelude.{◌++◌, length, Option, Some, None, is_some, IsSome, Ok, Err, IsTrue}
 use Rattle.std.specs.FinMap as map
 use Rattle.gpu_alloc_types.specs.Device.{Chain, Event, HeldWith}
 use Rattle.gpu_alloc_types.specs.Flags.{has_bit, host_visible}
@@ -32,22 +32,33 @@ use Rattle.gpu_session.specs.Sound.{HoldsNothing, KeepsGiven}
 use Rattle.gpu_session.specs.declared.command.Fault.{Fault as FaultCode}
 use Rattle.gpu_session.specs.declared.command.Fault.TheVariants.{BadSize, NoMemory, UnknownName}
 use Rattle.gpu_slots.specs.SlotMap.{IsGiven, IsGone, SlotState, StaysGone}
-use Rattle.gpu_desk.specs.Desk.{DeskState, OfKey, objects}
+use Rattle.gpu_desk.specs.Desk.{DeskState, OfKey, objects, tag_of}
 use Rattle.gpu_desk.specs.declared.denial.Denial.{Denial}
 use Rattle.gpu_desk.specs.declared.denial.Denial.TheVariants.{Open, Strayed, Refused, MapRefused, Fault}
 use Rattle.gpu_desk.specs.declared.told.Counts.{Counts}
 use Rattle.gpu_desk.specs.declared.told.Grant.{Grant}
 use Rattle.gpu_desk.specs.declared.told.HeapCounts.{HeapCounts}
 use Rattle.gpu_desk.specs.declared.told.ObjectRange.{ObjectRange}
+use Rattle.gpu_desk.specs.declared.wish.Tag.{Tag}
+use Rattle.gpu_desk.specs.declared.wish.Wish.{Wish}
 
 -- What stays.
 
--- what was given to the allocator, how many objects may be held in all, each key that is gone, and each name that is past
+-- each block that lives on has the tag that it had
+abbrev pub KeepsTags : DeskState → DeskState → Type 0
+KeepsTags old new =
+    (key : ℕ) → IsSome (map.get old.blocks.live key) → IsSome (map.get new.blocks.live key)
+    → tag_of new key ≡ tag_of old key
+
+-- What was given to the allocator and the desk, how many objects may be held in all, each key that is gone, each name that
+-- is past, and what is kept with each block that lives on.
 pub record Keeps (old new : DeskState) : Type 0 where
   pub given : KeepsGiven old.allocator new.allocator
   pub total : total new.allocator ≡ total old.allocator
   pub gone : StaysGone old.blocks new.blocks
   pub names : KeepsNames old.device.held new.device.held
+  pub tags : KeepsTags old new
+  pub page : new.granularity ≡ old.granularity
 
 -- Nothing changed but the room for keys, which names are spent, and what the run tells.
 pub record IsAsBefore (old new : DeskState) : Type 0 where
@@ -56,6 +67,8 @@ pub record IsAsBefore (old new : DeskState) : Type 0 where
   pub keys : new.blocks.generations ≡ old.blocks.generations
   pub objects : objects new ≡ objects old
   pub names : new.device.held.gone ≡ old.device.held.gone
+  pub tags : new.tags ≡ old.tags
+  pub page : new.granularity ≡ old.granularity
 
 -- The device in a run.
 
@@ -80,6 +93,19 @@ pub record Tells (b : Block) (g : Grant) : Type 0 where
   pub size : g.size ≡ b.size
   pub memory_type : g.memory_type ≡ b.memory_type
 
+-- what is kept with the block is told
+pub record TellsTag (t : Tag) (g : Grant) : Type 0 where
+  pub user : g.user ≡ t.user
+  pub asked : g.asked ≡ t.asked
+  pub optimal : g.optimal ≡ t.optimal
+
+-- what a wish for so many bytes keeps with its block, and an import of so many
+abbrev pub wished : Wish → ℕ → Tag
+wished w asked = record { user = w.user; asked = asked; optimal = w.optimal }
+
+abbrev pub imported : ℕ → Tag
+imported asked = record { user = 0; asked = asked; optimal = false }
+
 -- the block is kept under a key that was never given
 pub record HasKey (old : SlotState Block) (key : ℕ) (b : Block) (new : SlotState Block) : Type 0 where
   pub never_zero : key ≢ 0
@@ -87,29 +113,31 @@ pub record HasKey (old : SlotState Block) (key : ℕ) (b : Block) (new : SlotSta
   pub live : new.live ≡ map.insert old.live key b
   pub gone : StaysGone old new
 
--- a grant: the block, its new key, and no name of an object to read that was not there before
-pub record Gives (old : DeskState) (g : Grant) (b : Block) (new : DeskState) : Type 0 where
+-- a grant: the block, its new key, what is kept with it, and no name of an object to read that was not there before
+pub record Gives (old : DeskState) (g : Grant) (b : Block) (t : Tag) (new : DeskState) : Type 0 where
   pub tells : Tells b g
+  pub tells_tag : TellsTag t g
+  pub tag : tag_of new g.key ≡ t
   pub key : HasKey old.blocks g.key b new.blocks
   pub names : new.device.held.gone ≡ old.device.held.gone
 
 -- A request is granted: as it asks, and as the allocator decides it in a run with these answers.
-pub record Allocated (old : DeskState) (r : Request) (hint : Option Dedicated) (answers : List Answered) (new : DeskState)
-    (g : Grant) : Type 0 where
+pub record Allocated (old : DeskState) (r : Request) (w : Wish) (answers : List Answered) (new : DeskState) (g : Grant)
+    : Type 0 where
   pub block : Block
-  pub gives : Gives old g block new
+  pub gives : Gives old g block (wished w r.size) new
   pub as_asked : IsGranted old.allocator r new.allocator block
-  pub own : hint ≡ Some Required → block.kind ≡ DedicatedObject
-  pub run : InRun old answers (λ es after. Allocates old.allocator r hint es (Ok block) new.allocator
+  pub own : w.dedicated ≡ Some Required → block.kind ≡ DedicatedObject
+  pub run : InRun old answers (λ es after. Allocates old.allocator r w.dedicated es (Ok block) new.allocator
       × (objects new ≡ objects_of after))
   -- the object is new, or else it was held; no other object comes or goes
   pub fresh : IsTrue g.fresh ↔ (map.get old.allocator.held block.object ≡ None)
   pub others : (name : ℕ) → name ≢ block.object → objects new name ≡ objects old name
 
 -- the allocator refuses it in a run that ends so
-abbrev pub RefusesIn : DeskState → Request → Option Dedicated → List Answered → Denial → Type 0
-RefusesIn s r hint answers d =
-    InRun s answers (λ es after. (e : AllocationError) × Allocates s.allocator r hint es (Err e) s.allocator
+abbrev pub RefusesIn : DeskState → Request → Wish → List Answered → Denial → Type 0
+RefusesIn s r w answers d =
+    InRun s answers (λ es after. (e : AllocationError) × Allocates s.allocator r w.dedicated es (Err e) s.allocator
     × (d ≡ denial_after after.run.stop (Refused e)))
 
 -- why a request is denied: the first condition that it misses, or want of memory, or the run
@@ -120,14 +148,14 @@ IsFaultOf missed d =
 abbrev pub fault_of_alloc : DeskState → Request → Option FaultCode
 fault_of_alloc s r = fault_of_request s.allocator.properties.buffer_device_address r
 
-unfoldable pub AllocationDenied : DeskState → Request → Option Dedicated → List Answered → Denial → Type 0
-AllocationDenied s r hint answers d =
-    IsFaultOf (fault_of_alloc s r) d ⊎ ((fault_of_alloc s r ≡ None) × RefusesIn s r hint answers d)
+unfoldable pub AllocationDenied : DeskState → Request → Wish → List Answered → Denial → Type 0
+AllocationDenied s r w answers d =
+    IsFaultOf (fault_of_alloc s r) d ⊎ ((fault_of_alloc s r ≡ None) × RefusesIn s r w answers d)
 
 -- An import: the block is the given span of a new object, which the device holds so.
 pub record Imported (old : DeskState) (t object_size offset size : ℕ) (new : DeskState) (g : Grant) : Type 0 where
   pub block : Block
-  pub gives : Gives old g block new
+  pub gives : Gives old g block (imported size) new
   pub as_asked : block ≡ imported_block old.allocator g.object t offset size
   pub fresh : g.fresh ≡ false
   pub was_free : objects old g.object ≡ None
@@ -159,13 +187,21 @@ pub record CleansUp (old new : DeskState) : Type 0 where
   pub cleaned : (es : List Event) × Chain IsStep old.device es new.device × Cleans old.allocator es new.allocator
   pub goes : LetsGo old new
   pub blocks : new.blocks ≡ old.blocks
+  pub tags : new.tags ≡ old.tags
   pub rest : old.blocks.live ≡ map.empty → HoldsNothing old.allocator new.allocator
 
 -- Blocks on their objects.
 
 -- the block of the key is told
 abbrev pub Told : DeskState → ℕ → Grant → Type 0
-Told s key g = (g.key ≡ key) × (g.fresh ≡ false) × OfKey s key (λ b. Tells b g)
+Told s key g = (g.key ≡ key) × (g.fresh ≡ false) × OfKey s key (λ b. Tells b g) × TellsTag (tag_of s key) g
+
+-- nothing but the caller's value of one live block is another now
+pub record SetsUser (old : DeskState) (key user : ℕ) (new : DeskState) : Type 0 where
+  pub live : IsSome (map.get old.blocks.live key)
+  pub only : new ≡ record old { tags = new.tags }
+  pub set : tag_of new key ≡ record (tag_of old key) { user = user }
+  pub others : (other : ℕ) → IsSome (map.get old.blocks.live other) → other ≢ key → tag_of new other ≡ tag_of old other
 
 -- nothing but one block's mapping changes in the books
 pub record MapsOnly (old : DeskState) (key : ℕ) (b : Block) (mapping : Option Mapping) (new : DeskState) : Type 0 where
@@ -251,3 +287,5 @@ pub record OnlyReads (old new : DeskState) : Type 0 where
   pub allocator : new.allocator ≡ old.allocator
   pub blocks : new.blocks ≡ old.blocks
   pub objects : objects new ≡ objects old
+  pub tags : new.tags ≡ old.tags
+  pub page : new.granularity ≡ old.granularity

@@ -1,7 +1,8 @@
 -- What a contract sees of a desk.
-use Rattle.std.specs.Prelude.{◌≡◌, ℕ, [], Option, Some, refl}
-use Rattle.std.specs.Coded.{Coded, code_by, coded×}
+use Rattle.std.specs.Prelude.{◌≡◌, ℕ, ◌==◌, ◌^◌, ◌≤◌, false, cond, List, [], length, Option, Some, IsTrue, refl, slice_index_or}
+use Rattle.std.specs.Coded.{Coded, code_by, coded×, coded_ℕ, coded_list}
 use Rattle.std.specs.FinMap as map
+use Rattle.std.specs.Int.{is_power_of_two}
 use Rattle.gpu_alloc_types.specs.Device.{Object}
 use Rattle.gpu_alloc.specs.Codes.{block_code, state_code}
 use Rattle.gpu_alloc.specs.State.{Block, State}
@@ -10,19 +11,40 @@ use Rattle.gpu_answers.specs.DeviceState.{DeviceState, device_code}
 use Rattle.gpu_answers.specs.Held.{AreNamed}
 use Rattle.gpu_session.specs.Books.{Books}
 use Rattle.gpu_session.specs.Sound as session
-use Rattle.gpu_slots.specs.SlotMap.{SlotState, slots_code}
+use Rattle.gpu_session.specs.declared.offer.Offer.{Offer}
+use Rattle.gpu_slots.specs.SlotMap.{SlotState, place_of, slots_code}
+use Rattle.gpu_desk.specs.contracts.wish.Tag as tag
+use Rattle.gpu_desk.specs.declared.wish.Tag.{Tag}
 
--- the allocator, the live blocks by key, and the device that is asked from outside
+-- The allocator, the live blocks by key, the device that is asked from outside, what is kept with blocks, by the place of
+-- the key, and the granularity of buffers and images, in bytes.
 pub record DeskState : Type 0 where
   pub allocator : State
   pub blocks : SlotState Block
   pub device : DeviceState
+  pub tags : List Tag
+  pub granularity : ℕ
 
 abbrev pub desk_code : Coded DeskState
 desk_code =
-    code_by (State × (SlotState Block × DeviceState)) (coded× state_code (coded× (slots_code block_code) device_code))
-    (λ s. (s.allocator, (s.blocks, s.device))) (λ c. record { allocator = c.0; blocks = c.1.0; device = c.1.1 })
+    code_by (State × (SlotState Block × (DeviceState × (List Tag × ℕ))))
+    (coded× state_code (coded× (slots_code block_code) (coded× device_code (coded× (coded_list tag.the_row.coded) coded_ℕ))))
+    (λ s. (s.allocator, (s.blocks, (s.device, (s.tags, s.granularity)))))
+    (λ c. record {
+      allocator = c.0;
+      blocks = c.1.0;
+      device = c.1.1.0;
+      tags = c.1.1.1.0;
+      granularity = c.1.1.1.1;
+    })
     (λ _. refl)
+
+-- what is kept with the block of a key
+abbrev pub tag_at : List Tag → ℕ → Tag
+tag_at tags key = slice_index_or tags (place_of key) (record { user = 0; asked = 0; optimal = false })
+
+abbrev pub tag_of : DeskState → ℕ → Tag
+tag_of s key = tag_at s.tags key
 
 -- the allocator and its live blocks, as a session has them under names
 abbrev pub books : DeskState → Books
@@ -50,3 +72,19 @@ pub record IsEmpty (s : DeskState) : Type 0 where
   pub held : s.allocator.held ≡ map.empty
   pub objects : s.device.held.objects ≡ map.empty
   pub names : s.device.held.gone ≡ []
+  pub tags : s.tags ≡ []
+
+-- the size of a page for a granularity, which is at least 1
+abbrev pub page_of : ℕ → ℕ
+page_of granularity = cond (granularity == 0) 1 granularity
+
+-- a size of pages that a desk takes
+pub record IsPage (g : ℕ) : Type 0 where
+  pub power : IsTrue (is_power_of_two g)
+  pub small : g ≤ 2 ^ 32
+
+-- What a desk's fields keep: what a session's do, a place for each key, and a tag for each place.
+pub record IsDesk {A : Type 0} (o : Offer A) (s : DeskState) : Type 0 where
+  pub kept : session.IsKept s.device.properties (objects s) (books s) o
+  pub tagged : length s.tags ≡ length s.blocks.generations
+  pub page : IsPage s.granularity

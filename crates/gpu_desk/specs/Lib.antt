@@ -1,3 +1,4 @@
 pub mod Calls
 pub mod Desk
 pub mod Names
+pub mod Walk

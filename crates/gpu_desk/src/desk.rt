@@ -4,12 +4,15 @@ ghost use Rattle.std.specs.Prelude.{◌≡◌, [], IfOk, OnOk, Err};
 ghost use Rattle.std.specs.FinMap as map;
 ghost use Rattle.gpu_alloc_types.specs.Properties.{IsUsable, properties_of};
 ghost use Rattle.gpu_alloc.specs.Opening.{opened};
-ghost use Rattle.gpu_desk.specs.Desk.{IsEmpty, IsSound};
+ghost use Rattle.gpu_slots.specs.SlotMap as slots;
+ghost use Rattle.gpu_desk.specs.Desk.{IsEmpty, IsPage, IsSound, page_of};
 
 mod counting;
 mod granting;
 mod mapping;
+mod walking;
 
+use crate::wish::Tag;
 use crate::{Config, DeviceProperties, OpenError};
 use gpu_alloc::{GpuAllocator, MemoryBlock};
 use gpu_answers::{AnsweredDevice, ObjectName};
@@ -21,6 +24,12 @@ use std::marker::Model;
 /// Live blocks by key.
 type Blocks = SlotMap<MemoryBlock<ObjectName>>;
 
+/// How many places of keys there can be: a key's place is in its lower 32 bits.
+const PLACES: u64 = 1 << 32;
+
+/// The largest granularity of buffers and images, in bytes.
+const LARGEST_PAGE: u64 = 1 << 32;
+
 /// An allocator with its live blocks by key, whose device is asked from outside. It cannot be let go:
 /// [`close`](Desk::close) ends it.
 ///
@@ -31,6 +40,9 @@ pub struct Desk {
     allocator: GpuAllocator<ObjectName>,
     device: AnsweredDevice,
     blocks: Blocks,
+    // By the key's place: what is kept with its block, or was kept with the latest block that the place had.
+    tags: Vec<Tag>,
+    granularity: u64,
     offer: Offer<Global>,
 }
 
@@ -41,42 +53,67 @@ impl Model for Desk {
 
     ghost coded = { desk_code };
 
-    ghost use Rattle.gpu_answers.specs.Device.{objects_of};
-    ghost use Rattle.gpu_session.specs.Sound.{IsKept};
+    ghost use Rattle.gpu_desk.specs.Desk.{IsDesk};
 
-    ghost view = { λ d. record { allocator = d.allocator; blocks = d.blocks; device = d.device } };
+    ghost view = { λ d. record {
+      allocator = d.allocator;
+      blocks = d.blocks;
+      device = d.device;
+      tags = d.tags.items;
+      granularity = d.granularity;
+    } };
 
-    ghost invariant = { λ d. IsKept d.device.properties (objects_of d.device)
-        (record { allocator = d.allocator; blocks = d.blocks.live }) d.offer };
+    ghost invariant = { λ d. IsDesk d.offer (record {
+      allocator = d.allocator;
+      blocks = d.blocks;
+      device = d.device;
+      tags = d.tags.items;
+      granularity = d.granularity;
+    }) };
 }
 
 impl Desk {
     /// A desk over a device that offers these, with nothing held.
     ///
-    /// Takes memory for its tables. Fails where the properties are not usable, or for want of memory.
+    /// `granularity` is the device's `bufferImageGranularity`, in bytes: where it is over 1, the bytes of a linear and of
+    /// an optimal resource may share no page of that size. 0 counts as 1.
+    ///
+    /// Takes memory for its tables. Fails where the properties are not usable, or the granularity is no power of two or
+    /// over 2^32, by `BadProperties`; or for want of memory.
     pub fn new(
         alloc: Global,
         config: Config,
         props: DeviceProperties<'_>,
+        granularity: u64,
     ) -> Result<Desk, OpenError>
         ensures opened { IfOk result (λ desk. desk.allocator ≡ opened config (properties_of props.entry)) }
         ensures empty { IfOk result IsEmpty }
-        ensures usable { OnOk result (IsUsable (properties_of props.entry)) }
-        ensures bad { result ≡ Err OpenError.BadProperties → IsUsable (properties_of props.entry) → ⊥ }
+        ensures page { IfOk result (λ desk. desk.granularity ≡ page_of granularity) }
+        ensures usable { OnOk result (IsUsable (properties_of props.entry) × IsPage (page_of granularity)) }
+        ensures bad { result ≡ Err OpenError.BadProperties → IsUsable (properties_of props.entry)
+            → IsPage (page_of granularity) → ⊥ }
     {
-        if !props.is_usable() {
+        let page = page_of(granularity);
+        if !props.is_usable() || page > LARGEST_PAGE || !page.is_power_of_two() {
             return Err(OpenError::BadProperties);
         }
-        match Desk::over(alloc, config, props) {
+        match Desk::over(alloc, config, props, page) {
             Ok(desk) => Ok(desk),
             Err(_) => Err(OpenError::OutOfHostMemory),
         }
     }
 
-    fn over(alloc: Global, config: Config, props: DeviceProperties<'_>) -> Result<Desk, AllocError>
-        requires { IsUsable (properties_of props) }
+    fn over(
+        alloc: Global,
+        config: Config,
+        props: DeviceProperties<'_>,
+        page: u64,
+    ) -> Result<Desk, AllocError>
+        requires usable { IsUsable (properties_of props) }
+        requires page { IsPage page }
         ensures opened { IfOk result (λ desk. desk.allocator ≡ opened config (properties_of props.entry)) }
         ensures empty { IfOk result IsEmpty }
+        ensures page { IfOk result (λ desk. desk.granularity ≡ page) }
     {
         let offer = Offer::of(alloc, &props)?;
         let device = AnsweredDevice::new(alloc, again(&props))?;
@@ -87,6 +124,8 @@ impl Desk {
             allocator,
             device,
             blocks: SlotMap::new(alloc),
+            tags: Vec::new(alloc),
+            granularity: page,
             offer,
         })
     }
@@ -109,11 +148,28 @@ impl Desk {
             allocator,
             device: _,
             blocks,
+            tags: _,
+            granularity: _,
             offer: _,
         } = self;
         blocks.destroy_empty();
         allocator.close();
     }
+}
+
+/// The place of a key, in which its tag is too.
+#[inline(always)]
+fn place_of(key: u64) -> usize
+    ensures { result ≡ slots.place_of key }
+{
+    (key % PLACES) as usize
+}
+
+/// The size of a page, in bytes: the granularity, or 1 where it is 0.
+fn page_of(granularity: u64) -> u64
+    ensures { result ≡ page_of granularity }
+{
+    if granularity == 0 { 1 } else { granularity }
 }
 
 /// The same properties once more.

@@ -1,8 +1,9 @@
-//! A law of any calls of a desk, over the definitions alone. The function does nothing.
+//! Laws of any calls of a desk, over the definitions alone. The functions do nothing.
 
-ghost use Rattle.std.specs.Prelude.{ℕ};
+ghost use Rattle.std.specs.Prelude.{ℕ, List, All};
 ghost use Rattle.gpu_desk.specs.Desk.{DeskState, IsSound};
 ghost use Rattle.gpu_desk.specs.Names.{IsPast, IsSpent, MakesEver, NamesNothing, Waits};
+ghost use Rattle.gpu_desk.specs.Walk.{ComesOnce, IsLiveKey, NeverComes, WalksAll};
 
 /// However calls follow one another, a name never comes twice. An object that was given back is past: its name waits to
 /// be read, and no object and no live block has it, then and ever after. Once it is read ([`Desk::next_gone`]) it is
@@ -13,4 +14,15 @@ pub fn no_name_comes_twice()
     ensures waiting { (s : DeskState) → IsSound s → (name : ℕ) → Waits s name → IsPast s name }
     ensures nothing { MakesEver IsPast NamesNothing }
     ensures once { MakesEver IsSpent (λ s name. Waits s name → ⊥) }
+{}
+
+/// A whole walk by [`Desk::block_after`] tells each block exactly once that lives all along, and none that lives at none
+/// of its calls, whatever calls are made between. So it tells exactly the live blocks where nothing changes meanwhile.
+///
+/// [`Desk::block_after`]: crate::Desk::block_after
+pub fn a_walk_meets_each_block_once()
+    ensures once { (states : List DeskState) (keys : List ℕ) → WalksAll states keys → (key : ℕ)
+        → All (IsLiveKey key) states → ComesOnce keys key }
+    ensures never { (states : List DeskState) (keys : List ℕ) → WalksAll states keys → (key : ℕ)
+        → All (λ s. IsLiveKey key s → ⊥) states → NeverComes keys key }
 {}

@@ -6,6 +6,7 @@ mod denial;
 mod desk;
 pub mod laws;
 mod told;
+mod wish;
 
 pub use denial::{Denial, OpenError};
 pub use desk::Desk;
@@ -16,3 +17,4 @@ pub use gpu_alloc::{
 pub use gpu_answers::{Answer, Answered, Question};
 pub use gpu_session::Fault;
 pub use told::{Counts, Grant, HeapCounts, ObjectRange};
+pub use wish::Wish;

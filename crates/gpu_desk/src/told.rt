@@ -20,6 +20,15 @@ pub struct Grant {
 
     /// Whether its object is new: the one that was made last for this grant. No import's is.
     pub fresh: bool,
+
+    /// The caller's own value: the wish's, or 0 for an import, or what [`set_user`](crate::Desk::set_user) set last.
+    pub user: u64,
+
+    /// How many bytes were asked for, at most the size. Of an import it is the size.
+    pub asked: u64,
+
+    /// Whether the request was for an optimal resource. No import is.
+    pub optimal: bool,
 }
 
 /// A range of an object.

@@ -48,9 +48,10 @@ module _ {T : Type 0} (places : List (Place T)) (few : length places < 2 ^ 32) w
     ]
 
     -- and this one has
-    pub first_from : start ≤ at → at < length places → (p : Place T) → p ≡ place_at places at → IsSome p.value → (room : ℕ)
+    pub first_from : start ≤ at → at < length places → (p : Place T) → p ≡ place_at places at → IsSome p.value → 0 < p.generation → (room : ℕ)
         → IsFirstFrom (seen room) start (p.generation * 2 ^ 32 + at)
-    first_from from within p is some room = record {
+    first_from from within p is some begun room = record {
+      never_zero = λ e. omega (arith, e, begun);
       live = live;
       from = omega (arith, parts, from);
       others = others;

@@ -85,6 +85,7 @@ HasNoneFrom s place = (key : ℕ) → IsSome (map.get s.live key) → place_of k
 -- The key is that of the first value at that place or at a later one: each other value lies before the place, or behind
 -- the key's.
 pub record IsFirstFrom {T : Type 0} (s : SlotState T) (place key : ℕ) : Type 0 where
+  pub never_zero : key ≢ 0
   pub live : IsSome (map.get s.live key)
   pub from : place ≤ place_of key
   pub others : (other : ℕ) → IsSome (map.get s.live other)

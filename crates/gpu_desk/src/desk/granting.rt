@@ -1,6 +1,7 @@
 //! Calls that grant blocks and take them back.
 
-ghost use Rattle.std.specs.Prelude.{◌≡◌, ◌<◌, List, length, Some, Err, IfOk, IfErr, OnOk, OnErr};
+ghost use Rattle.std.specs.Prelude.{◌≡◌, ◌<◌, ℕ, List, length, Some, Err, IfOk, IfErr, IsSome, OnOk, OnErr, vec_len, vec_capacity};
+ghost use Rattle.std.specs.FinMap as map;
 ghost use Rattle.gpu_alloc_types.specs.Device.{Event, Chain};
 ghost use Rattle.gpu_alloc_block.specs.Agreement.{Agrees, BlockAgrees, KeepsBlocks};
 ghost use Rattle.gpu_alloc_block.specs.State.{total};
@@ -10,16 +11,19 @@ ghost use Rattle.gpu_alloc.specs.Request.{IsAskable};
 ghost use Rattle.gpu_alloc.specs.Sound as allocator_sound;
 ghost use Rattle.gpu_answers.specs.Device.{IsStep, objects_of};
 ghost use Rattle.gpu_desk.specs.Calls.{AllocationDenied, Allocated, CleansUp, HasKey, ImportDenied, Imported};
-ghost use Rattle.gpu_desk.specs.Calls.{IsAsBefore, IsUnknown, Keeps, Returns, Tells};
+ghost use Rattle.gpu_desk.specs.Calls.{IsAsBefore, IsUnknown, Keeps, Returns, Tells, TellsTag};
+ghost use Rattle.gpu_desk.specs.Desk.{tag_at};
 
-use super::{Blocks, Desk};
+use super::{Blocks, Desk, place_of};
 use crate::denial::denial_after;
-use crate::{Denial, Fault, Grant};
+use crate::wish::Tag;
+use crate::{Denial, Fault, Grant, Wish};
 use gpu_alloc::laws::{made_objects_may_be_imported, objects_of_others_may_go};
 use gpu_alloc::{AllocationError, Dedicated, GpuAllocator, Kind, MemoryBlock, Request};
 use gpu_alloc_types::{MemoryObject, ObjectDevice};
 use gpu_answers::{Answer, Answered, AnsweredDevice, ObjectName, Question};
 use gpu_session::{import_fault, request_fault};
+use std::alloc::AllocError;
 
 /// Allocates a block, with a hint that it wants an object of its own or none.
 fn allocate(
@@ -51,11 +55,17 @@ fn allocate(
     }
 }
 
-/// Tells of a block.
-pub(super) fn grant_of(block: &MemoryBlock<ObjectName>, key: u64, fresh: bool) -> Grant
+/// Tells of a block, and of what is kept with it.
+pub(super) fn grant_of(
+    block: &MemoryBlock<ObjectName>,
+    key: u64,
+    fresh: bool,
+    tag: Tag,
+) -> Grant
     ensures key { result.key ≡ key }
     ensures tells { Tells block.now result }
     ensures fresh { result.fresh ≡ fresh }
+    ensures tag { TellsTag tag result }
 {
     Grant {
         key,
@@ -64,26 +74,61 @@ pub(super) fn grant_of(block: &MemoryBlock<ObjectName>, key: u64, fresh: bool) -
         size: block.size(),
         memory_type: block.memory_type(),
         fresh,
+        user: tag.user,
+        asked: tag.asked,
+        optimal: tag.optimal,
     }
 }
 
-/// Keeps a block under a new key, and tells of it. There has to be room.
-fn keep(blocks: &mut Blocks, block: MemoryBlock<ObjectName>, fresh: bool) -> Grant
-    requires { 0 < blocks.old.room }
+/// Makes room for one more key, and for its tag. Nothing but the room changes.
+fn make_room(blocks: &mut Blocks, tags: &mut Vec<Tag>) -> Result<(), AllocError>
+    ensures room { OnOk result (0 < blocks.new.room) }
+    ensures tag_room { OnOk result (vec_len tags.new < vec_capacity tags.new) }
+    ensures kept { blocks.new ≡ record blocks.old { room = blocks.new.room } }
+    ensures tags { tags.new.items ≡ tags.old.items }
+{
+    blocks.reserve()?;
+    tags.reserve(1)
+}
+
+/// Keeps a block under a new key with a tag, and tells of it. There has to be room for both.
+fn keep(
+    blocks: &mut Blocks,
+    tags: &mut Vec<Tag>,
+    block: MemoryBlock<ObjectName>,
+    fresh: bool,
+    tag: Tag,
+) -> Grant
+    requires room { 0 < blocks.old.room }
+    requires tag_room { vec_len tags.old < vec_capacity tags.old }
+    requires tagged { length tags.old.items ≡ length blocks.old.generations }
     ensures kept { HasKey blocks.old result.key block blocks.new }
     ensures tells { Tells block result }
     ensures fresh { result.fresh ≡ fresh }
+    ensures tells_tag { TellsTag tag result }
+    ensures tagged { length tags.new.items ≡ length blocks.new.generations }
+    ensures tag { tag_at tags.new.items result.key ≡ tag }
+    ensures others { (other : ℕ) → IsSome (map.get blocks.old.live other)
+        → tag_at tags.new.items other ≡ tag_at tags.old.items other }
 {
-    let told = grant_of(&block, 0, fresh);
+    let told = grant_of(&block, 0, fresh, tag);
     let key = blocks.insert_reserved(block);
+    blocks.keeps_places();
+    let place = place_of(key);
+    if place == tags.len() {
+        tags.push_reserved(tag);
+    } else {
+        tags[place] = tag;
+    }
     Grant { key, ..told }
 }
 
 impl Desk {
     /// Allocates a block as `GpuAllocator::alloc` does, or with a hint as `alloc_with_dedicated`, in a run with these
-    /// answers.
+    /// answers. The wish's value stands with the block, with the size that was asked for and whether it is for an optimal
+    /// resource.
     ///
-    /// The grant tells where the block lies, and whether its object is new: the one that was made last outside. Any other
+    /// The grant tells where the block lies, what stands with it, and whether its object is new: the one that was made last outside. Any other
     /// object that was made for the request outside is its caller's to free, and so is each where the call is denied.
     ///
     /// Denied are: a request that is not askable, by the fault that it misses first; `Fault::NoMemory` for want of
@@ -96,11 +141,11 @@ impl Desk {
     pub fn alloc(
         &mut self,
         request: Request,
-        dedicated: Option<Dedicated>,
+        wish: Wish,
         answers: &[Answered],
     ) -> Result<Grant, Denial>
-        ensures granted { IfOk result (Allocated self.old request dedicated answers.now self.new) }
-        ensures denied { IfErr result (AllocationDenied self.old request dedicated answers.now) }
+        ensures granted { IfOk result (Allocated self.old request wish answers.now self.new) }
+        ensures denied { IfErr result (AllocationDenied self.old request wish answers.now) }
         ensures asks { (question : Question) → result ≡ Err (Denial.Open question) → length answers.now < 64 }
         ensures unchanged { OnErr result (IsAsBefore self.old self.new) }
         ensures keeps { Keeps self.old self.new }
@@ -108,7 +153,7 @@ impl Desk {
         if let Some(fault) = request_fault(request, self.offer.buffer_device_address) {
             return Err(Denial::Fault(fault));
         }
-        if self.blocks.reserve().is_err() {
+        if make_room(&mut self.blocks, &mut self.tags).is_err() {
             return Err(Denial::Fault(Fault::NoMemory));
         }
         let Ok(()) = self.device.begin(answers) else {
@@ -116,12 +161,22 @@ impl Desk {
         };
         let held = self.allocator.held_objects();
         let told = self.device.gone().len();
-        let answer = allocate(&mut self.allocator, &mut self.device, request, dedicated);
+        let answer = allocate(
+            &mut self.allocator,
+            &mut self.device,
+            request,
+            wish.dedicated,
+        );
         self.device.forget_gone_after(told);
         match answer {
             Ok(block) => {
                 let fresh = self.allocator.held_objects() > held;
-                Ok(keep(&mut self.blocks, block, fresh))
+                let tag = Tag {
+                    user: wish.user,
+                    asked: request.size,
+                    optimal: wish.optimal,
+                };
+                Ok(keep(&mut self.blocks, &mut self.tags, block, fresh, tag))
             }
             Err(refusal) => { Err(denial_after(&self.device, Denial::Refused(refusal))) }
         }
@@ -129,7 +184,8 @@ impl Desk {
 
     /// Takes a range of an object of the caller's as a block, as `GpuAllocator::import_memory` does. The object is not
     /// mapped, and has `object_size` bytes of the memory type. It is held from then on under the name that the grant
-    /// tells, and goes with its block.
+    /// tells, and goes with its block. The caller's value is 0, the bytes that were asked for are the size, and the block
+    /// counts as a linear one, though it has its object alone.
     ///
     /// Denied are: an import that misses a condition, by the first that it misses, and `Fault::NoMemory` for want of
     /// memory. Nothing has changed then, and the object stays the caller's.
@@ -156,7 +212,7 @@ impl Desk {
         if let Some(fault) = fault {
             return Err(Denial::Fault(fault));
         }
-        if self.blocks.reserve().is_err() {
+        if make_room(&mut self.blocks, &mut self.tags).is_err() {
             return Err(Denial::Fault(Fault::NoMemory));
         }
         // The device is told that its object was made: the caller has done so.
@@ -181,7 +237,14 @@ impl Desk {
             .allocator
             .import_memory(memory, memory_type, props, offset, size)
         {
-            Ok(block) => Ok(keep(&mut self.blocks, block, false)),
+            Ok(block) => {
+                let tag = Tag {
+                    user: 0,
+                    asked: size,
+                    optimal: false,
+                };
+                Ok(keep(&mut self.blocks, &mut self.tags, block, false, tag))
+            }
             Err(memory) => {
                 self.device.deallocate_memory(&memory);
                 objects_of_others_may_go(&self.allocator, &self.device);

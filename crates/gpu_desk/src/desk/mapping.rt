@@ -25,13 +25,13 @@ fn object_to_unmap(block: &MemoryBlock<ObjectName>) -> Option<u64>
 }
 
 impl Desk {
-    /// Tells where the block of a key lies. Denied is a key that has no live block, by `Fault::UnknownName`.
+    /// Tells where the block of a key lies, and what stands with it. Denied is a key that has no live block, by `Fault::UnknownName`.
     pub fn block(&self, key: u64) -> Result<Grant, Denial>
         ensures told { IfOk result (Told self.now key) }
         ensures denied { IfErr result (IsUnknown self.now key) }
     {
         match self.blocks.get(key) {
-            Some(block) => Ok(grant_of(block, key, false)),
+            Some(block) => Ok(grant_of(block, key, false, self.tag(key))),
             None => Err(Denial::Fault(Fault::UnknownName)),
         }
     }

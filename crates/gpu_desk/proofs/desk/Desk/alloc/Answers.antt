@@ -1,5 +1,6 @@
-use Rattle.std.proofs.Common.{rules, ◌≡◌, None, length, take, sym, ◌∙◌, ap, subst, inr, List, ℕ, arith}
+use Rattle.std.proofs.Common.{rules, ◌≡◌, None, length, take, refl, sym, ◌∙◌, ap, subst, inr, List, ℕ, arith}
 use Rattle.std.specs.FinMap as map
+use Rattle.std.specs.Option.{IsSome}
 use Rattle.gpu_alloc_types.specs.Device.{Chain}
 use Rattle.gpu_alloc.specs.State.{Block}
 use Rattle.gpu_answers.specs.Asking.{RunState, begun}
@@ -10,6 +11,7 @@ use Rattle.gpu_session.proofs.Grants.{grant_is_kept}
 use Rattle.gpu_session.proofs.Returns.{kept_block}
 use Rattle.gpu_slots.specs.SlotMap.{SlotState}
 use Rattle.gpu_desk.specs.Calls.{AllocationDenied, denial_after}
+use Rattle.gpu_desk.specs.Desk.{tag_at}
 use Rattle.gpu_desk.specs.declared.denial.Denial.TheVariants.{Open, Refused}
 use Rattle.gpu_desk.proofs.GoneNames.{names_of_before}
 use Rattle.gpu_desk.proofs.Kept.{begun_is, begun_keeps_names, forgetting_keeps_names, free_key, fresh_is, given_others, has_key, kept_over, same_objects}
@@ -19,12 +21,12 @@ use Rattle.gpu_desk.proofs.desk.Desk.alloc.Goals as goal
 pub invariant_of-self-in-Ok-answer : goal.invariant_of-self-in-Ok-answer
 invariant_of-self-in-Ok-answer c =
     let done = c.in-Ok-answer.ensures in
-    let lives : c.reserve.new.self.live ≡ c.self.inside.blocks.live = ap (λ (s : SlotState Block). s.live) c.reserve.ensures.kept in
-    let begins = kept_over c.self.inside.device c.begin.new.self c.begin.ensures.offers (ap (λ (h : HeldState). h.objects) c.begin.ensures.held) c.self.invariant in
+    let lives : c.make_room.new.blocks.live ≡ c.self.inside.blocks.live = ap (λ (s : SlotState Block). s.live) c.make_room.ensures.kept in
+    let begins = kept_over c.self.inside.device c.begin.new.self c.begin.ensures.offers (ap (λ (h : HeldState). h.objects) c.begin.ensures.held) c.self.invariant.kept in
     let forgets = c.forget_gone_after.ensures in
     let key = c.keep.ensures.kept in
-    rw (key.live, lives) (kept_over c.allocate-answer.new.device c.forget_gone_after.new.self forgets.offers forgets.objects (grant_is_kept begins (record {
-      free = sym (ap (λ (m : map.FinMap _ Block). map.get m c.keep.result.key) lives) ∙ free_key c.reserve.new.self c.keep.result.key key.new_key;
+    rw (key.live, lives) (record { tagged = c.keep.ensures.tagged; page = c.self.invariant.page; kept = kept_over c.allocate-answer.new.device c.forget_gone_after.new.self forgets.offers forgets.objects (grant_is_kept begins (record {
+      free = sym (ap (λ (m : map.FinMap _ Block). map.get m c.keep.result.key) lives) ∙ free_key c.make_room.new.blocks c.keep.result.key key.new_key;
       adds = done.added;
       leaves = done.leaves;
       owned = done.granted.owned;
@@ -32,7 +34,7 @@ invariant_of-self-in-Ok-answer c =
       keeps = λ b owned. kept_block _ _ _ _ _ _ b done.keeps owned (done.leaves.owned b owned);
       sound = done.sound;
       agrees = done.agrees;
-    })))
+    })) })
 
 pub returns-in-Ok-answer-clause-granted : goal.returns-in-Ok-answer-clause-granted
 returns-in-Ok-answer-clause-granted c =
@@ -49,7 +51,9 @@ returns-in-Ok-answer-clause-granted c =
       block = b;
       gives = record {
         tells = c.keep.ensures.tells;
-        key = has_key c.self.inside.blocks c.reserve.new.self _ _ b c.keep.new.blocks c.reserve.ensures.kept key;
+        tells_tag = c.keep.ensures.tells_tag;
+        tag = c.keep.ensures.tag;
+        key = has_key c.self.inside.blocks c.make_room.new.blocks _ _ b c.keep.new.blocks c.make_room.ensures.kept key;
         names = forgets.gone ∙ ap (λ (xs : List ℕ). take (length xs) mid.held.gone) c.gone-told.ensures ∙ names_of_before c.begin.new.self done.decided.0 mid done.decided.1
             ∙ ap (λ (h : HeldState). h.gone) c.begin.ensures.held;
       };
@@ -69,7 +73,7 @@ returns-in-Err-clause-denied c =
     let begins = begun_is c.self.inside.device c.begin.new.self (begun c.args.answers.now) c.in-Ok.ensures.run c.begin.ensures.offers c.begin.ensures.held in
     let decided = rw done.refused at done.decided in
     rw (← c.self.view_is) (inr (
-      tested_request c.self.invariant c.args.request None (sym c.in_default.ensures),
+      tested_request c.self.invariant.kept c.args.request None (sym c.in_default.ensures),
       (
         decided.0,
         mid,
@@ -86,9 +90,11 @@ returns-in-Err-clause-unchanged c =
     let forgets = c.forget_gone_after.ensures in
     let shown_at_first = same_objects c.self.inside.device c.begin.new.self c.begin.ensures.offers (ap (λ (h : HeldState). h.objects) c.begin.ensures.held) in
     rw (← c.self.view_is) (record {
+      tags = c.make_room.ensures.tags;
+      page = refl;
       allocator = done.refused;
-      live = ap (λ (s : SlotState Block). s.live) c.reserve.ensures.kept;
-      keys = ap (λ (s : SlotState Block). s.generations) c.reserve.ensures.kept;
+      live = ap (λ (s : SlotState Block). s.live) c.make_room.ensures.kept;
+      keys = ap (λ (s : SlotState Block). s.generations) c.make_room.ensures.kept;
       objects = same_objects mid now forgets.offers forgets.objects ∙ done.objects ∙ shown_at_first;
       names = forgets.gone ∙ ap (λ (xs : List ℕ). take (length xs) mid.held.gone) c.gone-told.ensures ∙ names_of_before c.begin.new.self done.decided.0 mid done.decided.1
           ∙ ap (λ (h : HeldState). h.gone) c.begin.ensures.held;
@@ -100,11 +106,14 @@ returns-in-Ok-answer-clause-keeps c =
     let mid = c.allocate-answer.new.device in
     let forgets = c.forget_gone_after.ensures in
     let run = begun_keeps_names c.self.inside.device c.begin.new.self done.decided.0 mid c.begin.ensures.held done.decided.1 in
+    let lives : c.make_room.new.blocks.live ≡ c.self.inside.blocks.live = ap (λ (s : SlotState Block). s.live) c.make_room.ensures.kept in
     rw (← c.self.view_is) (record {
       given = search rules;
       total = search rules;
       gone = search rules;
       names = forgetting_keeps_names c.self.inside.device.held mid.held c.forget_gone_after.new.self.held _ run forgets.gone forgets.objects forgets.last_name;
+      tags = λ q was is. c.keep.ensures.others q (subst (λ (m : map.FinMap _ Block). IsSome (map.get m q)) (sym lives) was) ∙ ap (λ ts. tag_at ts q) c.make_room.ensures.tags;
+      page = refl;
     })
 
 pub returns-in-Err-clause-keeps : goal.returns-in-Err-clause-keeps
@@ -118,11 +127,13 @@ returns-in-Err-clause-keeps c =
       total = search rules;
       gone = search rules;
       names = forgetting_keeps_names c.self.inside.device.held mid.held c.forget_gone_after.new.self.held _ run forgets.gone forgets.objects forgets.last_name;
+      tags = λ q was is. ap (λ ts. tag_at ts q) c.make_room.ensures.tags;
+      page = refl;
     })
 
 pub returns-in-Err-clause-asks : goal.returns-in-Err-clause-asks
 returns-in-Err-clause-asks c = λ question is.
-    let denied : AllocationDenied c.args.self.now c.args.request c.args.dedicated c.args.answers.now c.denial_after.result = returns-in-Err-clause-denied c in
+    let denied : AllocationDenied c.args.self.now c.args.request c.args.wish c.args.answers.now c.denial_after.result = returns-in-Err-clause-denied c in
     let open_is : c.denial_after.result ≡ Open question = cc in
-    allocation_asks_few c.args.self.now c.args.request c.args.dedicated c.args.answers.now question (omega arith)
-    (subst (AllocationDenied c.args.self.now c.args.request c.args.dedicated c.args.answers.now) open_is denied)
+    allocation_asks_few c.args.self.now c.args.request c.args.wish c.args.answers.now question (omega arith)
+    (subst (AllocationDenied c.args.self.now c.args.request c.args.wish c.args.answers.now) open_is denied)

@@ -7,7 +7,11 @@ use Rattle.gpu_desk.proofs.desk.Desk.cleanup.Goals as goal
 pub invariant_of-self : goal.invariant_of-self
 invariant_of-self c =
     let done = c.cleanup.ensures in
-    cleanup_is_kept c.self.invariant (record { leaves = done.leaves; rest = done.rest; keeps = done.keeps; sound = done.sound; agrees = done.agrees })
+    record {
+      kept = cleanup_is_kept c.self.invariant.kept (record { leaves = done.leaves; rest = done.rest; keeps = done.keeps; sound = done.sound; agrees = done.agrees });
+      tagged = c.self.invariant.tagged;
+      page = c.self.invariant.page;
+    }
 
 pub returns-clause-cleaned : goal.returns-clause-cleaned
 returns-clause-cleaned c =
@@ -16,7 +20,8 @@ returns-clause-cleaned c =
       cleaned = done.cleaned;
       goes = record { back = done.gone; names = returns_add c.self.inside.device done.gone.gone c.cleanup.new.device done.gone.asked };
       blocks = refl;
-      rest = λ empty. let ended = done.ends (nothing_live c.self.invariant.sound empty) in nothing_held _ _ done.total ended.0 ended.1;
+      tags = refl;
+      rest = λ empty. let ended = done.ends (nothing_live c.self.invariant.kept.sound empty) in nothing_held _ _ done.total ended.0 ended.1;
     })
 
 pub returns-clause-keeps : goal.returns-clause-keeps
@@ -27,4 +32,6 @@ returns-clause-keeps c =
       total = search rules;
       gone = search rules;
       names = run_keeps_names c.self.inside.device done.cleaned.0 c.cleanup.new.device done.cleaned.1;
+      tags = λ key was is. refl;
+      page = refl;
     })

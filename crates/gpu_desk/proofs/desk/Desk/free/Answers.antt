@@ -1,4 +1,4 @@
-use Rattle.std.proofs.Common.{◌≡◌, Some, rules, sym, ◌∙◌}
+use Rattle.std.proofs.Common.{◌≡◌, Some, rules, refl, sym, ◌∙◌}
 use Rattle.std.specs.FinMap as map
 use Rattle.gpu_session.proofs.Returns.{return_is_kept}
 use Rattle.gpu_desk.proofs.GoneNames.{returns_add}
@@ -10,7 +10,11 @@ invariant_of-self c =
     let at : map.get c.self.inside.blocks.live c.args.key ≡ Some c.in-Some.block = sym c.remove.ensures.value ∙ c.in-Some.is in
     let done = c.dealloc.ensures in
     rw (c.remove.ensures.live)
-    (return_is_kept c.self.invariant (record { named = at; removes = done.removed; keeps = done.keeps; sound = done.sound; agrees = done.agrees }))
+    (record {
+      kept = return_is_kept c.self.invariant.kept (record { named = at; removes = done.removed; keeps = done.keeps; sound = done.sound; agrees = done.agrees });
+      tagged = c.self.invariant.tagged ∙ sym c.remove.ensures.places;
+      page = c.self.invariant.page;
+    })
 
 pub returns-in-Some-clause-freed : goal.returns-in-Some-clause-freed
 returns-in-Some-clause-freed c =
@@ -33,4 +37,6 @@ returns-in-Some-clause-keeps c =
       total = search rules;
       gone = search rules;
       names = run_keeps_names c.self.inside.device done.freed.0 c.dealloc.new.device done.freed.1;
+      tags = λ key was is. refl;
+      page = refl;
     })

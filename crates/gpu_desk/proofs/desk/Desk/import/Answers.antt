@@ -1,5 +1,6 @@
 use Rattle.std.proofs.Common.{rules, ◌≡◌, ◌+◌, false, [], ◌∷◌, Some, Ok, length, take, refl, sym, ◌∙◌, ap, subst, List, ℕ}
 use Rattle.std.specs.FinMap as map
+use Rattle.std.specs.Option.{IsSome}
 use Rattle.gpu_alloc_types.specs.Device.{HeldWith}
 use Rattle.gpu_alloc_types.specs.Device.Event.{Allocated, Deallocated}
 use Rattle.gpu_alloc_types.specs.Flags.{allocation_bits}
@@ -15,14 +16,15 @@ use Rattle.gpu_session.proofs.Grants.{grant_is_kept}
 use Rattle.gpu_session.proofs.Imports.{faultless, import_agrees, importable_is_held, part_may_be_imported, undone}
 use Rattle.gpu_session.proofs.Moves.{agreed_is_kept}
 use Rattle.gpu_slots.specs.SlotMap.{SlotState}
+use Rattle.gpu_desk.specs.Desk.{tag_at}
 use Rattle.gpu_desk.proofs.GoneNames.{names_of_before}
 use Rattle.gpu_desk.proofs.Kept.{begun_keeps_names, forgetting_keeps_names, free_key, has_key, kept_over, same_objects}
 use Rattle.gpu_desk.proofs.desk.Desk.import.Goals as goal
 
 pub invariant_of-self-in-Ok-import_memory : goal.invariant_of-self-in-Ok-import_memory
 invariant_of-self-in-Ok-import_memory c =
-    let lives : c.reserve.new.self.live ≡ c.self.inside.blocks.live = ap (λ (s : SlotState Block). s.live) c.reserve.ensures.kept in
-    let begins = kept_over c.self.inside.device c.begin.new.self c.begin.ensures.offers (ap (λ (h : HeldState). h.objects) c.begin.ensures.held) c.self.invariant in
+    let lives : c.make_room.new.blocks.live ≡ c.self.inside.blocks.live = ap (λ (s : SlotState Block). s.live) c.make_room.ensures.kept in
+    let begins = kept_over c.self.inside.device c.begin.new.self c.begin.ensures.offers (ap (λ (h : HeldState). h.objects) c.begin.ensures.held) c.self.invariant.kept in
     let key = c.keep.ensures.kept in
     let dev = c.begin.new.self in
     let new = c.allocate_memory-made.new.self in
@@ -37,8 +39,8 @@ invariant_of-self-in-Ok-import_memory c =
     (subst (λ q. is_bad_end q c.args.memory_type c.args.object_size (c.args.offset + c.args.size) ≡ false) (sym agreed.properties) can.finish) in
     let done = c.in-Ok-import_memory.ensures in
     let agree = import_agrees c.self.inside.allocator c.import_memory.new.self c.in-Ok-import_memory.block name c.args.memory_type c.args.offset c.args.size new.properties (objects_of new) done.agrees agreed part in
-    rw (key.live, lives) (grant_is_kept begins (record {
-      free = sym (ap (λ (m : map.FinMap _ Block). map.get m c.keep.result.key) lives) ∙ free_key c.reserve.new.self c.keep.result.key key.new_key;
+    rw (key.live, lives) (record { tagged = c.keep.ensures.tagged; page = c.self.invariant.page; kept = grant_is_kept begins (record {
+      free = sym (ap (λ (m : map.FinMap _ Block). map.get m c.keep.result.key) lives) ∙ free_key c.make_room.new.blocks c.keep.result.key key.new_key;
       adds = done.added;
       leaves = done.leaves;
       owned = done.imported.owned;
@@ -46,7 +48,7 @@ invariant_of-self-in-Ok-import_memory c =
       keeps = λ b owned. made.blocks dev c.args.object_size c.args.memory_type bits b step;
       sound = done.sound;
       agrees = agree.0;
-    }))
+    }) })
 
 pub deallocate_memory-requires : goal.deallocate_memory-requires
 deallocate_memory-requires c =
@@ -56,8 +58,8 @@ deallocate_memory-requires c =
 
 pub invariant_of-self-in-Err : goal.invariant_of-self-in-Err
 invariant_of-self-in-Err c =
-    let lives : c.reserve.new.self.live ≡ c.self.inside.blocks.live = ap (λ (s : SlotState Block). s.live) c.reserve.ensures.kept in
-    let begins = kept_over c.self.inside.device c.begin.new.self c.begin.ensures.offers (ap (λ (h : HeldState). h.objects) c.begin.ensures.held) c.self.invariant in
+    let lives : c.make_room.new.blocks.live ≡ c.self.inside.blocks.live = ap (λ (s : SlotState Block). s.live) c.make_room.ensures.kept in
+    let begins = kept_over c.self.inside.device c.begin.new.self c.begin.ensures.offers (ap (λ (h : HeldState). h.objects) c.begin.ensures.held) c.self.invariant.kept in
     let dev = c.begin.new.self in
     let bits = allocation_bits c.flags-flags.result in
     let name = c.in-Ok-made.memory in
@@ -69,13 +71,13 @@ invariant_of-self-in-Err c =
     let gone = rw c.in-Err.ensures.handed_back at c.deallocate_memory.ensures in
     let forgets = c.forget_gone_after.ensures in
     rw (refused, lives)
-    (kept_over c.deallocate_memory.new.self c.forget_gone_after.new.self forgets.offers forgets.objects (agreed_is_kept (agreed_is_kept begins (record {
+    (record { tagged = ap length c.make_room.ensures.tags ∙ c.self.invariant.tagged ∙ sym (ap (λ (s : SlotState Block). length s.generations) c.make_room.ensures.kept); page = c.self.invariant.page; kept = kept_over c.deallocate_memory.new.self c.forget_gone_after.new.self forgets.offers forgets.objects (agreed_is_kept (agreed_is_kept begins (record {
       allocator = λ agrees. made.allocator dev c.args.object_size c.args.memory_type bits step agrees;
       blocks = λ b owned. made.blocks dev c.args.object_size c.args.memory_type bits b step;
     })) (record {
       allocator = λ agrees. others.allocator c.allocate_memory-made.new.self name gone unheld agrees;
       blocks = λ b owned. others.blocks c.allocate_memory-made.new.self name b gone unheld owned;
-    })))
+    })) })
 
 pub returns-in-Ok-import_memory-clause-granted : goal.returns-in-Ok-import_memory-clause-granted
 returns-in-Ok-import_memory-clause-granted c =
@@ -90,7 +92,9 @@ returns-in-Ok-import_memory-clause-granted c =
       block = c.in-Ok-import_memory.block;
       gives = record {
         tells = c.keep.ensures.tells;
-        key = has_key c.self.inside.blocks c.reserve.new.self _ _ c.in-Ok-import_memory.block c.keep.new.blocks c.reserve.ensures.kept key;
+        tells_tag = c.keep.ensures.tells_tag;
+        tag = c.keep.ensures.tag;
+        key = has_key c.self.inside.blocks c.make_room.new.blocks _ _ c.in-Ok-import_memory.block c.keep.new.blocks c.make_room.ensures.kept key;
         names = step.names.2 ∙ ap (λ (h : HeldState). h.gone) c.begin.ensures.held;
       };
       as_asked = done.imported.block ∙ ap (λ n. imported_block c.self.inside.allocator n c.args.memory_type c.args.offset c.args.size) (sym name_is);
@@ -111,9 +115,11 @@ returns-in-Err-clause-unchanged c =
     let shown_at_first = same_objects c.self.inside.device c.begin.new.self c.begin.ensures.offers (ap (λ (h : HeldState). h.objects) c.begin.ensures.held) in
     let asked = Allocated c.args.object_size c.args.memory_type bits (Ok name) ∷ Deallocated name ∷ [] in
     rw (← c.self.view_is) (record {
+      tags = c.make_room.ensures.tags;
+      page = refl;
       allocator = c.in-Err.ensures.refused;
-      live = ap (λ (s : SlotState Block). s.live) c.reserve.ensures.kept;
-      keys = ap (λ (s : SlotState Block). s.generations) c.reserve.ensures.kept;
+      live = ap (λ (s : SlotState Block). s.live) c.make_room.ensures.kept;
+      keys = ap (λ (s : SlotState Block). s.generations) c.make_room.ensures.kept;
       objects = same_objects last c.forget_gone_after.new.self forgets.offers forgets.objects
           ∙ undone (λ (d : DeviceState). d.properties) objects_of IsStep step_is_row c.begin.new.self c.allocate_memory-made.new.self last _ _ _ name made gone
           ∙ shown_at_first;
@@ -128,15 +134,20 @@ returns-in_default-made-clause-keeps c =
       total = search rules;
       gone = search rules;
       names = begun_keeps_names c.self.inside.device c.begin.new.self (_ ∷ []) c.allocate_memory-made.new.self c.begin.ensures.held (c.allocate_memory-made.new.self, c.allocate_memory-made.ensures, refl);
+      tags = λ q was is. ap (λ ts. tag_at ts q) c.make_room.ensures.tags;
+      page = refl;
     })
 
 pub returns-in-Ok-import_memory-clause-keeps : goal.returns-in-Ok-import_memory-clause-keeps
 returns-in-Ok-import_memory-clause-keeps c =
+    let lives : c.make_room.new.blocks.live ≡ c.self.inside.blocks.live = ap (λ (s : SlotState Block). s.live) c.make_room.ensures.kept in
     rw (← c.self.view_is) (record {
       given = search rules;
       total = search rules;
       gone = search rules;
       names = begun_keeps_names c.self.inside.device c.begin.new.self (_ ∷ []) c.allocate_memory-made.new.self c.begin.ensures.held (c.allocate_memory-made.new.self, c.allocate_memory-made.ensures, refl);
+      tags = λ q was is. c.keep.ensures.others q (subst (λ (m : map.FinMap _ Block). IsSome (map.get m q)) (sym lives) was) ∙ ap (λ ts. tag_at ts q) c.make_room.ensures.tags;
+      page = refl;
     })
 
 pub returns-in-Err-clause-keeps : goal.returns-in-Err-clause-keeps
@@ -150,4 +161,6 @@ returns-in-Err-clause-keeps c =
       total = search rules;
       gone = search rules;
       names = forgetting_keeps_names c.self.inside.device.held last.held c.forget_gone_after.new.self.held _ run forgets.gone forgets.objects forgets.last_name;
+      tags = λ q was is. ap (λ ts. tag_at ts q) c.make_room.ensures.tags;
+      page = refl;
     })

@@ -19,8 +19,12 @@ use Rattle.gpu_desk.proofs.desk.Desk.map.Goals.{in-Ok-answer, in-Err}
 pub invariant_of-self-2 : goal.invariant_of-self-2
 invariant_of-self-2 c =
     let done = c.map-answer.ensures in
-    let begins = kept_over c.self.inside.device c.begin.new.self c.begin.ensures.offers (ap (λ (h : HeldState). h.objects) c.begin.ensures.held) c.self.invariant in
-    move_is_kept begins (record { named = sym c.in-Some-get_mut.ensures.value; same = done.same; ready = done.agrees; keeps = done.keeps; properties = done.properties })
+    let begins = kept_over c.self.inside.device c.begin.new.self c.begin.ensures.offers (ap (λ (h : HeldState). h.objects) c.begin.ensures.held) c.self.invariant.kept in
+    record {
+      kept = move_is_kept begins (record { named = sym c.in-Some-get_mut.ensures.value; same = done.same; ready = done.agrees; keeps = done.keeps; properties = done.properties });
+      tagged = c.self.invariant.tagged;
+      page = c.self.invariant.page;
+    }
 
 pub returns-clause-mapped : goal.returns-clause-mapped
 returns-clause-mapped c =
@@ -79,6 +83,8 @@ returns-clause-unchanged c =
             keys = refl;
             objects = (rw w.in-Err.is at c.map-answer.ensures.objects) ∙ shows;
             names = refused_adds_none c.begin.new.self b (rounded b c.args.offset c.args.size) w.in-Err.refusal asked.0 c.map-answer.new.device asked.2 asked.1 ∙ ap (λ (h : HeldState). h.gone) c.begin.ensures.held;
+            tags = refl;
+            page = refl;
           })
     ]
 
@@ -90,4 +96,6 @@ returns-clause-keeps c =
       total = refl;
       gone = gone_over_write c.self.inside.blocks c.args.key c.in-Some-get_mut.block.now c.map-answer.new.self (sym c.in-Some-get_mut.ensures.value);
       names = begun_keeps_names c.self.inside.device c.begin.new.self asked.0 c.map-answer.new.device c.begin.ensures.held asked.1;
+      tags = λ key was is. refl;
+      page = refl;
     })

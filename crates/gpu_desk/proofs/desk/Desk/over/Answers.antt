@@ -1,4 +1,4 @@
-use Rattle.std.proofs.Common.{◌≡◌, ◌∙◌}
+use Rattle.std.proofs.Common.{◌≡◌, ◌∙◌, length, sym, ap}
 use Rattle.gpu_alloc_types.specs.Properties.{properties_of}
 use Rattle.gpu_answers.specs.Device.{all_shown}
 use Rattle.gpu_session.proofs.Openings.{opening_is_kept}
@@ -9,4 +9,8 @@ invariant_of-result c =
     let offers : c.in_ok-device.device.properties ≡ properties_of c.args.props = c.in_ok-device.ensures.offers ∙ c.again.ensures in
     let sound = rw c.in-Ok.ensures.opened at c.in-Ok.ensures.sound in
     rw (c.in-Ok.ensures.opened, c.new-3.ensures.live, offers)
-    (opening_is_kept c.args.config (properties_of c.args.props) (all_shown (properties_of c.args.props) c.in_ok-device.device.held.objects) c.in_ok-offer.offer c.in_ok-offer.ensures sound)
+    (record {
+      kept = opening_is_kept c.args.config (properties_of c.args.props) (all_shown (properties_of c.args.props) c.in_ok-device.device.held.objects) c.in_ok-offer.offer c.in_ok-offer.ensures sound;
+      tagged = ap length c.new-4.ensures.items ∙ sym (ap length c.new-3.ensures.generations);
+      page = c.requires.page;
+    })

@@ -7,7 +7,11 @@ use Rattle.gpu_desk.proofs.desk.Desk.unmap.Goals as goal
 pub invariant_of-self-2 : goal.invariant_of-self-2
 invariant_of-self-2 c =
     let done = c.unmap.ensures in
-    move_is_kept c.self.invariant (record { named = sym c.in-Some.ensures.value; same = done.same; ready = done.agrees; keeps = done.keeps; properties = done.properties })
+    record {
+      kept = move_is_kept c.self.invariant.kept (record { named = sym c.in-Some.ensures.value; same = done.same; ready = done.agrees; keeps = done.keeps; properties = done.properties });
+      tagged = c.self.invariant.tagged;
+      page = c.self.invariant.page;
+    }
 
 pub returns-clause-keeps : goal.returns-clause-keeps
 returns-clause-keeps c =
@@ -16,4 +20,6 @@ returns-clause-keeps c =
       total = refl;
       gone = gone_over_write c.self.inside.blocks c.args.key c.in-Some.block.now c.unmap.new.self (sym c.in-Some.ensures.value);
       names = run_keeps_names c.self.inside.device c.unmap.ensures.asked.0 c.unmap.new.device c.unmap.ensures.asked.1;
+      tags = λ key was is. refl;
+      page = refl;
     })
