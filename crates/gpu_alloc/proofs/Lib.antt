@@ -18,6 +18,7 @@ pub mod HandedOn
 pub mod HeapLists
 pub mod Imports
 pub mod InHand
+pub mod InPages
 pub mod Ledgers
 pub mod LongestRanges
 pub mod MayAsk

@@ -1,5 +1,5 @@
 -- What stays where only what may still be asked changes: how many objects may be held, or the limits of heaps.
-use Rattle.std.proofs.Common.{◌≡◌, ℕ, List, [], ◌∷◌, Option, Some, None, IfSome, refl, sym, subst}
+use Rattle.std.proofs.Common.{◌≡◌, ℕ, List, [], ◌∷◌, Option, Some, None, IfSome, refl, sym, ◌∙◌, ap, subst}
 use Rattle.std.specs.FinMap as finite
 use Rattle.gpu_alloc_types.specs.Device.{HeldWith, Object}
 use Rattle.gpu_alloc_types.specs.Properties.{Properties}
@@ -13,15 +13,12 @@ module _ (s : State) (remaining : ℕ) (limits : List ℕ) where
   abbrev now : State
   now = record s { remaining = remaining; heap_limits = limits }
 
-  owned : (b : Block) → IsOwned s b → IsOwned now b
-  owned b is = record { live = is.live; held = is.held }
+  still_owned : (b : Block) → IsOwned s b → IsOwned now b
+  still_owned b is = record { live = is.live; held = is.held }
 
-  all : (bs : List Block) → AreOwned s bs → AreOwned now bs
-  all [] are = tt
-  all (b ∷ bs) are = (owned b are.0, are.1, all bs are.2)
-
-  leaves : Leaves s now
-  leaves = record { properties = refl; config = refl; owned = owned; all = all }
+  all_owned : (bs : List Block) → AreOwned s bs → AreOwned now bs
+  all_owned [] are = tt
+  all_owned (b ∷ bs) are = (still_owned b are.0, are.1, all_owned bs are.2)
 
   held : (name : ℕ) (objects : ℕ → Option Object) (v : Option HeldObject) → IfSome v (λ h. HeldWith objects name (IsThere s name h)) → IfSome v (λ h. HeldWith objects name (IsThere now name h))
   held name objects None was = tt
@@ -30,9 +27,22 @@ module _ (s : State) (remaining : ℕ) (limits : List ℕ) where
   agrees : (p : Properties) (objects : ℕ → Option Object) → Agrees s p objects → Agrees now p objects
   agrees p objects is = record { properties = is.properties; holds = λ name. held name objects (finite.get s.held name) (is.holds name) }
 
-pub may_ask_leaves : (s new : State) (remaining : ℕ) (limits : List ℕ) → new ≡ record s { remaining = remaining; heap_limits = limits } → Leaves s new
-may_ask_leaves s new remaining limits is = subst (Leaves s) (sym is) (leaves s remaining limits)
+module _ (s new : State) (remaining : ℕ) (limits : List ℕ) (is : new ≡ record s { remaining = remaining; heap_limits = limits }) where
+  pub may_ask_owned : (b : Block) → IsOwned s b → IsOwned new b
+  may_ask_owned b owned = subst (λ x. IsOwned x b) (sym is) (still_owned s remaining limits b owned)
 
-pub may_ask_agrees : (s new : State) (remaining : ℕ) (limits : List ℕ) → new ≡ record s { remaining = remaining; heap_limits = limits } → StaysAgreed s new
-may_ask_agrees s new remaining limits is =
-    subst (StaysAgreed s) (sym is) (record { each = agrees s remaining limits; in_hand = λ p objects. unasked_in_hand s (now s remaining limits) (leaves s remaining limits) p objects refl })
+  pub may_ask_all : (bs : List Block) → AreOwned s bs → AreOwned new bs
+  may_ask_all bs owned = subst (λ x. AreOwned x bs) (sym is) (all_owned s remaining limits bs owned)
+
+  pub may_ask_leaves : limits ≡ s.heap_limits → Leaves s new
+  may_ask_leaves same = record {
+    properties = ap (λ (t : State). t.properties) is;
+    config = ap (λ (t : State). t.config) is;
+    limits = ap (λ (t : State). t.heap_limits) is ∙ same;
+    owned = may_ask_owned;
+    all = may_ask_all;
+  }
+
+  pub may_ask_agrees : StaysAgreed s new
+  may_ask_agrees =
+      subst (StaysAgreed s) (sym is) (record { each = agrees s remaining limits; in_hand = λ p objects. unasked_in_hand s (now s remaining limits) (still_owned s remaining limits) p objects refl })

@@ -1,6 +1,6 @@
 //! The allocator.
 
-ghost use Rattle.std.specs.Prelude.{◌≡◌, ◌⊎◌, ◌↔◌, ℕ, ◌+◌, ◌^◌, ◌<◌, ◌≤◌, true, length, List, All, IsTrue, IfOk, IfErr};
+ghost use Rattle.std.specs.Prelude.{◌≡◌, ◌⊎◌, ◌↔◌, ℕ, ◌+◌, ◌^◌, ◌<◌, ◌≤◌, true, length, List, All, IsTrue, IfOk, IfErr, IfSome};
 ghost use Rattle.std.specs.Prelude.{OnErr, Some, None, false, is_some, not, min, ◌==◌, ◌≢◌};
 ghost use Rattle.std.specs.FinMap as map;
 ghost use Rattle.std.specs.FinSet as set;
@@ -11,23 +11,25 @@ ghost use Rattle.gpu_alloc_block.specs.Agreement.{Agrees, BlockAgrees, KeepsBloc
 ghost use Rattle.gpu_alloc_block.specs.Kept.{LeavesInHand, AddsInHand, RemovesInHand};
 ghost use Rattle.gpu_alloc.specs.Allocation.{passing, fits_a_chunk, Tries, TriesBy, TriesAll};
 ghost use Rattle.gpu_alloc_usage.specs.Ranking.{implied, named, ranking};
-ghost use Rattle.gpu_alloc.specs.Allocation.{Allocates, ObjectsAfter, ObjectsTried, IsGranted, candidates_of};
+ghost use Rattle.gpu_alloc.specs.Allocation.{Allocates, AllocatesBy, ObjectsAfter, ObjectsTried, IsGranted};
+ghost use Rattle.gpu_alloc.specs.Allocation.{IsAloneWhereServed, asked_of, candidates_of, plan_with};
 ghost use Rattle.gpu_alloc.specs.Atoms.{KeepsAtoms};
 ghost use Rattle.gpu_alloc.specs.Budget.{heap_budget, heap_bytes, with_heap_limit};
 ghost use Rattle.gpu_alloc.specs.Candidates.{own_candidate};
 ghost use Rattle.gpu_alloc_base.specs.Case.{IsOverBudget, IsWithinBudget};
 ghost use Rattle.gpu_alloc.specs.declared.allocator.Strategy.TheVariants.{OwnObject, InBuddyChunk, InFreeList};
 ghost use Rattle.gpu_alloc.specs.Opening.{opened};
-ghost use Rattle.gpu_alloc.specs.Owned.{HoldsNothing, Leaves, Adds, Removes, LeavesNoRest, StaysAgreed};
+ghost use Rattle.gpu_alloc.specs.Owned.{AreOwned, HoldsNothing, Leaves, Adds, Removes, LeavesNoRest, StaysAgreed};
 ghost use Rattle.gpu_alloc.specs.Release.{Frees, ObjectsFreed, Cleans, ObjectsCleaned, IsCleanedUp, GoesBack};
 ghost use Rattle.gpu_alloc.specs.Request.{IsAskable};
 ghost use Rattle.gpu_alloc.specs.Sound as Sound;
-ghost use Rattle.gpu_alloc_block.specs.State.{HeldObject, Span, IsLive, IsOwned, heap_limit, ledger, total};
+ghost use Rattle.gpu_alloc_block.specs.State.{Block, HeldObject, Span, IsLive, IsOwned, heap_limit, ledger, total};
 
 mod by_type;
 mod choosing;
 mod importing;
 mod listing;
+mod optimal;
 mod ranges;
 mod returning;
 mod rows;
@@ -61,6 +63,13 @@ enum Strategy {
 
     /// By a block of its free list.
     InFreeList,
+}
+
+/// What a memory type is asked: a request, with a hint or none.
+#[derive(Clone, Copy)]
+struct Ask {
+    request: Request,
+    hint: Option<Dedicated>,
 }
 
 /// Gives out blocks of a device's memory. It cannot be let go: [`close`](GpuAllocator::close) ends it.
@@ -202,6 +211,7 @@ impl<M: MemoryObject, A: Allocator> GpuAllocator<M, A> {
 
         // What follows from it.
         ensures granted { IfOk result (IsGranted self.old request self.new) }
+        ensures alone { IfOk result (IsAloneWhereServed self.old request None) }
         ensures ready { IfOk result (λ block. BlockAgrees block (D.properties device.new) (D.objects device.new)) }
         ensures added { IfOk result (Adds self.old self.new) }
         ensures refused { OnErr result (self.new ≡ self.old) }
@@ -217,7 +227,7 @@ impl<M: MemoryObject, A: Allocator> GpuAllocator<M, A> {
         ensures sound { Sound.IsSound self.new }
     {
         self.keeps_sound();
-        let answer = self.allocate(device, request, None);
+        let answer = self.allocate(device, request, None, None);
         self.keeps_sound();
         answer
     }
@@ -247,6 +257,7 @@ impl<M: MemoryObject, A: Allocator> GpuAllocator<M, A> {
         // What follows from it.
         ensures granted { IfOk result (IsGranted self.old request self.new) }
         ensures ready { IfOk result (λ block. BlockAgrees block (D.properties device.new) (D.objects device.new)) }
+        ensures alone { IfOk result (IsAloneWhereServed self.old request (Some dedicated)) }
         ensures own { dedicated ≡ Dedicated.Required → IfOk result (λ block. block.kind ≡ Kind.Dedicated) }
         ensures added { IfOk result (Adds self.old self.new) }
         ensures refused { OnErr result (self.new ≡ self.old) }
@@ -262,23 +273,24 @@ impl<M: MemoryObject, A: Allocator> GpuAllocator<M, A> {
         ensures sound { Sound.IsSound self.new }
     {
         self.keeps_sound();
-        let answer = self.allocate(device, request, Some(dedicated));
+        let answer = self.allocate(device, request, Some(dedicated), None);
         self.keeps_sound();
         answer
     }
 
-    /// Allocates a block with a hint or none.
-    #[tactic(auto, unfolding(crate::specs::Allocation::Allocates))]
+    /// Allocates a block with a hint or none. Where the same request in whole pages is given, a shared chunk serves that.
     fn allocate<D: ObjectDevice<M>>(
         &mut self,
         device: &mut D,
         request: Request,
         hint: Option<Dedicated>,
+        paged: Option<Request>,
     ) -> Result<MemoryBlock<M>, AllocationError>
         requires askable { IsAskable (self.old.properties).buffer_device_address request }
+        requires pages { IfSome paged (IsAskable (self.old.properties).buffer_device_address) }
         requires agrees { Agrees self.old (D.properties device.old) (D.objects device.old) }
         ensures decided { (es : List Event) × Chain D.step device.old es device.new
-            × Allocates self.old request hint es result self.new }
+            × AllocatesBy self.old (plan_with self.old request hint paged) es result self.new }
         ensures objects { ObjectsAfter self.old result self.new (D.objects device.old) (D.objects device.new) }
     {
         if request.size > self.max_allocation_size() {
@@ -291,7 +303,7 @@ impl<M: MemoryObject, A: Allocator> GpuAllocator<M, A> {
         if !self.has_candidate(request, usage) {
             return Err(AllocationError::NoCompatibleMemoryTypes);
         }
-        self.try_all(device, request, hint, usage)
+        self.try_all(device, request, hint, paged, usage)
     }
 
     /// Whether any memory type that serves a request, which has this meaning, is one of those that it allows.
@@ -320,19 +332,22 @@ impl<M: MemoryObject, A: Allocator> GpuAllocator<M, A> {
         device: &mut D,
         request: Request,
         hint: Option<Dedicated>,
+        paged: Option<Request>,
         usage: UsageFlags,
     ) -> Result<MemoryBlock<M>, AllocationError>
         requires askable { IsAskable (self.old.properties).buffer_device_address request }
+        requires pages { IfSome paged (IsAskable (self.old.properties).buffer_device_address) }
         requires meant { usage_bits usage ≡ implied (usage_bits request.usage) }
         requires agrees { Agrees self.old (D.properties device.old) (D.objects device.old) }
         ensures tries { (es : List Event) × Chain D.step device.old es device.new
-            × TriesAll self.old request hint (candidates_of self.old request) es result self.new }
+            × TriesAll self.old (asked_of self.old request hint paged) (candidates_of self.old request) es result self.new }
         ensures objects { ObjectsAfter self.old result self.new (D.objects device.old) (D.objects device.new) }
     {
         for rank in 0..self.ranked(usage).len() {
             let memory_type = self.ranked(usage)[rank];
             if request.memory_types >> memory_type & 1 == 1 {
-                match self.try_type(device, request, hint, memory_type) {
+                let asked = self.ask(request, hint, paged, memory_type);
+                match self.try_type(device, asked.request, asked.hint, memory_type) {
                     Ok(Some(block)) => return Ok(block),
                     Ok(None) => {}
                     Err(refusal) => return Err(refusal),
@@ -756,7 +771,8 @@ impl<M: MemoryObject, A: Allocator> GpuAllocator<M, A> {
         // What follows from it.
         ensures told { heap_limit self.new heap ≡ min limit (heap_bytes self.old.properties heap) }
         ensures others { (other : ℕ) → other ≢ heap → heap_limit self.new other ≡ heap_limit self.old other }
-        ensures leaves { Leaves self.old self.new }
+        ensures owned { (block : Block) → IsOwned self.old block → IsOwned self.new block }
+        ensures all { (blocks : List Block) → AreOwned self.old blocks → AreOwned self.new blocks }
         ensures agrees { StaysAgreed self.old self.new }
         ensures sound { Sound.IsSound self.new }
     {

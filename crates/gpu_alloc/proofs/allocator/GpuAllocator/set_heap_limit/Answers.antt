@@ -7,7 +7,7 @@ use Rattle.gpu_alloc_block.specs.State.{State, heap_limit}
 use Rattle.gpu_alloc.specs.Budget.{heap_bytes, with_heap_limit}
 use Rattle.gpu_alloc.specs.Inside.{limit_of, offer_of, properties_in, state_in, IsConsistent}
 use Rattle.gpu_alloc.proofs.HeapLists.{ledgers_limited, limit_is_set, properties_kept}
-use Rattle.gpu_alloc.proofs.MayAsk.{may_ask_agrees, may_ask_leaves}
+use Rattle.gpu_alloc.proofs.MayAsk.{may_ask_agrees, may_ask_all, may_ask_owned}
 use Rattle.gpu_alloc.proofs.allocator.GpuAllocator.set_heap_limit.Given.{Over}
 use Rattle.gpu_alloc.proofs.allocator.GpuAllocator.set_heap_limit.Goals as goal
 use Rattle.gpu_alloc.proofs.allocator.GpuAllocator.set_heap_limit.Goals.{After-keeps_sound}
@@ -61,8 +61,11 @@ returns-clause-others g c =
     subst (λ (x : State). (other : ℕ) → other ≢ c.args.heap → heap_limit x other ≡ heap_limit s other) (sym (is_set g c))
     (λ other apart. get_or-set_other s.heap_limits c.args.heap other (min c.args.limit (heap_bytes s.properties c.args.heap)) 0 apart)
 
-pub returns-clause-leaves : goal.returns-clause-leaves
-returns-clause-leaves g c = may_ask_leaves c.args.self.now _ (c.args.self.now).remaining _ (is_set g c)
+pub returns-clause-owned : goal.returns-clause-owned
+returns-clause-owned g c = may_ask_owned c.args.self.now _ (c.args.self.now).remaining _ (is_set g c)
+
+pub returns-clause-all : goal.returns-clause-all
+returns-clause-all g c = may_ask_all c.args.self.now _ (c.args.self.now).remaining _ (is_set g c)
 
 pub returns-clause-agrees : goal.returns-clause-agrees
 returns-clause-agrees g c = may_ask_agrees c.args.self.now _ (c.args.self.now).remaining _ (is_set g c)
