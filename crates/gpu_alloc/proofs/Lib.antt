@@ -28,6 +28,7 @@ pub mod Remaining
 pub mod ReturnedTotals
 pub mod Returns
 pub mod Served
+pub mod Serving
 pub mod Soundness
 pub mod Strategies
 pub mod Tables

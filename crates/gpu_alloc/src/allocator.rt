@@ -31,6 +31,7 @@ mod listing;
 mod ranges;
 mod returning;
 mod rows;
+mod serving;
 mod uncounted;
 
 use crate::limits::Limits;
