@@ -20,11 +20,11 @@ pub mod Imports
 pub mod InHand
 pub mod Ledgers
 pub mod LongestRanges
+pub mod MayAsk
 pub mod NewObjects
 pub mod Opened
 pub mod OwnObjects
 pub mod Owning
-pub mod Remaining
 pub mod ReturnedTotals
 pub mod Returns
 pub mod Served

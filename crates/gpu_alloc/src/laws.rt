@@ -1,12 +1,12 @@
 //! Laws of the definitions that contracts cite, and those definitions computed on samples. The functions do nothing.
 
-ghost use Rattle.std.specs.Prelude.{◌≡◌, ◌≢◌, ◌⊎◌, ℕ, ◌+◌, ◌<◌, ◌≤◌, List, [], ◌∷◌, length, Some, None, true, false};
+ghost use Rattle.std.specs.Prelude.{◌≡◌, ◌≢◌, ◌⊎◌, ℕ, ◌+◌, ◌<◌, ◌≤◌, max, List, [], ◌∷◌, length, Some, None, true, false};
 ghost use Rattle.std.specs.FinSet as set;
 ghost use Rattle.gpu_alloc_types.specs.declared.types.FreeRange.{FreeRange};
 ghost use Rattle.gpu_alloc_block.specs.Agreement.{Agrees, KeptBlocksAgree};
 ghost use Rattle.gpu_alloc_block.specs.ByteCalls.{BytesMoved};
 ghost use Rattle.gpu_alloc.specs.Allocation.{strategy, CandidatesServe};
-ghost use Rattle.gpu_alloc.specs.Budget.{heap_budget, heap_bytes, HoldsNoImportOf, IsAskedWithinBudget, IsWithinHeaps};
+ghost use Rattle.gpu_alloc.specs.Budget.{heap_budget, heap_bytes, AreLimits, HoldsNoImportOf, IsAskedWithinBudget, IsWithinHeaps};
 ghost use Rattle.gpu_alloc.specs.Exactness.{AreCanonical, AreFreePieces, AreLongEnough, ArePiecesApart};
 ghost use Rattle.gpu_alloc.specs.Exactness.{AreSpaced, AreFreeRuns, TellPlaces};
 ghost use Rattle.gpu_alloc.specs.declared.allocator.Strategy.TheVariants.{OwnObject, InBuddyChunk, InFreeList};
@@ -34,7 +34,7 @@ ghost use Rattle.gpu_alloc.specs.Sound.{IsSound};
 ghost use Rattle.gpu_alloc_block.specs.Contents.{BytesStay};
 ghost use Rattle.gpu_alloc_block.specs.Keyed.{ComeAndGoUnderKeys};
 ghost use Rattle.gpu_alloc_block.specs.Kept.{ToldByPlace};
-ghost use Rattle.gpu_alloc_block.specs.State.{State, Block, Span, span_of, span_cmp, IsOwned, is_shared, ledger};
+ghost use Rattle.gpu_alloc_block.specs.State.{State, Block, Span, span_of, span_cmp, IsOwned, is_shared, heap_limit, ledger};
 ghost use Rattle.gpu_alloc_block.specs.declared.block.Kind.{Kind};
 ghost use Rattle.gpu_alloc_base.specs.declared.piece.Piece.{Piece};
 ghost use Rattle.gpu_alloc.specs.declared.request.Dedicated.TheVariants.{Required, Preferred};
@@ -194,12 +194,18 @@ pub fn agrees_at_first<M: MemoryObject, D: ObjectDevice<M>, A: Allocator>(
     let _ = device;
 }
 
-/// Of no heap is more held beside imports than it has. So where no import of its memory types is held, its ledger is at
-/// most its size: what is held of it and its budget are the whole heap.
+/// Of no heap is more held beside imports than it has, and no limit is over its heap's size. So where no import of its
+/// memory types is held, its ledger is at most its size, and with no limit what is held of it and its budget are the whole
+/// heap. A limit gets what is held and what may still be asked for, or less than what is held.
 pub fn heaps_are_not_overdrawn()
     ensures asked { (s : State) → IsSound s → IsWithinHeaps s }
+    ensures limits { (s : State) → IsSound s → AreLimits s }
+    ensures held { (s : State) (heap : ℕ) → IsSound s → heap < length s.properties.memory_heaps → HoldsNoImportOf s heap
+        → ledger s heap ≤ heap_bytes s.properties heap }
     ensures whole { (s : State) (heap : ℕ) → IsSound s → heap < length s.properties.memory_heaps → HoldsNoImportOf s heap
+        → heap_limit s heap ≡ heap_bytes s.properties heap
         → ledger s heap + heap_budget s heap ≡ heap_bytes s.properties heap }
+    ensures limited { (s : State) (heap : ℕ) → ledger s heap + heap_budget s heap ≡ max (ledger s heap) (heap_limit s heap) }
 {}
 
 /// A memory type that would have to be asked for an object which its heap has room for is not passed for the budget. Where

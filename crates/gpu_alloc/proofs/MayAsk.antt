@@ -1,4 +1,4 @@
--- What stays where only the number changes of objects that may still be held.
+-- What stays where only what may still be asked changes: how many objects may be held, or the limits of heaps.
 use Rattle.std.proofs.Common.{◌≡◌, ℕ, List, [], ◌∷◌, Option, Some, None, IfSome, refl, sym, subst}
 use Rattle.std.specs.FinMap as finite
 use Rattle.gpu_alloc_types.specs.Device.{HeldWith, Object}
@@ -9,9 +9,9 @@ use Rattle.gpu_alloc.specs.Owned.{AreOwned, Leaves, StaysAgreed}
 use Rattle.gpu_alloc.proofs.Agreeing.{there_kept}
 use Rattle.gpu_alloc.proofs.InHand.{unasked_in_hand}
 
-module _ (s : State) (remaining : ℕ) where
+module _ (s : State) (remaining : ℕ) (limits : List ℕ) where
   abbrev now : State
-  now = record s { remaining = remaining }
+  now = record s { remaining = remaining; heap_limits = limits }
 
   owned : (b : Block) → IsOwned s b → IsOwned now b
   owned b is = record { live = is.live; held = is.held }
@@ -30,8 +30,9 @@ module _ (s : State) (remaining : ℕ) where
   agrees : (p : Properties) (objects : ℕ → Option Object) → Agrees s p objects → Agrees now p objects
   agrees p objects is = record { properties = is.properties; holds = λ name. held name objects (finite.get s.held name) (is.holds name) }
 
-pub remaining_leaves : (s new : State) (remaining : ℕ) → new ≡ record s { remaining = remaining } → Leaves s new
-remaining_leaves s new remaining is = subst (Leaves s) (sym is) (leaves s remaining)
+pub may_ask_leaves : (s new : State) (remaining : ℕ) (limits : List ℕ) → new ≡ record s { remaining = remaining; heap_limits = limits } → Leaves s new
+may_ask_leaves s new remaining limits is = subst (Leaves s) (sym is) (leaves s remaining limits)
 
-pub remaining_agrees : (s new : State) (remaining : ℕ) → new ≡ record s { remaining = remaining } → StaysAgreed s new
-remaining_agrees s new remaining is = subst (StaysAgreed s) (sym is) (record { each = agrees s remaining; in_hand = λ p objects. unasked_in_hand s (now s remaining) (leaves s remaining) p objects refl })
+pub may_ask_agrees : (s new : State) (remaining : ℕ) (limits : List ℕ) → new ≡ record s { remaining = remaining; heap_limits = limits } → StaysAgreed s new
+may_ask_agrees s new remaining limits is =
+    subst (StaysAgreed s) (sym is) (record { each = agrees s remaining limits; in_hand = λ p objects. unasked_in_hand s (now s remaining limits) (leaves s remaining limits) p objects refl })
