@@ -29,6 +29,7 @@ pub mod Owning
 pub mod ReturnedTotals
 pub mod Returns
 pub mod Served
+pub mod Serving
 pub mod Soundness
 pub mod Strategies
 pub mod Tables

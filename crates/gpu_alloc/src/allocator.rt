@@ -33,6 +33,7 @@ mod optimal;
 mod ranges;
 mod returning;
 mod rows;
+mod serving;
 mod uncounted;
 
 use crate::limits::Limits;

@@ -29,8 +29,10 @@ ghost use Rattle.gpu_alloc.specs.BuddySharing.{buddy_size, buddy_question, with_
 ghost use Rattle.gpu_alloc_base.specs.Sizes.{minimal_size, final_size, grown_chunk, doubled_chunk};
 ghost use Rattle.gpu_alloc.specs.FirstTypes.{first_types};
 ghost use Rattle.gpu_alloc.specs.Owned.{AreTwo, CancelOut, HoldsNothing};
+ghost use Rattle.gpu_alloc.specs.Serving.{AsksForOwnObjects, NeverServed};
 ghost use Rattle.gpu_alloc.specs.Sound.{IsSound};
 ghost use Rattle.gpu_alloc_block.specs.Contents.{BytesStay};
+ghost use Rattle.gpu_alloc_block.specs.Keyed.{ComeAndGoUnderKeys};
 ghost use Rattle.gpu_alloc_block.specs.Kept.{ToldByPlace};
 ghost use Rattle.gpu_alloc_block.specs.State.{State, Block, Span, span_of, span_cmp, IsOwned, is_shared, heap_limit, ledger};
 ghost use Rattle.gpu_alloc_block.specs.declared.block.Kind.{Kind};
@@ -224,6 +226,14 @@ pub fn kept_blocks_agree()
     ensures { KeptBlocksAgree }
 {}
 
+/// A request that may not be served (`GpuAllocator::can_ever_serve`) is refused in every state of an allocator with these
+/// properties, and nothing is asked. One that may be is asked for at once as an object of its own, where nothing is held
+/// and an object may be.
+pub fn what_can_never_be_served()
+    ensures never { NeverServed }
+    ensures asks { AsksForOwnObjects }
+{}
+
 /// An import leaves allocator and block in agreement with the device: by this call what the clause `agrees` of
 /// `import_memory` says becomes known of each device that agreed and held an object that may be imported.
 pub fn imports_agree()
@@ -295,6 +305,14 @@ pub fn two_blocks_are_apart()
 /// and of two places the blocks are two. So a list is a map from places, which the clauses on keys speak of.
 pub fn blocks_in_hand_are_told_by_place()
     ensures { ToldByPlace }
+{}
+
+/// Blocks under keys of the caller's own, as an `IndexMap` of blocks has them, stay kept (`AreKept`) where one is put
+/// under a key that had none, where the map lends one for a call, and where one is taken out. Only what is found under
+/// each key counts, in whatever order the pairs stand. By this call what the map's `Updates` and the allocator's
+/// `joins` or `in_hand` say becomes that of the new map.
+pub fn blocks_under_keys_come_and_go()
+    ensures { ComeAndGoUnderKeys }
 {}
 
 /// Bytes that are as they were stay so from call to call, and what the device had of a block that keeps its bytes it has.
