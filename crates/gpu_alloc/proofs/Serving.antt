@@ -1,10 +1,12 @@
 -- Whether a request can ever be served, whatever is held.
-use Rattle.std.proofs.Common.{◌≡◌, ◌≢◌, ◌⊎◌, inl, inr, ℕ, ◌<◌, ◌≤◌, ◌==◌, ◌∙◌, ◌&&◌, Bool, true, false, cond, sym, ap, subst, refl, arith, List, [], ◌∷◌, ◌++◌, length, get_or, nat_lt, nat_eq, Option, Some, None, Result, Ok, Err}
+use Rattle.std.proofs.Common.{◌≡◌, ◌≢◌, ◌⊎◌, inl, inr, ℕ, ◌<◌, ◌≤◌, ◌==◌, ◌∙◌, ◌&&◌, Bool, true, false, cond, sym, ap, subst, refl, arith, List, [], ◌∷◌, ◌++◌, length, get_or, nat_lt, nat_eq, Option, Some, None, Result, Ok, Err, map as map_list, slice_get}
 use Rattle.std.proofs.lemmas.Bool.{MatchBool-at_false, cases_lt}
 use Rattle.std.proofs.lemmas.Bool.Decides.{nat_tests}
 use Rattle.std.proofs.lemmas.List.{get_or_default}
 use Rattle.std.proofs.lemmas.List.Elements.{Contains-append_cases, Contains-append_left, Contains-append_right}
+use Rattle.std.proofs.lemmas.Option.{slice_get-map, unwrap_or-slice_get}
 use Rattle.std.specs.Int.{bit_at}
+use Rattle.std.specs.Option.{option_map, unwrap_or}
 use Rattle.std.specs.List.{Contains}
 use Rattle.std.specs.FinMap as map
 use Rattle.std.specs.Bool.{MatchBool}
@@ -12,7 +14,8 @@ use Rattle.std.specs.List.{sum_by}
 use Rattle.std.specs.Ordering.{nat_cmp}
 use Rattle.gpu_alloc_types.specs.Device.{Event}
 use Rattle.gpu_alloc_types.specs.Flags.{usage_bits}
-use Rattle.gpu_alloc_types.specs.Properties.{Properties, heap_at, heap_size}
+use Rattle.gpu_alloc_types.specs.Properties.{Properties, heap_at, heap_size, size_of}
+use Rattle.gpu_alloc_types.specs.declared.types.MemoryHeap.{MemoryHeap}
 use Rattle.gpu_alloc_base.specs.Case as case
 use Rattle.gpu_alloc_base.specs.NewChunk.{ChunkQuestion, LacksDeviceMemory}
 use Rattle.gpu_alloc_base.specs.declared.config.Config.{Config}
@@ -24,9 +27,9 @@ use Rattle.gpu_alloc_usage.proofs.Ranking.Candidates.{allowed-from_bit, candidat
 use Rattle.gpu_alloc_usage.proofs.Ranking.Rising.{filter-has, filter-kept, none-at, one-at}
 use Rattle.gpu_alloc.specs.Allocation.{Allocates, IsCandidate, Refuses, TriesAll, candidates_of}
 use Rattle.gpu_alloc.specs.Candidates.{own_candidate}
-use Rattle.gpu_alloc.specs.Opening.{opened}
+use Rattle.gpu_alloc.specs.Opening.{opened, size_of_heap}
 use Rattle.gpu_alloc.specs.Serving.{AsksForOwnObjects, MayServe, NeverServed, lasting_refusal}
-use Rattle.gpu_alloc_block.specs.State.{Block, HeldObject, State, ledger, share}
+use Rattle.gpu_alloc_block.specs.State.{Block, HeldObject, State, heap_limit, ledger, share}
 use Rattle.gpu_alloc.specs.declared.request.Dedicated.{Dedicated}
 use Rattle.gpu_alloc.specs.declared.request.Dedicated.TheVariants.{Required}
 use Rattle.gpu_alloc.specs.declared.request.Request.{Request}
@@ -129,6 +132,16 @@ nothing_counted c p heap = of_none (map.entries (opened c p).held) (sym (map.len
     of_none [] none = refl
     of_none (e ∷ es) none = let never : ⊥ = omega (arith, none) in absurd never
 
+sized : (o : Option MemoryHeap) → unwrap_or (option_map size_of_heap o) 0 ≡ size_of o
+sized None = refl
+sized (Some heap) = refl
+
+-- a heap's limit is its size
+whole_limit : (c : Config) (p : Properties) (t : ℕ) → heap_limit (opened c p) (heap_at p t) ≡ heap_size p t
+whole_limit c p t =
+    let heaps = p.memory_heaps in
+    sym (unwrap_or-slice_get (map_list size_of_heap heaps) (heap_at p t) 0) ∙ ap (λ o. unwrap_or o 0) (slice_get-map size_of_heap heaps (heap_at p t)) ∙ sized (slice_get heaps (heap_at p t))
+
 -- there were questions, or the host had no memory
 abbrev Asked : List Event → Result Block AllocationError → Type 0
 Asked es answer = (es ≢ []) ⊎ (answer ≡ Err OutOfHostMemory)
@@ -145,7 +158,8 @@ module _ (c : Config) (p : Properties) (r : Request) (remains : 0 < p.max_memory
   passed_asked t es room (inl (inl never, is)) = absurd (never tt)
   passed_asked t es room (inl (inr (has, over), is)) =
       let empty = nothing_counted c p (heap_at p t) in
-      let none : ⊥ = omega (arith, over, room, empty) in absurd none
+      let whole = whole_limit c p t in
+      let none : ⊥ = omega (arith, over, room, empty, whole) in absurd none
   passed_asked t es room (inr (asks, lacks)) = lacks_device _ es lacks
 
   decided_asked : (t : ℕ) (es : List Event) (answer : Result Block AllocationError) (new : State) → case.Decides (own_candidate s r.size t) es answer new → Asked es answer
