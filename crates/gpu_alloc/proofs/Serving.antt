@@ -25,7 +25,7 @@ use Rattle.gpu_alloc_base.specs.declared.error.AllocationError.TheVariants.{NoCo
 use Rattle.gpu_alloc_usage.specs.Ranking.{candidates, implied, is_allowed, named, ranking}
 use Rattle.gpu_alloc_usage.proofs.Ranking.Candidates.{allowed-from_bit, candidates_IsRankingWithin, implied-named}
 use Rattle.gpu_alloc_usage.proofs.Ranking.Rising.{filter-has, filter-kept, none-at, one-at}
-use Rattle.gpu_alloc.specs.Allocation.{Allocates, IsCandidate, Refuses, TriesAll, candidates_of}
+use Rattle.gpu_alloc.specs.Allocation.{Allocates, IsCandidate, Refuses, TriesAll, ask, candidates_of}
 use Rattle.gpu_alloc.specs.Candidates.{own_candidate}
 use Rattle.gpu_alloc.specs.Opening.{opened, size_of_heap}
 use Rattle.gpu_alloc.specs.Serving.{AsksForOwnObjects, MayServe, NeverServed, lasting_refusal}
@@ -67,7 +67,7 @@ module _ (s : State) (r : Request) (meant : ℕ) (is : meant ≡ implied (usage_
 
 module _ (s : State) (r : Request) (hint : Option Dedicated) where
   none_tries : (ts : List ℕ) (es : List Event) (answer : Result Block AllocationError) (new : State)
-      → ((t : ℕ) → Contains ts t → heap_size s.properties t < r.size) → TriesAll s r hint ts es answer new → Refuses s OutOfDeviceMemory es answer new
+      → ((t : ℕ) → Contains ts t → heap_size s.properties t < r.size) → TriesAll s (ask r hint) ts es answer new → Refuses s OutOfDeviceMemory es answer new
   none_tries [] es answer new small all = all
   none_tries (t ∷ ts) es answer new small (inl (first, rest, is, passed, later)) =
       let less = small t (Contains-append_left (t ∷ []) ts t (0, omega arith, refl)) in
@@ -182,7 +182,7 @@ module _ (c : Config) (p : Properties) (r : Request) (remains : 0 < p.max_memory
   asked_later rest es answer is (inr host) = inr host
 
   all_asked : (ts : List ℕ) (es : List Event) (answer : Result Block AllocationError) (new : State) (t : ℕ) → Contains ts t → r.size ≤ heap_size p t
-      → TriesAll s r (Some Required) ts es answer new → Asked es answer
+      → TriesAll s (ask r (Some Required)) ts es answer new → Asked es answer
   all_asked [] es answer new t there room h = absurd (none-at t there)
   all_asked (u ∷ ts) es answer new t there room (inr decides) = decided_asked u es answer new decides.1
   all_asked (u ∷ ts) es answer new t there room (inl (first, rest, is, passed, later)) = elim passed [
