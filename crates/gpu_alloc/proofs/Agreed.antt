@@ -9,7 +9,7 @@ use Rattle.gpu_alloc_base.specs.Case as case
 use Rattle.gpu_alloc_base.specs.NewObject.{HasOneMore}
 use Rattle.gpu_alloc_base.specs.declared.error.AllocationError.{AllocationError}
 use Rattle.gpu_alloc_block.specs.Agreement.{Agrees}
-use Rattle.gpu_alloc.specs.Allocation.{Allocates, IsAsCounted, ObjectsAfter, ObjectsWith, strategy}
+use Rattle.gpu_alloc.specs.Allocation.{AllocatesBy, IsAsCounted, Plan, ObjectsAfter, ObjectsWith, strategy}
 use Rattle.gpu_alloc.specs.BuddySharing.{buddy_question, buddy_size, with_span}
 use Rattle.gpu_alloc.specs.Candidates.{candidate}
 use Rattle.gpu_alloc.specs.FreeListSharing.{latest_number, list_question, list_size}
@@ -17,7 +17,6 @@ use Rattle.gpu_alloc_block.specs.State.{Block, HeldObject, State, is_shared, spa
 use Rattle.gpu_alloc.specs.declared.allocator.Strategy.{Strategy}
 use Rattle.gpu_alloc.specs.declared.allocator.Strategy.TheVariants.{OwnObject, InBuddyChunk, InFreeList}
 use Rattle.gpu_alloc_block.specs.declared.block.Kind.TheVariants.{Dedicated as DedicatedObject, Imported, BuddyChunk, FreeListChunk}
-use Rattle.gpu_alloc.specs.declared.request.Dedicated.{Dedicated}
 use Rattle.gpu_alloc.specs.declared.request.Request.{Request}
 use Rattle.gpu_alloc.proofs.Agreeing.{agrees_kept, agrees_with_object, agrees_with_span}
 use Rattle.gpu_alloc.proofs.Decisions.{allocates_kept, of_grant}
@@ -55,7 +54,7 @@ module _ (s : State) (p : Properties) (f g : ℕ → Option Object) (agrees : Ag
     given_agrees InFreeList r t es (inl gives) = let own = gives.place.tail.chunk in in_chunk own.chunk own.held (ap is_shared own.of_kind) gives.state
     given_agrees InFreeList r t es (inr gives) = in_object (record { memory_type = t; counted = (list_question s t (list_size s r t)).size; kind = FreeListChunk (latest_number s t + 1) }) gives.place.was_free (λ imported. absurd (cc)) (ap (λ (x : State). x.properties) gives.state) (ap (λ (x : State). x.held) gives.state) (ap (λ (x : State). x.live) gives.state)
 
-  pub allocates_agrees : (q : Properties) (r : Request) (hint : Option Dedicated) (es : List Event) (answer : Result Block AllocationError) (new : State) → q ≡ p → Allocates s r hint es answer new → ObjectsAfter s answer new f g → Agrees new q g
-  allocates_agrees q r hint es (Ok b) new same h objects =
-      subst (λ x. Agrees new x g) (sym same) (of_grant s r hint b new (λ t es chosen known decides. given_agrees b new objects (strategy s r hint t) r t es decides.1) es h)
-  allocates_agrees q r hint es (Err e) new same h objects = agrees_kept s new p q f g agrees (allocates_kept s r hint es (Err e) new h) same objects
+  pub allocates_agrees : (q : Properties) (w : Plan) (es : List Event) (answer : Result Block AllocationError) (new : State) → q ≡ p → AllocatesBy s w es answer new → ObjectsAfter s answer new f g → Agrees new q g
+  allocates_agrees q w es (Ok b) new same h objects =
+      subst (λ x. Agrees new x g) (sym same) (of_grant s w b new (λ t es chosen decides. let a = w.asked t in given_agrees b new objects (strategy s a.request a.hint t) a.request t es decides.1) es h)
+  allocates_agrees q w es (Err e) new same h objects = agrees_kept s new p q f g agrees (allocates_kept s w es (Err e) new h) same objects

@@ -18,13 +18,12 @@ use Rattle.gpu_alloc_block.specs.State.{Block, HeldObject, Span, State, is_share
 use Rattle.gpu_alloc_block.specs.declared.block.Kind.{Kind}
 use Rattle.gpu_alloc_block.specs.declared.block.Kind.TheVariants.{Dedicated as DedicatedObject, Imported, BuddyChunk, FreeListChunk}
 use Rattle.gpu_alloc_block.specs.declared.block.Mapping.{Mapping}
-use Rattle.gpu_alloc.specs.Allocation.{Allocates, IsAsCounted, IsGranted, ObjectsAfter, ObjectsWith, strategy}
+use Rattle.gpu_alloc.specs.Allocation.{AllocatesBy, IsAsCounted, IsGranted, Plan, ObjectsAfter, ObjectsWith, strategy}
 use Rattle.gpu_alloc.specs.Candidates.{candidate}
 use Rattle.gpu_alloc.specs.Release.{Cleans, Frees, ObjectsCleaned, ObjectsFreed, without_all, without_objects, without_span}
 use Rattle.gpu_alloc.specs.Sound.{IsSound, LiesIn}
 use Rattle.gpu_alloc.specs.declared.allocator.Strategy.{Strategy}
 use Rattle.gpu_alloc.specs.declared.allocator.Strategy.TheVariants.{OwnObject, InBuddyChunk, InFreeList}
-use Rattle.gpu_alloc.specs.declared.request.Dedicated.{Dedicated}
 use Rattle.gpu_alloc.specs.declared.request.Request.{Request}
 use Rattle.gpu_alloc.proofs.Changes.{all_same, allocates_grow, goes_same, objects_stay, owned_within}
 use Rattle.gpu_alloc.proofs.Decisions.{of_grant}
@@ -127,13 +126,13 @@ module _ (s new : State) (r : Request) (b : Block) (q : Properties) (f g : ℕ �
       }
 
 -- What a grant gives agrees.
-module _ (s : State) (r : Request) (hint : Option Dedicated) (es : List Event) (q : Properties) (f g : ℕ → Option Object) where
-  pub allocates_agrees_block : (answer : Result Block AllocationError) (new : State) → IsSound new → Agrees new q g → Allocates s r hint es answer new → IfOk answer (IsGranted s r new) → ObjectsAfter s answer new f g
+module _ (s : State) (r : Request) (p : Plan) (es : List Event) (q : Properties) (f g : ℕ → Option Object) where
+  pub allocates_agrees_block : (answer : Result Block AllocationError) (new : State) → IsSound new → Agrees new q g → AllocatesBy s p es answer new → IfOk answer (IsGranted s r new) → ObjectsAfter s answer new f g
       → IfOk answer (λ b. BlockAgrees b q g)
   allocates_agrees_block (Err e) new sound agrees decided granted objects = tt
   allocates_agrees_block (Ok b) new sound agrees decided granted objects =
-      let made = of_grant s r hint b new (λ t fs chosen known decides. given_object (strategy s r hint t) s r t fs b new decides.1) es decided in
-      granted_agrees s new r b q f g sound agrees (allocates_grow s r hint es b new decided).properties granted made objects
+      let made = of_grant s p b new (λ t fs chosen decides. let a = p.asked t in given_object (strategy s a.request a.hint t) s a.request t fs b new decides.1) es decided in
+      granted_agrees s new r b q f g sound agrees (allocates_grow s p es b new decided).properties granted made objects
 
 -- A block that stays owned.
 

@@ -9,7 +9,7 @@ use Rattle.gpu_alloc_base.specs.FreeRuns.{tail_start}
 use Rattle.gpu_alloc_base.specs.FreeSpace.{IsPowerOfTwo}
 use Rattle.gpu_alloc_base.specs.declared.error.AllocationError.{AllocationError}
 use Rattle.gpu_alloc_base.specs.declared.error.AllocationError.TheVariants.{OutOfDeviceMemory, OutOfHostMemory, NoCompatibleMemoryTypes, TooManyObjects}
-use Rattle.gpu_alloc_block.specs.State.{HeldObject, Block, State, ledger, share}
+use Rattle.gpu_alloc_block.specs.State.{HeldObject, Block, State, heap_limit, ledger, share}
 use Rattle.gpu_alloc.specs.Allocation.{Tries, strategy}
 use Rattle.gpu_alloc.specs.BuddySharing.{buddy_size}
 use Rattle.gpu_alloc.specs.Budget.{asked_share, heap_budget, heap_bytes, is_import, HoldsNoImportOf, IsDevicesAnswer}
@@ -73,7 +73,7 @@ asked_within s r hint t es (Err TooManyObjects) new (fits, (same, none, shut)) l
 asked_within s r hint t es (Err OutOfDeviceMemory) new (fits, never) large has within = never
 asked_within s r hint t es (Err NoCompatibleMemoryTypes) new (fits, never) large has within = never
 
--- The whole heap.
+-- What is held of a heap.
 
 -- what an object counts was asked for, where it is no import of the heap
 asked_all : (import here : Bool) (n : ℕ) → (here ≡ true → import ≡ false) → cond import 0 (cond here n 0) ≡ cond here n 0
@@ -81,10 +81,15 @@ asked_all true true n own = absurd (let never : true ≡ false = own refl in cc)
 asked_all true false n own = refl
 asked_all false here n own = refl
 
-pub whole_heap : (s : State) (heap : ℕ) → IsSound s → heap < length s.properties.memory_heaps → HoldsNoImportOf s heap → ledger s heap + heap_budget s heap ≡ heap_bytes s.properties heap
-whole_heap s heap sound inside none = omega (arith, sound.within heap inside, sum_by-same (asked_share s.properties heap) (share s.properties heap) s.held weighs)
+pub held_within : (s : State) (heap : ℕ) → IsSound s → heap < length s.properties.memory_heaps → HoldsNoImportOf s heap → ledger s heap ≤ heap_bytes s.properties heap
+held_within s heap sound inside none = omega (arith, sound.within heap inside, sum_by-same (asked_share s.properties heap) (share s.properties heap) s.held weighs)
   where
     weighs : (object : ℕ) (h : HeldObject) → map.get s.held object ≡ Some h → asked_share s.properties heap (object, h) ≡ share s.properties heap (object, h)
     weighs object h at =
         let own = subst (λ (o : Option HeldObject). IfSome o (λ x. heap_at s.properties x.memory_type ≡ heap → is_import x.kind ≡ false)) at (none object) in
         asked_all (is_import h.kind) (heap_at s.properties h.memory_type == heap) h.counted (λ here. own (grind (arith, nat_tests)))
+
+-- with no limit, what is held and the budget are the whole heap
+pub whole_heap : (s : State) (heap : ℕ) → IsSound s → heap < length s.properties.memory_heaps → HoldsNoImportOf s heap → heap_limit s heap ≡ heap_bytes s.properties heap
+    → ledger s heap + heap_budget s heap ≡ heap_bytes s.properties heap
+whole_heap s heap sound inside none unlimited = omega (arith, held_within s heap sound inside none, unlimited)

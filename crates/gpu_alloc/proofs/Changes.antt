@@ -6,7 +6,7 @@ use Rattle.std.specs.FinSet as set
 use Rattle.gpu_alloc_types.specs.Device.{Event, Object, put}
 use Rattle.gpu_alloc_types.specs.Objects.{put-same, put-other}
 use Rattle.gpu_alloc_base.specs.Case as case
-use Rattle.gpu_alloc.specs.Allocation.{Allocates, strategy}
+use Rattle.gpu_alloc.specs.Allocation.{AllocatesBy, Plan, strategy}
 use Rattle.gpu_alloc_block.specs.Agreement.{Agrees, IsCounted}
 use Rattle.gpu_alloc.specs.Candidates.{candidate}
 use Rattle.gpu_alloc.specs.Owned.{HoldsWith}
@@ -17,7 +17,6 @@ use Rattle.gpu_alloc.specs.declared.allocator.Strategy.{Strategy}
 use Rattle.gpu_alloc.specs.declared.allocator.Strategy.TheVariants.{OwnObject, InBuddyChunk, InFreeList}
 use Rattle.gpu_alloc_block.specs.declared.block.Kind.{Kind}
 use Rattle.gpu_alloc_block.specs.declared.block.Kind.TheVariants.{Dedicated as DedicatedObject, Imported, BuddyChunk, FreeListChunk}
-use Rattle.gpu_alloc.specs.declared.request.Dedicated.{Dedicated}
 use Rattle.gpu_alloc.specs.declared.request.Request.{Request}
 use Rattle.gpu_alloc_types.specs.Properties.{Properties}
 use Rattle.gpu_alloc_base.proofs.Lists.{contains_head, contains_later, contains_cases, contains_none}
@@ -36,6 +35,7 @@ pub record Grows (s : State) (b : Block) (new : State) : Type 0 where
   pub held : HoldsWith s b new
   pub properties : new.properties ≡ s.properties
   pub config : new.config ≡ s.config
+  pub limits : new.heap_limits ≡ s.heap_limits
 
 -- what was held is held as it was
 still_held : (s : State) (b : Block) (new : State) → HoldsWith s b new → (object : ℕ) (h : HeldObject) → map.get s.held object ≡ Some h → map.get new.held object ≡ Some h
@@ -69,14 +69,14 @@ grows_like s b like new same grows = subst (Grows s b) (sym same) grows
 
 grant_grows : (w : Strategy) (s : State) (r : Request) (t : ℕ) (es : List Event) (b : Block) (new : State) → case.Decides (candidate w s r t) es (Ok b) new → Grows s b new
 grant_grows OwnObject s r t es b new (inl gives) = absurd gives.place
-grant_grows OwnObject s r t es b new (inr gives) = grows_like s b _ new gives.state (record { live = refl; held = holds_one_more s b _ _ gives.place.was_free refl; properties = refl; config = refl })
-grant_grows InBuddyChunk s r t es b new (inl gives) = grows_like s b _ new gives.state (record { live = refl; held = holds_as_before s b _ refl; properties = refl; config = refl })
-grant_grows InBuddyChunk s r t es b new (inr gives) = grows_like s b _ new gives.state (record { live = refl; held = holds_one_more s b _ _ gives.place.was_free refl; properties = refl; config = refl })
-grant_grows InFreeList s r t es b new (inl gives) = grows_like s b _ new gives.state (record { live = refl; held = holds_as_before s b _ refl; properties = refl; config = refl })
-grant_grows InFreeList s r t es b new (inr gives) = grows_like s b _ new gives.state (record { live = refl; held = holds_one_more s b _ _ gives.place.was_free refl; properties = refl; config = refl })
+grant_grows OwnObject s r t es b new (inr gives) = grows_like s b _ new gives.state (record { live = refl; held = holds_one_more s b _ _ gives.place.was_free refl; properties = refl; config = refl; limits = refl })
+grant_grows InBuddyChunk s r t es b new (inl gives) = grows_like s b _ new gives.state (record { live = refl; held = holds_as_before s b _ refl; properties = refl; config = refl; limits = refl })
+grant_grows InBuddyChunk s r t es b new (inr gives) = grows_like s b _ new gives.state (record { live = refl; held = holds_one_more s b _ _ gives.place.was_free refl; properties = refl; config = refl; limits = refl })
+grant_grows InFreeList s r t es b new (inl gives) = grows_like s b _ new gives.state (record { live = refl; held = holds_as_before s b _ refl; properties = refl; config = refl; limits = refl })
+grant_grows InFreeList s r t es b new (inr gives) = grows_like s b _ new gives.state (record { live = refl; held = holds_one_more s b _ _ gives.place.was_free refl; properties = refl; config = refl; limits = refl })
 
-pub allocates_grow : (s : State) (r : Request) (hint : Option Dedicated) (es : List Event) (b : Block) (new : State) → Allocates s r hint es (Ok b) new → Grows s b new
-allocates_grow s r hint es b new = of_grant s r hint b new (λ t fs chosen known decides. grant_grows (strategy s r hint t) s r t fs b new decides.1) es
+pub allocates_grow : (s : State) (p : Plan) (es : List Event) (b : Block) (new : State) → AllocatesBy s p es (Ok b) new → Grows s b new
+allocates_grow s p es b new = of_grant s p b new (λ t fs chosen decides. let a = p.asked t in grant_grows (strategy s a.request a.hint t) s a.request t fs b new decides.1) es
 
 -- Objects that go.
 

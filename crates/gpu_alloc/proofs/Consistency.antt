@@ -141,21 +141,21 @@ module _ (p : Properties) (heaps : List Heap) (t : Table) (remaining : ℕ) (is 
       used_more = omega (arith, ap (λ (x : Heap). x.used) counts, ledger_before.used, sums_more (share p i), test-same (heap_at p h.memory_type) i h.counted (sym here))
 
       -- an import was not asked for, and anything else fits
-      within_more : (import : Bool) → is_import h.kind ≡ import → (import ≡ false → heap.used + h.counted ≤ heap.size) → sum_by (asked_share p i) (finite.entries now.held) ≤ changed.size
+      within_more : (import : Bool) → is_import h.kind ≡ import → (import ≡ false → heap.used + h.counted ≤ heap.limit) → sum_by (asked_share p i) (finite.entries now.held) ≤ changed.size
       within_more true imported fits =
           let none : asked_share p i (span.object, h) ≡ 0 = ap (λ b. cond b 0 (share p i (span.object, h))) imported in
           omega (arith, none, sums_more (asked_share p i), ledger_before.within, ap (λ (x : Heap). x.size) counts)
-      within_more false asked fits = omega (arith, asked-part p i (finite.entries now.held), used_more, ap (λ (x : Heap). x.used) counts, ap (λ (x : Heap). x.size) counts, fits refl)
+      within_more false asked fits = omega (arith, ledger_before.limited, asked-part p i (finite.entries now.held), used_more, ap (λ (x : Heap). x.used) counts, ap (λ (x : Heap). x.size) counts, fits refl)
 
       others_more : (q : ℕ) → q ≢ i → (sum_by (share p q) (finite.entries now.held) ≡ sum_by (share p q) (finite.entries t.held)) × (sum_by (asked_share p q) (finite.entries now.held) ≡ sum_by (asked_share p q) (finite.entries t.held))
       others_more q other =
           let none : share p q (span.object, h) ≡ 0 = test-other (heap_at p h.memory_type) q h.counted (λ e. other (sym (here ∙ e))) in
           (omega (arith, sums_more (share p q), none), omega (arith, sums_more (asked_share p q), part-none (is_import h.kind) (share p q (span.object, h)) none))
 
-      ledgers_more : (is_import h.kind ≡ false → heap.used + h.counted ≤ heap.size) → AreLedgers p (set heaps i changed) (finite.entries now.held)
-      ledgers_more fits = ledgers_set p heaps i changed (finite.entries t.held) (finite.entries now.held) is.ledgers (record { used = used_more; within = within_more (is_import h.kind) refl fits }) others_more
+      ledgers_more : (is_import h.kind ≡ false → heap.used + h.counted ≤ heap.limit) → AreLedgers p (set heaps i changed) (finite.entries now.held)
+      ledgers_more fits = ledgers_set p heaps i changed (finite.entries t.held) (finite.entries now.held) is.ledgers (record { used = used_more; within = within_more (is_import h.kind) refl fits; limited = subst (λ (x : Heap). x.limit ≤ x.size) (sym counts) ledger_before.limited }) others_more
 
-    pub booked-held : (heap changed : Heap) (i : ℕ) → 0 < remaining → i ≡ heap_at p h.memory_type → heap ≡ get_or heaps i heap → changed ≡ record heap { used = heap.used + h.counted } → (is_import h.kind ≡ false → heap.used + h.counted ≤ heap.size)
+    pub booked-held : (heap changed : Heap) (i : ℕ) → 0 < remaining → i ≡ heap_at p h.memory_type → heap ≡ get_or heaps i heap → changed ≡ record heap { used = heap.used + h.counted } → (is_import h.kind ≡ false → heap.used + h.counted ≤ heap.limit)
         → IsBooked p (set heaps i changed) now (remaining - 1)
     booked-held heap changed i some here at more fits = record {
       usable = is.usable;
@@ -212,7 +212,7 @@ module _ (p : Properties) (heaps : List Heap) (t : Table) (remaining : ℕ) (is 
     ledgers_fewer heap changed i here at less =
         let before = ledger_is p heaps i heap (finite.entries t.held) is.ledgers (omega (arith, heap_there h.memory_type (known_object name h l.found).of_type)) at in
         let fewer : changed.used ≡ sum_by (share p i) (finite.entries now.held) = omega (arith, ap (λ (x : Heap). x.used) less, before.used, sums_fewer (share p i), test-same (heap_at p h.memory_type) i h.counted (sym here)) in
-        ledgers_set p heaps i changed (finite.entries t.held) (finite.entries now.held) is.ledgers (record { used = fewer; within = omega (arith, before.within, sums_fewer (asked_share p i), ap (λ (x : Heap). x.size) less) })
+        ledgers_set p heaps i changed (finite.entries t.held) (finite.entries now.held) is.ledgers (record { used = fewer; within = omega (arith, before.within, sums_fewer (asked_share p i), ap (λ (x : Heap). x.size) less); limited = subst (λ (x : Heap). x.limit ≤ x.size) (sym less) before.limited })
         (λ q other.
         let none : share p q (name, h) ≡ 0 = test-other (heap_at p h.memory_type) q h.counted (λ e. other (sym (here ∙ e))) in
         (omega (arith, sums_fewer (share p q), none), omega (arith, sums_fewer (asked_share p q), part-none (is_import h.kind) (share p q (name, h)) none)))

@@ -1,8 +1,7 @@
 -- What follows from a decision: nothing changes where it refuses, remaining and held objects are as many as before, and what
 -- holds wherever a candidate gives a block holds of a grant.
 use Rattle.std.proofs.Common.{◌≡◌, inl, inr, ℕ, Bool, true, false, List, [], ◌∷◌, Option, None, Result, Ok, Err, refl, ◌+◌, ◌-◌, ◌<◌, ◌∙◌, ap, arith, Contains}
-use Rattle.std.specs.Prelude.{All, MatchBool, OnErr, ◌&&◌, ◌==◌, nat_lt, nat_eq, length}
-use Rattle.std.proofs.lemmas.List.Elements.{All-head, All-tail}
+use Rattle.std.specs.Prelude.{MatchBool, OnErr, ◌&&◌, ◌==◌, nat_eq, length}
 use Rattle.std.specs.FinMap as map
 use Rattle.gpu_alloc_types.specs.Device.{Event}
 use Rattle.gpu_alloc_types.specs.Flags.{usage_bits}
@@ -10,7 +9,8 @@ use Rattle.gpu_alloc_base.specs.Case as case
 use Rattle.gpu_alloc_base.specs.Case.{Case}
 use Rattle.gpu_alloc_base.specs.declared.error.AllocationError.{AllocationError}
 use Rattle.gpu_alloc_base.specs.declared.error.AllocationError.TheVariants.{OutOfDeviceMemory, OutOfHostMemory, NoCompatibleMemoryTypes, TooManyObjects}
-use Rattle.gpu_alloc.specs.Allocation.{Allocates, Decides, Refuses, TriesAll, strategy, candidates_of}
+use Rattle.gpu_alloc.specs.Allocation.{AllocatesBy, Decides, Plan, Refuses, TriesAll, candidates_of, strategy}
+use Rattle.gpu_alloc.specs.declared.allocator.Ask.{Ask}
 use Rattle.gpu_alloc.specs.Request.{is_required}
 use Rattle.gpu_alloc.specs.Candidates.{candidate}
 use Rattle.gpu_alloc_block.specs.State.{State, Block, HeldObject, total}
@@ -18,7 +18,7 @@ use Rattle.gpu_alloc.specs.declared.allocator.Strategy.{Strategy}
 use Rattle.gpu_alloc.specs.declared.allocator.Strategy.TheVariants.{OwnObject, InBuddyChunk, InFreeList}
 use Rattle.gpu_alloc.specs.declared.request.Dedicated.{Dedicated}
 use Rattle.gpu_alloc.specs.declared.request.Request.{Request}
-use Rattle.gpu_alloc_base.proofs.Lists.{contains_head, contains_later}
+use Rattle.gpu_alloc_base.proofs.Lists.{all_contained, contains_head, contains_later}
 use Rattle.gpu_alloc_base.proofs.Sums.{len_more}
 use Rattle.gpu_alloc_usage.proofs.Ranking.Candidates.{candidates-within}
 
@@ -58,51 +58,54 @@ decides_total s r hint t es (Err e) new decides = ap total (decides_refused s r 
 
 -- All candidates.
 
-module _ (s : State) (r : Request) (hint : Option Dedicated) where
-  all_refused : (ts : List ℕ) (es : List Event) (e : AllocationError) (new : State) → TriesAll s r hint ts es (Err e) new → new ≡ s
+module _ (s : State) (asked : ℕ → Ask) where
+  all_refused : (ts : List ℕ) (es : List Event) (e : AllocationError) (new : State) → TriesAll s asked ts es (Err e) new → new ≡ s
   all_refused [] es e new tried = tried.2
   all_refused (t ∷ ts) es e new (inl passed) = all_refused ts passed.1 e new passed.4
-  all_refused (t ∷ ts) es e new (inr decides) = decides_refused s r hint t es e new decides
+  all_refused (t ∷ ts) es e new (inr decides) = decides_refused s (asked t).request (asked t).hint t es e new decides
 
-  all_total : (ts : List ℕ) (es : List Event) (answer : Result Block AllocationError) (new : State) → TriesAll s r hint ts es answer new → total new ≡ total s
+  all_total : (ts : List ℕ) (es : List Event) (answer : Result Block AllocationError) (new : State) → TriesAll s asked ts es answer new → total new ≡ total s
   all_total [] es answer new tried = ap total tried.2
   all_total (t ∷ ts) es answer new (inl passed) = all_total ts passed.1 answer new passed.4
-  all_total (t ∷ ts) es answer new (inr decides) = decides_total s r hint t es answer new decides
+  all_total (t ∷ ts) es answer new (inr decides) = decides_total s (asked t).request (asked t).hint t es answer new decides
 
-  -- The whole allocation.
+-- The whole allocation.
 
-  -- what holds of each refusal by a test, and where all tests are passed
-  by_tests : {X : Type 0} (a b c : Bool) {A B C D : Type 0} → (A → X) → (B → X) → (C → X) → (D → X) → MatchBool a A (MatchBool b B (MatchBool c C D)) → X
-  by_tests true b c first second third else h = first h
-  by_tests false true c first second third else h = second h
-  by_tests false false true first second third else h = third h
-  by_tests false false false first second third else h = else h
+-- what holds of each refusal by a test, and where all tests are passed
+by_tests : {X : Type 0} (a b c : Bool) {A B C D : Type 0} → (A → X) → (B → X) → (C → X) → (D → X) → MatchBool a A (MatchBool b B (MatchBool c C D)) → X
+by_tests true b c first second third else h = first h
+by_tests false true c first second third else h = second h
+by_tests false false true first second third else h = third h
+by_tests false false false first second third else h = else h
 
+module _ (s : State) (p : Plan) where
   module _ (es : List Event) (answer : Result Block AllocationError) (new : State) where
     abbrev Refused : AllocationError → Type 0
     Refused e = Refuses s e es answer new
 
-    of_allocation : {X : Type 0} → ((e : AllocationError) → Refused e → X) → (TriesAll s r hint (candidates_of s r) es answer new → X) → Allocates s r hint es answer new → X
-    unfolding Allocates
+    of_allocation : {X : Type 0} → ((e : AllocationError) → Refused e → X) → (TriesAll s p.asked p.candidates es answer new → X) → AllocatesBy s p es answer new → X
     of_allocation refused tried =
-        by_tests (nat_lt s.properties.max_memory_allocation_size r.size) (is_required hint && (s.remaining == 0)) (nat_eq (length (candidates_of s r)) 0)
+        by_tests p.too_large (is_required p.hint && (s.remaining == 0)) (nat_eq (length p.candidates) 0)
         (refused OutOfDeviceMemory) (refused TooManyObjects) (refused NoCompatibleMemoryTypes) tried
 
-    pub allocates_total : Allocates s r hint es answer new → total new ≡ total s
-    allocates_total = of_allocation (λ e refused. ap total refused.2) (all_total (candidates_of s r) es answer new)
+    pub allocates_total : AllocatesBy s p es answer new → total new ≡ total s
+    allocates_total = of_allocation (λ e refused. ap total refused.2) (all_total s p.asked p.candidates es answer new)
 
-  pub allocates_kept : (es : List Event) (answer : Result Block AllocationError) (new : State) → Allocates s r hint es answer new → OnErr answer (new ≡ s)
+  pub allocates_kept : (es : List Event) (answer : Result Block AllocationError) (new : State) → AllocatesBy s p es answer new → OnErr answer (new ≡ s)
   allocates_kept es (Ok b) new h = tt
-  allocates_kept es (Err e) new h = of_allocation es (Err e) new (λ cause refused. refused.2) (all_refused (candidates_of s r) es e new) h
+  allocates_kept es (Err e) new h = of_allocation es (Err e) new (λ cause refused. refused.2) (all_refused s p.asked p.candidates es e new) h
 
-  -- what holds wherever a candidate, which is a known memory type, gives a block holds of a grant
-  module _ {X : Type 0} (b : Block) (new : State) (gives : (t : ℕ) (es : List Event) → Contains (candidates_of s r) t → t < length s.properties.memory_types → Decides s r hint t es (Ok b) new → X) where
-    one_gives : (ts : List ℕ) (es : List Event) → ((t : ℕ) → Contains ts t → Contains (candidates_of s r) t) → All (λ t. t < length s.properties.memory_types) ts → TriesAll s r hint ts es (Ok b) new → X
-    one_gives [] es are known tried = absurd (cc)
-    one_gives (t ∷ ts) es are known (inl passed) = one_gives ts passed.1 (λ u has. are u (contains_later t u ts has)) (All-tail (λ t. t < length s.properties.memory_types) t ts known) passed.4
-    one_gives (t ∷ ts) es are known (inr decides) = gives t es (are t (contains_head t ts)) (All-head (λ t. t < length s.properties.memory_types) t ts known) decides
+  -- what holds wherever a candidate gives a block holds of a grant
+  module _ {X : Type 0} (b : Block) (new : State) (gives : (t : ℕ) (es : List Event) → Contains p.candidates t → Decides s (p.asked t).request (p.asked t).hint t es (Ok b) new → X) where
+    one_gives : (us : List ℕ) (es : List Event) → ((t : ℕ) → Contains us t → Contains p.candidates t) → TriesAll s p.asked us es (Ok b) new → X
+    one_gives [] es are tried = absurd (cc)
+    one_gives (t ∷ us) es are (inl passed) = one_gives us passed.1 (λ u has. are u (contains_later t u us has)) passed.4
+    one_gives (t ∷ us) es are (inr decides) = gives t es (are t (contains_head t us)) decides
 
-    pub of_grant : (es : List Event) → Allocates s r hint es (Ok b) new → X
-    of_grant es h =
-        of_allocation es (Ok b) new (λ e refused. absurd (let never = refused.1 in cc))
-        (one_gives (candidates_of s r) es (λ t has. has) (candidates-within s.properties.memory_types (usage_bits r.usage) r.memory_types)) h
+    pub of_grant : (es : List Event) → AllocatesBy s p es (Ok b) new → X
+    of_grant es h = of_allocation es (Ok b) new (λ e refused. absurd (let never = refused.1 in cc)) (one_gives p.candidates es (λ t has. has)) h
+
+-- each candidate is a known memory type
+pub candidate_known : (s : State) (r : Request) (t : ℕ) → Contains (candidates_of s r) t → t < length s.properties.memory_types
+candidate_known s r t has =
+    all_contained (λ u. u < length s.properties.memory_types) (candidates_of s r) t (candidates-within s.properties.memory_types (usage_bits r.usage) r.memory_types) has

@@ -1,7 +1,7 @@
 -- What a caller may know of a granted block follows from the decision, by the way in which its candidate is served.
-use Rattle.std.proofs.Common.{◌≡◌, ◌≢◌, inl, inr, ℕ, ◌+◌, ◌*◌, ◌-◌, ◌%◌, ◌^◌, ◌<◌, ◌≤◌, true, List, length, Option, Some, None, Result, Ok, Err, IsTrue, refl, sym, ◌∙◌, ap, subst, arith}
+use Rattle.std.proofs.Common.{◌≡◌, ◌≢◌, inl, inr, ℕ, ◌+◌, ◌*◌, ◌-◌, ◌%◌, ◌^◌, ◌<◌, ◌≤◌, ◌↔◌, true, false, Contains, List, length, Option, Some, None, Result, Ok, Err, IsTrue, refl, sym, ◌∙◌, ap, subst, arith}
 use Rattle.std.specs.Prelude.{IfOk, max}
-use Rattle.std.proofs.lemmas.Bool.{cases_eq, cases_lt}
+use Rattle.std.proofs.lemmas.Bool.{cases_Bool, cases_eq, cases_lt}
 use Rattle.std.proofs.lemmas.Bool.Decides.{nat_tests}
 use Rattle.std.proofs.lemmas.Nat.{pow_pos}
 use Rattle.std.proofs.Math.Nat.{mul_comm, zero-mod, zero-mul, one-mul}
@@ -20,7 +20,7 @@ use Rattle.gpu_alloc_base.proofs.Maps.{own_inserted}
 use Rattle.gpu_alloc_base.proofs.Multiples.{mod_from_multiple, multiple_down, multiple_from_mod, multiple_min, multiple_of_lower, multiple_rest, multiple_times}
 use Rattle.gpu_alloc_base.proofs.PowersOfTwo.{greater_power, next_is_enough, power_of_bit}
 use Rattle.gpu_alloc_buddy.specs.Buddy.{Fits}
-use Rattle.gpu_alloc.specs.Allocation.{Allocates, IsGranted, fits_a_chunk, strategy, IsCandidate}
+use Rattle.gpu_alloc.specs.Allocation.{AllocatesBy, Decides, IsAloneWhereServed, IsCandidate, IsGranted, Plan, candidates_of, fits_a_chunk, is_alone, plan, serves_alone, strategy}
 use Rattle.gpu_alloc.specs.Atoms.{KeepsAtoms, IsNextListChunk}
 use Rattle.gpu_alloc.specs.BuddySharing.{IsPieceFront, buddy_question, buddy_size, front_of, with_span}
 use Rattle.gpu_alloc.specs.Candidates.{candidate}
@@ -36,7 +36,7 @@ use Rattle.gpu_alloc_block.specs.declared.block.Kind.TheVariants.{Dedicated as D
 use Rattle.gpu_alloc.specs.declared.request.Dedicated.{Dedicated}
 use Rattle.gpu_alloc.specs.declared.request.Dedicated.TheVariants.{Required}
 use Rattle.gpu_alloc.specs.declared.request.Request.{Request}
-use Rattle.gpu_alloc.proofs.Decisions.{of_grant}
+use Rattle.gpu_alloc.proofs.Decisions.{candidate_known, of_grant}
 use Rattle.gpu_alloc.proofs.Soundness.{ranges_apart}
 use Rattle.gpu_alloc.proofs.Strategies.{fits_its_list}
 use Rattle.gpu_alloc_block.proofs.LiveSpans.{live_new}
@@ -253,22 +253,107 @@ module _ (s : State) (r : Request) (sound : IsSound s) where
         rw gives.state (subst (λ x. IsGranted s r (c.with_object x) x) (sym gives.place.is) (in_new_object t (FreeListChunk number) span (c.with_object (granted_block s t (FreeListChunk number) span)) whole
         (tail_sized number span whole enough.0 enough.1 refl ends) (omega (arith, ends)) gives.place.was_free refl refl))
 
-  -- The whole allocation.
+-- The whole allocation.
 
-  pub allocates_granted : KeepsAtoms s → IsAskable s.properties.buffer_device_address r → (hint : Option Dedicated) (es : List Event) (answer : Result Block AllocationError) (new : State) → Allocates s r hint es answer new → IfOk answer (IsGranted s r new)
-  unfolding IsCandidate
-  allocates_granted atoms asked hint es (Err e) new h = tt
-  allocates_granted atoms asked hint es (Ok b) new h =
-      of_grant s r hint b new (λ t es chosen known decides. granted_by atoms asked t chosen (strategy s r hint t) es b new known (fits_its_list s r hint t) decides.1) es h
+-- what each candidate is asked serves the request: as many bytes or more, as aligned or more, of the same memory types
+pub record IsServedBy (s : State) (r q : Request) : Type 0 where
+  pub askable : IsAskable s.properties.buffer_device_address q
+  pub enough : r.size ≤ q.size
+  pub aligned : (offset : ℕ) → offset % (q.align_mask + 1) ≡ 0 → offset % (r.align_mask + 1) ≡ 0
+  pub candidates : candidates_of s q ≡ candidates_of s r
+
+granted_as : (s : State) (r q : Request) (new : State) (b : Block) → IsServedBy s r q → IsGranted s q new b → IsGranted s r new b
+unfolding IsCandidate
+granted_as s r q new b serves is = record {
+  enough = omega (arith, is.enough, serves.enough);
+  aligned = serves.aligned b.offset is.aligned;
+  whole_atoms = is.whole_atoms;
+  buddy = is.buddy;
+  inside = is.inside;
+  unmapped = is.unmapped;
+  made = is.made;
+  candidate = subst (λ ts. Contains ts b.memory_type) serves.candidates is.candidate;
+  props = is.props;
+  atom = is.atom;
+  some_atom = is.some_atom;
+  owned = is.owned;
+  was_free = is.was_free;
+}
+
+-- one candidate's grant
+pub candidate_granted : (s : State) (r : Request) (hint : Option Dedicated) (t : ℕ) (es : List Event) (b : Block) (new : State) → IsSound s → KeepsAtoms s → IsAskable s.properties.buffer_device_address r → Contains (candidates_of s r) t
+    → Decides s r hint t es (Ok b) new → IsGranted s r new b
+unfolding IsCandidate
+candidate_granted s r hint t es b new sound atoms askable chosen decides =
+    granted_by s r sound atoms askable t chosen (strategy s r hint t) es b new (candidate_known s r t chosen) (fits_its_list s r hint t) decides.1
+
+-- a plan for the request
+pub record IsPlanFor (s : State) (r : Request) (p : Plan) : Type 0 where
+  pub candidates : p.candidates ≡ candidates_of s r
+  pub serves : (t : ℕ) → IsServedBy s r (p.asked t).request
+
+pub is_plan : (s : State) (r : Request) (hint : Option Dedicated) → IsAskable s.properties.buffer_device_address r → IsPlanFor s r (plan s r hint)
+is_plan s r hint askable = record { candidates = refl; serves = λ t. record { askable = askable; enough = omega arith; aligned = λ offset is. is; candidates = refl } }
+
+module _ (s : State) (r : Request) (p : Plan) (for : IsPlanFor s r p) (sound : IsSound s) (atoms : KeepsAtoms s) where
+  pub allocates_granted : (es : List Event) (answer : Result Block AllocationError) (new : State) → AllocatesBy s p es answer new → IfOk answer (IsGranted s r new)
+  allocates_granted es (Err e) new h = tt
+  allocates_granted es (Ok b) new h = of_grant s p b new (λ t fs chosen decides.
+      let a = p.asked t in
+      let serves = for.serves t in
+      let own : Contains (candidates_of s a.request) t = subst (λ ts. Contains ts t) (for.candidates ∙ sym serves.candidates) chosen in
+      granted_as s r a.request new b serves (candidate_granted s a.request a.hint t fs b new sound atoms serves.askable own decides)) es h
+
+-- By which kind of object a block is served.
+
+-- an object of its own, of the very size, or a shared one
+pub record IsServedSo (w : Strategy) (size t : ℕ) (b : Block) : Type 0 where
+  pub of_type : b.memory_type ≡ t
+  pub alone : is_alone w ≡ true → (b.kind ≡ DedicatedObject) × (b.size ≡ size)
+  pub shared : is_alone w ≡ false → is_shared b.kind ≡ true
+
+pub served_so : (w : Strategy) (s : State) (r : Request) (t : ℕ) (es : List Event) (b : Block) (new : State) → case.Decides (candidate w s r t) es (Ok b) new → IsServedSo w r.size t b
+served_so OwnObject s r t es b new (inl gives) = absurd gives.place
+served_so OwnObject s r t es b new (inr gives) = record {
+  of_type = ap (λ (x : Block). x.memory_type) gives.place.is;
+  alone = λ own. (ap (λ (x : Block). x.kind) gives.place.is, ap (λ (x : Block). x.size) gives.place.is);
+  shared = λ other. absurd (cc);
+}
+served_so InBuddyChunk s r t es b new (inl gives) = record { of_type = ap (λ (x : Block). x.memory_type) gives.place.is; alone = λ own. absurd (cc); shared = λ chunk. ap (λ (x : Block). is_shared x.kind) gives.place.is }
+served_so InBuddyChunk s r t es b new (inr gives) = record { of_type = ap (λ (x : Block). x.memory_type) gives.place.is; alone = λ own. absurd (cc); shared = λ chunk. ap (λ (x : Block). is_shared x.kind) gives.place.is }
+served_so InFreeList s r t es b new (inl gives) = record { of_type = ap (λ (x : Block). x.memory_type) gives.place.is; alone = λ own. absurd (cc); shared = λ chunk. ap (λ (x : Block). is_shared x.kind) gives.place.is }
+served_so InFreeList s r t es b new (inr gives) = record { of_type = ap (λ (x : Block). x.memory_type) gives.place.is; alone = λ own. absurd (cc); shared = λ chunk. ap (λ (x : Block). is_shared x.kind) gives.place.is }
+
+-- in general: by what its memory type was asked
+pub record HasKind (s : State) (p : Plan) (b : Block) : Type 0 where
+  pub t : ℕ
+  pub so : IsServedSo (strategy s (p.asked t).request (p.asked t).hint t) (p.asked t).request.size t b
+
+module _ (s : State) (p : Plan) where
+  pub allocates_kind : (es : List Event) (answer : Result Block AllocationError) (new : State) → AllocatesBy s p es answer new → IfOk answer (HasKind s p)
+  allocates_kind es (Err e) new h = tt
+  allocates_kind es (Ok b) new h = of_grant s p b new (λ t fs chosen decides. let a = p.asked t in record { t = t; so = served_so (strategy s a.request a.hint t) s a.request t fs b new decides.1 }) es h
+
+-- what follows of each granted block
+pub of_kind : (s : State) (p : Plan) {X : Block → Type 0} (answer : Result Block AllocationError) → ((b : Block) → HasKind s p b → X b) → IfOk answer (HasKind s p) → IfOk answer X
+of_kind s p (Ok b) of is = of b is
+of_kind s p (Err e) of is = tt
+
+pub not_alone_kind : (kind : Kind) → is_shared kind ≡ true → kind ≡ DedicatedObject → ⊥
+not_alone_kind kind shared own = let both = ap is_shared (sym own) ∙ shared in cc
+
+-- whose request was asked for of each
+pub alone_is : (s : State) (r : Request) (hint : Option Dedicated) (answer : Result Block AllocationError) → IfOk answer (HasKind s (plan s r hint)) → IfOk answer (IsAloneWhereServed s r hint)
+alone_is s r hint (Err e) is = tt
+alone_is s r hint (Ok b) is = subst (λ t. IsTrue (serves_alone s r hint t) ↔ (b.kind ≡ DedicatedObject)) (sym is.so.of_type) (
+  (λ alone. (is.so.alone (grind (arith, alone))).0),
+  λ own. elim (cases_Bool (serves_alone s r hint is.t)) [
+    | inl alone ↦ subst IsTrue (sym alone) refl
+    | inr other ↦ absurd (not_alone_kind b.kind (is.so.shared other) own)
+  ],
+)
 
 -- A required grant has an object of its own.
-
-with_required : (s : State) (r : Request) (es : List Event) (new : State) (b : Block) → Allocates s r (Some Required) es (Ok b) new → b.kind ≡ DedicatedObject
-with_required s r es new b decided = of_grant s r (Some Required) b new (λ t fs chosen known decides. elim (decides.1) [
-  | inl gives ↦ absurd (gives.place)
-  | inr gives ↦ ap (λ (x : Block). x.kind) gives.place.is
-]) es decided
-
-pub required_granted : (s : State) (r : Request) (hint : Dedicated) → hint ≡ Required → (es : List Event) (answer : Result Block AllocationError) (new : State) → Allocates s r (Some hint) es answer new → IfOk answer (λ b. b.kind ≡ DedicatedObject)
-required_granted s r hint required es (Err e) new decided = tt
-required_granted s r hint required es (Ok b) new decided = with_required s r es new b (subst (λ d. Allocates s r (Some d) es (Ok b) new) required decided)
+pub required_granted : (s : State) (r : Request) (hint : Dedicated) → hint ≡ Required → (answer : Result Block AllocationError) → IfOk answer (IsAloneWhereServed s r (Some hint)) → IfOk answer (λ b. b.kind ≡ DedicatedObject)
+required_granted s r hint required (Err e) is = tt
+required_granted s r hint required (Ok b) is = is.0 (subst (λ d. IsTrue (serves_alone s r (Some d) b.memory_type)) (sym required) refl)

@@ -1,20 +1,21 @@
 -- The list of heaps: what is read of it, and what stays as one heap's ledger changes.
-use Rattle.std.proofs.Common.{◌≡◌, ◌≢◌, ℕ, zero, suc, ◌<◌, ◌≤◌, List, [], ◌∷◌, length, get_or, map, Option, Some, None, IfSome, refl, sym, ◌∙◌, ap, subst, arith, inl, inr}
+use Rattle.std.proofs.Common.{◌≡◌, ◌≢◌, ℕ, zero, suc, ◌<◌, ◌≤◌, List, [], ◌∷◌, length, get_or, map, min, Option, Some, None, IfSome, refl, sym, ◌∙◌, ap, subst, arith, inl, inr}
 use Rattle.std.proofs.Math.ListN.{set}
 use Rattle.std.proofs.Math.Seq.{map-set_same}
 use Rattle.std.proofs.lemmas.Option.{slice_get_read, slice_get_cases}
-use Rattle.std.proofs.lemmas.List.{length-map}
+use Rattle.std.proofs.lemmas.List.{length-map, map-set}
 use Rattle.std.specs.List.{sum_by, slice_get}
 use Rattle.std.specs.FinMap as finite
 use Rattle.gpu_alloc_types.specs.Properties.{Properties, IsUsable, heap_at, heap_of, size_of}
 use Rattle.gpu_alloc_types.specs.declared.types.MemoryType.{MemoryType}
-use Rattle.gpu_alloc_block.specs.State.{State, ledger, share}
-use Rattle.gpu_alloc.specs.Budget.{asked_bytes, asked_share, heap_bytes}
+use Rattle.gpu_alloc_block.specs.State.{State, heap_limit, ledger, share}
+use Rattle.gpu_alloc.specs.Budget.{asked_bytes, asked_share, heap_bytes, with_heap_limit}
 use Rattle.gpu_alloc.specs.Spans.{Table}
 use Rattle.gpu_alloc_buddy.specs.BuddyState.{Buddy}
 use Rattle.gpu_alloc_freelist.specs.FreeListState.{Listing}
-use Rattle.gpu_alloc.specs.Inside.{properties_in, state_in, types_in, lists_in, AreLedgers, IsBooked, IsLedger, offer_of}
+use Rattle.gpu_alloc.specs.Inside.{properties_in, state_in, types_in, lists_in, AreLedgers, IsBooked, IsLedger, limit_of, offer_of}
 use Rattle.gpu_alloc_base.specs.Heap.{unused}
+use Rattle.gpu_alloc.specs.Opening.{size_of_heap}
 use Rattle.gpu_alloc.specs.FirstTypes.{first_types}
 use Rattle.gpu_alloc.specs.declared.limits.Limits.{Limits}
 use Rattle.gpu_alloc_types.specs.declared.types.MemoryHeap.{MemoryHeap}
@@ -34,6 +35,10 @@ each_set P (y ∷ xs) (suc i) x is others (suc q) = each_set (λ n. P (suc n)) x
 -- a ledger more or less is no other offer
 pub offers_kept : (heaps : List Heap) (i : ℕ) (h old : Heap) → old ≡ get_or heaps i old → h.size ≡ old.size → map offer_of (set heaps i h) ≡ map offer_of heaps
 offers_kept heaps i h old at same = map-set_same offer_of heaps i h old (λ k. record { size = (same ∙ ap (λ (x : Heap). x.size) at) k })
+
+-- nor another limit
+pub limits_kept : (heaps : List Heap) (i : ℕ) (h old : Heap) → old ≡ get_or heaps i old → h.limit ≡ old.limit → map limit_of (set heaps i h) ≡ map limit_of heaps
+limits_kept heaps i h old at same = map-set_same limit_of heaps i h old (same ∙ ap (λ (x : Heap). x.limit) at)
 
 -- a known memory type has a heap
 pub heap_inside : (p : Properties) (t : ℕ) → IsUsable p → t < length p.memory_types → heap_at p t < length p.memory_heaps
@@ -56,7 +61,7 @@ ledger_at p heaps i h entries are lt at = (ledger_is p heaps i h entries are lt 
 -- of a heap that these objects are not of, or of which as many bytes are held as before
 kept_ledger : (p : Properties) (q : ℕ) (old new : Entries) → sum_by (share p q) new ≡ sum_by (share p q) old → sum_by (asked_share p q) new ≡ sum_by (asked_share p q) old → (o : Option Heap) → IfSome o (IsLedger p q old) → IfSome o (IsLedger p q new)
 kept_ledger p q old new same asked None is = tt
-kept_ledger p q old new same asked (Some h) is = record { used = is.used ∙ sym same; within = omega (arith, is.within, asked) }
+kept_ledger p q old new same asked (Some h) is = record { used = is.used ∙ sym same; within = omega (arith, is.within, asked); limited = is.limited }
 
 -- one heap's ledger is changed, and no share of another heap is
 pub ledgers_set : (p : Properties) (heaps : List Heap) (i : ℕ) (h : Heap) (old new : Entries) → AreLedgers p heaps old → IsLedger p i new h
@@ -73,17 +78,25 @@ size_offered [] i h inside at = absurd (omega (arith, inside))
 size_offered (x ∷ heaps) zero h inside at = ap (λ (y : Heap). y.size) (sym at)
 size_offered (x ∷ heaps) (suc i) h inside at = size_offered heaps i h (omega (arith, inside)) at
 
+-- and its limit
+limit_told : (heaps : List Heap) (i : ℕ) (h : Heap) → i < length heaps → h ≡ get_or heaps i h → get_or (map limit_of heaps) i 0 ≡ h.limit
+limit_told [] i h inside at = absurd (omega (arith, inside))
+limit_told (x ∷ heaps) zero h inside at = ap (λ (y : Heap). y.limit) (sym at)
+limit_told (x ∷ heaps) (suc i) h inside at = limit_told heaps i h (omega (arith, inside)) at
+
 -- a heap as the state tells of it
 pub record IsHeap (s : State) (i : ℕ) (heap : Heap) : Type 0 where
   pub used : heap.used ≡ ledger s i
   pub size : heap.size ≡ heap_bytes s.properties i
   pub asked : asked_bytes s i ≤ heap.size
+  pub limit : heap.limit ≡ heap_limit s i
+  pub limited : heap.limit ≤ heap.size
 
 pub heap_is : {A : Type 0} (l : Limits A) (heaps : List Heap) (buddies : List Buddy) (lists : List Listing) (t : Table) (remaining : ℕ) → AreLedgers (properties_in l heaps) heaps (finite.entries t.held)
     → (i : ℕ) (heap : Heap) → i < length heaps → heap ≡ get_or heaps i heap → IsHeap (state_in l heaps buddies lists t remaining) i heap
 heap_is l heaps buddies lists t remaining ledgers i heap inside at =
     let is = ledger_is (properties_in l heaps) heaps i heap (finite.entries t.held) ledgers inside at in
-    record { used = is.used; size = sym (size_offered heaps i heap inside at); asked = is.within }
+    record { used = is.used; size = sym (size_offered heaps i heap inside at); asked = is.within; limit = sym (limit_told heaps i heap inside at); limited = is.limited }
 
 -- the heap of a memory type
 pub type_heap_is : {A : Type 0} (l : Limits A) (heaps : List Heap) (buddies : List Buddy) (lists : List Listing) (t : Table) (remaining : ℕ) → IsBooked (properties_in l heaps) heaps t remaining
@@ -98,10 +111,38 @@ type_heap_is l heaps buddies lists t remaining books index i heap known here at 
 pub properties_kept : {A : Type 0} (l : Limits A) (heaps : List Heap) (i : ℕ) (h old : Heap) → old ≡ get_or heaps i old → h.size ≡ old.size → properties_in l (set heaps i h) ≡ properties_in l heaps
 properties_kept l heaps i h old at same = ap (λ (offers : List MemoryHeap). record (properties_in l heaps) { memory_heaps = offers }) (offers_kept heaps i h old at same)
 
-pub state_kept : {A : Type 0} (l : Limits A) (heaps : List Heap) (buddies : List Buddy) (lists : List Listing) (i : ℕ) (h old : Heap) (t : Table) (remaining : ℕ) → old ≡ get_or heaps i old → h.size ≡ old.size
+pub state_kept : {A : Type 0} (l : Limits A) (heaps : List Heap) (buddies : List Buddy) (lists : List Listing) (i : ℕ) (h old : Heap) (t : Table) (remaining : ℕ) → old ≡ get_or heaps i old → h.size ≡ old.size → h.limit ≡ old.limit
     → state_in l (set heaps i h) buddies lists t remaining ≡ state_in l heaps buddies lists t remaining
-state_kept l heaps buddies lists i h old t remaining at same =
-    ap (λ (p : Properties). record (state_in l heaps buddies lists t remaining) { types = lists_in (types_in (first_types l.config p) buddies) lists; properties = p }) (properties_kept l heaps i h old at same)
+state_kept l heaps buddies lists i h old t remaining at same limit = λ k.
+    let p = properties_kept l heaps i h old at same k in
+    record (state_in l heaps buddies lists t remaining) { heap_limits = limits_kept heaps i h old at limit k; types = lists_in (types_in (first_types l.config p) buddies) lists; properties = p }
+
+-- with another limit of one heap, which is not over its size
+pub ledgers_limited : (p : Properties) (heaps : List Heap) (i limit : ℕ) (h old : Heap) (entries : Entries) → AreLedgers p heaps entries → i < length heaps → old ≡ get_or heaps i old → h ≡ record old { limit = min limit old.size }
+    → AreLedgers p (set heaps i h) entries
+ledgers_limited p heaps i limit h old entries are inside at limited =
+    let is = ledger_is p heaps i old entries are inside at in
+    ledgers_set p heaps i h entries entries are (subst (IsLedger p i entries) (sym limited) (record { used = is.used; within = is.within; limited = omega arith })) (λ q other. (refl, refl))
+
+state_limited : {A : Type 0} (l : Limits A) (heaps : List Heap) (buddies : List Buddy) (lists : List Listing) (i : ℕ) (h old : Heap) (t : Table) (remaining : ℕ) → old ≡ get_or heaps i old → h.size ≡ old.size
+    → state_in l (set heaps i h) buddies lists t remaining ≡ record (state_in l heaps buddies lists t remaining) { heap_limits = set (map limit_of heaps) i h.limit }
+state_limited l heaps buddies lists i h old t remaining at same = λ k.
+    let p = properties_kept l heaps i h old at same k in
+    record (state_in l heaps buddies lists t remaining) { heap_limits = map-set limit_of heaps i h k; types = lists_in (types_in (first_types l.config p) buddies) lists; properties = p }
+
+pub limit_is_set : {A : Type 0} (l : Limits A) (heaps : List Heap) (buddies : List Buddy) (lists : List Listing) (t : Table) (remaining : ℕ) → AreLedgers (properties_in l heaps) heaps (finite.entries t.held)
+    → (i limit : ℕ) (h old : Heap) → i < length heaps → old ≡ get_or heaps i old → h ≡ record old { limit = min limit old.size }
+    → state_in l (set heaps i h) buddies lists t remaining ≡ with_heap_limit (state_in l heaps buddies lists t remaining) i limit
+limit_is_set l heaps buddies lists t remaining ledgers i limit h old inside at limited =
+    let of = heap_is l heaps buddies lists t remaining ledgers i old inside at in
+    let least : h.limit ≡ min limit (heap_bytes (properties_in l heaps) i) = ap (λ (x : Heap). x.limit) limited ∙ ap (min limit) of.size in
+    state_limited l heaps buddies lists i h old t remaining at (ap (λ (x : Heap). x.size) limited)
+    ∙ (λ k. record (state_in l heaps buddies lists t remaining) { heap_limits = set (map limit_of heaps) i (least k) })
+
+-- of heaps of which nothing is held all may be asked for
+pub unused-limits : (hs : List MemoryHeap) → map limit_of (map (λ h. unused h.size) hs) ≡ map size_of_heap hs
+unused-limits [] = refl
+unused-limits (h ∷ hs) = λ k. h.size ∷ unused-limits hs k
 
 -- heaps of which nothing is held are those that are offered
 pub unused-offers : (hs : List MemoryHeap) → map offer_of (map (λ h. unused h.size) hs) ≡ hs

@@ -48,6 +48,7 @@ module _ (s : State) (object memory_type offset size : ℕ) (new : State) (b : B
     held = holds_one_more s b new (imported_object memory_type size) (ap (map.get s.held) named ∙ free) (ap (λ (t : State). t.held) is.state);
     properties = ap (λ (t : State). t.properties) is.state;
     config = ap (λ (t : State). t.config) is.state;
+    limits = ap (λ (t : State). t.heap_limits) is.state;
   }
 
   -- no live span is of the object
@@ -151,8 +152,8 @@ module _ {E : Type 0} (s : State) (object memory_type offset size : ℕ) (new : 
   answer_in_hand (Ok b) is agrees adds leaves =
       let named = ap (λ (x : Block). x.object) is.block in
       record {
-        kept = unasked_kept s new leaves;
-        joins = λ p objects old may. more_in_hand s p objects new p objects (λ bs owned are. are) (unasked_kept s new leaves p objects) b is.owned (agrees p objects old may).1 adds;
+        kept = unasked_kept s new leaves.owned;
+        joins = λ p objects old may. more_in_hand s p objects new p objects (λ bs owned are. are) (unasked_kept s new leaves.owned p objects) b is.owned (agrees p objects old may).1 adds;
         taken = λ objects. held_not_outside new objects object (ap is_some (ap (map.get new.held) (sym named) ∙ is.owned.held.1));
         others = λ objects name other.
             same_outside s new objects objects name

@@ -49,9 +49,9 @@ module _ (s : State) (p : Properties) (f : ℕ → Option Object) (new : State) 
   unfolding KeepsBlocks
   still_ready = keeps
 
-  module _ (leaves : Leaves s new) where
+  module _ (stays : (b : Block) → IsOwned s b → IsOwned new b) where
     left_ready : (b : Block) → IsOwned s b → BlockAgrees b p f → BlockAgrees b q g
-    left_ready b owned = still_ready b owned (leaves.owned b owned)
+    left_ready b owned = still_ready b owned (stays b owned)
 
     all_ready : (bs : List Block) → AreOwned s bs → AreReady p f bs → AreReady q g bs
     all_ready [] owned are = tt
@@ -59,7 +59,7 @@ module _ (s : State) (p : Properties) (f : ℕ → Option Object) (new : State) 
 
     pub all_kept : (at : ℕ → Option Block) → AreKept s p f at → AreKept new q g at
     all_kept at are = record {
-      owned = λ key b is. leaves.owned b (are.owned key b is);
+      owned = λ key b is. stays b (are.owned key b is);
       ready = λ key b is. left_ready b (are.owned key b is) (are.ready key b is);
       two = are.two;
     }
@@ -175,7 +175,7 @@ module _ (s : State) (p : Properties) (f : ℕ → Option Object) (agrees : Agre
   answer_outside (Ok b) kept adds objects name = given_outside b adds.held (map.get s.held b.object) refl objects name
 
   pub allocation_in_hand : (q : Properties) (answer : Result Block AllocationError) → OnErr answer (new ≡ s) → Leaves s new → KeepsBlocks s p f new q g → IfOk answer (Adds s new) → ObjectsAfter s answer new f g → LeavesInHand s p f new q g
-  allocation_in_hand q answer kept leaves keeps adds objects = leaves_in_hand s p f new q g keeps leaves (answer_object answer objects) (answer_outside answer kept adds objects)
+  allocation_in_hand q answer kept leaves keeps adds objects = leaves_in_hand s p f new q g keeps leaves.owned (answer_object answer objects) (answer_outside answer kept adds objects)
 
 -- What goes back is of no block that is owned, and was the allocator's own.
 
@@ -198,16 +198,16 @@ module _ {D : Type 0} (step : D → Event → D → Type 0) (objects : D → ℕ
   return_in_hand p q b keeps removes = removes_in_hand s p (objects from) new q (objects to) keeps b removes owned_stays gone_outside
 
   pub cleanup_in_hand : (p q : Properties) → KeepsBlocks s p (objects from) new q (objects to) → Leaves s new → LeavesInHand s p (objects from) new q (objects to)
-  cleanup_in_hand p q keeps leaves = leaves_in_hand s p (objects from) new q (objects to) keeps leaves (λ b owned. owned_stays b (leaves.owned b owned)) gone_outside
+  cleanup_in_hand p q keeps leaves = leaves_in_hand s p (objects from) new q (objects to) keeps leaves.owned (λ b owned. owned_stays b (leaves.owned b owned)) gone_outside
 
 -- Where no device is asked.
-module _ (s new : State) (leaves : Leaves s new) (p : Properties) (objects : ℕ → Option Object) where
+module _ (s new : State) (stays : (b : Block) → IsOwned s b → IsOwned new b) (p : Properties) (objects : ℕ → Option Object) where
   nothing_asked : KeepsBlocks s p objects new p objects
   unfolding KeepsBlocks
   nothing_asked = λ b owned still is. is
 
   pub unasked_kept : (at : ℕ → Option Block) → AreKept s p objects at → AreKept new p objects at
-  unasked_kept = all_kept s p objects new p objects nothing_asked leaves
+  unasked_kept = all_kept s p objects new p objects nothing_asked stays
 
   pub unasked_in_hand : new.held ≡ s.held → LeavesInHand s p objects new p objects
-  unasked_in_hand held = leaves_in_hand s p objects new p objects nothing_asked leaves (λ b owned. refl) (λ name. same_outside s new objects objects name (ap (λ (m : Held). map.get m name) held) refl)
+  unasked_in_hand held = leaves_in_hand s p objects new p objects nothing_asked stays (λ b owned. refl) (λ name. same_outside s new objects objects name (ap (λ (m : Held). map.get m name) held) refl)

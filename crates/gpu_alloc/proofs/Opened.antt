@@ -146,7 +146,7 @@ module _ (t : Table) (unheld : t.held ≡ finite.empty) (unused_spans : t.live �
 
       at : (q : ℕ) (o : Option MemoryHeap) → IfSome (option_map (λ h. unused h.size) o) (IsLedger p q (finite.entries t.held))
       at q None = tt
-      at q (Some h) = record { used = sym (nothing (share p q) (finite.entries t.held) empty); within = omega (arith, nothing (asked_share p q) (finite.entries t.held) empty) }
+      at q (Some h) = record { used = sym (nothing (share p q) (finite.entries t.held) empty); within = omega (arith, nothing (asked_share p q) (finite.entries t.held) empty); limited = omega arith }
 
   -- a buddy allocator with no chunk
   linked-opened : (b : Buddy) → b.chunks ≡ finite.empty → b.live ≡ set_of.empty → IsLinked t b

@@ -119,7 +119,7 @@ module _ (c : Config) (p : Properties) (heaps : List Heap) (buddies : List Buddy
   )
 
   pub consistent-held : HoldsMore p heaps t remaining is.books offers now h span → (place : Place) → now.places ≡ finite.insert t.places span place
-      → (heap changed : Heap) (i : ℕ) → 0 < remaining → i ≡ heap_at p h.memory_type → heap ≡ get_or heaps i heap → changed ≡ record heap { used = heap.used + h.counted } → (is_import h.kind ≡ false → heap.used + h.counted ≤ heap.size)
+      → (heap changed : Heap) (i : ℕ) → 0 < remaining → i ≡ heap_at p h.memory_type → heap ≡ get_or heaps i heap → changed ≡ record heap { used = heap.used + h.counted } → (is_import h.kind ≡ false → heap.used + h.counted ≤ heap.limit)
       → IsConsistent c p (set heaps i changed) buddies lists now (remaining - 1)
   consistent-held m place places heap changed i some here at more fits = record {
     books = booked-held p heaps t remaining is.books offers now h span m heap changed i some here at more fits;

@@ -1,9 +1,9 @@
 -- What calls leave of the blocks that a caller has in hand.
-use Rattle.std.proofs.Common.{◌≡◌, ◌≢◌, zero, suc, ◌+◌, ◌-◌, ◌<◌, true, false, cond, List, [], ◌∷◌, ◌++◌, append-nil, refl, sym, ◌∙◌, ap, subst, arith, Option, Result, Ok, Err, IfOk}
+use Rattle.std.proofs.Common.{◌≡◌, ◌≢◌, zero, suc, ◌+◌, ◌-◌, ◌<◌, true, false, cond, List, [], ◌∷◌, ◌++◌, append-nil, refl, sym, ◌∙◌, ap, subst, arith, Result, Ok, Err, IfOk}
 use Rattle.std.specs.FinMap as map
 use Rattle.std.specs.FinSet as set
 use Rattle.gpu_alloc_types.specs.Device.{Event}
-use Rattle.gpu_alloc.specs.Allocation.{Allocates, IsGranted}
+use Rattle.gpu_alloc.specs.Allocation.{AllocatesBy, IsGranted, Plan}
 use Rattle.gpu_alloc.specs.Owned.{AreTwo, IsBeside, AreOwned, HoldsNothing, Leaves, Adds, Removes}
 use Rattle.gpu_alloc.specs.Opening.{opened}
 use Rattle.gpu_alloc.specs.Types.Config.{Config}
@@ -12,7 +12,6 @@ use Rattle.std.specs.Ordering.{nat_cmp}
 use Rattle.gpu_alloc_base.proofs.Names.{wherever}
 use Rattle.gpu_alloc.specs.Release.{Cleans, Frees}
 use Rattle.gpu_alloc.specs.Sound.{IsSound}
-use Rattle.gpu_alloc.specs.declared.request.Dedicated.{Dedicated}
 use Rattle.gpu_alloc.specs.declared.request.Request.{Request}
 use Rattle.gpu_alloc_base.specs.declared.error.AllocationError.{AllocationError}
 use Rattle.gpu_alloc.proofs.Decisions.{allocates_kept}
@@ -84,7 +83,7 @@ module _ (s : State) (b : Block) (new : State) (grows : Grows s b new) where
   -- What a grant leaves and adds.
 
   pub grant_leaves : Leaves s new
-  grant_leaves = record { properties = grows.properties; config = grows.config; owned = granted_kept s b new grows; all = granted_all }
+  grant_leaves = record { properties = grows.properties; config = grows.config; limits = grows.limits; owned = granted_kept s b new grows; all = granted_all }
 
   pub grant_adds : IsSound s → ((span : Span) → IsLive s span → AreApart span (span_of b)) → IsSound new → IsOwned new b → Adds s new b
   grant_adds sound free sound_new own =
@@ -105,18 +104,19 @@ pub left_as_it_was : (s new : State) → new ≡ s → Leaves s new
 left_as_it_was s new same = record {
   properties = ap (λ (t : State). t.properties) same;
   config = ap (λ (t : State). t.config) same;
+  limits = ap (λ (t : State). t.heap_limits) same;
   owned = λ b owned. subst (λ t. IsOwned t b) (sym same) owned;
   all = λ bs owned. subst (λ t. AreOwned t bs) (sym same) owned;
 }
 
-module _ (s : State) (r : Request) (hint : Option Dedicated) (es : List Event) where
-  pub allocates_leave : (answer : Result Block AllocationError) (new : State) → Allocates s r hint es answer new → Leaves s new
-  allocates_leave (Err e) new decided = left_as_it_was s new (allocates_kept s r hint es (Err e) new decided)
-  allocates_leave (Ok b) new decided = grant_leaves s b new (allocates_grow s r hint es b new decided)
+module _ (s : State) (p : Plan) (es : List Event) where
+  pub allocates_leave : (answer : Result Block AllocationError) (new : State) → AllocatesBy s p es answer new → Leaves s new
+  allocates_leave (Err e) new decided = left_as_it_was s new (allocates_kept s p es (Err e) new decided)
+  allocates_leave (Ok b) new decided = grant_leaves s b new (allocates_grow s p es b new decided)
 
-  pub allocates_add : IsSound s → (answer : Result Block AllocationError) (new : State) → IsSound new → Allocates s r hint es answer new → IfOk answer (IsGranted s r new) → IfOk answer (Adds s new)
-  allocates_add sound (Err e) new sound_new decided granted = tt
-  allocates_add sound (Ok b) new sound_new decided granted = grant_adds s b new (allocates_grow s r hint es b new decided) sound granted.was_free sound_new granted.owned
+  pub allocates_add : (r : Request) → IsSound s → (answer : Result Block AllocationError) (new : State) → IsSound new → AllocatesBy s p es answer new → IfOk answer (IsGranted s r new) → IfOk answer (Adds s new)
+  allocates_add r sound (Err e) new sound_new decided granted = tt
+  allocates_add r sound (Ok b) new sound_new decided granted = grant_adds s b new (allocates_grow s p es b new decided) sound granted.was_free sound_new granted.owned
 
 -- A return.
 
@@ -159,6 +159,7 @@ module _ (s : State) (b : Block) (es : List Event) (new : State) (frees : Frees 
     frees_remove owned = record {
       properties = ap (λ (t : State). t.properties) frees.2.1;
       config = ap (λ (t : State). t.config) frees.2.1;
+      limits = ap (λ (t : State). t.heap_limits) frees.2.1;
       live = returned_live;
       count = returned_count owned.live;
       owned = returned_kept;
@@ -216,6 +217,7 @@ module _ (s : State) (es : List Event) (new : State) (cleans : Cleans s es new) 
   cleans_leave = record {
     properties = ap (λ (t : State). t.properties) cleans.2.1;
     config = ap (λ (t : State). t.config) cleans.2.1;
+    limits = ap (λ (t : State). t.heap_limits) cleans.2.1;
     owned = cleaned_kept;
     all = all_kept s new cleaned_kept;
   }

@@ -49,8 +49,8 @@ let_go l heaps buddies lists t now remaining b name offset size row is owned alo
     )
 
 -- what the fields stand for then
-pub state_returned : {A : Type 0} (l : Limits A) (heaps : List Heap) (buddies : List Buddy) (lists : List Listing) (i : ℕ) (h old : Heap) (t now : Table) (remaining : ℕ) (b : Block) → old ≡ get_or heaps i old → h.size ≡ old.size
+pub state_returned : {A : Type 0} (l : Limits A) (heaps : List Heap) (buddies : List Buddy) (lists : List Listing) (i : ℕ) (h old : Heap) (t now : Table) (remaining : ℕ) (b : Block) → old ≡ get_or heaps i old → h.size ≡ old.size → h.limit ≡ old.limit
     → now.held ≡ finite.remove t.held b.object → now.live ≡ set_of.remove t.live (span_of b) → state_in l (set heaps i h) buddies lists now (remaining + 1) ≡ returned (state_in l heaps buddies lists t remaining) b
-state_returned l heaps buddies lists i h old t now remaining b at same held live =
-    state_kept l heaps buddies lists i h old now (remaining + 1) at same
+state_returned l heaps buddies lists i h old t now remaining b at same limit held live =
+    state_kept l heaps buddies lists i h old now (remaining + 1) at same limit
     ∙ (λ k. record (state_in l heaps buddies lists t remaining) { held = held k; live = live k; remaining = remaining + 1 })

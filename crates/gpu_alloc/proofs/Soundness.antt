@@ -305,6 +305,11 @@ sound_is l heaps buddies lists t remaining is = record {
       let own = there_is heaps heap there in
       let of = heap_is l heaps buddies lists t remaining is.books.ledgers heap own.0 there (read_is heaps heap own.0 own.1) in
       omega (arith, of.asked, of.size);
+  limits = λ heap inside.
+      let there : heap < length heaps = omega (arith, inside, length-map heaps offer_of) in
+      let own = there_is heaps heap there in
+      let of = heap_is l heaps buddies lists t remaining is.books.ledgers heap own.0 there (read_is heaps heap own.0 own.1) in
+      omega (arith, of.limit, of.limited, of.size);
 }
 
 pub atoms_kept : {A : Type 0} (l : Limits A) (heaps : List Heap) (buddies : List Buddy) (lists : List Listing) (t : Table) (remaining : ℕ) → IsConsistent l.config (properties_in l heaps) heaps buddies lists t remaining

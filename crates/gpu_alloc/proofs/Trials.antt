@@ -11,17 +11,17 @@ use Rattle.gpu_alloc_block.specs.State.{State, Block}
 use Rattle.gpu_alloc_base.specs.Case as case
 use Rattle.gpu_alloc_base.specs.Case.{Case}
 use Rattle.gpu_alloc.specs.Allocation.{candidates_of, passing, IsPassed, Decides, TriesAll, ObjectsTried}
+use Rattle.gpu_alloc.specs.declared.allocator.Ask.{Ask}
 use Rattle.gpu_alloc_base.specs.declared.error.AllocationError.{AllocationError}
 use Rattle.gpu_alloc_base.specs.declared.error.AllocationError.TheVariants.{OutOfDeviceMemory, OutOfHostMemory, NoCompatibleMemoryTypes, TooManyObjects}
 use Rattle.gpu_alloc.specs.declared.request.Request.{Request}
-use Rattle.gpu_alloc.specs.declared.request.Dedicated.{Dedicated}
 
 -- The candidates are those of the ranked types ts that are allowed.
-module _ (s : State) (r : Request) (hint : Option Dedicated) (allowed : ℕ → Bool) (ts : List ℕ) where
+module _ (s : State) (asked : ℕ → Ask) (allowed : ℕ → Bool) (ts : List ℕ) where
   -- after these events, what the candidates from rank i on make is what all of them make
   abbrev pub Continues : ℕ → List Event → Type 0
   Continues i es = (fs : List Event) (answer : Result Block AllocationError) (new : State)
-      → TriesAll s r hint (filter allowed (drop i ts)) fs answer new → TriesAll s r hint (filter allowed ts) (es ++ fs) answer new
+      → TriesAll s asked (filter allowed (drop i ts)) fs answer new → TriesAll s asked (filter allowed ts) (es ++ fs) answer new
 
   -- the type at rank i is a candidate, the first of those from i on
   first : (i : ℕ) → i < length ts → allowed (get_or ts i 0) ≡ true → filter allowed (drop i ts) ≡ get_or ts i 0 ∷ filter allowed (drop (suc i) ts)
@@ -31,20 +31,27 @@ module _ (s : State) (r : Request) (hint : Option Dedicated) (allowed : ℕ → 
   continues_past i es lt is goes fs answer new h = goes fs answer new (rw (drop-cons ts i 0 lt, is) h)
 
   pub continues_next : (i : ℕ) (es first_events : List Event) → i < length ts → allowed (get_or ts i 0) ≡ true
-      → Continues i es → IsPassed s r hint (get_or ts i 0) first_events → Continues (suc i) (es ++ first_events)
+      → Continues i es → IsPassed s (asked (get_or ts i 0)).request (asked (get_or ts i 0)).hint (get_or ts i 0) first_events → Continues (suc i) (es ++ first_events)
   continues_next i es first_events lt is goes passed fs answer new h =
       rw append_assoc (goes (first_events ++ fs) answer new (rw (first i lt is) (inl (first_events, fs, refl, passed, h))))
 
   -- the candidate at rank i decides, in a state that is equal
   pub continues_decided : (now : State) (i : ℕ) (es fs : List Event) (answer : Result Block AllocationError) (new : State) → now ≡ s → i < length ts
-      → allowed (get_or ts i 0) ≡ true → Continues i es → Decides now r hint (get_or ts i 0) fs answer new → TriesAll s r hint (filter allowed ts) (es ++ fs) answer new
+      → allowed (get_or ts i 0) ≡ true → Continues i es → Decides now (asked (get_or ts i 0)).request (asked (get_or ts i 0)).hint (get_or ts i 0) fs answer new → TriesAll s asked (filter allowed ts) (es ++ fs) answer new
   continues_decided now i es fs answer new same lt is goes decides =
-      goes fs answer new (rw (first i lt is) (inr (subst (λ x. Decides x r hint (get_or ts i 0) fs answer new) same decides)))
+      goes fs answer new (rw (first i lt is) (inr (subst (λ x. Decides x (asked (get_or ts i 0)).request (asked (get_or ts i 0)).hint (get_or ts i 0) fs answer new) same decides)))
 
   -- all were passed
-  pub continues_end : (i : ℕ) (es : List Event) → length ts ≤ i → Continues i es → TriesAll s r hint (filter allowed ts) es (Err OutOfDeviceMemory) s
+  pub continues_end : (i : ℕ) (es : List Event) → length ts ≤ i → Continues i es → TriesAll s asked (filter allowed ts) es (Err OutOfDeviceMemory) s
   continues_end i es le goes =
       let h = goes [] (Err OutOfDeviceMemory) s (rw (drop_of_length-le ts le) (refl, refl, refl)) in rw append-nil at h
+
+-- the same decision, told of what is equal
+pub decides_as : (now s : State) (a b : Ask) (t u : ℕ) → now ≡ s → a ≡ b → t ≡ u → (es : List Event) (answer : Result Block AllocationError) (new : State) → Decides now a.request a.hint t es answer new → Decides s b.request b.hint u es answer new
+decides_as now s a b t u same is at es answer new decides =
+    subst (λ x. Decides x b.request b.hint u es answer new) same
+    (subst (λ (x : Ask). Decides now x.request x.hint u es answer new) is
+    (subst (λ n. Decides now a.request a.hint n es answer new) at decides))
 
 -- A refusal.
 
@@ -73,9 +80,9 @@ not_by_shift mask t is = rw (← shr_and_one mask t) (elim (bit_and (mask / 2 ^ 
 ] refl)
 
 -- what the ranked types make that are allowed, ranked for what the request's usage means, its candidates make
-pub tries_as_meant : (s : State) (r : Request) (hint : Option Dedicated) (meant : ℕ) (es : List Event) (answer : Result Block AllocationError) (new : State)
-    → meant ≡ implied (usage_bits r.usage) → TriesAll s r hint (filter (is_allowed r.memory_types) (ranking (named meant) s.properties.memory_types)) es answer new
-    → TriesAll s r hint (candidates_of s r) es answer new
-tries_as_meant s r hint meant es answer new is h =
+pub tries_as_meant : (s : State) (r : Request) (asked : ℕ → Ask) (meant : ℕ) (es : List Event) (answer : Result Block AllocationError) (new : State)
+    → meant ≡ implied (usage_bits r.usage) → TriesAll s asked (filter (is_allowed r.memory_types) (ranking (named meant) s.properties.memory_types)) es answer new
+    → TriesAll s asked (candidates_of s r) es answer new
+tries_as_meant s r asked meant es answer new is h =
     let same : named meant ≡ implied (usage_bits r.usage) = ap named is ∙ implied-named (usage_bits r.usage) in
-    subst (λ u. TriesAll s r hint (filter (is_allowed r.memory_types) (ranking u s.properties.memory_types)) es answer new) same h
+    subst (λ u. TriesAll s asked (filter (is_allowed r.memory_types) (ranking u s.properties.memory_types)) es answer new) same h

@@ -1,7 +1,7 @@
 -- How an allocation is decided: what is asked of the device for each candidate, and what the first one that is not
 -- passed answers.
-use Rattle.std.specs.Prelude.{◌≡◌, ◌≢◌, ◌⊎◌, ℕ, ◌+◌, ◌%◌, ◌/◌, ◌<◌, ◌≤◌, ◌==◌, Bool, true, ◌&&◌, List, [], ◌∷◌, ◌++◌, length}
-use Rattle.std.specs.Prelude.{Option, Some, None, Result, Ok, Err, cond, min, nat_lt, nat_le, nat_eq, MatchBool}
+use Rattle.std.specs.Prelude.{◌≡◌, ◌≢◌, ◌⊎◌, ℕ, ◌+◌, ◌%◌, ◌/◌, ◌^◌, ◌<◌, ◌≤◌, ◌==◌, Bool, true, false, ◌&&◌, ◌||◌, List, [], ◌∷◌, ◌++◌, length}
+use Rattle.std.specs.Prelude.{Option, Some, None, Result, Ok, Err, IsTrue, ◌↔◌, cond, min, nat_lt, nat_le, nat_eq, MatchBool}
 use Rattle.std.specs.Int.{bit_at}
 use Rattle.std.specs.List.{Contains}
 use Rattle.std.specs.FinMap as map
@@ -17,11 +17,12 @@ use Rattle.gpu_alloc_base.specs.declared.error.AllocationError.TheVariants.{OutO
 use Rattle.gpu_alloc_base.specs.declared.error.AllocationError.TheVariants.{NoCompatibleMemoryTypes, TooManyObjects}
 use Rattle.gpu_alloc_usage.specs.Ranking.{candidates, compatible, implied}
 use Rattle.gpu_alloc.specs.Candidates.{candidate}
-use Rattle.gpu_alloc.specs.Request.{is_required}
+use Rattle.gpu_alloc.specs.Request.{in_pages, is_required}
 use Rattle.gpu_alloc_block.specs.State.{HeldObject, Span, Block, span_of, State, IsLive, IsOwned, AreApart, is_shared}
+use Rattle.gpu_alloc.specs.declared.allocator.Ask.{Ask}
 use Rattle.gpu_alloc.specs.declared.allocator.Strategy.{Strategy}
 use Rattle.gpu_alloc.specs.declared.allocator.Strategy.TheVariants.{OwnObject, InBuddyChunk, InFreeList}
-use Rattle.gpu_alloc_block.specs.declared.block.Kind.TheVariants.{Imported, BuddyChunk}
+use Rattle.gpu_alloc_block.specs.declared.block.Kind.TheVariants.{Dedicated as DedicatedObject, Imported, BuddyChunk}
 use Rattle.gpu_alloc.specs.declared.request.Request.{Request}
 use Rattle.gpu_alloc.specs.declared.request.Dedicated.{Dedicated}
 use Rattle.gpu_alloc.specs.declared.request.Dedicated.TheVariants.{Required, Preferred}
@@ -81,14 +82,17 @@ Tries s r hint t es (Ok None) new = IsPassed s r hint t es × (new ≡ s)
 Tries s r hint t es (Ok (Some b)) new = Decides s r hint t es (Ok b) new
 Tries s r hint t es (Err e) new = Decides s r hint t es (Err e) new
 
+-- What a candidate is asked: each the same request, with a hint or none.
+abbrev pub ask : Request → Option Dedicated → ℕ → Ask
+ask r hint t = record { request = r; hint = hint }
+
 -- In rank, the first candidate that is not passed decides. Where all are passed there is no device memory.
-abbrev pub TriesAll : State → Request → Option Dedicated → List ℕ → List Event → Result Block AllocationError → State
-    → Type 0
-TriesAll s r hint [] es answer new = (es ≡ []) × (answer ≡ Err OutOfDeviceMemory) × (new ≡ s)
-TriesAll s r hint (t ∷ ts) es answer new =
-    ((first rest : List Event) × (es ≡ first ++ rest) × IsPassed s r hint t first
-    × TriesAll s r hint ts rest answer new)
-    ⊎ Decides s r hint t es answer new
+abbrev pub TriesAll : State → (ℕ → Ask) → List ℕ → List Event → Result Block AllocationError → State → Type 0
+TriesAll s asked [] es answer new = (es ≡ []) × (answer ≡ Err OutOfDeviceMemory) × (new ≡ s)
+TriesAll s asked (t ∷ ts) es answer new =
+    ((first rest : List Event) × (es ≡ first ++ rest) × IsPassed s (asked t).request (asked t).hint t first
+    × TriesAll s asked ts rest answer new)
+    ⊎ Decides s (asked t).request (asked t).hint t es answer new
 
 -- nothing is asked, and nothing changes
 abbrev pub Refuses : State → AllocationError → List Event → Result Block AllocationError → State → Type 0
@@ -98,13 +102,83 @@ Refuses s e es answer new = (es ≡ []) × (answer ≡ Err e) × (new ≡ s)
 abbrev pub candidates_of : State → Request → List ℕ
 candidates_of s r = candidates s.properties.memory_types (usage_bits r.usage) r.memory_types
 
--- An allocation: the checks before any candidate in their order, and then the candidates.
+-- How a request is tried: whether it is larger than any may be, its hint, the candidates, and what each is asked.
+pub record Plan : Type 0 where
+  pub too_large : Bool
+  pub hint : Option Dedicated
+  pub candidates : List ℕ
+  pub asked : ℕ → Ask
+
+-- the checks before any candidate in their order, and then the candidates
+abbrev pub AllocatesBy : State → Plan → List Event → Result Block AllocationError → State → Type 0
+AllocatesBy s p es answer new =
+    MatchBool p.too_large (Refuses s OutOfDeviceMemory es answer new) (
+    MatchBool (is_required p.hint && (s.remaining == 0)) (Refuses s TooManyObjects es answer new) (
+    MatchBool (nat_eq (length p.candidates) 0) (Refuses s NoCompatibleMemoryTypes es answer new) (
+    TriesAll s p.asked p.candidates es answer new)))
+
+-- the request is larger than the device allows
+abbrev pub is_too_large : State → Request → Bool
+is_too_large s r = nat_lt s.properties.max_memory_allocation_size r.size
+
+-- each candidate is asked for the request
+abbrev pub plan : State → Request → Option Dedicated → Plan
+plan s r hint = record {
+  too_large = is_too_large s r;
+  hint = hint;
+  candidates = candidates_of s r;
+  asked = ask r hint;
+}
+
+-- An allocation.
 unfoldable pub Allocates : State → Request → Option Dedicated → List Event → Result Block AllocationError → State → Type 0
-Allocates s r hint es answer new =
-    MatchBool (nat_lt s.properties.max_memory_allocation_size r.size) (Refuses s OutOfDeviceMemory es answer new) (
-    MatchBool (is_required hint && (s.remaining == 0)) (Refuses s TooManyObjects es answer new) (
-    MatchBool (nat_eq (length (candidates_of s r)) 0) (Refuses s NoCompatibleMemoryTypes es answer new) (
-    TriesAll s r hint (candidates_of s r) es answer new)))
+Allocates s r hint es answer new = AllocatesBy s (plan s r hint) es answer new
+
+-- Images that are not linear, apart from all else by whole pages of a granularity.
+
+-- whether a candidate serves it by an object of its own
+abbrev pub is_alone : Strategy → Bool
+is_alone OwnObject = true
+is_alone InBuddyChunk = false
+is_alone InFreeList = false
+
+abbrev pub serves_alone : State → Request → Option Dedicated → ℕ → Bool
+serves_alone s r hint t = is_alone (strategy s r hint t)
+
+-- a block has an object of its own exactly where its memory type serves the request so
+abbrev pub IsAloneWhereServed : State → Request → Option Dedicated → Block → Type 0
+IsAloneWhereServed s r hint b = IsTrue (serves_alone s r hint b.memory_type) ↔ (b.kind ≡ DedicatedObject)
+
+-- a candidate is asked for whole pages, or, where those would be an object of their own, for one of the size as asked
+abbrev pub ask_in_pages : State → Request → Option Dedicated → Request → ℕ → Ask
+ask_in_pages s r hint paged t = cond (serves_alone s paged hint t) (ask r (Some Required) t) (ask paged hint t)
+
+-- what a candidate is asked, with the request in whole pages or none
+abbrev pub asked_of : State → Request → Option Dedicated → Option Request → ℕ → Ask
+asked_of s r hint None = ask r hint
+asked_of s r hint (Some paged) = ask_in_pages s r hint paged
+
+-- the plan where whole pages for the request are below 2^64 bytes, or are not asked for
+abbrev pub plan_with : State → Request → Option Dedicated → Option Request → Plan
+plan_with s r hint paged = record (plan s r hint) { asked = asked_of s r hint paged }
+
+-- too large is also what has 2^64 bytes or more in whole pages
+abbrev pub plan_in_pages : State → Request → Option Dedicated → ℕ → Plan
+plan_in_pages s r hint granularity = record {
+  too_large = nat_le (2 ^ 64) (up r.size granularity) || is_too_large s r;
+  hint = hint;
+  candidates = candidates_of s r;
+  asked = ask_in_pages s r hint (in_pages granularity r);
+}
+
+-- Such an allocation.
+unfoldable pub AllocatesOptimal : State → Request → Option Dedicated → ℕ → List Event → Result Block AllocationError
+    → State → Type 0
+AllocatesOptimal s r hint granularity es answer new = AllocatesBy s (plan_in_pages s r hint granularity) es answer new
+
+-- in a shared object it begins at a page, and has whole pages for the size as asked
+abbrev pub IsInPages : ℕ → ℕ → Block → Type 0
+IsInPages granularity size b = is_shared b.kind ≡ true → (b.offset % granularity ≡ 0) × (up size granularity ≤ b.size)
 
 -- What an allocation makes of the device's objects.
 

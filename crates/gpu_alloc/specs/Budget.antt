@@ -1,6 +1,6 @@
 -- What a heap has left, and that what was asked of it is never more than it has.
 use Rattle.std.specs.Prelude.{◌≡◌, ◌⊎◌, ℕ, ◌-◌, ◌<◌, ◌≤◌, Bool, true, false, List, [], length, cond, Option, Some, None}
-use Rattle.std.specs.Prelude.{Result, Ok, Err, IfSome, slice_get, sum_by}
+use Rattle.std.specs.Prelude.{Result, Ok, Err, IfSome, slice_get, sum_by, min, set}
 use Rattle.std.specs.FinMap as map
 use Rattle.gpu_alloc_types.specs.Device.{Event}
 use Rattle.gpu_alloc_types.specs.Properties.{Properties, heap_at, heap_size, size_of}
@@ -9,7 +9,7 @@ use Rattle.gpu_alloc_base.specs.NewChunk.{LacksDeviceMemory, made}
 use Rattle.gpu_alloc_base.specs.declared.error.AllocationError.{AllocationError}
 use Rattle.gpu_alloc_base.specs.declared.error.AllocationError.TheVariants.{OutOfDeviceMemory, OutOfHostMemory}
 use Rattle.gpu_alloc_base.specs.declared.error.AllocationError.TheVariants.{NoCompatibleMemoryTypes, TooManyObjects}
-use Rattle.gpu_alloc_block.specs.State.{HeldObject, Block, State, ledger, share}
+use Rattle.gpu_alloc_block.specs.State.{HeldObject, Block, State, heap_limit, ledger, share}
 use Rattle.gpu_alloc_block.specs.declared.block.Kind.{Kind}
 use Rattle.gpu_alloc_block.specs.declared.block.Kind.TheVariants.{Dedicated as DedicatedObject, Imported, BuddyChunk}
 use Rattle.gpu_alloc_block.specs.declared.block.Kind.TheVariants.{FreeListChunk}
@@ -24,9 +24,18 @@ use Rattle.gpu_alloc.specs.declared.request.Request.{Request}
 abbrev pub heap_bytes : Properties → ℕ → ℕ
 heap_bytes p heap = size_of (slice_get p.memory_heaps heap)
 
--- how many bytes may still be asked of it: none where its ledger is at or past its size
+-- how many bytes may still be asked of it: none where its ledger is at or past its limit
 abbrev pub heap_budget : State → ℕ → ℕ
-heap_budget s heap = heap_bytes s.properties heap - ledger s heap
+heap_budget s heap = heap_limit s heap - ledger s heap
+
+-- no limit is over its heap's size
+abbrev pub AreLimits : State → Type 0
+AreLimits s = (heap : ℕ) → heap < length s.properties.memory_heaps → heap_limit s heap ≤ heap_bytes s.properties heap
+
+-- with another limit of a heap, of which one at or over its size is none
+abbrev pub with_heap_limit : State → ℕ → ℕ → State
+with_heap_limit s heap limit =
+    record s { heap_limits = set s.heap_limits heap (min limit (heap_bytes s.properties heap)) }
 
 -- What is held of a heap beside imports.
 

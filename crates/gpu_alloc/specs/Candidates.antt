@@ -9,8 +9,8 @@ use Rattle.gpu_alloc.specs.BuddySharing.{buddy_size, buddy_question, buddy_block
 use Rattle.gpu_alloc.specs.BuddySharing.{with_span, with_buddy_chunk}
 use Rattle.gpu_alloc.specs.FreeListSharing.{list_size, list_alignment, list_question, list_block, tail_of}
 use Rattle.gpu_alloc.specs.FreeListSharing.{latest_number, HasListNumber, HasListPlace, IsRunTail, with_list_chunk}
-use Rattle.gpu_alloc_types.specs.Properties.{heap_at, heap_size}
-use Rattle.gpu_alloc_block.specs.State.{HeldObject, Block, State, granted_block, ledger, span_of}
+use Rattle.gpu_alloc_types.specs.Properties.{heap_at}
+use Rattle.gpu_alloc_block.specs.State.{HeldObject, Block, State, granted_block, heap_limit, ledger, span_of}
 use Rattle.gpu_alloc.specs.declared.allocator.Strategy.{Strategy}
 use Rattle.gpu_alloc.specs.declared.allocator.Strategy.TheVariants.{OwnObject, InBuddyChunk, InFreeList}
 use Rattle.gpu_alloc_block.specs.declared.block.Kind.TheVariants.{Dedicated as DedicatedObject}
@@ -49,7 +49,7 @@ own_candidate s size t = record {
   HasNumber = Unit {0};
   question = own_question s size t;
   ledger = ledger s (heap_at s.properties t);
-  heap_size = heap_size s.properties t;
+  limit = heap_limit s (heap_at s.properties t);
   two_handles = false;
   object = λ b. b.object;
   IsInPlace = λ b. ⊥;
@@ -74,7 +74,7 @@ buddy_candidate s size t = record {
   HasNumber = Unit {0};
   question = buddy_question s t size;
   ledger = ledger s (heap_at s.properties t);
-  heap_size = heap_size s.properties t;
+  limit = heap_limit s (heap_at s.properties t);
   two_handles = true;
   object = λ b. b.object;
   IsInPlace = IsFrontBlock s t size;
@@ -98,7 +98,7 @@ list_candidate s size alignment t = record {
   HasNumber = HasListNumber s t;
   question = list_question s t size;
   ledger = ledger s (heap_at s.properties t);
-  heap_size = heap_size s.properties t;
+  limit = heap_limit s (heap_at s.properties t);
   two_handles = true;
   object = λ b. b.object;
   IsInPlace = IsTailBlock s t size alignment;

@@ -29,16 +29,18 @@ type_state_code =
 
 abbrev pub state_code : Coded State
 state_code =
-    code_by (map.FinMap nat_cmp HeldObject × (set.FinSet span_cmp × ((ℕ × List TypeState) × (Config × Properties))))
+    code_by (map.FinMap nat_cmp HeldObject × (set.FinSet span_cmp × ((ℕ × (List ℕ × List TypeState)) × (Config × Properties))))
     (coded× (map.code coded_ℕ held_code)
     (coded× (set.code span_code)
-    (coded× (coded× coded_ℕ (coded_list type_state_code)) (coded× config_code properties_code))))
-    (λ s. (s.held, (s.live, ((s.remaining, s.types), (s.config, s.properties)))))
+    (coded× (coded× coded_ℕ (coded× (coded_list coded_ℕ) (coded_list type_state_code)))
+    (coded× config_code properties_code))))
+    (λ s. (s.held, (s.live, ((s.remaining, (s.heap_limits, s.types)), (s.config, s.properties)))))
     (λ c. record {
       held = c.0;
       live = c.1.0;
       remaining = c.1.1.0.0;
-      types = c.1.1.0.1;
+      heap_limits = c.1.1.0.1.0;
+      types = c.1.1.0.1.1;
       config = c.1.1.1.0;
       properties = c.1.1.1.1;
     })

@@ -28,6 +28,10 @@ use Rattle.gpu_alloc_block.specs.State.{HeldObject, Span, TypeState, State, shar
 abbrev pub offer_of : Heap → MemoryHeap
 offer_of heap = record { size = heap.size }
 
+-- how many bytes may be asked of a heap in all
+abbrev pub limit_of : Heap → ℕ
+limit_of heap = heap.limit
+
 abbrev pub properties_in : {A : Type 0} → Limits A → List Heap → Properties
 properties_in l heaps = record {
   memory_types = l.memory_types.items;
@@ -56,6 +60,7 @@ state_in l heaps buddies lists t remaining = record {
   held = t.held;
   live = t.live;
   remaining = remaining;
+  heap_limits = map limit_of heaps;
   types = lists_in (types_in (first_types l.config (properties_in l heaps)) buddies) lists;
   config = l.config;
   properties = properties_in l heaps;
@@ -90,10 +95,11 @@ abbrev pub AreSmall : List (ℕ × HeldObject) → Type 0
 AreSmall [] = Unit {0}
 AreSmall (entry ∷ entries) = (entry.1.counted < 2 ^ 64) × AreSmall entries
 
--- a heap's running ledger is the sum that it stands for, of which no more was asked than the heap has
+-- a heap's running ledger is the sum that it stands for, of which no more was asked than the heap has, as the limit is
 pub record IsLedger (p : Properties) (heap : ℕ) (entries : List (ℕ × HeldObject)) (h : Heap) : Type 0 where
   pub used : h.used ≡ sum_by (share p heap) entries
   pub within : sum_by (asked_share p heap) entries ≤ h.size
+  pub limited : h.limit ≤ h.size
 
 -- each heap's is
 abbrev pub AreLedgers : Properties → List Heap → List (ℕ × HeldObject) → Type 0

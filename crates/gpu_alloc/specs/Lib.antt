@@ -18,6 +18,7 @@ pub mod Release
 pub mod Request
 pub mod Samples
 pub mod Served
+pub mod Serving
 pub mod Sound
 pub mod Spans
 pub mod Types
@@ -45,6 +46,7 @@ pub use Rattle.gpu_alloc_block.specs.ByteCalls
 pub use Rattle.gpu_alloc_block.specs.Bytes
 pub use Rattle.gpu_alloc_block.specs.Contents
 pub use Rattle.gpu_alloc_block.specs.Kept
+pub use Rattle.gpu_alloc_block.specs.Keyed
 pub use Rattle.gpu_alloc_block.specs.Lists
 pub use Rattle.gpu_alloc_block.specs.Mapped
 pub use Rattle.gpu_alloc_block.specs.Ranges

@@ -1,8 +1,9 @@
 -- An allocator at first.
-use Rattle.std.specs.Prelude.{◌≡◌, ℕ, List, IfSome, slice_get}
+use Rattle.std.specs.Prelude.{◌≡◌, ℕ, List, IfSome, map as map_list, slice_get}
 use Rattle.std.specs.FinMap as map
 use Rattle.std.specs.FinSet as set
 use Rattle.gpu_alloc_types.specs.Properties.{Properties, heap_size, props_at, atom_of}
+use Rattle.gpu_alloc_types.specs.declared.types.MemoryHeap.{MemoryHeap}
 use Rattle.gpu_alloc_buddy.specs.Buddy as buddy
 use Rattle.gpu_alloc_buddy.specs.BuddySound.{IsSound}
 use Rattle.gpu_alloc_buddy.specs.BuddyState.{Buddy}
@@ -14,12 +15,17 @@ use Rattle.gpu_alloc_base.specs.Sizes.{minimal_size, initial_size, starting_size
 use Rattle.gpu_alloc.specs.FirstTypes.{first_types}
 use Rattle.gpu_alloc_base.specs.declared.config.Config.{Config}
 
--- nothing is held or live, as many objects may be held as the device allows, and the chunk sizes are the first ones
+-- the size of a heap that is offered
+abbrev pub size_of_heap : MemoryHeap → ℕ
+size_of_heap heap = heap.size
+
+-- nothing is held or live, as many objects and bytes may be held as the device allows, and the chunk sizes are the first
 abbrev pub opened : Config → Properties → State
 opened c p = record {
   held = map.empty;
   live = set.empty;
   remaining = p.max_memory_allocation_count;
+  heap_limits = map_list size_of_heap p.memory_heaps;
   types = first_types c p;
   config = c;
   properties = p;

@@ -9,10 +9,11 @@ pub use Rattle.gpu_alloc_block.specs.InHand.{AreTwo, ShareNoObject, IsBeside, Ar
 use Rattle.gpu_alloc_block.specs.Kept.{LeavesInHand, outside}
 use Rattle.gpu_alloc_block.specs.State.{HeldObject, State, Block, span_of, IsOwned}
 
--- What a call leaves that takes no block back: what was given to `new`, and each block that was owned.
+-- What a call leaves that takes no block back: what was given to `new`, the heaps' limits, and each block that was owned.
 pub record Leaves (s new : State) : Type 0 where
   pub properties : new.properties ≡ s.properties
   pub config : new.config ≡ s.config
+  pub limits : new.heap_limits ≡ s.heap_limits
   pub owned : (b : Block) → IsOwned s b → IsOwned new b
   pub all : (bs : List Block) → AreOwned s bs → AreOwned new bs
 
@@ -35,6 +36,7 @@ pub record Adds (s new : State) (b : Block) : Type 0 where
 pub record Removes (s : State) (b : Block) (new : State) : Type 0 where
   pub properties : new.properties ≡ s.properties
   pub config : new.config ≡ s.config
+  pub limits : new.heap_limits ≡ s.heap_limits
   pub live : new.live ≡ set.remove s.live (span_of b)
   pub count : set.len new.live + 1 ≡ set.len s.live
   pub owned : (c : Block) → IsOwned s c → span_of c ≢ span_of b → IsOwned new c

@@ -4,7 +4,7 @@ use Rattle.std.specs.FinMap as map
 use Rattle.gpu_alloc_base.specs.FreeSpace.{IsMultipleOf, IsPowerOfTwo}
 use Rattle.gpu_alloc_block.specs.declared.block.Kind.{Kind}
 use Rattle.gpu_alloc_block.specs.declared.block.Kind.TheVariants.{Dedicated, Imported, BuddyChunk, FreeListChunk}
-use Rattle.gpu_alloc.specs.Budget.{IsWithinHeaps}
+use Rattle.gpu_alloc.specs.Budget.{AreLimits, IsWithinHeaps}
 use Rattle.gpu_alloc.specs.FreeListSharing.{IsListChunk, latest_number}
 use Rattle.gpu_alloc_block.specs.State.{HeldObject, Span, State, IsLive, AreApart, is_shared}
 
@@ -48,3 +48,5 @@ pub record IsSound (s : State) : Type 0 where
   pub numbered : (t number object : ℕ) → IsListChunk s t number object → (0 < number) × (number ≤ latest_number s t)
   -- of no heap is more held beside imports than it has
   pub within : IsWithinHeaps s
+  -- and no limit is over its heap's size
+  pub limits : AreLimits s

@@ -1,7 +1,7 @@
 //! The allocator.
 
-ghost use Rattle.std.specs.Prelude.{◌≡◌, ◌⊎◌, ◌↔◌, ℕ, ◌+◌, ◌^◌, ◌<◌, ◌≤◌, true, length, List, All, IsTrue, IfOk, IfErr};
-ghost use Rattle.std.specs.Prelude.{OnErr, Some, None, false, is_some, not, ◌==◌};
+ghost use Rattle.std.specs.Prelude.{◌≡◌, ◌⊎◌, ◌↔◌, ℕ, ◌+◌, ◌^◌, ◌<◌, ◌≤◌, true, length, List, All, IsTrue, IfOk, IfErr, IfSome};
+ghost use Rattle.std.specs.Prelude.{OnErr, Some, None, false, is_some, not, min, ◌==◌, ◌≢◌};
 ghost use Rattle.std.specs.FinMap as map;
 ghost use Rattle.std.specs.FinSet as set;
 ghost use Rattle.gpu_alloc_types.specs.Properties.{IsUsable, properties_of, heap_size};
@@ -11,26 +11,29 @@ ghost use Rattle.gpu_alloc_block.specs.Agreement.{Agrees, BlockAgrees, KeepsBloc
 ghost use Rattle.gpu_alloc_block.specs.Kept.{LeavesInHand, AddsInHand, RemovesInHand};
 ghost use Rattle.gpu_alloc.specs.Allocation.{passing, fits_a_chunk, Tries, TriesBy, TriesAll};
 ghost use Rattle.gpu_alloc_usage.specs.Ranking.{implied, named, ranking};
-ghost use Rattle.gpu_alloc.specs.Allocation.{Allocates, ObjectsAfter, ObjectsTried, IsGranted, candidates_of};
+ghost use Rattle.gpu_alloc.specs.Allocation.{Allocates, AllocatesBy, ObjectsAfter, ObjectsTried, IsGranted};
+ghost use Rattle.gpu_alloc.specs.Allocation.{IsAloneWhereServed, asked_of, candidates_of, plan_with};
 ghost use Rattle.gpu_alloc.specs.Atoms.{KeepsAtoms};
-ghost use Rattle.gpu_alloc.specs.Budget.{heap_budget};
+ghost use Rattle.gpu_alloc.specs.Budget.{heap_budget, heap_bytes, with_heap_limit};
 ghost use Rattle.gpu_alloc.specs.Candidates.{own_candidate};
 ghost use Rattle.gpu_alloc_base.specs.Case.{IsOverBudget, IsWithinBudget};
 ghost use Rattle.gpu_alloc.specs.declared.allocator.Strategy.TheVariants.{OwnObject, InBuddyChunk, InFreeList};
 ghost use Rattle.gpu_alloc.specs.Opening.{opened};
-ghost use Rattle.gpu_alloc.specs.Owned.{HoldsNothing, Leaves, Adds, Removes, LeavesNoRest, StaysAgreed};
+ghost use Rattle.gpu_alloc.specs.Owned.{AreOwned, HoldsNothing, Leaves, Adds, Removes, LeavesNoRest, StaysAgreed};
 ghost use Rattle.gpu_alloc.specs.Release.{Frees, ObjectsFreed, Cleans, ObjectsCleaned, IsCleanedUp, GoesBack};
 ghost use Rattle.gpu_alloc.specs.Request.{IsAskable};
 ghost use Rattle.gpu_alloc.specs.Sound as Sound;
-ghost use Rattle.gpu_alloc_block.specs.State.{HeldObject, Span, IsLive, IsOwned, ledger, total};
+ghost use Rattle.gpu_alloc_block.specs.State.{Block, HeldObject, Span, IsLive, IsOwned, heap_limit, ledger, total};
 
 mod by_type;
 mod choosing;
 mod importing;
 mod listing;
+mod optimal;
 mod ranges;
 mod returning;
 mod rows;
+mod serving;
 mod uncounted;
 
 use crate::limits::Limits;
@@ -61,6 +64,13 @@ enum Strategy {
 
     /// By a block of its free list.
     InFreeList,
+}
+
+/// What a memory type is asked: a request, with a hint or none.
+#[derive(Clone, Copy)]
+struct Ask {
+    request: Request,
+    hint: Option<Dedicated>,
 }
 
 /// Gives out blocks of a device's memory. It cannot be let go: [`close`](GpuAllocator::close) ends it.
@@ -202,6 +212,7 @@ impl<M: MemoryObject, A: Allocator> GpuAllocator<M, A> {
 
         // What follows from it.
         ensures granted { IfOk result (IsGranted self.old request self.new) }
+        ensures alone { IfOk result (IsAloneWhereServed self.old request None) }
         ensures ready { IfOk result (λ block. BlockAgrees block (D.properties device.new) (D.objects device.new)) }
         ensures added { IfOk result (Adds self.old self.new) }
         ensures refused { OnErr result (self.new ≡ self.old) }
@@ -217,7 +228,7 @@ impl<M: MemoryObject, A: Allocator> GpuAllocator<M, A> {
         ensures sound { Sound.IsSound self.new }
     {
         self.keeps_sound();
-        let answer = self.allocate(device, request, None);
+        let answer = self.allocate(device, request, None, None);
         self.keeps_sound();
         answer
     }
@@ -247,6 +258,7 @@ impl<M: MemoryObject, A: Allocator> GpuAllocator<M, A> {
         // What follows from it.
         ensures granted { IfOk result (IsGranted self.old request self.new) }
         ensures ready { IfOk result (λ block. BlockAgrees block (D.properties device.new) (D.objects device.new)) }
+        ensures alone { IfOk result (IsAloneWhereServed self.old request (Some dedicated)) }
         ensures own { dedicated ≡ Dedicated.Required → IfOk result (λ block. block.kind ≡ Kind.Dedicated) }
         ensures added { IfOk result (Adds self.old self.new) }
         ensures refused { OnErr result (self.new ≡ self.old) }
@@ -262,23 +274,24 @@ impl<M: MemoryObject, A: Allocator> GpuAllocator<M, A> {
         ensures sound { Sound.IsSound self.new }
     {
         self.keeps_sound();
-        let answer = self.allocate(device, request, Some(dedicated));
+        let answer = self.allocate(device, request, Some(dedicated), None);
         self.keeps_sound();
         answer
     }
 
-    /// Allocates a block with a hint or none.
-    #[tactic(auto, unfolding(crate::specs::Allocation::Allocates))]
+    /// Allocates a block with a hint or none. Where the same request in whole pages is given, a shared chunk serves that.
     fn allocate<D: ObjectDevice<M>>(
         &mut self,
         device: &mut D,
         request: Request,
         hint: Option<Dedicated>,
+        paged: Option<Request>,
     ) -> Result<MemoryBlock<M>, AllocationError>
         requires askable { IsAskable (self.old.properties).buffer_device_address request }
+        requires pages { IfSome paged (IsAskable (self.old.properties).buffer_device_address) }
         requires agrees { Agrees self.old (D.properties device.old) (D.objects device.old) }
         ensures decided { (es : List Event) × Chain D.step device.old es device.new
-            × Allocates self.old request hint es result self.new }
+            × AllocatesBy self.old (plan_with self.old request hint paged) es result self.new }
         ensures objects { ObjectsAfter self.old result self.new (D.objects device.old) (D.objects device.new) }
     {
         if request.size > self.max_allocation_size() {
@@ -291,7 +304,7 @@ impl<M: MemoryObject, A: Allocator> GpuAllocator<M, A> {
         if !self.has_candidate(request, usage) {
             return Err(AllocationError::NoCompatibleMemoryTypes);
         }
-        self.try_all(device, request, hint, usage)
+        self.try_all(device, request, hint, paged, usage)
     }
 
     /// Whether any memory type that serves a request, which has this meaning, is one of those that it allows.
@@ -320,19 +333,22 @@ impl<M: MemoryObject, A: Allocator> GpuAllocator<M, A> {
         device: &mut D,
         request: Request,
         hint: Option<Dedicated>,
+        paged: Option<Request>,
         usage: UsageFlags,
     ) -> Result<MemoryBlock<M>, AllocationError>
         requires askable { IsAskable (self.old.properties).buffer_device_address request }
+        requires pages { IfSome paged (IsAskable (self.old.properties).buffer_device_address) }
         requires meant { usage_bits usage ≡ implied (usage_bits request.usage) }
         requires agrees { Agrees self.old (D.properties device.old) (D.objects device.old) }
         ensures tries { (es : List Event) × Chain D.step device.old es device.new
-            × TriesAll self.old request hint (candidates_of self.old request) es result self.new }
+            × TriesAll self.old (asked_of self.old request hint paged) (candidates_of self.old request) es result self.new }
         ensures objects { ObjectsAfter self.old result self.new (D.objects device.old) (D.objects device.new) }
     {
         for rank in 0..self.ranked(usage).len() {
             let memory_type = self.ranked(usage)[rank];
             if request.memory_types >> memory_type & 1 == 1 {
-                match self.try_type(device, request, hint, memory_type) {
+                let asked = self.ask(request, hint, paged, memory_type);
+                match self.try_type(device, asked.request, asked.hint, memory_type) {
                     Ok(Some(block)) => return Ok(block),
                     Ok(None) => {}
                     Err(refusal) => return Err(refusal),
@@ -732,10 +748,43 @@ impl<M: MemoryObject, A: Allocator> GpuAllocator<M, A> {
         self.heaps[heap as usize].used()
     }
 
-    /// A heap's budget: how many bytes may still be asked of it, its size less its ledger, 0 where the ledger is at or past
+    /// A heap's limit: how many bytes of it may be held in all before no more are asked for. It is the heap's size where
+    /// none was set, and never more. The heap has to be there.
+    pub fn heap_limit(&self, heap: u32) -> u64
+        requires { heap < length (self.now.properties).memory_heaps }
+        ensures { result ≡ heap_limit self.now heap }
+    {
+        self.heaps[heap as usize].limit()
+    }
+
+    /// From now on no more is asked of a heap than is left of this limit, in bytes, whatever is held: a memory type of it
+    /// that would have to be asked for more is passed. A limit at or over the heap's size is none. The heap has to be
+    /// there.
+    ///
+    /// Nothing that is held goes, even where it is more than the limit; a place in a held object is used whatever the
+    /// limit, and imports are never refused for it. Which way a request is served and how large chunks are goes by the
+    /// heap's size as before: no smaller chunk is tried. (A driver tells by Vulkan's VK_EXT_memory_budget how much of a heap
+    /// a program should use. The original crate has no such limit.)
+    pub fn set_heap_limit(&mut self, heap: u32, limit: u64)
+        requires { heap < length (self.old.properties).memory_heaps }
+        ensures set { self.new ≡ with_heap_limit self.old heap limit }
+
+        // What follows from it.
+        ensures told { heap_limit self.new heap ≡ min limit (heap_bytes self.old.properties heap) }
+        ensures others { (other : ℕ) → other ≢ heap → heap_limit self.new other ≡ heap_limit self.old other }
+        ensures owned { (block : Block) → IsOwned self.old block → IsOwned self.new block }
+        ensures all { (blocks : List Block) → AreOwned self.old blocks → AreOwned self.new blocks }
+        ensures agrees { StaysAgreed self.old self.new }
+        ensures sound { Sound.IsSound self.new }
+    {
+        self.heaps[heap as usize].set_limit(limit);
+        self.keeps_sound();
+    }
+
+    /// A heap's budget: how many bytes may still be asked of it, its limit less its ledger, 0 where the ledger is at or past
     /// it. A request that would ask for more passes the heap's memory types. (The original crate names the budget in its
-    /// README, and does not keep it. Vulkan's VK_EXT_memory_budget, by which a driver tells its own, is not asked.) The
-    /// heap has to be there.
+    /// README, and does not keep it. What a driver tells by Vulkan's VK_EXT_memory_budget is
+    /// [`set_heap_limit`](GpuAllocator::set_heap_limit)'s.) The heap has to be there.
     pub fn heap_budget(&self, heap: u32) -> u64
         requires { heap < length (self.now.properties).memory_heaps }
         ensures { result ≡ heap_budget self.now heap }

@@ -1,12 +1,12 @@
 //! Laws of the definitions that contracts cite, and those definitions computed on samples. The functions do nothing.
 
-ghost use Rattle.std.specs.Prelude.{◌≡◌, ◌≢◌, ◌⊎◌, ℕ, ◌+◌, ◌<◌, ◌≤◌, List, [], ◌∷◌, length, Some, None, true, false};
+ghost use Rattle.std.specs.Prelude.{◌≡◌, ◌≢◌, ◌⊎◌, ℕ, ◌+◌, ◌<◌, ◌≤◌, max, List, [], ◌∷◌, length, Some, None, true, false};
 ghost use Rattle.std.specs.FinSet as set;
 ghost use Rattle.gpu_alloc_types.specs.declared.types.FreeRange.{FreeRange};
 ghost use Rattle.gpu_alloc_block.specs.Agreement.{Agrees, KeptBlocksAgree};
 ghost use Rattle.gpu_alloc_block.specs.ByteCalls.{BytesMoved};
 ghost use Rattle.gpu_alloc.specs.Allocation.{strategy, CandidatesServe};
-ghost use Rattle.gpu_alloc.specs.Budget.{heap_budget, heap_bytes, HoldsNoImportOf, IsAskedWithinBudget, IsWithinHeaps};
+ghost use Rattle.gpu_alloc.specs.Budget.{heap_budget, heap_bytes, AreLimits, HoldsNoImportOf, IsAskedWithinBudget, IsWithinHeaps};
 ghost use Rattle.gpu_alloc.specs.Exactness.{AreCanonical, AreFreePieces, AreLongEnough, ArePiecesApart};
 ghost use Rattle.gpu_alloc.specs.Exactness.{AreSpaced, AreFreeRuns, TellPlaces};
 ghost use Rattle.gpu_alloc.specs.declared.allocator.Strategy.TheVariants.{OwnObject, InBuddyChunk, InFreeList};
@@ -29,10 +29,12 @@ ghost use Rattle.gpu_alloc.specs.BuddySharing.{buddy_size, buddy_question, with_
 ghost use Rattle.gpu_alloc_base.specs.Sizes.{minimal_size, final_size, grown_chunk, doubled_chunk};
 ghost use Rattle.gpu_alloc.specs.FirstTypes.{first_types};
 ghost use Rattle.gpu_alloc.specs.Owned.{AreTwo, CancelOut, HoldsNothing};
+ghost use Rattle.gpu_alloc.specs.Serving.{AsksForOwnObjects, NeverServed};
 ghost use Rattle.gpu_alloc.specs.Sound.{IsSound};
 ghost use Rattle.gpu_alloc_block.specs.Contents.{BytesStay};
+ghost use Rattle.gpu_alloc_block.specs.Keyed.{ComeAndGoUnderKeys};
 ghost use Rattle.gpu_alloc_block.specs.Kept.{ToldByPlace};
-ghost use Rattle.gpu_alloc_block.specs.State.{State, Block, Span, span_of, span_cmp, IsOwned, is_shared, ledger};
+ghost use Rattle.gpu_alloc_block.specs.State.{State, Block, Span, span_of, span_cmp, IsOwned, is_shared, heap_limit, ledger};
 ghost use Rattle.gpu_alloc_block.specs.declared.block.Kind.{Kind};
 ghost use Rattle.gpu_alloc_base.specs.declared.piece.Piece.{Piece};
 ghost use Rattle.gpu_alloc.specs.declared.request.Dedicated.TheVariants.{Required, Preferred};
@@ -192,12 +194,18 @@ pub fn agrees_at_first<M: MemoryObject, D: ObjectDevice<M>, A: Allocator>(
     let _ = device;
 }
 
-/// Of no heap is more held beside imports than it has. So where no import of its memory types is held, its ledger is at
-/// most its size: what is held of it and its budget are the whole heap.
+/// Of no heap is more held beside imports than it has, and no limit is over its heap's size. So where no import of its
+/// memory types is held, its ledger is at most its size, and with no limit what is held of it and its budget are the whole
+/// heap. A limit gets what is held and what may still be asked for, or less than what is held.
 pub fn heaps_are_not_overdrawn()
     ensures asked { (s : State) → IsSound s → IsWithinHeaps s }
+    ensures limits { (s : State) → IsSound s → AreLimits s }
+    ensures held { (s : State) (heap : ℕ) → IsSound s → heap < length s.properties.memory_heaps → HoldsNoImportOf s heap
+        → ledger s heap ≤ heap_bytes s.properties heap }
     ensures whole { (s : State) (heap : ℕ) → IsSound s → heap < length s.properties.memory_heaps → HoldsNoImportOf s heap
+        → heap_limit s heap ≡ heap_bytes s.properties heap
         → ledger s heap + heap_budget s heap ≡ heap_bytes s.properties heap }
+    ensures limited { (s : State) (heap : ℕ) → ledger s heap + heap_budget s heap ≡ max (ledger s heap) (heap_limit s heap) }
 {}
 
 /// A memory type that would have to be asked for an object which its heap has room for is not passed for the budget. Where
@@ -216,6 +224,14 @@ pub fn candidates_serve_the_request()
 /// says becomes known of each block in hand.
 pub fn kept_blocks_agree()
     ensures { KeptBlocksAgree }
+{}
+
+/// A request that may not be served (`GpuAllocator::can_ever_serve`) is refused in every state of an allocator with these
+/// properties, and nothing is asked. One that may be is asked for at once as an object of its own, where nothing is held
+/// and an object may be.
+pub fn what_can_never_be_served()
+    ensures never { NeverServed }
+    ensures asks { AsksForOwnObjects }
 {}
 
 /// An import leaves allocator and block in agreement with the device: by this call what the clause `agrees` of
@@ -289,6 +305,14 @@ pub fn two_blocks_are_apart()
 /// and of two places the blocks are two. So a list is a map from places, which the clauses on keys speak of.
 pub fn blocks_in_hand_are_told_by_place()
     ensures { ToldByPlace }
+{}
+
+/// Blocks under keys of the caller's own, as an `IndexMap` of blocks has them, stay kept (`AreKept`) where one is put
+/// under a key that had none, where the map lends one for a call, and where one is taken out. Only what is found under
+/// each key counts, in whatever order the pairs stand. By this call what the map's `Updates` and the allocator's
+/// `joins` or `in_hand` say becomes that of the new map.
+pub fn blocks_under_keys_come_and_go()
+    ensures { ComeAndGoUnderKeys }
 {}
 
 /// Bytes that are as they were stay so from call to call, and what the device had of a block that keeps its bytes it has.

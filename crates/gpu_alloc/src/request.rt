@@ -1,7 +1,8 @@
 //! What is asked of an allocator.
 
-ghost use Rattle.std.specs.Prelude.{◌≡◌, ◌↔◌, IsTrue};
-ghost use Rattle.gpu_alloc.specs.Request.{IsAskable, is_required};
+ghost use Rattle.std.specs.Prelude.{◌≡◌, ◌↔◌, ◌≤◌, ◌^◌, IfSome, IsTrue, None};
+ghost use Rattle.gpu_alloc_base.specs.Sizes.{up};
+ghost use Rattle.gpu_alloc.specs.Request.{IsAskable, IsGranularity, in_pages, is_required};
 
 use gpu_alloc_types::UsageFlags;
 
@@ -31,6 +32,26 @@ impl Request {
             && self.align_mask < 1 << 63
             && (self.align_mask + 1).is_power_of_two()
             && !self.usage.lacks_address(address)
+    }
+}
+
+impl Request {
+    /// The same request in whole pages of `granularity` bytes: its size rounded up to them, and aligned to one at least.
+    /// None where that size would be 2^64 bytes or more. The granularity has to be a power of two of at most 2^32.
+    pub fn in_pages(self, granularity: u64) -> Option<Request>
+        requires { IsGranularity granularity }
+        ensures rounded { IfSome result (λ paged. paged ≡ in_pages granularity self) }
+        ensures none { (result ≡ None) ↔ 2 ^ 64 ≤ up self.size granularity }
+    {
+        let more = granularity - 1;
+        match self.size.checked_add(more) {
+            Some(size) => Some(Request {
+                size: size / granularity * granularity,
+                align_mask: self.align_mask.max(more),
+                ..self
+            }),
+            None => None,
+        }
     }
 }
 

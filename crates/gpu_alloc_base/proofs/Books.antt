@@ -56,7 +56,7 @@ new_chunk_of c b = record { object = c.object b; size = c.question.size }
 pub record KeepsBooks {B S : Type 0} (chunks : S → HeldChunks) (key : B → ℕ) (c : Case B (Account S)) : Type 0 where
   pub count : c.remaining ≡ c.before.remaining
   pub ledger : c.ledger ≡ c.before.heap.used
-  pub heap_size : c.heap_size ≡ c.before.heap.size
+  pub limit : c.limit ≡ c.before.heap.limit
   pub place_held : (b : B) → c.IsInPlace b → (chunk : Chunk) × (map.get (chunks c.before.allocator) (key b) ≡ Some chunk)
   pub in_place : (b : B) → c.IsInPlace b → HasSameBooks chunks c.before (c.with_block b)
   pub in_new : (b : B) → c.IsInNewObject b → IsEntered chunks (key b) (new_chunk_of c b) c.before (c.with_object b)
@@ -110,14 +110,14 @@ module _ {B S : Type 0} {chunks : S → HeldChunks} {key : B → ℕ} {c : Case 
       rw (gives.state, entered.chunks_are) (omega (arith, more, entered.used, counted))
   answers_bytes es (Err e) new counted refused = rw (refused_keeps c es e new refused) counted
 
-  -- the ledger never passes the greater of what it was and the heap's size
-  pub answers_within : (es : List Event) (answer : Result B AllocationError) (new : Account S) → Answers c es answer new → new.heap.used ≤ max c.before.heap.used c.before.heap.size
+  -- the ledger never passes the greater of what it was and the heap's limit
+  pub answers_within : (es : List Event) (answer : Result B AllocationError) (new : Account S) → Answers c es answer new → new.heap.used ≤ max c.before.heap.used c.before.heap.limit
   answers_within es (Ok b) new (inl gives) =
       let same = books.in_place b gives.place in
       rw (gives.state, same.used) (omega arith)
   answers_within es (Ok b) new (inr gives) =
       let entered = books.in_new b gives.place in
-      rw (gives.state, entered.used) (omega (arith, books.ledger, books.heap_size, gives.asks.within))
+      rw (gives.state, entered.used) (omega (arith, books.ledger, books.limit, gives.asks.within))
   answers_within es (Err e) new refused = rw (refused_keeps c es e new refused) (omega arith)
 
   pub answers_counted : (es : List Event) (answer : Result B AllocationError) (new : Account S) → IsCounted before c.before.heap c.before.remaining → Answers c es answer new → IsCounted (chunks new.allocator) new.heap new.remaining

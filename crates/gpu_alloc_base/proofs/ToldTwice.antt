@@ -17,7 +17,7 @@ pub record IsToldAs {B S B' S' : Type 0} (c : Case B S) (d : Case B' S') : Type 
   pub remaining : c.remaining ≡ d.remaining
   pub question : c.question ≡ d.question
   pub ledger : c.ledger ≡ d.ledger
-  pub heap_size : c.heap_size ≡ d.heap_size
+  pub limit : c.limit ≡ d.limit
   pub handles : c.two_handles ≡ d.two_handles
 
 module _ {B S B' S' : Type 0} {c : Case B S} {d : Case B' S'} (told : IsToldAs c d) where
@@ -31,10 +31,10 @@ module _ {B S B' S' : Type 0} {c : Case B S} {d : Case B' S'} (told : IsToldAs c
   asked_size = ap (λ (q : ChunkQuestion). q.size) told.question
 
   within_is : IsWithinBudget c → IsWithinBudget d
-  within_is within = omega (arith, within, asked_size, told.ledger, told.heap_size)
+  within_is within = omega (arith, within, asked_size, told.ledger, told.limit)
 
   over_is : IsOverBudget c → IsOverBudget d
-  over_is over = omega (arith, over, asked_size, told.ledger, told.heap_size)
+  over_is over = omega (arith, over, asked_size, told.ledger, told.limit)
 
   pub asks_is : Asks c → Asks d
   asks_is asks = record { has = question_is asks.has; within = within_is asks.within }

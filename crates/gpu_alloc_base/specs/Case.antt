@@ -21,9 +21,9 @@ pub record Case (B S : Type 0) : Type 1 where
   pub HasNumber : Type 0
   -- what is asked for where there is no place
   pub question : ChunkQuestion
-  -- how many bytes the heap's ledger counts, of how many that the heap has
+  -- how many bytes the heap's ledger counts, of how many that may be asked of the heap
   pub ledger : ℕ
-  pub heap_size : ℕ
+  pub limit : ℕ
   -- a new object gets a second handle, for which there may be no host memory
   pub two_handles : Bool
   -- the name of a block's object
@@ -51,13 +51,13 @@ module _ {B S : Type 0} (c : Case B S) where
     pub no_place : c.HasPlace → ⊥
     pub remains : MayAsk
 
-  -- the heap has as many bytes left as the question is for, or more
+  -- the heap's limit leaves as many bytes as the question is for, or more
   abbrev pub IsWithinBudget : Type 0
-  IsWithinBudget = c.ledger + c.question.size ≤ c.heap_size
+  IsWithinBudget = c.ledger + c.question.size ≤ c.limit
 
-  -- the heap has fewer bytes left than the question is for
+  -- the heap's limit leaves fewer bytes than the question is for
   abbrev pub IsOverBudget : Type 0
-  IsOverBudget = c.heap_size < c.ledger + c.question.size
+  IsOverBudget = c.limit < c.ledger + c.question.size
 
   -- the question is asked: there is one, within the budget
   pub record Asks : Type 0 where

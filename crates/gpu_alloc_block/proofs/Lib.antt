@@ -6,6 +6,7 @@ pub mod Contents
 pub mod Copies
 pub mod Keeping
 pub mod Kept
+pub mod Keyed
 pub mod Lists
 pub mod LiveSpans
 pub mod Moving

@@ -1,6 +1,6 @@
 -- What an allocator holds and has given out.
 use Rattle.std.specs.Prelude.{◌≡◌, ◌≢◌, ◌⊎◌, ℕ, ◌+◌, ◌≤◌, ◌==◌, Bool, true, false, List, [], ◌∷◌, cond, Option, Some}
-use Rattle.std.specs.Prelude.{None, IsTrue, sum_by}
+use Rattle.std.specs.Prelude.{None, IsTrue, sum_by, get_or}
 use Rattle.std.specs.FinMap as map
 use Rattle.std.specs.FinSet as set
 use Rattle.std.specs.declared.cmp.Ordering.{Ordering}
@@ -64,12 +64,13 @@ pub record TypeState : Type 0 where
   pub list_chunk : ℕ
   pub number : ℕ
 
--- An allocator: the held objects by name, the live spans, how many more objects may be held, the chunk sizes of each
--- memory type, and what `new` was given.
+-- An allocator: the held objects by name, the live spans, how many more objects may be held, how many bytes may be asked
+-- of each heap in all, the chunk sizes of each memory type, and what `new` was given.
 pub record State : Type 0 where
   pub held : map.FinMap nat_cmp HeldObject
   pub live : set.FinSet span_cmp
   pub remaining : ℕ
+  pub heap_limits : List ℕ
   pub types : List TypeState
   pub config : Config
   pub properties : Properties
@@ -97,6 +98,10 @@ share p heap entry = cond (heap_at p entry.1.memory_type == heap) entry.1.counte
 -- a heap's ledger: the sum of the counted sizes of the held objects of its memory types
 abbrev pub ledger : State → ℕ → ℕ
 ledger s heap = sum_by (share s.properties heap) (map.entries s.held)
+
+-- how many bytes may be asked of a heap in all, 0 where there is none
+abbrev pub heap_limit : State → ℕ → ℕ
+heap_limit s heap = get_or s.heap_limits heap 0
 
 -- how many objects are held or may still be
 abbrev pub total : State → ℕ

@@ -50,7 +50,7 @@ module _ (a : Account Buddy) (size flags : ℕ) where
   keeps_books = record {
     count = refl;
     ledger = refl;
-    heap_size = refl;
+    limit = refl;
     place_held = λ leaf front. (front.chunk, front.held);
     in_place = λ leaf front. record { chunks_are = refl; used = refl; remaining = refl };
     in_new = λ leaf begins. record { was_free = begins.free_key; chunks_are = refl; used = refl; remaining = refl };

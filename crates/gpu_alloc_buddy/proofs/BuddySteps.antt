@@ -91,7 +91,7 @@ may_be_asked a order flags size looks now is asks same = inr ((λ first. not_fir
 pub looked_first : (a : Account Buddy) (order flags size looks now : ℕ) → size ≡ 2 ^ order → order ≤ 62 → (e : AllocationError) → RefusesQuestion (buddy_case a (2 ^ order) flags) (Some e) → CountsSearch (space_of a.allocator) (2 ^ order) looks now → CountsRefusing a size looks now
 looked_first a order flags size looks now is short e refuses search = rw is (inl ((fits order short, first e refuses), search))
   where
-    first : (e : AllocationError) → RefusesQuestion (buddy_case a (2 ^ order) flags) (Some e) → (a.remaining ≡ 0) ⊎ (a.heap.size < a.heap.used + chunk_size a.allocator (2 ^ order))
+    first : (e : AllocationError) → RefusesQuestion (buddy_case a (2 ^ order) flags) (Some e) → (a.remaining ≡ 0) ⊎ (a.heap.limit < a.heap.used + chunk_size a.allocator (2 ^ order))
     first TooManyObjects (inl none) = inl none
     first TooManyObjects (inr spent) = absurd (spent tt)
     first OutOfDeviceMemory over = inr over.1

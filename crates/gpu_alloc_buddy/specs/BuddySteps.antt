@@ -34,9 +34,9 @@ abbrev pub CountsHalving : Buddy → ℕ → ℕ → ℕ → Type 0
 CountsHalving b order splits after = (n : ℕ) × (chunk_size b (2 ^ order) ≡ 2 ^ n) × (after + order + 1 ≡ splits + n)
 
 -- a place is looked for first where a chunk for the block is below 2^64 bytes, and may not be asked for: nothing
--- remains, or the heap has too few bytes left
+-- remains, or the heap's limit leaves too few bytes
 abbrev pub LooksFirst : Account Buddy → ℕ → Type 0
-LooksFirst a size = Fits size × ((a.remaining ≡ 0) ⊎ (a.heap.size < a.heap.used + chunk_size a.allocator size))
+LooksFirst a size = Fits size × ((a.remaining ≡ 0) ⊎ (a.heap.limit < a.heap.used + chunk_size a.allocator size))
 
 -- the looks of what tells a refusal: those for a place, and none where it is not looked for
 abbrev pub CountsRefusing : Account Buddy → ℕ → ℕ → ℕ → Type 0

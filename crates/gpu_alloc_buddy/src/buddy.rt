@@ -150,7 +150,7 @@ impl<M: MemoryObject, A: Allocator> BuddyAllocator<M, A> {
     ///
     /// `heap` has to count no less than the sum of the held chunks; what remains and the number of held chunks have to fit
     /// 32 bits together. Both is so again after the call. The ledger never passes the greater of what it was and the
-    /// heap's size (`ledger`).
+    /// heap's limit (`ledger`).
     ///
     /// Each block that a caller had in hand is live still (`leaves`). The new one is live too, and shares no byte with
     /// any of them (`added`).
@@ -189,7 +189,7 @@ impl<M: MemoryObject, A: Allocator> BuddyAllocator<M, A> {
         ensures granted { IfOk result (IsGranted self.old (requested size align_mask flags) self.new) }
         ensures added { IfOk result (Adds self.old self.new) }
         ensures leaves { Leaves self.old self.new }
-        ensures ledger { heap.new.used ≤ max heap.old.used heap.old.size }
+        ensures ledger { heap.new.used ≤ max heap.old.used heap.old.limit }
         ensures refused { OnErr result
             ((self.new ≡ self.old) × ((heap.new ≡ heap.old) × (allocations_remains.new ≡ allocations_remains.old))) }
         ensures sound { IsSound self.new }
@@ -514,8 +514,8 @@ impl<M: MemoryObject, A: Allocator> BuddyAllocator<M, A> {
         let leaf = self.pairs.begin(memory, chunk_order, order, splits);
         self.pairs.keeps_exact();
         self.next_order = chunk_order;
-        // (the heap's size is a u64, so a ledger that stays within it does not overflow)
-        let _ = heap.size();
+        // (the heap's limit is a u64, so a ledger that stays within it does not overflow)
+        let _ = heap.limit();
         heap.alloc(size);
         *allocations_remains -= 1;
         Ok(BuddyBlock::new(handle, leaf))

@@ -224,7 +224,7 @@ module _ (a : Account Listing) (size alignment flags : ℕ) (s : IsSound a.alloc
   keeps_books = record {
     count = refl;
     ledger = refl;
-    heap_size = refl;
+    limit = refl;
     place_held = λ slot tail. (tail.object.0, tail.object.1);
     in_place = λ slot tail. record { chunks_are = refl; used = refl; remaining = refl };
     in_new = λ slot is.

@@ -2,7 +2,7 @@
 use Rattle.std.specs.Prelude.{ℕ, ◌<◌, ◌≤◌, ◌^◌, Bool, List, length, All, Option, Some, None, IsTrue, slice_get, not}
 use Rattle.std.specs.Prelude.{◌&&◌, cond}
 use Rattle.std.specs.Int.{is_power_of_two}
-use Rattle.gpu_alloc_types.specs.Flags.{property_bits, has_bit, host_visible, host_coherent}
+use Rattle.gpu_alloc_types.specs.Flags.{property_bits, has_bit, has_all_bits, host_visible, host_coherent}
 use Rattle.gpu_alloc_types.specs.declared.types.MemoryType.{MemoryType}
 use Rattle.gpu_alloc_types.specs.declared.types.MemoryHeap.{MemoryHeap}
 use Rattle.gpu_alloc_types.specs.declared.types.DeviceProperties.{DeviceProperties}
@@ -40,6 +40,10 @@ bits_of (Some t) = property_bits t.props
 
 abbrev pub props_at : Properties → ℕ → ℕ
 props_at p t = bits_of (slice_get p.memory_types t)
+
+-- there is a memory type with index t among the first 32, and it has all of these flags
+abbrev pub HasAllOf : Properties → ℕ → ℕ → Type 0
+HasAllOf p flags t = (t < length p.memory_types) × (t < 32) × IsTrue (has_all_bits (props_at p t) flags)
 
 -- the index of a memory type's heap, 0 where there is no such type
 abbrev pub heap_of : Option MemoryType → ℕ

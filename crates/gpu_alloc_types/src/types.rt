@@ -1,7 +1,9 @@
 //! What a device offers, and why it refuses.
 
-ghost use Rattle.std.specs.Prelude.{◌↔◌, IsTrue};
-ghost use Rattle.gpu_alloc_types.specs.Properties.{IsUsable, properties_of};
+ghost use Rattle.std.specs.Prelude.{◌≡◌, ◌↔◌, ℕ, IsTrue};
+ghost use Rattle.std.specs.Int.{bit_at};
+ghost use Rattle.gpu_alloc_types.specs.Flags.{property_bits};
+ghost use Rattle.gpu_alloc_types.specs.Properties.{IsUsable, HasAllOf, properties_of};
 
 use crate::MemoryPropertyFlags;
 
@@ -113,5 +115,20 @@ impl DeviceProperties<'_> {
             return false;
         }
         self.non_coherent_atom_size.is_power_of_two()
+    }
+
+    /// The mask of the memory types that have all of these flags: bit 0 for the type with index 0. A request's
+    /// `memory_types` can be narrowed to them. Every type has all flags of an empty set. A type behind the 32nd has no
+    /// bit (there is none in Vulkan).
+    pub fn types_with(&self, flags: MemoryPropertyFlags) -> u32
+        ensures { (t : ℕ) → (bit_at result t ≡ 1) ↔ HasAllOf (properties_of self.now) (property_bits flags) t }
+    {
+        let mut mask = 0;
+        for index in 0..self.memory_types.len().min(32) {
+            if self.memory_types[index].props.contains(flags) {
+                mask |= 1 << index;
+            }
+        }
+        mask
     }
 }

@@ -108,7 +108,7 @@ module _ {A : Type 0} {l : Limits A} {heaps : List Heap} {buddies : List Buddy} 
         })
 
     -- in a new chunk
-    in_new_chunk : BeginsChunk b size leaf → finite.get t.held leaf.object ≡ None → 0 < remaining → heap.used + chunk_size b size ≤ heap.size
+    in_new_chunk : BeginsChunk b size leaf → finite.get t.held leaf.object ≡ None → 0 < remaining → heap.used + chunk_size b size ≤ heap.limit
         → after ≡ account (with_leaf (with_chunk b leaf (chunk_size b size)) leaf) (record heap { used = heap.used + chunk_size b size }) (remaining - 1)
         → HasOneMore (IsNew b.memory_type (sees_chunks b)) (finite.get after.allocator.chunks leaf.chunk) leaf.object old new
         → GivesInNewObject (buddy_candidate before size index) es block (with_span (with_buddy_chunk before index leaf.object (buddy_question before index size).size) (span_of_leaf leaf))

@@ -130,7 +130,7 @@ module _ {A : Type 0} (l : Limits A) (heaps : List Heap) (buddies : List Buddy) 
 
     module _ (leaf : Leaf) (size : ℕ) (now : Table) (changed : Heap) (none : finite.get b.chunks leaf.chunk ≡ None) (free : finite.get t.held leaf.object ≡ None) (some : 0 < remaining) (small : size < 2 ^ 64)
         (sound : IsSound (with_leaf (with_chunk b leaf size) leaf)) (held : now.held ≡ finite.insert t.held leaf.object (record { memory_type = index; counted = size; kind = BuddyChunk })) (more : HasLeafMore t now leaf)
-        (counts : changed ≡ record heap { used = heap.used + size }) (within : heap.used + size ≤ heap.size) where
+        (counts : changed ≡ record heap { used = heap.used + size }) (within : heap.used + size ≤ heap.limit) where
       abbrev object_of : HeldObject
       object_of = record { memory_type = index; counted = size; kind = BuddyChunk }
 
@@ -175,7 +175,7 @@ module _ {A : Type 0} (l : Limits A) (heaps : List Heap) (buddies : List Buddy) 
 
       pub state_with_chunk : state_with (with_leaf (with_chunk b leaf size) leaf) changed now (remaining - 1) ≡ with_span (with_buddy_chunk s index leaf.object size) (span_of_leaf leaf)
       state_with_chunk =
-          state_kept l heaps (set buddies index (with_leaf (with_chunk b leaf size) leaf)) lists i changed heap now (remaining - 1) at_heap (ap (λ (h : Heap). h.size) counts)
+          state_kept l heaps (set buddies index (with_leaf (with_chunk b leaf size) leaf)) lists i changed heap now (remaining - 1) at_heap (ap (λ (h : Heap). h.size) counts) (ap (λ (h : Heap). h.limit) counts)
           ∙ (λ k. record s { held = held k; live = more.live k; remaining = remaining - 1; types = types_now k })
 
     -- the size of the chunk is the question's

@@ -225,7 +225,7 @@ module _ {A : Type 0} {l : Limits A} {heaps : List Heap} {buddies : List Buddy} 
 
       state_goes : state_with buddy_after changed now (remaining + 1) ≡ returned before block
       state_goes =
-          state_kept l heaps (set buddies index buddy_after) lists i changed heap now (remaining + 1) given.at_heap (ap (λ (h : Heap). h.size) counts)
+          state_kept l heaps (set buddies index buddy_after) lists i changed heap now (remaining + 1) given.at_heap (ap (λ (h : Heap). h.size) counts) (ap (λ (h : Heap). h.limit) counts)
           ∙ (λ k. record before {
             held = (held ∙ ap (finite.remove t.held) (sym object_is)) k;
             live = live k;

@@ -163,7 +163,7 @@ module _ (s : State) (places : map.FinMap span_cmp Place) (room index : ℕ) (b 
     remaining = refl;
     question = question_is size;
     ledger = of.used;
-    heap_size = of.size;
+    limit = of.limit;
     handles = refl;
   }
 

@@ -119,7 +119,7 @@ module _ {A : Type 0} {limits : Limits A} {heaps : List Heap} {buddies : List Bu
         })
 
     -- in a new chunk
-    in_new_run : slot.chunk ≡ l.space.latest + 1 → finite.get t.held slot.object ≡ None → 0 < remaining → heap.used + chunk_size l size ≤ heap.size
+    in_new_run : slot.chunk ≡ l.space.latest + 1 → finite.get t.held slot.object ≡ None → 0 < remaining → heap.used + chunk_size l size ≤ heap.limit
         → after ≡ account (record l { space = with_slot (with_chunk l.space slot.object (chunk_size l size)) slot; next_chunk = next_size l (chunk_size l size) }) (record heap { used = heap.used + chunk_size l size }) (remaining - 1)
         → HasOneMore (IsNew l.memory_type (sees_chunks l)) (finite.get after.allocator.space.chunks slot.chunk) slot.object old new
         → GivesInNewObject (list_candidate before size alignment index) es block (with_span (with_list_chunk before index slot.object (list_question before index size).size) (span_of_slot slot))

@@ -107,7 +107,7 @@ module _ {A : Type 0} (l : Limits A) (heaps : List Heap) (buddies : List Buddy) 
 
     pub state_gone : state_in l (set heaps i changed) buddies (set lists index after) now (remaining + 1) ≡ without_object (state_in l heaps buddies lists t remaining) chunk.object
     state_gone =
-        state_kept l heaps buddies (set lists index after) i changed heap now (remaining + 1) at_heap refl
+        state_kept l heaps buddies (set lists index after) i changed heap now (remaining + 1) at_heap refl refl
         ∙ (λ k. record (state_in l heaps buddies lists t remaining) {
           held = held k;
           live = live k;

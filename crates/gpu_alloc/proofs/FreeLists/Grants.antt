@@ -133,7 +133,7 @@ module _ {A : Type 0} (limits : Limits A) (heaps : List Heap) (buddies : List Bu
     module _ (slot : Slot) (size : ℕ) (now : Table) (changed : Heap) (number : slot.chunk ≡ l.space.latest + 1) (free : finite.get t.held slot.object ≡ None) (some : 0 < remaining) (small : size < 2 ^ 64)
         (sound : IsSound (record l { space = with_slot (with_chunk l.space slot.object size) slot; next_chunk = next_size l size }))
         (held : now.held ≡ finite.insert t.held slot.object (record { memory_type = index; counted = size; kind = FreeListChunk slot.chunk })) (more : HasSlotMore t now slot)
-        (counts : changed ≡ record heap { used = heap.used + size }) (within : heap.used + size ≤ heap.size) where
+        (counts : changed ≡ record heap { used = heap.used + size }) (within : heap.used + size ≤ heap.limit) where
       abbrev object_of : HeldObject
       object_of = record { memory_type = index; counted = size; kind = FreeListChunk slot.chunk }
 
@@ -183,7 +183,7 @@ module _ {A : Type 0} (limits : Limits A) (heaps : List Heap) (buddies : List Bu
 
       pub state_with_list_chunk : state_with list_after changed now (remaining - 1) ≡ with_span (with_list_chunk s index slot.object size) (span_of_slot slot)
       state_with_list_chunk =
-          state_kept limits heaps buddies (set lists index list_after) i changed heap now (remaining - 1) at_heap (ap (λ (h : Heap). h.size) counts)
+          state_kept limits heaps buddies (set lists index list_after) i changed heap now (remaining - 1) at_heap (ap (λ (h : Heap). h.size) counts) (ap (λ (h : Heap). h.limit) counts)
           ∙ (λ k. record s { held = (held ∙ ap (finite.insert t.held slot.object) object_is) k; live = more.live k; remaining = remaining - 1; types = types_now k })
 
     -- Nothing but the table's room has changed.

@@ -140,7 +140,7 @@ module _ (s : State) (places : map.FinMap span_cmp Place) (room index : ℕ) (l 
     remaining = refl;
     question = question_is size;
     ledger = of.used;
-    heap_size = of.size;
+    limit = of.limit;
     handles = refl;
   }
 

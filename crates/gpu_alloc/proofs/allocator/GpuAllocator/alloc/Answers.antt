@@ -2,19 +2,27 @@ use Rattle.std.proofs.Common.{None}
 use Rattle.gpu_alloc.proofs.Agreed.{allocates_agrees, chain_keeps}
 use Rattle.gpu_alloc.proofs.BlocksAgreed.{allocates_agrees_block, allocation_keeps_blocks}
 use Rattle.gpu_alloc.proofs.Decisions.{allocates_kept, allocates_total}
-use Rattle.gpu_alloc.proofs.Granted.{allocates_granted}
+use Rattle.gpu_alloc.specs.Allocation.{Allocates, plan}
+use Rattle.gpu_alloc.proofs.Granted.{allocates_granted, allocates_kind, alone_is, is_plan}
 use Rattle.gpu_alloc.proofs.InHand.{adds_in_hand, allocation_in_hand}
 use Rattle.gpu_alloc.proofs.Owning.{allocates_add, allocates_leave}
 use Rattle.gpu_alloc.proofs.allocator.GpuAllocator.alloc.Goals as goal
 
 pub returns-clause-refused : goal.returns-clause-refused
-returns-clause-refused g c = allocates_kept c.args.self.now c.args.request None _ _ _ c.allocate-answer.ensures.decided.2
+returns-clause-refused g c = allocates_kept c.args.self.now (plan c.args.self.now c.args.request None) _ _ _ c.allocate-answer.ensures.decided.2
 
 pub returns-clause-total : goal.returns-clause-total
-returns-clause-total g c = allocates_total c.args.self.now c.args.request None _ _ _ c.allocate-answer.ensures.decided.2
+returns-clause-total g c = allocates_total c.args.self.now (plan c.args.self.now c.args.request None) _ _ _ c.allocate-answer.ensures.decided.2
+
+pub returns-clause-decided : goal.returns-clause-decided
+unfolding Allocates
+returns-clause-decided g c = c.allocate-answer.ensures.decided
+
+pub returns-clause-alone : goal.returns-clause-alone
+returns-clause-alone g c = alone_is c.args.self.now c.args.request None _ (allocates_kind c.args.self.now (plan c.args.self.now c.args.request None) _ _ _ c.allocate-answer.ensures.decided.2)
 
 pub returns-clause-granted : goal.returns-clause-granted
-returns-clause-granted g c = allocates_granted c.args.self.now c.args.request c.keeps_sound.ensures.sound c.keeps_sound.ensures.atoms c.requires.askable None _ _ _ c.allocate-answer.ensures.decided.2
+returns-clause-granted g c = allocates_granted c.args.self.now c.args.request (plan c.args.self.now c.args.request None) (is_plan c.args.self.now c.args.request None c.requires.askable) c.keeps_sound.ensures.sound c.keeps_sound.ensures.atoms _ _ _ c.allocate-answer.ensures.decided.2
 
 pub returns-clause-properties : goal.returns-clause-properties
 returns-clause-properties g c = chain_keeps g.D.ObjectDevice.step g.D.ObjectDevice.properties g.met.D.ObjectDevice.keeps_properties _ _ _ c.allocate-answer.ensures.decided.1
@@ -22,16 +30,16 @@ returns-clause-properties g c = chain_keeps g.D.ObjectDevice.step g.D.ObjectDevi
 pub returns-clause-agrees : goal.returns-clause-agrees
 returns-clause-agrees g c =
     let decided = c.allocate-answer.ensures.decided in
-    allocates_agrees c.args.self.now _ _ _ c.requires.agrees _ c.args.request None _ _ _ (returns-clause-properties g c) decided.2 c.allocate-answer.ensures.objects
+    allocates_agrees c.args.self.now _ _ _ c.requires.agrees _ (plan c.args.self.now c.args.request None) _ _ _ (returns-clause-properties g c) decided.2 c.allocate-answer.ensures.objects
 
 pub returns-clause-leaves : goal.returns-clause-leaves
-returns-clause-leaves g c = allocates_leave c.args.self.now c.args.request None _ _ _ c.allocate-answer.ensures.decided.2
+returns-clause-leaves g c = allocates_leave c.args.self.now (plan c.args.self.now c.args.request None) _ _ _ c.allocate-answer.ensures.decided.2
 
 pub returns-clause-added : goal.returns-clause-added
-returns-clause-added g c = allocates_add c.args.self.now c.args.request None _ c.keeps_sound.ensures.sound _ _ c.keeps_sound-2.ensures.sound c.allocate-answer.ensures.decided.2 (returns-clause-granted g c)
+returns-clause-added g c = allocates_add c.args.self.now (plan c.args.self.now c.args.request None) _ c.args.request c.keeps_sound.ensures.sound _ _ c.keeps_sound-2.ensures.sound c.allocate-answer.ensures.decided.2 (returns-clause-granted g c)
 
 pub returns-clause-ready : goal.returns-clause-ready
-returns-clause-ready g c = allocates_agrees_block c.args.self.now c.args.request None _ _ _ _ _ _ c.keeps_sound-2.ensures.sound (returns-clause-agrees g c) c.allocate-answer.ensures.decided.2 (returns-clause-granted g c) c.allocate-answer.ensures.objects
+returns-clause-ready g c = allocates_agrees_block c.args.self.now c.args.request (plan c.args.self.now c.args.request None) _ _ _ _ _ _ c.keeps_sound-2.ensures.sound (returns-clause-agrees g c) c.allocate-answer.ensures.decided.2 (returns-clause-granted g c) c.allocate-answer.ensures.objects
 
 pub returns-clause-keeps : goal.returns-clause-keeps
 returns-clause-keeps g c = allocation_keeps_blocks c.args.self.now _ _ _ _ (returns-clause-properties g c) _ _ c.allocate-answer.ensures.objects

@@ -53,7 +53,7 @@ left g c =
     let name = c.object.ensures ∙ c.into_memory-memory.ensures in
     let span : ◌≡◌ {A = Span} (span_at c.object.result c.offset-offset.result c.size-size.result) (span_of c.args.block) =
     λ k. record { object = name k; offset = c.offset-offset.ensures k; size = c.size-size.ensures k } in
-    state_returned c.self.inside.limits _ c.self.inside.buddies.items c.self.inside.free_lists.items _ _ c.index_mut.result.now c.self.inside.spans c.remove-removed.new.self _ c.args.block c.index_mut.ensures.value (ap (λ (h : Heap). h.size) c.dealloc.ensures)
+    state_returned c.self.inside.limits _ c.self.inside.buddies.items c.self.inside.free_lists.items _ _ c.index_mut.result.now c.self.inside.spans c.remove-removed.new.self _ c.args.block c.index_mut.ensures.value (ap (λ (h : Heap). h.size) c.dealloc.ensures) (ap (λ (h : Heap). h.limit) c.dealloc.ensures)
     (c.remove-removed.ensures.held ∙ ap (finite.remove c.self.inside.spans.held) name) (c.remove-removed.ensures.live ∙ ap (set_of.remove c.self.inside.spans.live) span)
 
 pub returns-clause-freed : goal.returns-clause-freed

@@ -17,7 +17,7 @@ returns-then-not-fits-clause-passed g c =
     let ways = rw (← c.self.view_is) at c.is_larger_or_may_hold_more.ensures in
     rw (← c.self.view_is) (λ passed. elim (ways.0 passed) [
       | inl larger ↦ inl larger
-      | inr more ↦ inr (more, omega (arith, iff_false c.fits.ensures c.if-not-fits.true, of.used, of.size))
+      | inr more ↦ inr (more, omega (arith, iff_false c.fits.ensures c.if-not-fits.true, of.used, of.limit))
     ])
 
 pub returns-then-not-fits-clause-fits : goal.returns-then-not-fits-clause-fits
@@ -30,11 +30,11 @@ returns-else-not-fits-clause-fits g c =
     let known = rw (← c.self.view_is) at c.requires.known in
     let of = type_heap_is c.self.inside.limits c.self.inside.heaps.items c.self.inside.buddies.items c.self.inside.free_lists.items c.self.inside.spans c.self.inside.allocations_remains c.self.invariant.books c.args.memory_type _ c.index.result.now known
     c.heap_index.ensures c.index.ensures in
-    rw (← c.self.view_is) (λ within. omega (arith, c.fits.ensures.0 c.if-not-fits.false, of.used, of.size))
+    rw (← c.self.view_is) (λ within. omega (arith, c.fits.ensures.0 c.if-not-fits.false, of.limited, of.size))
 
 pub returns-else-not-fits-clause-within : goal.returns-else-not-fits-clause-within
 returns-else-not-fits-clause-within g c =
     let known = rw (← c.self.view_is) at c.requires.known in
     let of = type_heap_is c.self.inside.limits c.self.inside.heaps.items c.self.inside.buddies.items c.self.inside.free_lists.items c.self.inside.spans c.self.inside.allocations_remains c.self.invariant.books c.args.memory_type _ c.index.result.now known
     c.heap_index.ensures c.index.ensures in
-    rw (← c.self.view_is) (λ within some. omega (arith, c.fits.ensures.0 c.if-not-fits.false, of.used, of.size))
+    rw (← c.self.view_is) (λ within some. omega (arith, c.fits.ensures.0 c.if-not-fits.false, of.used, of.limit))

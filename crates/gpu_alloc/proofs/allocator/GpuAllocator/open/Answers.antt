@@ -3,12 +3,12 @@ use Rattle.gpu_alloc_types.specs.Properties.{Properties, properties_of}
 use Rattle.gpu_alloc_types.specs.declared.types.MemoryType.{MemoryType}
 use Rattle.gpu_alloc_base.specs.declared.heap.Heap.{Heap}
 use Rattle.gpu_alloc_base.specs.Heap.{unused}
-use Rattle.gpu_alloc.specs.Inside.{offer_of, types_in, lists_in, IsConsistent}
+use Rattle.gpu_alloc.specs.Inside.{limit_of, offer_of, types_in, lists_in, IsConsistent}
 use Rattle.gpu_alloc.specs.Opening.{opened}
 use Rattle.gpu_alloc_usage.specs.Ranking.{IsTable}
 use Rattle.gpu_alloc.specs.FirstTypes.{first_types}
 use Rattle.gpu_alloc.proofs.Closing.{first_chunkless}
-use Rattle.gpu_alloc.proofs.HeapLists.{unused-offers}
+use Rattle.gpu_alloc.proofs.HeapLists.{unused-limits, unused-offers}
 use Rattle.gpu_alloc.proofs.Opened.{consistent-opened, first_types_kept, first_lists_kept}
 use Rattle.gpu_alloc.proofs.allocator.GpuAllocator.open.Goals as goal
 
@@ -36,6 +36,7 @@ pub returns : goal.returns
 returns g c =
     let p = properties_of c.args.props in
     let given = properties_is p _ _ c.in_ok-memory_types.ensures.items c.in_ok-heaps.ensures in
+    let limits = ap (map limit_of) c.in_ok-heaps.ensures ∙ unused-limits p.memory_heaps in
     let types =
     ap (λ q. lists_in (types_in (first_types c.args.config q) c.in_ok-buddies.buddies.items) c.in-Ok.free_lists.items) given
     ∙ ap (λ ts. lists_in ts c.in-Ok.free_lists.items) (first_types_kept c.args.config p _ c.in_ok-buddies.ensures.count c.in_ok-buddies.ensures.each)
@@ -43,6 +44,7 @@ returns g c =
     λ k. record (opened c.args.config p) {
       held = c.new.ensures.held k;
       live = c.new.ensures.live k;
+      heap_limits = limits k;
       types = types k;
       properties = given k;
     }

@@ -102,18 +102,18 @@ asks : (g : Over) (c : goal.After-new g) → Asks (own_candidate (before g c) c.
 asks g c = asks_own (positive c.self.inside.allocations_remains c.if-self-eq0.false) (rw (← c.self.view_is) at c.requires.room)
 
 -- the heap has room for it where it is counted
-fits : (g : Over) (c : goal.After-new g) → c.index_mut.result.now.used + c.args.request.size ≤ c.index_mut.result.now.size
+fits : (g : Over) (c : goal.After-new g) → c.index_mut.result.now.used + c.args.request.size ≤ c.index_mut.result.now.limit
 fits g c =
     let known = rw (← c.self.view_is) at c.requires.known in
     let of = type_heap_is c.self.inside.limits c.self.inside.heaps.items c.self.inside.buddies.items c.self.inside.free_lists.items c.self.inside.spans c.self.inside.allocations_remains c.self.invariant.books c.args.memory_type _ c.index_mut.result.now known
     c.heap_index-heap.ensures c.index_mut.ensures.value in
-    omega (arith, (asks g c).within, of.used, of.size)
+    omega (arith, (asks g c).within, of.used, of.limit)
 
 state_is : (g : Over) (c : goal.After-new g)
     → state_in c.self.inside.limits (set c.self.inside.heaps.items c.heap_index-heap.result c.alloc.new.self) c.self.inside.buddies.items c.self.inside.free_lists.items c.insert-key.new.self (c.self.inside.allocations_remains - 1)
     ≡ holding (before g c) (own_object c.args.request.size c.args.memory_type) (block g c)
 state_is g c =
-    state_held c.self.inside.limits _ c.self.inside.buddies.items c.self.inside.free_lists.items _ _ c.index_mut.result.now c.self.inside.spans c.insert-key.new.self _ (object g c) (block g c) c.index_mut.ensures.value (ap (λ (h : Heap). h.size) c.alloc.ensures)
+    state_held c.self.inside.limits _ c.self.inside.buddies.items c.self.inside.free_lists.items _ _ c.index_mut.result.now c.self.inside.spans c.insert-key.new.self _ (object g c) (block g c) c.index_mut.ensures.value (ap (λ (h : Heap). h.size) c.alloc.ensures) (ap (λ (h : Heap). h.limit) c.alloc.ensures)
     (more g c).held (more g c).live
 
 block_is : (g : Over) (c : goal.After-new g) → c.new.result ≡ block g c

@@ -1,8 +1,7 @@
-use Rattle.std.proofs.Common.{◌≡◌, ◌∙◌, map, sym, ap, subst}
+use Rattle.std.proofs.Common.{◌∙◌, map, sym, ap, subst}
 use Rattle.std.specs.FinSet as set
 use Rattle.slab.specs.Slab.{entries}
 use Rattle.gpu_alloc.specs.Listing.{AreOnce}
-use Rattle.gpu_alloc.specs.Spans.{span_in}
 use Rattle.gpu_alloc.proofs.Tables.Listed.{listed_spans, spans_once}
 use Rattle.gpu_alloc.proofs.spans.Spans.live.Goals as goal
 

@@ -102,7 +102,7 @@ pub alloc-requires : goal.alloc-requires
 alloc-requires g c =
     let asks = rw (← c.self.view_is) at c.requires.asks in
     let size = rw (← c.self.view_is) at c.chunk_order-chunk_order.ensures.is in
-    omega (arith, asks.within, size, c.bytes-size.ensures, c.size.ensures, c.size.type_inv)
+    omega (arith, asks.within, size, c.bytes-size.ensures, c.limit.ensures, c.limit.type_inv)
 
 pub returns-clause-halved : goal.returns-clause-halved
 returns-clause-halved g c =

@@ -85,7 +85,7 @@ overflow_mul-chunk_size g c = omega (arith, c.chunk_size_for-chunk_size.ensures.
 pub alloc-requires : goal.alloc-requires
 alloc-requires g c =
     let asks = rw (← c.self.view_is) at c.requires.asks in
-    omega (arith, asks.within, c.chunk_size_for-chunk_size.ensures.is, c.size.ensures, c.size.type_inv)
+    omega (arith, asks.within, c.chunk_size_for-chunk_size.ensures.is, c.limit.ensures, c.limit.type_inv)
 
 pub overflow_sub-allocations_remains : goal.overflow_sub-allocations_remains
 overflow_sub-allocations_remains g c =

@@ -1,0 +1,158 @@
+//! Images that are not linear, apart from all else in a shared object by whole pages of a granularity.
+
+ghost use Rattle.std.specs.Prelude.{◌≡◌, ◌<◌, ◌↔◌, List, length, true, false, Some, None, IfOk, IfSome, OnErr, IsTrue};
+ghost use Rattle.gpu_alloc_types.specs.Device.{Event, Chain};
+ghost use Rattle.gpu_alloc_block.specs.Agreement.{Agrees, BlockAgrees, KeepsBlocks};
+ghost use Rattle.gpu_alloc_block.specs.Kept.{LeavesInHand, AddsInHand};
+ghost use Rattle.gpu_alloc_block.specs.State.{is_shared, total};
+ghost use Rattle.gpu_alloc.specs.Allocation.{AllocatesBy, AllocatesOptimal, ObjectsAfter, IsGranted, IsInPages};
+ghost use Rattle.gpu_alloc.specs.Allocation.{IsAloneWhereServed, ask_in_pages, asked_of, plan_in_pages, serves_alone};
+ghost use Rattle.gpu_alloc.specs.Owned.{Leaves, Adds};
+ghost use Rattle.gpu_alloc.specs.Request.{IsAskable, IsGranularity, in_pages};
+ghost use Rattle.gpu_alloc.specs.Sound as Sound;
+
+use super::{Ask, GpuAllocator, Strategy};
+use crate::{Dedicated, MemoryBlock, Request};
+use gpu_alloc_base::AllocationError;
+use gpu_alloc_block::Kind;
+use gpu_alloc_types::{MemoryObject, ObjectDevice};
+use std::alloc::Allocator;
+
+impl<M: MemoryObject, A: Allocator> GpuAllocator<M, A> {
+    /// Allocates a block as [`alloc`](GpuAllocator::alloc) does, or with a hint as `alloc_with_dedicated`, for an image
+    /// that is not linear, which may share no page of `granularity` bytes with a buffer or a linear image (Vulkan's
+    /// `bufferImageGranularity`).
+    ///
+    /// In a shared object the block begins at a page, and its whole pages hold the request's size: it is served as a
+    /// request of that size rounded up to pages and aligned to one at least, and which way it is served goes by that. So
+    /// no page that has one of the block's first `size` bytes has a byte of another block. An object of its own has
+    /// exactly the request's size.
+    ///
+    /// The granularity has to be a power of two of at most 2^32; with 1 all is as `alloc` has it. The other conditions
+    /// and the refusals are those of `alloc`: limit of size and test of the heap go by the size as asked, and
+    /// `OutOfDeviceMemory` is also where whole pages for it would have 2^64 bytes or more. (The original crate knows no
+    /// granularity.)
+    pub fn alloc_optimal<D: ObjectDevice<M>>(
+        &mut self,
+        device: &mut D,
+        request: Request,
+        dedicated: Option<Dedicated>,
+        granularity: u64,
+    ) -> Result<MemoryBlock<M>, AllocationError>
+        requires askable { IsAskable (self.old.properties).buffer_device_address request }
+        requires granularity { IsGranularity granularity }
+        requires agrees { Agrees self.old (D.properties device.old) (D.objects device.old) }
+
+        // What was asked of the device, the answer and the new state are what the decision says.
+        ensures decided { (es : List Event) × Chain D.step device.old es device.new
+            × AllocatesOptimal self.old request dedicated granularity es result self.new }
+        ensures objects { ObjectsAfter self.old result self.new (D.objects device.old) (D.objects device.new) }
+        ensures agrees { Agrees self.new (D.properties device.new) (D.objects device.new) }
+
+        // What follows from it.
+        ensures granted { IfOk result (IsGranted self.old request self.new) }
+        ensures pages { IfOk result (IsInPages granularity request.size) }
+        ensures alone { IfOk result (IsAloneWhereServed self.old (in_pages granularity request) dedicated) }
+        ensures size { IfOk result (λ block. block.kind ≡ Kind.Dedicated → block.size ≡ request.size) }
+        ensures own { dedicated ≡ Some Dedicated.Required → IfOk result (λ block. block.kind ≡ Kind.Dedicated) }
+        ensures ready { IfOk result (λ block. BlockAgrees block (D.properties device.new) (D.objects device.new)) }
+        ensures added { IfOk result (Adds self.old self.new) }
+        ensures refused { OnErr result (self.new ≡ self.old) }
+        ensures leaves { Leaves self.old self.new }
+        ensures keeps { KeepsBlocks self.old (D.properties device.old) (D.objects device.old)
+            self.new (D.properties device.new) (D.objects device.new) }
+        ensures in_hand { LeavesInHand self.old (D.properties device.old) (D.objects device.old)
+            self.new (D.properties device.new) (D.objects device.new) }
+        ensures joins { IfOk result (AddsInHand self.old (D.properties device.old) (D.objects device.old)
+            self.new (D.properties device.new) (D.objects device.new)) }
+        ensures properties { D.properties device.new ≡ D.properties device.old }
+        ensures total { total self.new ≡ total self.old }
+        ensures sound { Sound.IsSound self.new }
+    {
+        self.keeps_sound();
+        let answer = self.allocate_in_pages(device, request, dedicated, granularity);
+        self.keeps_sound();
+        answer
+    }
+
+    fn allocate_in_pages<D: ObjectDevice<M>>(
+        &mut self,
+        device: &mut D,
+        request: Request,
+        hint: Option<Dedicated>,
+        granularity: u64,
+    ) -> Result<MemoryBlock<M>, AllocationError>
+        requires askable { IsAskable (self.old.properties).buffer_device_address request }
+        requires granularity { IsGranularity granularity }
+        requires agrees { Agrees self.old (D.properties device.old) (D.objects device.old) }
+        ensures decided { (es : List Event) × Chain D.step device.old es device.new
+            × AllocatesBy self.old (plan_in_pages self.old request hint granularity) es result self.new }
+        ensures objects { ObjectsAfter self.old result self.new (D.objects device.old) (D.objects device.new) }
+    {
+        match request.in_pages(granularity) {
+            Some(paged) => self.allocate(device, request, hint, Some(paged)),
+            None => Err(AllocationError::OutOfDeviceMemory),
+        }
+    }
+
+    /// Whether a memory type serves a request, with a hint or none, by an object of the block's own: by the request, the
+    /// configuration and the size of the type's heap alone, whatever is held. The memory type has to be there.
+    #[inline(always)]
+    pub fn serves_alone(
+        &self,
+        request: Request,
+        dedicated: Option<Dedicated>,
+        memory_type: u32,
+    ) -> bool
+        requires known { memory_type < length (self.now.properties).memory_types }
+        ensures { result ≡ serves_alone self.now request dedicated memory_type }
+    {
+        match self.strategy(request, dedicated, memory_type) {
+            Strategy::OwnObject => true,
+            Strategy::InBuddyChunk | Strategy::InFreeList => false,
+        }
+    }
+
+    /// What a memory type is asked, where the same request in whole pages is given, or none.
+    #[inline(always)]
+    pub(super) fn ask(
+        &self,
+        request: Request,
+        hint: Option<Dedicated>,
+        paged: Option<Request>,
+        memory_type: u32,
+    ) -> Ask
+        requires known { memory_type < length (self.now.properties).memory_types }
+        ensures { result ≡ asked_of self.now request hint paged memory_type }
+    {
+        match paged {
+            None => Ask { request, hint },
+            Some(paged) => self.ask_in_pages(request, hint, paged, memory_type),
+        }
+    }
+
+    /// What a memory type is asked for whole pages. (It stands apart, so that other requests do not pay for it.)
+    #[inline(never)]
+    fn ask_in_pages(
+        &self,
+        request: Request,
+        hint: Option<Dedicated>,
+        paged: Request,
+        memory_type: u32,
+    ) -> Ask
+        requires known { memory_type < length (self.now.properties).memory_types }
+        ensures { result ≡ ask_in_pages self.now request hint paged memory_type }
+    {
+        if self.serves_alone(paged, hint, memory_type) {
+            Ask {
+                request,
+                hint: Some(Dedicated::Required),
+            }
+        } else {
+            Ask {
+                request: paged,
+                hint,
+            }
+        }
+    }
+}
