@@ -207,11 +207,15 @@ module _ (P : ℕ → ℕ → Type 0) (size t flags : ℕ) where
   stops_made : (old : RunState) (a b c : ℕ) (told : Option Answer) (new : RunState) → Asks old (Allocate a b c) told new → old.stop ≡ None → P a b → Stops new
   stops_made old a b c told new asks none such = elim (ask_stops old (Allocate a b c) told new asks none) [
     | inl on ↦ inl on
-    | inr (why, is, inl found) ↦ inr (why, is, λ e.
-        let one : Open (Allocate a b c) ≡ Open (Allocate size t flags) = sym found ∙ e in
-        let same_size : a ≡ size = cc in
-        let same_type : b ≡ t = cc in
-        subst (λ n. P n t) same_size (subst (P a) same_type such))
+    | inr (why, is, inl found) ↦ inr (
+      why,
+      is,
+      λ e.
+          let one : Open (Allocate a b c) ≡ Open (Allocate size t flags) = sym found ∙ e in
+          let same_size : a ≡ size = cc in
+          let same_type : b ≡ t = cc in
+          subst (λ n. P n t) same_size (subst (P a) same_type such),
+    )
     | inr (why, is, inr strayed) ↦ inr (why, is, λ e. absurd (let one : Strayed ≡ Open (Allocate size t flags) = sym strayed ∙ e in cc))
   ]
 
@@ -219,9 +223,13 @@ module _ (P : ℕ → ℕ → Type 0) (size t flags : ℕ) where
       → Asks old (map_question made object offset len) told new → old.stop ≡ None → Stops new
   stops_mapped old made object offset len told new asks none = elim (ask_stops old (map_question made object offset len) told new asks none) [
     | inl on ↦ inl on
-    | inr (why, is, inl found) ↦ inr (why, is, λ e.
-        let one : Open (map_question made object offset len) ≡ Open (Allocate size t flags) = sym found ∙ e in
-        absurd (not_mapping made object offset len size t flags (let same : map_question made object offset len ≡ Allocate size t flags = cc in same)))
+    | inr (why, is, inl found) ↦ inr (
+      why,
+      is,
+      λ e.
+          let one : Open (map_question made object offset len) ≡ Open (Allocate size t flags) = sym found ∙ e in
+          absurd (not_mapping made object offset len size t flags (let same : map_question made object offset len ≡ Allocate size t flags = cc in same)),
+    )
     | inr (why, is, inr strayed) ↦ inr (why, is, λ e. absurd (let one : Strayed ≡ Open (Allocate size t flags) = sym strayed ∙ e in cc))
   ]
 

@@ -99,12 +99,7 @@ fn asks_own(
 }
 
 /// Tells of a block, and of what is kept with it.
-pub(super) fn grant_of(
-    block: &MemoryBlock<ObjectName>,
-    key: u64,
-    fresh: bool,
-    tag: Tag,
-) -> Grant
+pub(super) fn grant_of(block: &MemoryBlock<ObjectName>, key: u64, fresh: bool, tag: Tag) -> Grant
     ensures key { result.key ≡ key }
     ensures tells { Tells block.now result }
     ensures fresh { result.fresh ≡ fresh }

@@ -32,18 +32,23 @@ invariant_of-self-in-Ok-answer c =
     let begins = kept_over c.self.inside.device c.begin.new.self c.begin.ensures.offers (ap (λ (h : HeldState). h.objects) c.begin.ensures.held) c.self.invariant.kept in
     let forgets = c.forget_gone_after.ensures in
     let key = c.keep.ensures.kept in
-    rw (key.live, lives) (record { tagged = c.keep.ensures.tagged; page = c.self.invariant.page; paged = put_paged c.self.inside.blocks.live c.self.inside.tags.items c.self.inside.granularity c.self.invariant.paged c.keep.result.key c.in-Ok-answer.block c.keep.new.tags.items
-      (λ q was. c.keep.ensures.others q (subst (λ (m : map.FinMap _ Block). IsSome (map.get m q)) (sym lives) was) ∙ ap (λ ts. tag_at ts q) c.make_room.ensures.tags)
-      (λ optimal. subst (λ (t : Tag). IsInPages c.self.inside.granularity t.asked c.in-Ok-answer.block) (sym c.keep.ensures.tag) (done.pages (ap (λ (t : Tag). t.optimal) (sym c.keep.ensures.tag) ∙ optimal))); kept = kept_over c.allocate-answer.new.device c.forget_gone_after.new.self forgets.offers forgets.objects (grant_is_kept begins (record {
-      free = sym (ap (λ (m : map.FinMap _ Block). map.get m c.keep.result.key) lives) ∙ free_key c.make_room.new.blocks c.keep.result.key key.new_key;
-      adds = done.added;
-      leaves = done.leaves;
-      owned = done.granted.owned;
-      ready = done.ready;
-      keeps = λ b owned. kept_block _ _ _ _ _ _ b done.keeps owned (done.leaves.owned b owned);
-      sound = done.sound;
-      agrees = done.agrees;
-    })) })
+    rw (key.live, lives) (record {
+      tagged = c.keep.ensures.tagged;
+      page = c.self.invariant.page;
+      paged = put_paged c.self.inside.blocks.live c.self.inside.tags.items c.self.inside.granularity c.self.invariant.paged c.keep.result.key c.in-Ok-answer.block c.keep.new.tags.items
+          (λ q was. c.keep.ensures.others q (subst (λ (m : map.FinMap _ Block). IsSome (map.get m q)) (sym lives) was) ∙ ap (λ ts. tag_at ts q) c.make_room.ensures.tags)
+          (λ optimal. subst (λ (t : Tag). IsInPages c.self.inside.granularity t.asked c.in-Ok-answer.block) (sym c.keep.ensures.tag) (done.pages (ap (λ (t : Tag). t.optimal) (sym c.keep.ensures.tag) ∙ optimal)));
+      kept = kept_over c.allocate-answer.new.device c.forget_gone_after.new.self forgets.offers forgets.objects (grant_is_kept begins (record {
+        free = sym (ap (λ (m : map.FinMap _ Block). map.get m c.keep.result.key) lives) ∙ free_key c.make_room.new.blocks c.keep.result.key key.new_key;
+        adds = done.added;
+        leaves = done.leaves;
+        owned = done.granted.owned;
+        ready = done.ready;
+        keeps = λ b owned. kept_block _ _ _ _ _ _ b done.keeps owned (done.leaves.owned b owned);
+        sound = done.sound;
+        agrees = done.agrees;
+      }));
+    })
 
 pub returns-in-Ok-answer-clause-granted : goal.returns-in-Ok-answer-clause-granted
 returns-in-Ok-answer-clause-granted c =
@@ -94,7 +99,7 @@ returns-in-Err-clause-denied c =
           decided.2,
           c.denial_after.ensures
               ∙ same_denial c.asks_own-own.result (asks_own c.self.inside.allocator (plan_for c.self.inside.allocator c.self.inside.granularity c.args.request c.args.wish)) c.forget_gone_after.new.self.run.stop (Refused e)
-                  (rw (c.open-pending.ensures, done.refused) at c.asks_own-own.ensures)
+              (rw (c.open-pending.ensures, done.refused) at c.asks_own-own.ensures)
               ∙ ap (λ (r : RunState). denial_after (asks_own c.self.inside.allocator (plan_for c.self.inside.allocator c.self.inside.granularity c.args.request c.args.wish)) r.stop (Refused e)) c.forget_gone_after.ensures.run,
         ),
       ),
