@@ -35,3 +35,4 @@ pub mod Soundness
 pub mod Strategies
 pub mod Tables
 pub mod Trials
+pub mod UnderKeys

@@ -32,6 +32,7 @@ ghost use Rattle.gpu_alloc.specs.Owned.{AreTwo, CancelOut, HoldsNothing};
 ghost use Rattle.gpu_alloc.specs.Pages.{PagesApart};
 ghost use Rattle.gpu_alloc.specs.Serving.{AsksForOwnObjects, NeverServed};
 ghost use Rattle.gpu_alloc.specs.Sound.{IsSound};
+ghost use Rattle.gpu_alloc.specs.UnderKeys.{AllComeAndGo};
 ghost use Rattle.gpu_alloc_block.specs.Contents.{BytesStay};
 ghost use Rattle.gpu_alloc_block.specs.Keyed.{ComeAndGoUnderKeys};
 ghost use Rattle.gpu_alloc_block.specs.Kept.{ToldByPlace};
@@ -318,9 +319,10 @@ pub fn blocks_in_hand_are_told_by_place()
 /// Blocks under keys of the caller's own, as an `IndexMap` of blocks has them, stay kept (`AreKept`) where one is put
 /// under a key that had none, where the map lends one for a call, and where one is taken out. Only what is found under
 /// each key counts, in whatever order the pairs stand. By this call what the map's `Updates` and the allocator's
-/// `joins` or `in_hand` say becomes that of the new map.
+/// `joins` or `in_hand` say becomes that of the new map; and where nothing else is live (`AreAllKept`), that stays so.
 pub fn blocks_under_keys_come_and_go()
-    ensures { ComeAndGoUnderKeys }
+    ensures kept { ComeAndGoUnderKeys }
+    ensures all { AllComeAndGo }
 {}
 
 /// Bytes that are as they were stay so from call to call, and what the device had of a block that keeps its bytes it has.
