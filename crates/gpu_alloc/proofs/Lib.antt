@@ -26,6 +26,7 @@ pub mod NewObjects
 pub mod Opened
 pub mod OwnObjects
 pub mod Owning
+pub mod Pages
 pub mod ReturnedTotals
 pub mod Returns
 pub mod Served

@@ -14,6 +14,7 @@ pub mod Listing
 pub mod Inside
 pub mod Opening
 pub mod Owned
+pub mod Pages
 pub mod Release
 pub mod Request
 pub mod Samples

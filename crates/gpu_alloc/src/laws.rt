@@ -29,6 +29,7 @@ ghost use Rattle.gpu_alloc.specs.BuddySharing.{buddy_size, buddy_question, with_
 ghost use Rattle.gpu_alloc_base.specs.Sizes.{minimal_size, final_size, grown_chunk, doubled_chunk};
 ghost use Rattle.gpu_alloc.specs.FirstTypes.{first_types};
 ghost use Rattle.gpu_alloc.specs.Owned.{AreTwo, CancelOut, HoldsNothing};
+ghost use Rattle.gpu_alloc.specs.Pages.{PagesApart};
 ghost use Rattle.gpu_alloc.specs.Serving.{AsksForOwnObjects, NeverServed};
 ghost use Rattle.gpu_alloc.specs.Sound.{IsSound};
 ghost use Rattle.gpu_alloc_block.specs.Contents.{BytesStay};
@@ -299,6 +300,13 @@ pub fn two_blocks_are_apart()
     ensures apart { (b c : Block) → AreTwo b c
         → (b.object ≢ c.object) ⊎ ((b.offset + b.size ≤ c.offset) ⊎ (c.offset + c.size ≤ b.offset)) }
     ensures objects { (b c : Block) → AreTwo b c → is_shared b.kind ≡ false → b.object ≢ c.object }
+{}
+
+/// No page of a granularity of one object holds one of the bytes that were asked for of an optimal block
+/// (`GpuAllocator::alloc_optimal`) and a byte of another block in hand, linear or optimal: of a later one, or of one that
+/// was there.
+pub fn pages_are_not_shared()
+    ensures { PagesApart }
 {}
 
 /// What is known of a list of blocks in hand is known of the block at a place of it: it is owned, it agrees with the device,
