@@ -26,6 +26,7 @@ ghost use Rattle.gpu_alloc.specs.Sound as Sound;
 ghost use Rattle.gpu_alloc_block.specs.State.{Block, HeldObject, Span, IsLive, IsOwned, heap_limit, ledger, total};
 
 mod by_type;
+mod candidates;
 mod choosing;
 mod importing;
 mod listing;
