@@ -18,7 +18,7 @@ use Rattle.gpu_alloc_base.specs.Case.{Case}
 use Rattle.gpu_alloc_base.specs.NewChunk.{ChunkQuestion, LacksDeviceMemory, LacksHostMemory, IsGivenBack, made, whole_of}
 use Rattle.gpu_alloc_usage.specs.Ranking.{Before, IsRankingWithin, IsRising, candidates, implied, key_of}
 use Rattle.gpu_alloc_usage.proofs.Ranking.Candidates.{candidates_IsRankingWithin}
-use Rattle.gpu_alloc.specs.Allocation.{Allocates, IsPassed, Refuses, TriesAll, candidates_of, strategy}
+use Rattle.gpu_alloc.specs.Allocation.{ask, Allocates, IsPassed, Refuses, TriesAll, candidates_of, strategy}
 use Rattle.gpu_alloc.specs.Candidates.{candidate}
 use Rattle.gpu_alloc.specs.Request.{is_required}
 use Rattle.gpu_alloc.specs.State.{Block, State}
@@ -124,7 +124,7 @@ module _ (s : State) (r : Request) (hint : Option Dedicated) where
   one_asks t es (inl small) = none_asks 2 es small.1
   one_asks t es (inr served) = passed_asks (candidate (strategy s r hint t) s r t) es served.1
 
-  all_ask : (ts : List ℕ) (es : List Event) (answer : Result Block AllocationError) (new : State) → TriesAll s r hint ts es answer new
+  all_ask : (ts : List ℕ) (es : List Event) (answer : Result Block AllocationError) (new : State) → TriesAll s (ask r hint) ts es answer new
       → questions es ≤ 2 * length ts
   all_ask [] es answer new tried = none_asks 0 es tried.0
   all_ask (t ∷ ts) es answer new (inl (first, rest, both, passed, later)) =
@@ -143,7 +143,7 @@ module _ (s : State) (r : Request) (hint : Option Dedicated) where
     where
       by : (a b c : Bool) → MatchBool a (Refuses s OutOfDeviceMemory es answer new) (
           MatchBool b (Refuses s TooManyObjects es answer new) (
-          MatchBool c (Refuses s NoCompatibleMemoryTypes es answer new) (TriesAll s r hint (candidates_of s r) es answer new)))
+          MatchBool c (Refuses s NoCompatibleMemoryTypes es answer new) (TriesAll s (ask r hint) (candidates_of s r) es answer new)))
           → questions es ≤ 2 * length (candidates_of s r)
       by true b c h = none_asks _ es h.0
       by false true c h = none_asks _ es h.0

@@ -10,6 +10,7 @@ ghost use Rattle.gpu_desk.specs.Desk.{IsEmpty, IsPage, IsSound, page_of};
 mod counting;
 mod granting;
 mod mapping;
+mod reading;
 mod walking;
 
 use crate::wish::Tag;

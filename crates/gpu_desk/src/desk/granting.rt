@@ -56,12 +56,7 @@ fn allocate(
 }
 
 /// Tells of a block, and of what is kept with it.
-pub(super) fn grant_of(
-    block: &MemoryBlock<ObjectName>,
-    key: u64,
-    fresh: bool,
-    tag: Tag,
-) -> Grant
+pub(super) fn grant_of(block: &MemoryBlock<ObjectName>, key: u64, fresh: bool, tag: Tag) -> Grant
     ensures key { result.key ≡ key }
     ensures tells { Tells block.now result }
     ensures fresh { result.fresh ≡ fresh }

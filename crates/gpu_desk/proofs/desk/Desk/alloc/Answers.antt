@@ -25,16 +25,20 @@ invariant_of-self-in-Ok-answer c =
     let begins = kept_over c.self.inside.device c.begin.new.self c.begin.ensures.offers (ap (λ (h : HeldState). h.objects) c.begin.ensures.held) c.self.invariant.kept in
     let forgets = c.forget_gone_after.ensures in
     let key = c.keep.ensures.kept in
-    rw (key.live, lives) (record { tagged = c.keep.ensures.tagged; page = c.self.invariant.page; kept = kept_over c.allocate-answer.new.device c.forget_gone_after.new.self forgets.offers forgets.objects (grant_is_kept begins (record {
-      free = sym (ap (λ (m : map.FinMap _ Block). map.get m c.keep.result.key) lives) ∙ free_key c.make_room.new.blocks c.keep.result.key key.new_key;
-      adds = done.added;
-      leaves = done.leaves;
-      owned = done.granted.owned;
-      ready = done.ready;
-      keeps = λ b owned. kept_block _ _ _ _ _ _ b done.keeps owned (done.leaves.owned b owned);
-      sound = done.sound;
-      agrees = done.agrees;
-    })) })
+    rw (key.live, lives) (record {
+      tagged = c.keep.ensures.tagged;
+      page = c.self.invariant.page;
+      kept = kept_over c.allocate-answer.new.device c.forget_gone_after.new.self forgets.offers forgets.objects (grant_is_kept begins (record {
+        free = sym (ap (λ (m : map.FinMap _ Block). map.get m c.keep.result.key) lives) ∙ free_key c.make_room.new.blocks c.keep.result.key key.new_key;
+        adds = done.added;
+        leaves = done.leaves;
+        owned = done.granted.owned;
+        ready = done.ready;
+        keeps = λ b owned. kept_block _ _ _ _ _ _ b done.keeps owned (done.leaves.owned b owned);
+        sound = done.sound;
+        agrees = done.agrees;
+      }));
+    })
 
 pub returns-in-Ok-answer-clause-granted : goal.returns-in-Ok-answer-clause-granted
 returns-in-Ok-answer-clause-granted c =

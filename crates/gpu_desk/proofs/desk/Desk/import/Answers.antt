@@ -39,16 +39,20 @@ invariant_of-self-in-Ok-import_memory c =
     (subst (λ q. is_bad_end q c.args.memory_type c.args.object_size (c.args.offset + c.args.size) ≡ false) (sym agreed.properties) can.finish) in
     let done = c.in-Ok-import_memory.ensures in
     let agree = import_agrees c.self.inside.allocator c.import_memory.new.self c.in-Ok-import_memory.block name c.args.memory_type c.args.offset c.args.size new.properties (objects_of new) done.agrees agreed part in
-    rw (key.live, lives) (record { tagged = c.keep.ensures.tagged; page = c.self.invariant.page; kept = grant_is_kept begins (record {
-      free = sym (ap (λ (m : map.FinMap _ Block). map.get m c.keep.result.key) lives) ∙ free_key c.make_room.new.blocks c.keep.result.key key.new_key;
-      adds = done.added;
-      leaves = done.leaves;
-      owned = done.imported.owned;
-      ready = agree.1;
-      keeps = λ b owned. made.blocks dev c.args.object_size c.args.memory_type bits b step;
-      sound = done.sound;
-      agrees = agree.0;
-    }) })
+    rw (key.live, lives) (record {
+      tagged = c.keep.ensures.tagged;
+      page = c.self.invariant.page;
+      kept = grant_is_kept begins (record {
+        free = sym (ap (λ (m : map.FinMap _ Block). map.get m c.keep.result.key) lives) ∙ free_key c.make_room.new.blocks c.keep.result.key key.new_key;
+        adds = done.added;
+        leaves = done.leaves;
+        owned = done.imported.owned;
+        ready = agree.1;
+        keeps = λ b owned. made.blocks dev c.args.object_size c.args.memory_type bits b step;
+        sound = done.sound;
+        agrees = agree.0;
+      });
+    })
 
 pub deallocate_memory-requires : goal.deallocate_memory-requires
 deallocate_memory-requires c =
@@ -71,13 +75,17 @@ invariant_of-self-in-Err c =
     let gone = rw c.in-Err.ensures.handed_back at c.deallocate_memory.ensures in
     let forgets = c.forget_gone_after.ensures in
     rw (refused, lives)
-    (record { tagged = ap length c.make_room.ensures.tags ∙ c.self.invariant.tagged ∙ sym (ap (λ (s : SlotState Block). length s.generations) c.make_room.ensures.kept); page = c.self.invariant.page; kept = kept_over c.deallocate_memory.new.self c.forget_gone_after.new.self forgets.offers forgets.objects (agreed_is_kept (agreed_is_kept begins (record {
-      allocator = λ agrees. made.allocator dev c.args.object_size c.args.memory_type bits step agrees;
-      blocks = λ b owned. made.blocks dev c.args.object_size c.args.memory_type bits b step;
-    })) (record {
-      allocator = λ agrees. others.allocator c.allocate_memory-made.new.self name gone unheld agrees;
-      blocks = λ b owned. others.blocks c.allocate_memory-made.new.self name b gone unheld owned;
-    })) })
+    (record {
+      tagged = ap length c.make_room.ensures.tags ∙ c.self.invariant.tagged ∙ sym (ap (λ (s : SlotState Block). length s.generations) c.make_room.ensures.kept);
+      page = c.self.invariant.page;
+      kept = kept_over c.deallocate_memory.new.self c.forget_gone_after.new.self forgets.offers forgets.objects (agreed_is_kept (agreed_is_kept begins (record {
+        allocator = λ agrees. made.allocator dev c.args.object_size c.args.memory_type bits step agrees;
+        blocks = λ b owned. made.blocks dev c.args.object_size c.args.memory_type bits b step;
+      })) (record {
+        allocator = λ agrees. others.allocator c.allocate_memory-made.new.self name gone unheld agrees;
+        blocks = λ b owned. others.blocks c.allocate_memory-made.new.self name b gone unheld owned;
+      }));
+    })
 
 pub returns-in-Ok-import_memory-clause-granted : goal.returns-in-Ok-import_memory-clause-granted
 returns-in-Ok-import_memory-clause-granted c =
