@@ -13,12 +13,12 @@ use crate::{HeapReport, KindReport, ObjectKind, ObjectReport, Place, Report};
 use gpu_alloc_types::MemoryType;
 use gpu_desk::Desk;
 
-/// Writes a report of a desk into `text` as JSON, as much of it as there is room for, and answers how many bytes all of it
-/// has. Behind what is written `text` stays as it was.
+/// Writes a report of a desk into `text` as JSON, as much of it as there is room for, and answers how many bytes all of
+/// it has. Behind what is written `text` stays as it was.
 ///
-/// The members are those of a [`Report`], in that order, and `types`, the memory types, with `heap` and `properties`. In
-/// place of a block's name there are its `key` and its `user`, both null of free bytes. Each row is a line. The text has
-/// no byte of 0. `report` is to be that of the desk as it is: of a key that has no live block the `user` is 0.
+/// The members are those of a [`Report`], in that order, and `types`, the memory types, with `heap` and `properties`.
+/// In place of a block's name there are its `key` and its `user`, both null of free bytes. Each row is a line. The text
+/// has no byte of 0. `report` is to be that of the desk as it is: of a key that has no live block the `user` is 0.
 pub fn write_report(desk: &Desk, report: &Report, text: &mut [u8]) -> u64
     ensures { IsWritten (report_text (user_of desk.now) (desk.now.allocator.properties).memory_types report.now)
         text.old text.new result }

@@ -175,8 +175,7 @@ fn ended(rt: &impl Abort, mut desk: Desk) {
 }
 
 /// Whether the text and the sums are those of the report.
-fn compare(rt: &HostRuntime, desk: &Desk) -> Result<(), Fail> {
-    let alloc = rt.alloc();
+fn compare(rt: &impl Abort, alloc: Global, desk: &Desk) -> Result<(), Fail> {
     let report = Report::of_desk(alloc, desk)?;
     let length = write_report(desk, &report, &mut []);
     let mut text = vec![in alloc; 0u8; length as usize]?;
@@ -186,6 +185,7 @@ fn compare(rt: &HostRuntime, desk: &Desk) -> Result<(), Fail> {
         &write_report(desk, &report, &mut text),
         &length,
     );
+    same(rt, "a byte of 0", &text.contains(&0), &false);
     let dump: Dump = serde_json::from_slice(alloc, text.as_slice())?;
     same(rt, "heaps", &dump.heaps, &report.heaps);
     same(rt, "kinds", &dump.kinds, &report.kinds);
@@ -228,7 +228,7 @@ fn the_text_of_a_report_is_read_back_as_the_report(rt: HostRuntime) -> Result<()
     }
     holds(&rt, desk.free(second).is_ok(), "a block comes back");
     holds(&rt, desk.import(1, 65536, 4096, 32768).is_ok(), "an import");
-    let compared = compare(&rt, &desk);
+    let compared = compare(&rt, alloc, &desk);
     ended(&rt, desk);
     compared
 }
