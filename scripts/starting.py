@@ -103,8 +103,8 @@ def prove(program, words):
         return place
 
 
-def answer(program, words, script, replies, wants_proof):
-    """Runs the program on the script as the first of these can: the kept one, one without proof, one that is proved now."""
+def answer(program, words, proving, script, replies, wants_proof):
+    """Runs the program on the script as the first of these can: the kept one, one without proof, one that is proved now, in a run with the words `proving`."""
     place = program.place()
     if not os.path.exists(place) and not wants_proof:
         size = os.fstat(script.fileno()).st_size
@@ -114,13 +114,13 @@ def answer(program, words, script, replies, wants_proof):
                 return status
         else:
             say(f"a script of {size} bytes is too long for a run without proof, so the program is proved first")
-    status, _ = run([place if os.path.exists(place) else prove(program, words), *words], script, replies)
+    status, _ = run([place if os.path.exists(place) else prove(program, proving), *words], script, replies)
     if status not in range(4):
         stop(NOT_BUILT, f"the program ended with {status}")
     return status
 
 
-def main(program, words, options, asked):
+def main(program, words, options, reports, asked):
     names, numbers, wants_proof = [], {}, False
     asked = iter(asked)
     for word in asked:
@@ -134,13 +134,19 @@ def main(program, words, options, asked):
     if len(names) > 1 or not (names or wants_proof) or any(it.startswith("-") and it != "-" for it in names):
         takes = "".join(f" [{it} N]" for it in options)
         stop(USAGE, f"usage: {NAME}{takes} FILE | {NAME} --proved{takes} [FILE]  (- is standard input)")
-    words = [*words, *(it for pair in numbers.items() for it in pair)]
+    proving = [*words, *(it for pair in numbers.items() for it in pair)]
     if not names:
-        print(prove(program, words))
+        print(prove(program, proving))
         return 0
+    if reports and names[0].endswith(".json"):
+        if numbers:
+            stop(USAGE, f"{names[0]} is a report by its name, and has no lines after which it could be drawn: {NAME} takes {' or '.join(numbers)} with a script alone")
+        words = reports
+    else:
+        words = proving
     with copied(names[0]) as script, tempfile.TemporaryFile() as replies:
         script.flush()
-        status = answer(program, words, script, replies, wants_proof)
+        status = answer(program, words, proving, script, replies, wants_proof)
         replies.seek(0)
         try:
             with open(1, "wb", closefd=False) as out:
@@ -151,11 +157,12 @@ def main(program, words, options, asked):
     return status
 
 
-def start(program, words=(), options=()):
-    """Runs the program, with these words, on the script that this run is asked for; `options` are those that it takes, each with a number."""
+def start(program, words=(), options=(), reports=()):
+    """Runs the program, with these words, on the script that this run is asked for; `options` are those that it takes, each with a number. `reports` are the words
+    with which it is run on a file whose name ends in .json, where it reads reports too."""
     signal.signal(signal.SIGTERM, lambda *_: sys.exit(INTERRUPTED))
     try:
-        sys.exit(main(program, words, options, sys.argv[1:]))
+        sys.exit(main(program, list(words), options, list(reports), sys.argv[1:]))
     except KeyboardInterrupt:
         sys.exit(INTERRUPTED)
     except FileNotFoundError as error:

@@ -5,6 +5,7 @@ mod buddy;
 mod budget;
 mod bytes;
 mod config;
+mod dump;
 mod errors;
 mod flags;
 mod freelist;

@@ -11,6 +11,7 @@ ghost use Rattle.gpu_desk.specs.Desk.{IsEmpty, IsSound, page_of};
 mod counting;
 mod granting;
 mod mapping;
+mod reading;
 mod walking;
 
 use crate::wish::Tag;

@@ -1,7 +1,9 @@
 mod Covering
 mod Digits
 mod Finding
+mod GoingOn
 mod HeldRows
+mod Keys
 mod Members
 mod Runs
 mod Sessions

@@ -21,7 +21,7 @@ use Rattle.gpu_report.specs.Free.{AreFree}
 use Rattle.gpu_report.specs.Held.{held_as, is_of, kind_of, part_of, parts, parts_of, AreHeld}
 use Rattle.gpu_report.specs.Live.{AreLive}
 use Rattle.gpu_report.specs.Places.{ArePlaces, Tile}
-use Rattle.gpu_report.specs.Report.{head_held, head_told, is_chunk, is_used, part_told, AreTold, HasPlaces, Head, IsKindTold, IsObjectTold, TellsEach}
+use Rattle.gpu_report.specs.Report.{head_held, head_told, is_chunk, is_used, part_told, AreTold, HasPlaces, Head, AreSums, IsKindTold, IsObjectTold, TellsEach}
 use Rattle.gpu_report.proofs.Covering.{AreTheFree, tiled}
 use Rattle.gpu_report.proofs.HeldRows.{entry_held, held_entry, held_more}
 use Rattle.gpu_report.proofs.Members.{each_member, from_filtered, from_mapped, to_filtered}
@@ -47,15 +47,18 @@ module _ (s : State) (held : List (ℕ × HeldObject)) (live : List LiveBlock) (
       ∙ ap (map head_held) (sym (flat_map-append (held_as held) ps (p ∷ [])))
 
   -- an object is held so
-  pub told_used : (k : KindReport) → 0 < length (held_as held p) → part_told k ≡ p → IsKindTold s held live k
+  pub told_used : (k : KindReport) → 0 < length (held_as held p) → part_told k ≡ p → AreSums s held live k
       → (more : List ObjectReport) → map head_told more ≡ map head_held (held_as held p) → All (IsObjectTold s live) more
       → AreTold s held live (ps ++ p ∷ []) (ks ++ k ∷ []) (os ++ more)
-  told_used k some of is more heads each = record {
+  told_used k some of sums more heads each = record {
     heads = heads_more more heads;
     objects = All-append (IsObjectTold s live) os more told.objects each;
     rows = map-append part_told ks (k ∷ []) ∙ (λ i. told.rows i ++ of i ∷ [])
         ∙ sym (filter-append (is_used held) ps (p ∷ []) ∙ ap (λ b. filter (is_used held) ps ++ cond b (p ∷ []) []) (used held p some));
-    kinds = All-push (IsKindTold s held live) ks k told.kinds is;
+    kinds = All-push (IsKindTold s held live) ks k told.kinds (record {
+      sums = sums;
+      some = subst (λ n. 0 < n) (sym (sums.objects ∙ ap (λ q. length (held_as held q)) of)) some;
+    });
   }
 
   -- none is

@@ -1,3 +1,4 @@
+pub mod DeskReport
 pub mod Free
 pub mod Held
 pub mod Live
@@ -5,4 +6,7 @@ pub mod OnLine
 pub mod Places
 pub mod Report
 pub mod Session
+pub mod Statistics
 pub mod Strips
+pub mod Text
+pub mod Writing

@@ -60,17 +60,21 @@ pub record IsObjectTold (s : State) (live : List LiveBlock) (o : ObjectReport) :
   pub tiled : is_chunk o.kind ≡ true → Tile 0 o.size o.places.items
 
 -- The held objects of a memory type and a kind: how many they are, the sum of the sizes of the live blocks in them, and of
--- the free ranges.
-pub record IsKindTold (s : State) (held : List (ℕ × HeldObject)) (live : List LiveBlock) (k : KindReport) : Type 0 where
+-- the free ranges. All are 0 where no object is held so.
+pub record AreSums (s : State) (held : List (ℕ × HeldObject)) (live : List LiveBlock) (k : KindReport) : Type 0 where
   pub free : List FreeRange
   pub are_free : AreFree s k.memory_type free
   pub objects : k.objects ≡ length (held_as held (part_of k.memory_type k.kind))
-  pub some : 0 < k.objects
   pub live_blocks : k.live_blocks ≡ length (live_sizes s (part_of k.memory_type k.kind) live)
   pub live_bytes : k.live_bytes ≡ sum (live_sizes s (part_of k.memory_type k.kind) live)
   pub free_bytes : k.free_bytes ≡ sum (free_sizes s (part_of k.memory_type k.kind) free)
   pub largest_free : k.largest_free ≡ largest (free_sizes s (part_of k.memory_type k.kind) free)
   pub scattered : k.scattered ≡ scattered (free_sizes s (part_of k.memory_type k.kind) free)
+
+-- the same of a memory type and a kind as which an object is held
+pub record IsKindTold (s : State) (held : List (ℕ × HeldObject)) (live : List LiveBlock) (k : KindReport) : Type 0 where
+  pub sums : AreSums s held live k
+  pub some : 0 < k.objects
 
 -- an object is held as this
 abbrev pub is_used : List (ℕ × HeldObject) → Part → Bool

@@ -77,7 +77,7 @@ fn named_blocks(alloc: Global, rows: &[NamedSpan]) -> Result<Vec<LiveBlock>, All
 }
 
 /// The report, or none where a live span has no block.
-fn report_of<M: MemoryObject, A: Allocator + Copy>(
+pub(crate) fn report_of<M: MemoryObject, A: Allocator + Copy>(
     alloc: Global,
     allocator: &GpuAllocator<M, A>,
     blocks: &[LiveBlock],
@@ -158,7 +158,7 @@ fn add_type<M: MemoryObject, A: Allocator + Copy>(
 }
 
 /// The free ranges of a memory type.
-fn free_of<M: MemoryObject, A: Allocator + Copy>(
+pub(crate) fn free_of<M: MemoryObject, A: Allocator + Copy>(
     allocator: &GpuAllocator<M, A>,
     memory_type: u32,
 ) -> Result<Vec<FreeRange, A>, AllocError>

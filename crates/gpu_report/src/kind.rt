@@ -1,6 +1,6 @@
 //! What is told of a memory type and a kind.
 
-ghost use Rattle.std.specs.Prelude.{◌≡◌, ◌<◌, ◌++◌, ◌∷◌, [], All, List, IfOk, OnOk, length, map as mapped};
+ghost use Rattle.std.specs.Prelude.{◌≡◌, ◌++◌, ◌∷◌, [], All, List, IfOk, OnOk, map as mapped};
 ghost use Rattle.std.specs.List.Sorted.{IsNonDecreasingBy};
 ghost use Rattle.gpu_alloc.specs.RangeOrder.{AreInOrder};
 ghost use Rattle.gpu_alloc.specs.Sound as Sound;
@@ -9,7 +9,7 @@ ghost use Rattle.gpu_report.specs.declared.part.Part.{Part as APart};
 ghost use Rattle.gpu_report.specs.Free.{AreFree};
 ghost use Rattle.gpu_report.specs.Held.{AreHeld, held_as};
 ghost use Rattle.gpu_report.specs.Live.{AreLive};
-ghost use Rattle.gpu_report.specs.Report.{head_held, head_told, part_told, AreTold, HasPlaces, IsKindTold};
+ghost use Rattle.gpu_report.specs.Report.{head_held, head_told, part_told, AreSums, AreTold, HasPlaces};
 
 use crate::part::Part;
 use crate::places::places_of;
@@ -20,8 +20,8 @@ use gpu_alloc::spans::HeldRow;
 use gpu_alloc::{FreeRange, GpuAllocator, MemoryObject};
 use std::alloc::{AllocError, Allocator, Global};
 
-/// What is told of a memory type and a kind, as which so many objects are held.
-fn kind_report<M: MemoryObject, A: Allocator>(
+/// What is told of a memory type and a kind, as which so many objects are held, or none.
+pub(crate) fn kind_report<M: MemoryObject, A: Allocator>(
     alloc: Global,
     allocator: &GpuAllocator<M, A>,
     part: Part,
@@ -30,8 +30,7 @@ fn kind_report<M: MemoryObject, A: Allocator>(
     free: &[FreeRange],
 ) -> Result<KindReport, AllocError>
     requires are_free { AreFree allocator.now part.memory_type free.now }
-    requires used { 0 < length (held_as (mapped entry_of held.now) part) }
-    ensures told { IfOk result (IsKindTold allocator.now (mapped entry_of held.now) live.now) }
+    ensures sums { IfOk result (AreSums allocator.now (mapped entry_of held.now) live.now) }
     ensures of { IfOk result (λ k. part_told k ≡ part) }
 {
     let live_sizes = part.live_sizes(alloc, allocator, live)?;

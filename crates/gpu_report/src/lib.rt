@@ -2,6 +2,7 @@
 #![tactic(auto)]
 
 mod build;
+mod desk;
 mod error;
 mod held;
 mod kind;
@@ -10,10 +11,15 @@ mod live;
 mod part;
 mod places;
 mod report;
+mod statistics;
 pub mod strips;
 mod sums;
+mod text;
 pub mod uses;
+mod writing;
 
 pub use error::ReportError;
 pub use live::LiveBlock;
 pub use report::{HeapReport, KindReport, ObjectKind, ObjectReport, Place, Report};
+pub use statistics::Statistics;
+pub use text::write_report;

@@ -90,6 +90,33 @@ fn find(blocks: &[LiveBlock], span: &LiveSpan) -> Option<LiveBlock>
     }
 }
 
+/// Spans as blocks, each named 0.
+fn unnamed(alloc: Global, spans: &[LiveSpan]) -> Result<Vec<LiveBlock>, AllocError>
+    ensures { IfOk result (λ live. mapped span_told live.items ≡ mapped span_in spans.now) }
+{
+    let mut live = Vec::new(alloc);
+    for span in spans {
+        live.push(LiveBlock {
+            name: 0,
+            object: span.object,
+            offset: span.offset,
+            size: span.size,
+        })?;
+    }
+    Ok(live)
+}
+
+/// A block for each live span, by the name of their object, each named 0.
+pub(crate) fn live_unnamed<M: MemoryObject, A: Allocator>(
+    alloc: Global,
+    allocator: &GpuAllocator<M, A>,
+) -> Result<Vec<LiveBlock>, AllocError>
+    ensures { IfOk result (λ live. AreLive allocator.now live.items) }
+{
+    let spans = spans_by_object(alloc, allocator)?;
+    unnamed(alloc, &spans)
+}
+
 /// For each live span a block that has it, by the name of their object, or none where a span has no block.
 pub(crate) fn live_blocks<M: MemoryObject, A: Allocator>(
     alloc: Global,

@@ -1,6 +1,6 @@
 //! What a report tells.
 
-use serde::Serialize;
+use serde::{Deserialize, Serialize};
 
 /// What an allocator holds of its device's memory, and what lies in it.
 #[derive(Debug, Drop, PartialEq, Serialize)]
@@ -16,7 +16,8 @@ pub struct Report {
 }
 
 /// A heap.
-#[derive(Clone, Copy, Debug, PartialEq, Eq, Serialize)]
+#[derive(Clone, Copy, Debug, PartialEq, Eq, Serialize, Deserialize)]
+#[serde(deny_unknown_fields)]
 pub struct HeapReport {
     /// Its size, in bytes.
     pub size: u64,
@@ -29,7 +30,7 @@ pub struct HeapReport {
 }
 
 /// What an object is held for.
-#[derive(Clone, Copy, Debug, PartialEq, Eq, Serialize)]
+#[derive(Clone, Copy, Debug, PartialEq, Eq, Serialize, Deserialize)]
 pub enum ObjectKind {
     /// One block, which is the whole object.
     Dedicated,
@@ -45,7 +46,8 @@ pub enum ObjectKind {
 }
 
 /// The held objects of a memory type that are held for the same.
-#[derive(Clone, Copy, Debug, PartialEq, Eq, Serialize)]
+#[derive(Clone, Copy, Debug, PartialEq, Eq, Serialize, Deserialize)]
+#[serde(deny_unknown_fields)]
 pub struct KindReport {
     /// The index of the memory type.
     pub memory_type: u32,

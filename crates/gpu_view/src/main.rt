@@ -1,15 +1,17 @@
-//! Reports or draws what a script's allocator holds: reads the script from standard input, and writes the report or the
-//! picture to standard output.
+//! Reports or draws what a script's allocator holds, or draws a report of a living program: reads the script or the report
+//! from standard input, and writes the report or the picture to standard output.
 #![tactic(auto)]
 
 mod drawing;
+mod dump;
 mod picture;
 mod view;
 mod wanted;
 mod words;
 
+use crate::dump::{draw_dump, write_drawn};
 use crate::view::view;
-use crate::wanted::Wanted;
+use crate::wanted::{Form, Wanted};
 use gpu_script_language::write_answer;
 use std::process::ExitCode;
 use std::{env, io};
@@ -23,6 +25,10 @@ fn main(rt: HostRuntime) -> ExitCode {
     };
     let mut input = rt.reader();
     let mut output = io::writer(&rt);
+    if wanted.form == Form::Dump {
+        let drawn = draw_dump(rt.alloc(), &mut input);
+        return ExitCode::from(write_drawn(&mut output, drawn));
+    }
     ExitCode::from(write_answer(&mut output, view(rt.alloc(), &mut input, wanted)))
 }
 

@@ -14,13 +14,13 @@ use std::alloc::{AllocError, Global};
 /// How many rows the objects of a kind and type take to scale, at most; what the least lengths add is beside that.
 const ROWS: u128 = 6;
 
-/// The picture of a report, as an SVG. `types` are the device's memory types, and `after` the line of the script after
-/// which the report was made, if not after the last one. Only want of memory is refused.
+/// The picture of a report under a heading, as an SVG. `types` are the device's memory types. Only want of memory is
+/// refused.
 pub(crate) fn picture(
     alloc: Global,
     report: &Report,
     types: &[MemoryType],
-    after: Option<u64>,
+    heading: &str,
 ) -> Result<String, AllocError> {
     let drawing = Drawing::new(alloc);
     let mut page = Page {
@@ -29,13 +29,7 @@ pub(crate) fn picture(
         report,
         types,
     };
-    match after {
-        Some(line) => {
-            let heading = format!(in alloc; "GPU memory after line {line}")?;
-            page.drawing.head(heading.as_str())?;
-        }
-        None => page.drawing.head("GPU memory after the last command")?,
-    }
+    page.drawing.head(heading)?;
     for (index, heap) in report.heaps.iter().enumerate() {
         page.draw_heap(index as u64, heap)?;
     }

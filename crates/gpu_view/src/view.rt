@@ -21,10 +21,14 @@ pub(crate) fn view<R: Read>(alloc: Global, input: &mut R, wanted: Wanted) -> Res
     };
     let report = report_of(alloc, &script, count)?;
     let types = script.setup.memory_types.as_slice();
-    match wanted.form {
-        Form::Report => json(alloc, &report),
-        Form::Picture => Ok(picture(alloc, &report, types, wanted.after)?),
+    if wanted.form == Form::Report {
+        return json(alloc, &report);
     }
+    let heading = match wanted.after {
+        Some(line) => format!(in alloc; "GPU memory after line {line}")?,
+        None => String::from_str(alloc, "GPU memory after the last command")?,
+    };
+    Ok(picture(alloc, &report, types, heading.as_str())?)
 }
 
 /// The first lines of a text, as many as are asked for or as it has.

@@ -1,16 +1,19 @@
 //! What the program is asked for.
 
-/// What is made of a script.
+/// What is made.
 #[derive(Clone, Copy, Debug, PartialEq, Eq)]
 pub enum Form {
-    /// The report, as JSON.
+    /// The report of a script, as JSON.
     Report,
 
-    /// The picture, as an SVG.
+    /// The picture of a script, as an SVG.
     Picture,
+
+    /// The picture of a report of a living program, as an SVG.
+    Dump,
 }
 
-/// What is made of a script, and after which of its lines, if not after all.
+/// What is made, and of a script after which of its lines, if not after all.
 #[derive(Clone, Copy, Debug, PartialEq, Eq)]
 pub struct Wanted {
     /// What is made.
@@ -21,7 +24,7 @@ pub struct Wanted {
 }
 
 impl Wanted {
-    /// What these words ask for: `report` or `picture`, and behind it nothing, or `--after` and a number.
+    /// What these words ask for: `report` or `picture`, and behind it nothing, or `--after` and a number; or `dump`.
     pub(crate) fn of(words: &[String]) -> Option<Wanted> {
         let (form, after) = match words {
             [form] => (form, None),
@@ -33,6 +36,7 @@ impl Wanted {
         let form = match form.as_str() {
             "report" => Form::Report,
             "picture" => Form::Picture,
+            "dump" if after.is_none() => Form::Dump,
             _ => return None,
         };
         Some(Wanted { form, after })

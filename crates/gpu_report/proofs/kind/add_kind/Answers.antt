@@ -23,7 +23,7 @@ returns g c ps told =
           rw w.kinds-is
           (rw w.in_ok-push.ensures.items
           (told_used s held c.args.live.now p ps c.args.kinds.now.items c.args.objects.now.items told w.in_ok-kind_report.field-0 some
-          w.in_ok-kind_report.ensures.of w.in_ok-kind_report.ensures.told more heads each))
+          w.in_ok-kind_report.ensures.of w.in_ok-kind_report.ensures.sums more heads each))
       | else-count-gt0 w ↦
           let none : length (held_as held p) ≤ 0 = omega (arith, c.count.ensures, w.if-count-gt0.false) in
           rw w.kinds-is (told_unused s held c.args.live.now p ps c.args.kinds.now.items c.args.objects.now.items told none more heads each)

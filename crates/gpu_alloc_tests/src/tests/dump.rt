@@ -1,0 +1,234 @@
+//! The text of a report of a living program: what `serde_json` reads in it is the report, field by field.
+
+use super::same::{holds, never, never_with, same, same_at};
+use gpu_alloc::{
+    Config, DeviceProperties, MemoryHeap, MemoryPropertyFlags, MemoryType, Request, UsageFlags,
+};
+use gpu_desk::{Answer, Answered, Denial, Desk, Grant, Wish};
+use gpu_report::{
+    HeapReport, KindReport, ObjectKind, ObjectReport, Place, Report, Statistics, write_report,
+};
+use serde::Deserialize;
+use std::alloc::Global;
+use std::process::Abort;
+use std::test::Fail;
+
+/// What the text tells, as it is documented.
+#[derive(Drop, Deserialize)]
+#[serde(deny_unknown_fields)]
+struct Dump {
+    heaps: Vec<HeapReport>,
+    types: Vec<TypeRow>,
+    kinds: Vec<KindReport>,
+    objects: Vec<ObjectRow>,
+}
+
+#[derive(Debug, Drop, PartialEq, Deserialize)]
+#[serde(deny_unknown_fields)]
+struct TypeRow {
+    heap: u32,
+    properties: u8,
+}
+
+#[derive(Drop, Deserialize)]
+#[serde(deny_unknown_fields)]
+struct ObjectRow {
+    object: u64,
+    memory_type: u32,
+    kind: ObjectKind,
+    size: u64,
+    places: Vec<PlaceRow>,
+}
+
+#[derive(Debug, Drop, PartialEq, Deserialize)]
+#[serde(deny_unknown_fields)]
+struct PlaceRow {
+    key: Option<u64>,
+    user: Option<u64>,
+    offset: u64,
+    size: u64,
+}
+
+const TYPES: [MemoryType; 2] = [
+    MemoryType {
+        heap: 0,
+        props: MemoryPropertyFlags::DEVICE_LOCAL,
+    },
+    MemoryType {
+        heap: 1,
+        props: MemoryPropertyFlags::HOST_VISIBLE,
+    },
+];
+
+const HEAPS: [MemoryHeap; 2] = [MemoryHeap { size: 1 << 24 }, MemoryHeap { size: 1 << 22 }];
+
+/// What is asked for: sizes, usages and types, some of which share an object, and one that has its own.
+const REQUESTS: [(u64, UsageFlags, u32); 6] = [
+    (1000, UsageFlags::FAST_DEVICE_ACCESS, 1),
+    (500, UsageFlags::FAST_DEVICE_ACCESS, 1),
+    (9_000_000, UsageFlags::FAST_DEVICE_ACCESS, 1),
+    (700, UsageFlags::TRANSIENT, 2),
+    (1500, UsageFlags::TRANSIENT, 2),
+    (64, UsageFlags::UPLOAD, 2),
+];
+
+fn opened(rt: &impl Abort, alloc: Global) -> Desk {
+    let props = DeviceProperties {
+        memory_types: &TYPES,
+        memory_heaps: &HEAPS,
+        max_memory_allocation_count: 4096,
+        max_memory_allocation_size: u64::MAX,
+        non_coherent_atom_size: 64,
+        buffer_device_address: false,
+    };
+    match Desk::new(alloc, Config::i_am_prototyping(), props, 1) {
+        Ok(desk) => desk,
+        Err(e) => never_with(rt, "no desk:", &e),
+    }
+}
+
+/// A block, each question for which is granted.
+fn granted(
+    rt: &impl Abort,
+    alloc: Global,
+    desk: &mut Desk,
+    row: (u64, UsageFlags, u32),
+    user: u64,
+) -> Grant {
+    let (size, usage, memory_types) = row;
+    let request = Request {
+        size,
+        align_mask: 0,
+        usage,
+        memory_types,
+    };
+    let wish = Wish {
+        dedicated: None,
+        optimal: false,
+        user,
+    };
+    let mut answers = Vec::new(alloc);
+    for _ in 0..64 {
+        match desk.alloc(request, wish, answers.as_slice()) {
+            Ok(grant) => return grant,
+            Err(Denial::Open(question)) => {
+                let answer = Answered {
+                    question,
+                    answer: Answer::Granted,
+                };
+                holds(rt, answers.push(answer).is_ok(), "no memory for answers");
+            }
+            Err(e) => return never_with(rt, "no block:", &e),
+        }
+    }
+    never(rt, "too many questions")
+}
+
+/// Whether a place is told as it is, with the value of its block.
+fn same_place(rt: &impl Abort, desk: &Desk, told: &PlaceRow, place: &Place) {
+    let user = match place.block {
+        Some(key) => match desk.block(key) {
+            Ok(grant) => Some(grant.user),
+            Err(e) => never_with(rt, "no block of the key:", &e),
+        },
+        None => None,
+    };
+    let wanted = PlaceRow {
+        key: place.block,
+        user,
+        offset: place.offset,
+        size: place.size,
+    };
+    same(rt, "a place", told, &wanted);
+}
+
+fn same_object(rt: &impl Abort, desk: &Desk, told: &ObjectRow, object: &ObjectReport) {
+    same(rt, "a name", &told.object, &object.object);
+    same(rt, "a memory type", &told.memory_type, &object.memory_type);
+    same(rt, "a kind", &told.kind, &object.kind);
+    same(rt, "a size", &told.size, &object.size);
+    same(rt, "places", &told.places.len(), &object.places.len());
+    for (place, wanted) in told.places.iter().zip(object.places.iter()) {
+        same_place(rt, desk, place, wanted);
+    }
+}
+
+/// Ends a desk: its blocks come back, and the names of its objects are read.
+fn ended(rt: &impl Abort, mut desk: Desk) {
+    for _ in 0..1000 {
+        let Some(grant) = desk.block_after(0) else {
+            break;
+        };
+        holds(rt, desk.free(grant.key).is_ok(), "a block comes back");
+    }
+    desk.cleanup();
+    for _ in 0..1000 {
+        if desk.next_gone().is_none() {
+            break;
+        }
+    }
+    let counts = desk.counts();
+    holds(rt, counts.blocks == 0, "no block is left");
+    holds(rt, counts.held == 0, "no object is left");
+    holds(rt, counts.unread == 0, "no name is left");
+    desk.close();
+}
+
+/// Whether the text and the sums are those of the report.
+fn compare(rt: &impl Abort, alloc: Global, desk: &Desk) -> Result<(), Fail> {
+    let report = Report::of_desk(alloc, desk)?;
+    let length = write_report(desk, &report, &mut []);
+    let mut text = vec![in alloc; 0u8; length as usize]?;
+    same(
+        rt,
+        "its length again",
+        &write_report(desk, &report, &mut text),
+        &length,
+    );
+    same(rt, "a byte of 0", &text.contains(&0), &false);
+    let dump: Dump = serde_json::from_slice(alloc, text.as_slice())?;
+    same(rt, "heaps", &dump.heaps, &report.heaps);
+    same(rt, "kinds", &dump.kinds, &report.kinds);
+    same(rt, "types", &dump.types.len(), &TYPES.len());
+    for (told, wanted) in dump.types.iter().zip(TYPES.iter()) {
+        same(rt, "a type's heap", &told.heap, &wanted.heap);
+        same(rt, "its properties", &told.properties, &wanted.props.bits());
+    }
+    same(rt, "objects", &dump.objects.len(), &report.objects.len());
+    for (told, wanted) in dump.objects.iter().zip(report.objects.iter()) {
+        same_object(rt, desk, told, wanted);
+    }
+    for kind in &report.kinds {
+        let Some(all) = Statistics::of_desk(alloc, desk, kind.memory_type)? else {
+            return Err(Fail::from("no such type"));
+        };
+        let told = match kind.kind {
+            ObjectKind::Dedicated => all.dedicated,
+            ObjectKind::Imported => all.imported,
+            ObjectKind::BuddyChunk => all.buddy,
+            ObjectKind::FreeListChunk => all.free_list,
+        };
+        same(rt, "the same sums alone", &told, kind);
+    }
+    same(rt, "no type", &Statistics::of_desk(alloc, desk, 2)?, &None);
+    Ok(())
+}
+
+#[test]
+fn the_text_of_a_report_is_read_back_as_the_report(rt: HostRuntime) -> Result<(), Fail> {
+    let alloc = rt.alloc();
+    let mut desk = opened(&rt, alloc);
+    let mut second = 0;
+    for (index, row) in REQUESTS.iter().enumerate() {
+        let user = u64::MAX - index as u64;
+        let grant = granted(&rt, alloc, &mut desk, *row, user);
+        if index == 1 {
+            second = grant.key;
+        }
+    }
+    holds(&rt, desk.free(second).is_ok(), "a block comes back");
+    holds(&rt, desk.import(1, 65536, 4096, 32768).is_ok(), "an import");
+    let compared = compare(&rt, alloc, &desk);
+    ended(&rt, desk);
+    compared
+}

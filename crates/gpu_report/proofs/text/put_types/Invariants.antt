@@ -1,0 +1,7 @@
+use Rattle.std.proofs.Common.{take}
+use Rattle.gpu_report.specs.Text.{type_text, rows}
+use Rattle.gpu_report.specs.Writing.{GoesOn}
+use Rattle.gpu_report.proofs.text.put_types.Given as goal
+
+abbrev pub invariant-loop-index : goal.invariant-loop-index
+invariant-loop-index l = GoesOn l.fn.text l.fn.at (rows type_text (take l.index l.types)) l.text l.end

@@ -1,0 +1,21 @@
+-- How a text is written where there may be room for a part of it alone.
+use Rattle.std.specs.Prelude.{◌≡◌, ℕ, ◌-◌, ◌^◌, List, [], ◌∷◌, ◌++◌, length, min}
+
+-- the bytes where a text is written over them: its bytes in place of the first of these, as many as there are
+abbrev pub over : (text bytes : List ℕ) → List ℕ
+over [] bytes = bytes
+over (b ∷ text) [] = []
+over (b ∷ text) (old ∷ bytes) = b ∷ over text bytes
+
+-- how long a text is, and of one that is longer the most that 64 bits count
+abbrev pub length_told : List ℕ → ℕ
+length_told text = min (length text) (2 ^ 64 - 1)
+
+-- the text was written over these bytes, and that is its length
+pub record IsWritten (text before now : List ℕ) (at : ℕ) : Type 0 where
+  pub bytes : now ≡ over text before
+  pub length : at ≡ length_told text
+
+-- whatever was written before, now it is that and this text
+pub record GoesOn (old : List ℕ) (at : ℕ) (more new : List ℕ) (next : ℕ) : Type 0 where
+  pub on : (text before : List ℕ) → IsWritten text before old at → IsWritten (text ++ more) before new next
