@@ -13,5 +13,6 @@ SharesNoPage granularity size b c =
 
 -- What begins at a page and has whole pages for these bytes shares none with any other block.
 abbrev pub PagesApart : Type 0
-PagesApart = (granularity size : ℕ) (b c : Block) → IsGranularity granularity → IsInPages granularity size b → AreTwo b c
+PagesApart =
+    (granularity size : ℕ) (b c : Block) → IsGranularity granularity → IsInPages granularity size b → AreTwo b c
     → SharesNoPage granularity size b c

@@ -1,5 +1,6 @@
 -- Whether a request can ever be served, whatever is held.
-use Rattle.std.specs.Prelude.{◌≡◌, ◌≢◌, ◌⊎◌, ℕ, ◌<◌, ◌≤◌, List, [], length, cond, nat_lt, nat_eq, None, Some, Result, Err}
+use Rattle.std.specs.Prelude.{◌≡◌, ◌≢◌, ◌⊎◌, ℕ, ◌<◌, ◌≤◌, List, [], length, cond, nat_lt, nat_eq}
+use Rattle.std.specs.Prelude.{Some, None, Result, Err}
 use Rattle.gpu_alloc_types.specs.Device.{Event}
 use Rattle.gpu_alloc_types.specs.Properties.{Properties, heap_size}
 use Rattle.gpu_alloc_base.specs.declared.config.Config.{Config}
@@ -29,9 +30,10 @@ NeverServed = (s later : State) (r : Request) (es : List Event) (answer : Result
     → (MayServe s r → ⊥) → later.properties ≡ s.properties → Allocates later r None es answer new
     → Refuses later (lasting_refusal s r) es answer new
 
--- What a request that may be served comes to in an allocator that holds nothing, where an object may be held: the device
--- is asked for an object of the request's own, unless the host has no memory.
+-- What a request that may be served comes to in an allocator that holds nothing, where an object may be held: the
+-- device is asked for an object of the request's own, unless the host has no memory.
 abbrev pub AsksForOwnObjects : Type 0
-AsksForOwnObjects = (c : Config) (p : Properties) (r : Request) (es : List Event) (answer : Result Block AllocationError)
-    (new : State) → MayServe (opened c p) r → 0 < p.max_memory_allocation_count
+AsksForOwnObjects =
+    (c : Config) (p : Properties) (r : Request) (es : List Event) (answer : Result Block AllocationError) (new : State)
+    → MayServe (opened c p) r → 0 < p.max_memory_allocation_count
     → Allocates (opened c p) r (Some Required) es answer new → (es ≢ []) ⊎ (answer ≡ Err OutOfHostMemory)

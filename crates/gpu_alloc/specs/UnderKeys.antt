@@ -22,7 +22,8 @@ pub record TakesUnder (entries : List (ℕ × Block)) (key : ℕ) (b : Block) (f
   pub count : length fewer + 1 ≡ length entries
 
 -- Allocator and device agree, the blocks are kept under their keys, and nothing else is live.
-pub record AreAllKept (s : State) (p : Properties) (objects : ℕ → Option Object) (entries : List (ℕ × Block)) : Type 0 where
+pub record AreAllKept (s : State) (p : Properties) (objects : ℕ → Option Object) (entries : List (ℕ × Block))
+    : Type 0 where
   pub agrees : Agrees s p objects
   pub kept : AreKept s p objects (under entries)
   pub count : set.len s.live ≡ length entries

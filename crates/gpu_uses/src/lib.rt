@@ -1,5 +1,6 @@
 //! Programs that call the allocator, each over any device. They are checked with no proof of their own: what their
-//! calls need, the contracts of the calls before them give. A loop's invariant repeats clauses.
+//! calls need, the contracts of the calls before them give. A loop's invariant repeats clauses, and in `textures` a line
+//! tells wherever a block is returned that it is owned.
 #![tactic(auto)]
 
 pub mod buffers;
@@ -12,4 +13,5 @@ pub mod opening;
 pub mod returning;
 pub mod session;
 pub mod shared;
+pub mod textures;
 pub mod upload;

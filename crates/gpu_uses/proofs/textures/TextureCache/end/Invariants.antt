@@ -1,0 +1,15 @@
+use Rattle.std.proofs.Common.{◌≡◌, length}
+use Rattle.std.specs.FinSet as set
+use Rattle.gpu_alloc.specs.UnderKeys.{AreAllKept}
+use Rattle.gpu_uses.proofs.textures.TextureCache.end.Given as goal
+
+-- what the cache keeps, with the textures that are left
+
+abbrev pub invariant-loop-block : goal.invariant-loop-block
+invariant-loop-block g l = record {
+  cached : AreAllKept l.allocator (g.D.ObjectDevice.properties l.device) (g.D.ObjectDevice.objects l.device) l.textures.entries;
+  properties : g.D.ObjectDevice.properties l.device ≡ g.D.ObjectDevice.properties l.fn.self.device;
+}
+
+abbrev pub decreases-loop-block : goal.decreases-loop-block
+decreases-loop-block g l = length l.textures.entries
