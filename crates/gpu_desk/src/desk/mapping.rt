@@ -1,6 +1,6 @@
 //! Calls that map blocks, and tell where they lie.
 
-ghost use Rattle.std.specs.Prelude.{◌≡◌, false, length, Err, IfOk, IfErr, OnErr};
+ghost use Rattle.std.specs.Prelude.{◌≡◌, false, Bool, length, Err, IfOk, IfErr, OnErr};
 ghost use Rattle.gpu_desk.specs.Calls.{IsAsBefore, IsUnknown, Keeps, MapDenied, Maps, RangeDenied, RangeTold, Told};
 ghost use Rattle.gpu_desk.specs.Calls.{Unmaps, object_to_unmap};
 
@@ -56,7 +56,8 @@ impl Desk {
     ) -> Result<ObjectRange, Denial>
         ensures mapped { IfOk result (Maps self.old key offset size answers.now self.new) }
         ensures denied { IfErr result (MapDenied self.old key offset size answers.now) }
-        ensures asks { (question : Question) → result ≡ Err (Denial.Open question false) → length answers.now ≡ 0 }
+        ensures asks { (question : Question) (own : Bool) → result ≡ Err (Denial.Open question own)
+            → length answers.now ≡ 0 }
         ensures unchanged { OnErr result (IsAsBefore self.old self.new) }
         ensures keeps { Keeps self.old self.new }
     {
