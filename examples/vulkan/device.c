@@ -5,7 +5,7 @@
 #include <string.h>
 
 #define LAYER "VK_LAYER_KHRONOS_validation"
-enum { SHOWN_MESSAGES = 5, MOST_LISTED = 64 };
+enum { SHOWN_MESSAGES = 5, MOST_LISTED = 64, MOST_EXTENSIONS = 1024 };
 
 void must(bool holds, const char *what)
 {
@@ -107,6 +107,18 @@ static void close_messenger(device *d)
     destroy(d->instance, d->messenger, NULL);
 }
 
+static bool extension_is_there(VkPhysicalDevice physical, const char *name)
+{
+    static VkExtensionProperties extensions[MOST_EXTENSIONS];
+    uint32_t count = MOST_EXTENSIONS;
+    if (vkEnumerateDeviceExtensionProperties(physical, NULL, &count, extensions) < 0)
+        return false;
+    for (uint32_t i = 0; i < count; i++)
+        if (strcmp(extensions[i].extensionName, name) == 0)
+            return true;
+    return false;
+}
+
 /* What it offers, before it is opened. */
 static void find_first(device *d)
 {
@@ -126,6 +138,7 @@ static void find_first(device *d)
     vkGetPhysicalDeviceProperties2(d->physical, &properties);
     vkGetPhysicalDeviceMemoryProperties(d->physical, &d->memory);
     d->max_allocation_size = sizes.maxMemoryAllocationSize;
+    d->has_budgets = extension_is_there(d->physical, VK_EXT_MEMORY_BUDGET_EXTENSION_NAME);
     if (d->properties.apiVersion >= VK_API_VERSION_1_2) {
         vkGetPhysicalDeviceFeatures2(d->physical, &features);
         d->has_addresses = addresses.bufferDeviceAddress == VK_TRUE;
@@ -196,6 +209,20 @@ void device_open(device *d)
     find_first(d);
     open_handle(d);
     open_commands(d);
+}
+
+VkPhysicalDeviceMemoryBudgetPropertiesEXT device_budgets(const device *d)
+{
+    VkPhysicalDeviceMemoryBudgetPropertiesEXT budgets = {
+        .sType = VK_STRUCTURE_TYPE_PHYSICAL_DEVICE_MEMORY_BUDGET_PROPERTIES_EXT,
+    };
+    VkPhysicalDeviceMemoryProperties2 properties = {
+        .sType = VK_STRUCTURE_TYPE_PHYSICAL_DEVICE_MEMORY_PROPERTIES_2,
+        .pNext = &budgets,
+    };
+    vkGetPhysicalDeviceMemoryProperties2(d->physical, &properties);
+    budgets.pNext = NULL;
+    return budgets;
 }
 
 VkCommandBuffer device_begin(device *d)

@@ -20,6 +20,7 @@ typedef struct device {
     VkPhysicalDeviceMemoryProperties memory;
     uint64_t max_allocation_size;
     bool has_addresses; /* bufferDeviceAddress is enabled */
+    bool has_budgets;   /* VK_EXT_memory_budget is there */
     bool is_validated;
     uint64_t messages; /* of the layer: warnings and errors */
 } device;
@@ -33,6 +34,9 @@ void device_open(device *d);
 /* Begins the command buffer, then submits it and waits until the device is done with it. */
 VkCommandBuffer device_begin(device *d);
 void device_run(device *d);
+
+/* What the heaps' budgets are now, and how much of them the process holds. */
+VkPhysicalDeviceMemoryBudgetPropertiesEXT device_budgets(const device *d);
 
 void device_close(device *d);
 

@@ -1,10 +1,13 @@
 /* Wallthyme over a Vulkan device: buffers and images in its blocks, in random order, with each of their bytes compared.
 
-       vulkan SEED RESOURCES REFUSED_PERCENT [--shift] [--incoherent]
+       vulkan SEED RESOURCES REFUSED_PERCENT [--shift] [--incoherent] [--half-page] [--report FILE]
 
    So many resources are tried, a few hundred of them alive at once; so many of the questions to the device are refused
    without asking it. --shift binds them one byte off, and does nothing else with them: the validation layer has to
-   tell. --incoherent tells the library that no memory is coherent, so that there are ranges to flush.
+   tell. --incoherent tells the library that no memory is coherent, so that there are ranges to flush. --half-page tells
+   it half of bufferImageGranularity: the program has to find a page that a buffer and an optimal image share, and ends.
+   --report writes what the library holds, as JSON, once all resources are tried.
+   Where the device tells budgets, the heaps' limits follow them.
    Statuses: 0 where all went well without a message, 1, or 2 for other arguments. */
 #include "first_use.h"
 #include "random.h"
@@ -18,6 +21,7 @@
 enum {
     MOST_ALIVE = 320,
     TURN = 1200, /* steps */
+    FRAME = 50,  /* steps from one look at the budgets to the next */
     MOST_BYTES = 1 << 20, /* of a content */
     LEAST_HEAP = 4 << 20, /* drawn: up to eight times that */
     LEAST_OBJECTS = 16,   /* drawn: up to eight times that */
@@ -38,7 +42,8 @@ static const wt_config CONFIG = {
 typedef struct arguments {
     uint64_t seed;
     uint32_t resources, refused_percent;
-    bool is_shifted, is_incoherent;
+    bool is_shifted, is_incoherent, is_half;
+    const char *report; /* null for none */
 } arguments;
 
 typedef struct table {
@@ -102,8 +107,6 @@ static void add(run *r, table *t)
     uint32_t status = open_drawn(r, it, &bytes);
     t->tried++;
     if (status == WT_OK) {
-        for (uint32_t i = 0; i < t->count; i++)
-            must(!resources_share_a_page(it, &t->live[i], r->granularity), "a buffer and an image share a page");
         status = r->is_shifted ? WT_OK : fill(r, it, from);
         if (status == WT_OK)
             t->count++;
@@ -157,15 +160,29 @@ static void step(run *r, table *t)
         rewrite(r, &t->live[random_below(&r->random, t->count)]);
 }
 
+static void write_report(memory *m, const char *name)
+{
+    size_t length;
+    char *text = memory_report(m, &length);
+    FILE *file = fopen(name, "wb");
+    must(file != NULL && fwrite(text, 1, length, file) == length && fclose(file) == 0, "the report is not written");
+    free(text);
+}
+
 static void work(run *r, table *t, const arguments *told)
 {
     const content most = {.length = MOST_BYTES};
     must(resource_open(r, &t->reader, &most, BUFFER, true) == WT_OK, "no memory to read from");
     r->memory->refused_percent = told->refused_percent;
     while (t->tried < told->resources) {
+        if (t->steps % FRAME == FRAME - 1)
+            memory_follow_budgets(r->memory);
         step(r, t);
         memory_check(r->memory);
     }
+    if (told->report != NULL)
+        write_report(r->memory, told->report);
+    memory_lift_limits(r->memory);
     while (t->count > 0)
         take_away(r, t, t->count - 1);
     resource_close(r, &t->reader);
@@ -184,6 +201,12 @@ static void report(const device *d, const memory *m, const run *r, const table *
            t->refusals[WT_NO_COMPATIBLE_MEMORY_TYPES], t->refusals[WT_TOO_MANY_OBJECTS], m->refused_unasked);
     printf("%" PRIu64 " imports, %" PRIu64 " mappings, %" PRIu64 " ranges flushed, %" PRIu64 " invalidated\n",
            r->imports, m->mapped, m->flushed, m->invalidated);
+    printf("limits: %" PRIu64 " set, %" PRIu64 " below what was held, %" PRIu64 " taken off; %" PRIu64
+           " blocks granted over one\n",
+           m->limits_set, m->limits_below, m->limits_off, m->granted_over);
+    printf("pages of %" PRIu64 " bytes: %" PRIu64 " times a linear and an optimal resource in one object; %" PRIu64
+           " objects made for one resource\n",
+           r->pages.size, r->pages.beside, m->made_own);
     printf("%s: %" PRIu64 " binds, %" PRIu64 " copies, %" PRIu64 " bytes compared, ", d->properties.deviceName,
            r->binds, r->copies, r->compared);
     printf("%" PRIu64 " questions asked, %" PRIu64 " refused, %" PRIu64 " objects made, %" PRIu64 " freed, ", m->asked,
@@ -211,6 +234,10 @@ static bool read_arguments(int count, char **texts, arguments *told)
             told->is_shifted = true;
         else if (strcmp(texts[i], "--incoherent") == 0)
             told->is_incoherent = true;
+        else if (strcmp(texts[i], "--half-page") == 0)
+            told->is_half = true;
+        else if (strcmp(texts[i], "--report") == 0 && i + 1 < count)
+            told->report = texts[++i];
         else
             return false;
     }
@@ -220,14 +247,15 @@ static bool read_arguments(int count, char **texts, arguments *told)
 static void open_memory(run *r, const arguments *told)
 {
     uint64_t granularity = r->device->properties.limits.bufferImageGranularity;
+    r->pages.size = granularity > LEAST_GRANULARITY ? granularity : LEAST_GRANULARITY;
     const cuts cut = {
         .heap_size = (uint64_t)LEAST_HEAP << random_below(&r->random, 4),
         .max_objects = (uint32_t)LEAST_OBJECTS << random_below(&r->random, 4),
+        .granularity = told->is_half ? r->pages.size / 2 : r->pages.size,
         .hides_coherence = told->is_incoherent,
     };
     memory_open(r->memory, r->device, &cut, &CONFIG);
     r->memory->random = random_mixed(told->seed + 1);
-    r->granularity = granularity > LEAST_GRANULARITY ? granularity : LEAST_GRANULARITY;
 }
 
 int main(int count, char **texts)
@@ -237,7 +265,8 @@ int main(int count, char **texts)
     static table t;
     arguments told = {0};
     if (!read_arguments(count, texts, &told)) {
-        fprintf(stderr, "usage: vulkan SEED RESOURCES REFUSED_PERCENT [--shift] [--incoherent]\n");
+        fprintf(stderr, "usage: vulkan SEED RESOURCES REFUSED_PERCENT [--shift] [--incoherent] [--half-page]"
+                        " [--report FILE]\n");
         return 2;
     }
     device_open(&d);

@@ -4,9 +4,12 @@
 
    It stands between the program and the Vulkan loader. All memory comes of the device's first type, which the host has
    to see. The host's writes to memory that is not coherent come to it by a flush, and the host sees what is there by an
-   invalidate. It ends the program where an object is of a type that is never to be asked for, is over its heap, or is
-   one too many, and where a range is no good. */
+   invalidate. It tells a large bufferImageGranularity, and by VK_EXT_memory_budget a drawn budget of each heap, also
+   one below what is held. Some images want an object of their own, and some have to have one. It ends the program where
+   an object is of a type that is never to be asked for, is over its heap or its budget, or is one too many, where an
+   image is in another object than the one that it has to have, and where a range is no good. */
 #define _GNU_SOURCE
+#include "random.h"
 #include <dlfcn.h>
 #include <stdbool.h>
 #include <stdio.h>
@@ -14,7 +17,7 @@
 #include <string.h>
 #include <vulkan/vulkan.h>
 
-enum { MOST_OBJECTS = 60, ATOM = 256, PAGE = 4096, NEVER_ASKED = 4 };
+enum { MOST_OBJECTS = 60, ATOM = 256, PAGE = 65536, NEVER_ASKED = 4, PREFERRED_FROM = 8 << 10 };
 
 #define LOCAL VK_MEMORY_PROPERTY_DEVICE_LOCAL_BIT
 #define SEEN VK_MEMORY_PROPERTY_HOST_VISIBLE_BIT
@@ -33,10 +36,16 @@ static const VkMemoryType TYPES[] = {
 static const VkMemoryHeap HEAPS[] = {{5 << 20, VK_MEMORY_HEAP_DEVICE_LOCAL_BIT}, {6 << 20, 0}, {2 << 20, 0}};
 enum { TYPES_COUNT = sizeof TYPES / sizeof *TYPES, HEAPS_COUNT = sizeof HEAPS / sizeof *HEAPS };
 
+/* What was told last of each heap. */
+static VkDeviceSize budgets[HEAPS_COUNT], beside[HEAPS_COUNT];
+static bool are_budgets_told;
+static uint64_t drawn = 1;
+
 typedef struct object {
     VkDeviceMemory handle; /* none where it is null */
     VkDeviceSize size;
     uint32_t type;
+    VkImage image; /* the object is for this one alone, or null */
     unsigned char *bytes; /* the mapped range, from the first byte on */
     unsigned char *cache; /* what the host sees of it, where it is not coherent */
     VkDeviceSize first, length;
@@ -97,6 +106,67 @@ VKAPI_ATTR void VKAPI_CALL vkGetPhysicalDeviceMemoryProperties(VkPhysicalDevice 
     memcpy(told->memoryHeaps, HEAPS, sizeof HEAPS);
 }
 
+static VkDeviceSize used_of_heap(uint32_t heap)
+{
+    VkDeviceSize used = 0;
+    for (int i = 0; i < MOST_OBJECTS; i++)
+        if (objects[i].handle != VK_NULL_HANDLE && TYPES[objects[i].type].heapIndex == heap)
+            used += objects[i].size;
+    return used;
+}
+
+/* The structure of that type in a chain, or null. */
+static void *chained(const void *chain, VkStructureType type)
+{
+    const VkBaseInStructure *it = chain;
+    while (it != NULL && it->sType != type)
+        it = it->pNext;
+    return (void *)it;
+}
+
+/* In a half of the times the whole heap, with nothing beside; in a quarter at most what is held. */
+static void draw_budget(uint32_t heap)
+{
+    uint32_t kind = random_below(&drawn, 4);
+    VkDeviceSize most = kind == 2 ? used_of_heap(heap) + 1 : HEAPS[heap].size;
+    beside[heap] = kind < 2 ? 0 : random_below(&drawn, (uint32_t)HEAPS[heap].size / 8);
+    budgets[heap] = kind < 2 ? HEAPS[heap].size : beside[heap] + random_below(&drawn, (uint32_t)most);
+}
+
+/* The driver may not have the structure, so it does not see it. */
+VKAPI_ATTR void VKAPI_CALL vkGetPhysicalDeviceMemoryProperties2(VkPhysicalDevice physical,
+                                                                VkPhysicalDeviceMemoryProperties2 *told)
+{
+    VkPhysicalDeviceMemoryBudgetPropertiesEXT *budget =
+        chained(told->pNext, VK_STRUCTURE_TYPE_PHYSICAL_DEVICE_MEMORY_BUDGET_PROPERTIES_EXT);
+    vkGetPhysicalDeviceMemoryProperties(physical, &told->memoryProperties);
+    if (budget == NULL)
+        return;
+    are_budgets_told = true;
+    for (uint32_t i = 0; i < HEAPS_COUNT; i++) {
+        draw_budget(i);
+        budget->heapBudget[i] = budgets[i];
+        budget->heapUsage[i] = used_of_heap(i) + beside[i];
+    }
+}
+
+VKAPI_ATTR VkResult VKAPI_CALL vkEnumerateDeviceExtensionProperties(VkPhysicalDevice physical, const char *layer,
+                                                                    uint32_t *count, VkExtensionProperties *told)
+{
+    PFN_vkEnumerateDeviceExtensionProperties real;
+    uint32_t room = *count;
+    find(&real, "vkEnumerateDeviceExtensionProperties");
+    VkResult result = real(physical, layer, count, told);
+    if (result != VK_SUCCESS)
+        return result;
+    if (told != NULL) {
+        must(*count < room, "no room for an extension");
+        told[*count] = (VkExtensionProperties){VK_EXT_MEMORY_BUDGET_EXTENSION_NAME, 1};
+    }
+    *count += 1;
+    return result;
+}
+
 static void widen(VkMemoryRequirements *told)
 {
     must((told->memoryTypeBits & 1) != 0, "a resource is not for the first type");
@@ -121,6 +191,12 @@ VKAPI_ATTR void VKAPI_CALL vkGetBufferMemoryRequirements2(VkDevice device,
     widen(&told->memoryRequirements);
 }
 
+/* One of sixteen images. */
+static bool has_to_be_alone(VkImage image)
+{
+    return random_mixed((uint64_t)image) % 16 == 0;
+}
+
 VKAPI_ATTR void VKAPI_CALL vkGetImageMemoryRequirements2(VkDevice device, const VkImageMemoryRequirementsInfo2 *image,
                                                          VkMemoryRequirements2 *told)
 {
@@ -128,15 +204,22 @@ VKAPI_ATTR void VKAPI_CALL vkGetImageMemoryRequirements2(VkDevice device, const 
     find(&real, "vkGetImageMemoryRequirements2");
     real(device, image, told);
     widen(&told->memoryRequirements);
+    VkMemoryDedicatedRequirements *own = chained(told->pNext, VK_STRUCTURE_TYPE_MEMORY_DEDICATED_REQUIREMENTS);
+    if (own == NULL)
+        return;
+    own->requiresDedicatedAllocation = has_to_be_alone(image->image);
+    own->prefersDedicatedAllocation =
+        own->requiresDedicatedAllocation || told->memoryRequirements.size >= PREFERRED_FROM;
 }
 
-static VkDeviceSize used_of_heap(uint32_t heap)
+VKAPI_ATTR VkResult VKAPI_CALL vkBindImageMemory(VkDevice device, VkImage image, VkDeviceMemory handle,
+                                                 VkDeviceSize offset)
 {
-    VkDeviceSize used = 0;
-    for (int i = 0; i < MOST_OBJECTS; i++)
-        if (objects[i].handle != VK_NULL_HANDLE && TYPES[objects[i].type].heapIndex == heap)
-            used += objects[i].size;
-    return used;
+    PFN_vkBindImageMemory real;
+    const object *it = object_of(handle);
+    must(!has_to_be_alone(image) || it->image == image, "an image is not in the object that it has to have");
+    find(&real, "vkBindImageMemory");
+    return real(device, image, handle, offset);
 }
 
 VKAPI_ATTR VkResult VKAPI_CALL vkAllocateMemory(VkDevice device, const VkMemoryAllocateInfo *info,
@@ -145,15 +228,24 @@ VKAPI_ATTR VkResult VKAPI_CALL vkAllocateMemory(VkDevice device, const VkMemoryA
     PFN_vkAllocateMemory real;
     uint32_t type = info->memoryTypeIndex;
     VkMemoryAllocateInfo first = *info;
+    const VkMemoryDedicatedAllocateInfo *owner =
+        chained(info->pNext, VK_STRUCTURE_TYPE_MEMORY_DEDICATED_ALLOCATE_INFO);
     object *it = object_of(VK_NULL_HANDLE);
     must(type < NEVER_ASKED, "an object of a type that is never to be asked for");
     uint32_t heap = TYPES[type].heapIndex;
-    must(used_of_heap(heap) + info->allocationSize <= HEAPS[heap].size, "an object is over its heap");
+    VkDeviceSize used = used_of_heap(heap) + info->allocationSize;
+    must(used <= HEAPS[heap].size, "an object is over its heap");
+    must(!are_budgets_told || used + beside[heap] <= budgets[heap], "an object is over its heap's budget");
     find(&real, "vkAllocateMemory");
     first.memoryTypeIndex = 0;
     VkResult result = real(device, &first, callbacks, made);
     if (result == VK_SUCCESS)
-        *it = (object){.handle = *made, .size = info->allocationSize, .type = type};
+        *it = (object){
+            .handle = *made,
+            .size = info->allocationSize,
+            .type = type,
+            .image = owner != NULL ? owner->image : VK_NULL_HANDLE,
+        };
     return result;
 }
 

@@ -2,16 +2,11 @@
 
 #include "random.h"
 
-enum { ADDRESSES_PERCENT = 25, OWN_PERCENT = 4, PREFERRED_PERCENT = 6, TRIES = 10000 };
+enum { ADDRESSES_PERCENT = 25, OWN_PERCENT = 4, IMPORTED_PERCENT = 4, PREFERRED_PERCENT = 6, TRIES = 10000 };
 
 static const VkFormat FORMAT = VK_FORMAT_R8G8B8A8_UNORM;
 
 /* ---- Made and bound. ---- */
-
-static bool is_linear(const resource *it)
-{
-    return it->kind != OPTIMAL_IMAGE;
-}
 
 static void make_buffer(run *r, resource *it)
 {
@@ -90,68 +85,72 @@ static uint32_t drawn_usage(run *r, const resource *it)
     return usage;
 }
 
-/* An optimal image takes its pages whole, so that no buffer lies in one of them. */
-static wt_request request_for(run *r, const resource *it, const VkMemoryRequirements *needs, bool prefers)
+static uint32_t drawn_wish(run *r, const VkMemoryDedicatedRequirements *own)
 {
-    uint64_t page = it->kind == OPTIMAL_IMAGE ? r->granularity : 1;
-    uint64_t alignment = needs->alignment > page ? needs->alignment : page;
-    prefers = prefers || random_in_hundred(&r->random, PREFERRED_PERCENT);
+    if (own->requiresDedicatedAllocation || random_in_hundred(&r->random, OWN_PERCENT))
+        return WT_REQUIRED;
+    if (own->prefersDedicatedAllocation || random_in_hundred(&r->random, PREFERRED_PERCENT))
+        return WT_PREFERRED;
+    return WT_SHARED;
+}
+
+/* The allocator keeps optimal images from what lies beside them, and tells which block is of which resource. */
+static wt_request request_for(run *r, const resource *it, const VkMemoryRequirements *needs,
+                              const VkMemoryDedicatedRequirements *own)
+{
     return (wt_request){
-        .size = (needs->size + page - 1) / page * page,
-        .align_mask = alignment - 1,
+        .size = needs->size,
+        .align_mask = needs->alignment - 1,
         .usage = drawn_usage(r, it),
         .memory_types = needs->memoryTypeBits & r->memory->plain_types,
-        .dedicated = prefers ? WT_PREFERRED : random_in_hundred(&r->random, OWN_PERCENT) ? WT_REQUIRED : WT_SHARED,
+        .dedicated = drawn_wish(r, own),
+        .flags = it->kind == OPTIMAL_IMAGE ? WT_OPTIMAL : 0,
+        .user = r->opened,
     };
 }
 
-/* A type for a resource that wants an object of its very own. */
-static uint32_t import_type(const run *r, const resource *it, uint32_t permitted)
-{
-    const VkPhysicalDeviceMemoryProperties *offered = &r->device->memory;
-    for (uint32_t i = 0; i < offered->memoryTypeCount; i++) {
-        VkMemoryPropertyFlags properties = offered->memoryTypes[i].propertyFlags;
-        bool serves = (properties & (VK_MEMORY_PROPERTY_LAZILY_ALLOCATED_BIT | VK_MEMORY_PROPERTY_PROTECTED_BIT)) == 0;
-        if (it->is_seen && !(properties & VK_MEMORY_PROPERTY_HOST_VISIBLE_BIT))
-            serves = false;
-        if (serves && (permitted & r->memory->plain_types) >> i & 1)
-            return i;
-    }
-    must(false, "no memory type serves an import");
-    return 0;
-}
-
-static uint32_t import(run *r, resource *it, const VkMemoryRequirements *needs)
+/* Memory that the program makes itself, as any that comes of another process would be. */
+static uint32_t import(run *r, resource *it, const wt_request *request)
 {
     VkMemoryAllocateFlagsInfo address = {
         .sType = VK_STRUCTURE_TYPE_MEMORY_ALLOCATE_FLAGS_INFO,
         .flags = VK_MEMORY_ALLOCATE_DEVICE_ADDRESS_BIT,
     };
-    VkMemoryDedicatedAllocateInfo owner = {
-        .sType = VK_STRUCTURE_TYPE_MEMORY_DEDICATED_ALLOCATE_INFO,
-        .pNext = it->has_address ? &address : NULL,
-        .image = it->image,
-        .buffer = it->buffer,
-    };
-    uint32_t memory_type = import_type(r, it, needs->memoryTypeBits);
-    uint32_t status = memory_import(r->memory, memory_type, needs->size, &owner, &it->block);
+    uint32_t status = memory_import(r->memory, request, it->has_address ? &address : NULL, &it->block);
     r->imports += status == WT_OK;
     return status;
 }
 
+/* An object is made for the very resource where the driver asks for that, and where an image has to have one. */
 static uint32_t take_memory(run *r, resource *it)
 {
     VkMemoryRequirements needs;
     VkMemoryDedicatedRequirements own;
     ask_needs(r, it, &needs, &own);
-    it->size = needs.size;
-    if (own.requiresDedicatedAllocation || random_in_hundred(&r->random, OWN_PERCENT))
-        return import(r, it, &needs);
-    wt_request request = request_for(r, it, &needs, own.prefersDedicatedAllocation == VK_TRUE);
-    uint32_t status = memory_allocate(r->memory, &request, &it->block);
-    must(status != WT_OK || (it->block.offset & request.align_mask) == 0, "a block is not aligned");
-    must(status != WT_OK || it->block.size >= request.size, "a block is too small");
-    return status;
+    VkMemoryDedicatedAllocateInfo owner = {
+        .sType = VK_STRUCTURE_TYPE_MEMORY_DEDICATED_ALLOCATE_INFO,
+        .image = it->image,
+        .buffer = it->buffer,
+    };
+    bool is_asked = own.requiresDedicatedAllocation || own.prefersDedicatedAllocation;
+    wt_request request = request_for(r, it, &needs, &own);
+    if (!is_asked && random_in_hundred(&r->random, IMPORTED_PERCENT))
+        return import(r, it, &request);
+    bool is_owner = is_asked || (it->kind != BUFFER && request.dedicated == WT_REQUIRED);
+    return memory_allocate_own(r->memory, &request, is_owner ? &owner : NULL, &it->block);
+}
+
+/* It takes the bytes that were asked for, and so the first ones of its block. */
+static void keep_pages(run *r, const resource *it)
+{
+    const bound bytes = {
+        .object = memory_handle(r->memory, &it->block),
+        .first = it->block.offset,
+        .length = it->block.asked,
+        .is_optimal = it->kind == OPTIMAL_IMAGE,
+        .is_own = memory_is_own(r->memory, &it->block),
+    };
+    pages_bind(&r->pages, &bytes);
 }
 
 static void bind(run *r, const resource *it)
@@ -172,29 +171,26 @@ static void bind(run *r, const resource *it)
 uint32_t resource_open(run *r, resource *it, const content *bytes, enum kind kind, bool is_seen)
 {
     *it = (resource){.content = *bytes, .kind = kind, .is_seen = is_seen};
+    r->opened++;
     if (kind == BUFFER)
         make_buffer(r, it);
     else
         make_image(r, it);
     uint32_t status = take_memory(r, it);
-    if (status == WT_OK)
+    if (status == WT_OK) {
+        keep_pages(r, it);
         bind(r, it);
-    else
+    } else {
         unmake(r, it);
+    }
     return status;
 }
 
 void resource_close(run *r, resource *it)
 {
     unmake(r, it);
+    pages_unbind(&r->pages, memory_handle(r->memory, &it->block), it->block.offset);
     memory_free(r->memory, &it->block);
-}
-
-bool resources_share_a_page(const resource *one, const resource *other, uint64_t page)
-{
-    uint64_t first = one->block.offset, second = other->block.offset;
-    return one->block.object == other->block.object && is_linear(one) != is_linear(other)
-           && first / page <= (second + other->size - 1) / page && second / page <= (first + one->size - 1) / page;
 }
 
 /* ---- The host's side. ---- */

@@ -3,6 +3,7 @@
 #define RESOURCES_H
 
 #include "memory.h"
+#include "pages.h"
 
 enum { TEXEL = 4 }; /* bytes */
 
@@ -24,7 +25,6 @@ typedef struct resource {
     VkImage image;
     VkImageLayout layout;
     uint64_t first, pitch; /* where the rows of a linear image lie, counted from its start */
-    uint64_t size;         /* what the device wants for it, in bytes */
     wt_block block;
 } resource;
 
@@ -33,9 +33,9 @@ typedef struct run {
     device *device;
     memory *memory;
     uint64_t random;
-    uint64_t granularity; /* bufferImageGranularity */
-    bool is_shifted;      /* binds one byte off */
-    uint64_t binds, imports, copies, compared;
+    pages pages;
+    bool is_shifted; /* binds one byte off */
+    uint64_t opened, binds, imports, copies, compared;
 } run;
 
 /* Makes a resource and binds it to a block. Where its memory is refused, the resource is gone again. */
@@ -51,8 +51,5 @@ void resource_compare(run *r, const resource *it, const content *bytes);
 
 /* The device copies the content of one resource into another, and is done with it. */
 void resource_copy(run *r, resource *from, resource *to);
-
-/* Whether a buffer or linear image and an optimal image have bytes in one page of that many bytes. */
-bool resources_share_a_page(const resource *one, const resource *other, uint64_t page);
 
 #endif
