@@ -20,7 +20,7 @@ use Rattle.gpu_alloc_base.proofs.Maps.{own_inserted}
 use Rattle.gpu_alloc_base.proofs.Multiples.{mod_from_multiple, multiple_down, multiple_from_mod, multiple_min, multiple_of_lower, multiple_rest, multiple_times}
 use Rattle.gpu_alloc_base.proofs.PowersOfTwo.{greater_power, next_is_enough, power_of_bit}
 use Rattle.gpu_alloc_buddy.specs.Buddy.{Fits}
-use Rattle.gpu_alloc.specs.Allocation.{AllocatesBy, Decides, IsAloneWhereServed, IsCandidate, IsGranted, Plan, candidates_of, fits_a_chunk, is_alone, plan, serves_alone, strategy}
+use Rattle.gpu_alloc.specs.Allocation.{AllocatesBy, AloneIsTold, Decides, IsAloneWhereServed, IsCandidate, IsGranted, Plan, candidates_of, fits_a_chunk, is_alone, plan, serves_alone, strategy}
 use Rattle.gpu_alloc.specs.Atoms.{KeepsAtoms, IsNextListChunk}
 use Rattle.gpu_alloc.specs.BuddySharing.{IsPieceFront, buddy_question, buddy_size, front_of, with_span}
 use Rattle.gpu_alloc.specs.Candidates.{candidate}
@@ -344,6 +344,7 @@ not_alone_kind kind shared own = let both = ap is_shared (sym own) ∙ shared in
 
 -- whose request was asked for of each
 pub alone_is : (s : State) (r : Request) (hint : Option Dedicated) (answer : Result Block AllocationError) → IfOk answer (HasKind s (plan s r hint)) → IfOk answer (IsAloneWhereServed s r hint)
+unfolding IsAloneWhereServed
 alone_is s r hint (Err e) is = tt
 alone_is s r hint (Ok b) is = subst (λ t. IsTrue (serves_alone s r hint t) ↔ (b.kind ≡ DedicatedObject)) (sym is.so.of_type) (
   (λ alone. (is.so.alone (grind (arith, alone))).0),
@@ -355,5 +356,11 @@ alone_is s r hint (Ok b) is = subst (λ t. IsTrue (serves_alone s r hint t) ↔ 
 
 -- A required grant has an object of its own.
 pub required_granted : (s : State) (r : Request) (hint : Dedicated) → hint ≡ Required → (answer : Result Block AllocationError) → IfOk answer (IsAloneWhereServed s r (Some hint)) → IfOk answer (λ b. b.kind ≡ DedicatedObject)
+unfolding IsAloneWhereServed
 required_granted s r hint required (Err e) is = tt
 required_granted s r hint required (Ok b) is = is.0 (subst (λ d. IsTrue (serves_alone s r (Some d) b.memory_type)) (sym required) refl)
+
+-- by which kind it is served is told
+pub alone_told : AloneIsTold
+unfolding IsAloneWhereServed
+alone_told s r hint b is = is

@@ -104,6 +104,7 @@ module _ (s : State) (r : Request) (hint : Option Dedicated) (g : ℕ) (is : IsG
 
   -- an object of its own exactly where whole pages would have one, and of the size as asked
   pub kind_in_pages : (b : Block) → HasKind s (plan_in_pages s r hint g) b → IsAloneWhereServed s paged hint b × (b.kind ≡ DedicatedObject → b.size ≡ r.size)
+  unfolding IsAloneWhereServed
   kind_in_pages b of = elim (cases_Bool (serves_alone s paged hint of.t)) [
     | inl alone ↦
         let so : ServesSo true of.t b = subst (λ x. ServesSo x of.t b) alone of.so in
@@ -120,6 +121,7 @@ module _ (s : State) (r : Request) (hint : Option Dedicated) (g : ℕ) (is : IsG
   ]
 
   pub required_in_pages : hint ≡ Some Required → (answer : Result Block AllocationError) → IfOk answer (HasKind s (plan_in_pages s r hint g)) → IfOk answer (λ b. b.kind ≡ DedicatedObject)
+  unfolding IsAloneWhereServed
   required_in_pages required (Err e) is = tt
   required_in_pages required (Ok b) is = (kind_in_pages b is).0.0 (subst (λ d. IsTrue (serves_alone s paged d b.memory_type)) (sym required) refl)
 

@@ -150,8 +150,13 @@ abbrev pub serves_alone : State → Request → Option Dedicated → ℕ → Boo
 serves_alone s r hint t = is_alone (strategy s r hint t)
 
 -- a block has an object of its own exactly where its memory type serves the request so
-abbrev pub IsAloneWhereServed : State → Request → Option Dedicated → Block → Type 0
+unfoldable pub IsAloneWhereServed : State → Request → Option Dedicated → Block → Type 0
 IsAloneWhereServed s r hint b = IsTrue (serves_alone s r hint b.memory_type) ↔ (b.kind ≡ DedicatedObject)
+
+-- what that says
+abbrev pub AloneIsTold : Type 0
+AloneIsTold = (s : State) (r : Request) (hint : Option Dedicated) (b : Block) → IsAloneWhereServed s r hint b
+    → IsTrue (serves_alone s r hint b.memory_type) ↔ (b.kind ≡ DedicatedObject)
 
 -- a candidate is asked for whole pages, or, where those would be an object of their own, for one of the size as asked
 abbrev pub ask_in_pages : State → Request → Option Dedicated → Request → ℕ → Ask

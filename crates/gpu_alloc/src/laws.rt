@@ -5,7 +5,7 @@ ghost use Rattle.std.specs.FinSet as set;
 ghost use Rattle.gpu_alloc_types.specs.declared.types.FreeRange.{FreeRange};
 ghost use Rattle.gpu_alloc_block.specs.Agreement.{Agrees, KeptBlocksAgree};
 ghost use Rattle.gpu_alloc_block.specs.ByteCalls.{BytesMoved};
-ghost use Rattle.gpu_alloc.specs.Allocation.{strategy, CandidatesServe};
+ghost use Rattle.gpu_alloc.specs.Allocation.{strategy, AloneIsTold, CandidatesServe};
 ghost use Rattle.gpu_alloc.specs.Budget.{heap_budget, heap_bytes, AreLimits, HoldsNoImportOf, IsAskedWithinBudget, IsWithinHeaps};
 ghost use Rattle.gpu_alloc.specs.Exactness.{AreCanonical, AreFreePieces, AreLongEnough, ArePiecesApart};
 ghost use Rattle.gpu_alloc.specs.Exactness.{AreSpaced, AreFreeRuns, TellPlaces};
@@ -214,6 +214,12 @@ pub fn heaps_are_not_overdrawn()
 /// the host's memory does not end the call first, the device is asked, and only its own answer passes the type.
 pub fn questions_within_the_budget_are_asked()
     ensures { IsAskedWithinBudget }
+{}
+
+/// A granted block has an object of its own exactly where its memory type serves the request so
+/// (`GpuAllocator::serves_alone`): by this call what the clause `alone` says becomes known.
+pub fn own_objects_are_where_served_alone()
+    ensures { AloneIsTold }
 {}
 
 /// Each candidate of a request, which a granted block's memory type is, is a memory type that the request permits and

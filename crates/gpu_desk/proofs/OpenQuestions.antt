@@ -377,6 +377,7 @@ module _ (s : State) (granularity : ℕ) (r : Request) (w : Wish) where
   pub alone_then : (asked : Request) (hint : Option Dedicated) (answer : Result Block AllocationError)
       → ((t : ℕ) → is_own s (plan_for s granularity r w) t ≡ serves_alone s asked hint t) → IfOk answer (IsAloneWhereServed s asked hint)
       → IfOk answer (λ b. IsTrue (is_own s (plan_for s granularity r w) b.memory_type) ↔ (b.kind ≡ DedicatedObject))
+  unfolding IsAloneWhereServed
   alone_then asked hint (Ok b) same alone = subst (λ x. IsTrue x ↔ (b.kind ≡ DedicatedObject)) (sym (same b.memory_type)) alone
   alone_then asked hint (Err e) same alone = tt
 
