@@ -1,5 +1,5 @@
 -- Whole pages of a granularity: what a request in them asks for, and what is granted for it.
-use Rattle.std.proofs.Common.{◌≡◌, ℕ, ◌+◌, ◌-◌, ◌%◌, ◌^◌, ◌<◌, ◌≤◌, ◌↔◌, Bool, true, false, cond, Contains, List, Option, Some, None, Result, Ok, Err, IfOk, IfSome, IsTrue, refl, sym, ◌∙◌, subst, arith, inl, inr}
+use Rattle.std.proofs.Common.{◌≡◌, ℕ, ◌+◌, ◌-◌, ◌%◌, ◌^◌, ◌<◌, ◌≤◌, ◌↔◌, Bool, true, false, cond, Contains, List, Option, Some, Result, Ok, Err, IfOk, IsTrue, refl, sym, ◌∙◌, subst, arith, inl, inr}
 use Rattle.std.specs.Prelude.{max}
 use Rattle.std.specs.Int.{is_power_of_two}
 use Rattle.std.proofs.lemmas.Bool.{cases_Bool}
@@ -15,7 +15,7 @@ use Rattle.gpu_alloc_base.proofs.PowersOfTwo.{bit_of_power, greater_power, power
 use Rattle.gpu_alloc_block.specs.State.{Block, State}
 use Rattle.gpu_alloc_block.specs.declared.block.Kind.TheVariants.{Dedicated as DedicatedObject}
 use Rattle.gpu_alloc.specs.Allocation as allocation
-use Rattle.gpu_alloc.specs.Allocation.{AllocatesBy, IsAloneWhereServed, IsInPages, ask, asked_of, candidates_of, is_alone, plan_in_pages, serves_alone, strategy}
+use Rattle.gpu_alloc.specs.Allocation.{AllocatesBy, IsAloneWhereServed, IsInPages, ask, candidates_of, is_alone, plan_in_pages, serves_alone, strategy}
 use Rattle.gpu_alloc.specs.Atoms.{KeepsAtoms}
 use Rattle.gpu_alloc.specs.Request.{IsAskable, IsGranularity, in_pages}
 use Rattle.gpu_alloc.specs.Sound.{IsSound}
@@ -77,15 +77,6 @@ module _ (g : ℕ) (is : IsGranularity g) where
 
     pages_enough : r.size ≤ up r.size g
     pages_enough = up_enough r.size g askable.nonempty some
-
--- what a memory type is asked may be asked
-pub asked_askable : {address : Bool} (s : State) (r : Request) (hint : Option Dedicated) (pages : Option Request) (t : ℕ) → IsAskable address r → IfSome pages (IsAskable address) → IsAskable address (asked_of s r hint pages t).request
-asked_askable s r hint None t own paged = own
-asked_askable {address = address} s r hint (Some pages) t own paged = either (serves_alone s pages hint t)
-  where
-    either : (alone : Bool) → IsAskable address (cond alone (ask r (Some Required) t) (ask pages hint t)).request
-    either true = own
-    either false = paged
 
 -- A plan by whole pages.
 

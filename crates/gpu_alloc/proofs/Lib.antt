@@ -26,6 +26,7 @@ pub mod NewObjects
 pub mod Opened
 pub mod OwnObjects
 pub mod Owning
+pub mod Pages
 pub mod ReturnedTotals
 pub mod Returns
 pub mod Served
@@ -34,3 +35,4 @@ pub mod Soundness
 pub mod Strategies
 pub mod Tables
 pub mod Trials
+pub mod UnderKeys

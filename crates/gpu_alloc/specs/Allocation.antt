@@ -86,6 +86,10 @@ Tries s r hint t es (Err e) new = Decides s r hint t es (Err e) new
 abbrev pub ask : Request → Option Dedicated → ℕ → Ask
 ask r hint t = record { request = r; hint = hint }
 
+-- one candidate was tried for what it is asked
+abbrev pub TriesAsked : State → (ℕ → Ask) → ℕ → List Event → Result (Option Block) AllocationError → State → Type 0
+TriesAsked s asked t es answer new = Tries s (asked t).request (asked t).hint t es answer new
+
 -- In rank, the first candidate that is not passed decides. Where all are passed there is no device memory.
 abbrev pub TriesAll : State → (ℕ → Ask) → List ℕ → List Event → Result Block AllocationError → State → Type 0
 TriesAll s asked [] es answer new = (es ≡ []) × (answer ≡ Err OutOfDeviceMemory) × (new ≡ s)

@@ -14,6 +14,7 @@ pub mod Listing
 pub mod Inside
 pub mod Opening
 pub mod Owned
+pub mod Pages
 pub mod Release
 pub mod Request
 pub mod Samples
@@ -22,6 +23,7 @@ pub mod Serving
 pub mod Sound
 pub mod Spans
 pub mod Types
+pub mod UnderKeys
 pub use Rattle.gpu_alloc_base.specs.Accounts
 pub use Rattle.gpu_alloc_base.specs.AlignMasks
 pub use Rattle.gpu_alloc_base.specs.Case

@@ -26,6 +26,7 @@ ghost use Rattle.gpu_alloc.specs.Sound as Sound;
 ghost use Rattle.gpu_alloc_block.specs.State.{Block, HeldObject, Span, IsLive, IsOwned, heap_limit, ledger, total};
 
 mod by_type;
+mod candidates;
 mod choosing;
 mod importing;
 mod listing;
@@ -228,7 +229,7 @@ impl<M: MemoryObject, A: Allocator> GpuAllocator<M, A> {
         ensures sound { Sound.IsSound self.new }
     {
         self.keeps_sound();
-        let answer = self.allocate(device, request, None, None);
+        let answer = self.allocate(device, request, None, &None);
         self.keeps_sound();
         answer
     }
@@ -274,7 +275,7 @@ impl<M: MemoryObject, A: Allocator> GpuAllocator<M, A> {
         ensures sound { Sound.IsSound self.new }
     {
         self.keeps_sound();
-        let answer = self.allocate(device, request, Some(dedicated), None);
+        let answer = self.allocate(device, request, Some(dedicated), &None);
         self.keeps_sound();
         answer
     }
@@ -285,13 +286,13 @@ impl<M: MemoryObject, A: Allocator> GpuAllocator<M, A> {
         device: &mut D,
         request: Request,
         hint: Option<Dedicated>,
-        paged: Option<Request>,
+        paged: &Option<Request>,
     ) -> Result<MemoryBlock<M>, AllocationError>
         requires askable { IsAskable (self.old.properties).buffer_device_address request }
-        requires pages { IfSome paged (IsAskable (self.old.properties).buffer_device_address) }
+        requires pages { IfSome paged.now (IsAskable (self.old.properties).buffer_device_address) }
         requires agrees { Agrees self.old (D.properties device.old) (D.objects device.old) }
         ensures decided { (es : List Event) × Chain D.step device.old es device.new
-            × AllocatesBy self.old (plan_with self.old request hint paged) es result self.new }
+            × AllocatesBy self.old (plan_with self.old request hint paged.now) es result self.new }
         ensures objects { ObjectsAfter self.old result self.new (D.objects device.old) (D.objects device.new) }
     {
         if request.size > self.max_allocation_size() {
@@ -333,22 +334,21 @@ impl<M: MemoryObject, A: Allocator> GpuAllocator<M, A> {
         device: &mut D,
         request: Request,
         hint: Option<Dedicated>,
-        paged: Option<Request>,
+        paged: &Option<Request>,
         usage: UsageFlags,
     ) -> Result<MemoryBlock<M>, AllocationError>
         requires askable { IsAskable (self.old.properties).buffer_device_address request }
-        requires pages { IfSome paged (IsAskable (self.old.properties).buffer_device_address) }
+        requires pages { IfSome paged.now (IsAskable (self.old.properties).buffer_device_address) }
         requires meant { usage_bits usage ≡ implied (usage_bits request.usage) }
         requires agrees { Agrees self.old (D.properties device.old) (D.objects device.old) }
         ensures tries { (es : List Event) × Chain D.step device.old es device.new
-            × TriesAll self.old (asked_of self.old request hint paged) (candidates_of self.old request) es result self.new }
+            × TriesAll self.old (asked_of self.old request hint paged.now) (candidates_of self.old request) es result self.new }
         ensures objects { ObjectsAfter self.old result self.new (D.objects device.old) (D.objects device.new) }
     {
         for rank in 0..self.ranked(usage).len() {
             let memory_type = self.ranked(usage)[rank];
             if request.memory_types >> memory_type & 1 == 1 {
-                let asked = self.ask(request, hint, paged, memory_type);
-                match self.try_type(device, asked.request, asked.hint, memory_type) {
+                match self.try_asked(device, request, hint, paged, memory_type) {
                     Ok(Some(block)) => return Ok(block),
                     Ok(None) => {}
                     Err(refusal) => return Err(refusal),

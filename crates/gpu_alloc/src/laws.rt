@@ -29,8 +29,10 @@ ghost use Rattle.gpu_alloc.specs.BuddySharing.{buddy_size, buddy_question, with_
 ghost use Rattle.gpu_alloc_base.specs.Sizes.{minimal_size, final_size, grown_chunk, doubled_chunk};
 ghost use Rattle.gpu_alloc.specs.FirstTypes.{first_types};
 ghost use Rattle.gpu_alloc.specs.Owned.{AreTwo, CancelOut, HoldsNothing};
+ghost use Rattle.gpu_alloc.specs.Pages.{PagesApart};
 ghost use Rattle.gpu_alloc.specs.Serving.{AsksForOwnObjects, NeverServed};
 ghost use Rattle.gpu_alloc.specs.Sound.{IsSound};
+ghost use Rattle.gpu_alloc.specs.UnderKeys.{AllComeAndGo};
 ghost use Rattle.gpu_alloc_block.specs.Contents.{BytesStay};
 ghost use Rattle.gpu_alloc_block.specs.Keyed.{ComeAndGoUnderKeys};
 ghost use Rattle.gpu_alloc_block.specs.Kept.{ToldByPlace};
@@ -301,6 +303,13 @@ pub fn two_blocks_are_apart()
     ensures objects { (b c : Block) → AreTwo b c → is_shared b.kind ≡ false → b.object ≢ c.object }
 {}
 
+/// No page of a granularity of one object holds one of the bytes that were asked for of an optimal block
+/// (`GpuAllocator::alloc_optimal`) and a byte of another block in hand, linear or optimal: of a later one, or of one that
+/// was there.
+pub fn pages_are_not_shared()
+    ensures { PagesApart }
+{}
+
 /// What is known of a list of blocks in hand is known of the block at a place of it: it is owned, it agrees with the device,
 /// and of two places the blocks are two. So a list is a map from places, which the clauses on keys speak of.
 pub fn blocks_in_hand_are_told_by_place()
@@ -310,9 +319,10 @@ pub fn blocks_in_hand_are_told_by_place()
 /// Blocks under keys of the caller's own, as an `IndexMap` of blocks has them, stay kept (`AreKept`) where one is put
 /// under a key that had none, where the map lends one for a call, and where one is taken out. Only what is found under
 /// each key counts, in whatever order the pairs stand. By this call what the map's `Updates` and the allocator's
-/// `joins` or `in_hand` say becomes that of the new map.
+/// `joins` or `in_hand` say becomes that of the new map; and where nothing else is live (`AreAllKept`), that stays so.
 pub fn blocks_under_keys_come_and_go()
-    ensures { ComeAndGoUnderKeys }
+    ensures kept { ComeAndGoUnderKeys }
+    ensures all { AllComeAndGo }
 {}
 
 /// Bytes that are as they were stay so from call to call, and what the device had of a block that keeps its bytes it has.

@@ -93,7 +93,7 @@ step_stays old (Invalidated rs (Err e)) new a why stopped = absurd a
 step_stays old (BytesPut name offset bytes) new a why stopped = ap (λ (r : RunState). r.stop) a ∙ stopped
 step_stays old (BytesGot name offset bytes) new a why stopped = ap (λ (r : RunState). r.stop) a ∙ stopped
 
-run_stays : (old : DeviceState) (es : List Event) (new : DeviceState) → Chain IsStep old es new → (why : Stop) → old.run.stop ≡ Some why
+pub run_stays : (old : DeviceState) (es : List Event) (new : DeviceState) → Chain IsStep old es new → (why : Stop) → old.run.stop ≡ Some why
     → new.run.stop ≡ Some why
 run_stays old [] new same why stopped = ap (λ (s : DeviceState). s.run.stop) same ∙ stopped
 run_stays old (e ∷ es) new run why stopped = run_stays run.0 es new run.2 why (step_stays old.run e run.0.run run.1.answers why stopped)

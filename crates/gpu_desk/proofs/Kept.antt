@@ -8,17 +8,21 @@ use Rattle.gpu_alloc_types.specs.Device.{Chain, Event, Object}
 use Rattle.gpu_alloc_types.specs.Objects.{put-other}
 use Rattle.gpu_alloc_types.specs.Properties.{Properties}
 use Rattle.gpu_alloc.specs.Allocation.{IsAsCounted}
+use Rattle.gpu_alloc.specs.Agreement.{Agrees}
+use Rattle.gpu_alloc.specs.Budget.{with_heap_limit}
 use Rattle.gpu_alloc.specs.NewObject.{ObjectsGiven}
+use Rattle.gpu_alloc.specs.Sound as allocator
 use Rattle.gpu_alloc.specs.Owned.{HoldsWith}
 use Rattle.gpu_alloc.specs.State.{Block, HeldObject, State, IsOwned}
 use Rattle.gpu_alloc.specs.Types.Mapping.{Mapping}
-use Rattle.gpu_alloc_base.proofs.Names.{get_put-other, len_put}
+use Rattle.gpu_alloc_base.proofs.Names.{get_put-other, here, len_put, wherever}
 use Rattle.gpu_answers.specs.Asking.{RunState}
 use Rattle.gpu_answers.specs.Device.{all_shown, IsStep, objects_of}
 use Rattle.gpu_answers.specs.DeviceState.{DeviceState}
 use Rattle.gpu_answers.specs.Held.{HeldState, KeepsNames}
 use Rattle.gpu_answers.proofs.Naming.{fewer_wait, first_wait, names_kept_twice, run_keeps_names}
 use Rattle.gpu_session.specs.Books.{Books}
+use Rattle.gpu_session.specs.Sound as session
 use Rattle.gpu_session.specs.Sound.{IsKept}
 use Rattle.gpu_session.specs.declared.offer.Offer.{Offer}
 use Rattle.gpu_desk.specs.Calls.{HasKey}
@@ -117,3 +121,23 @@ pub range_is : (o p : ℕ) (m n : Mapping) → o ≡ p → m ≡ n
     → ◌≡◌ {A = ObjectRange} (record { object = o; offset = m.start; size = m.len }) (record { object = p; offset = n.start; size = n.len })
 range_is o p m n same_object same_mapping =
     ap (λ q. record { object = q; offset = m.start; size = m.len }) same_object ∙ ap (λ (k : Mapping). record { object = p; offset = k.start; size = k.len }) same_mapping
+
+-- Limits.
+
+-- a heap's limit is of no account to what a desk keeps
+pub limited_is_kept : {A : Type 0} {p : Properties} {objects : ℕ → Option Object} {s : State} {blocks : map.FinMap nat_cmp Block} {o : Offer A} (heap limit : ℕ)
+    → IsKept p objects (record { allocator = s; blocks = blocks }) o → ((b : Block) → IsOwned s b → IsOwned (with_heap_limit s heap limit) b)
+    → Agrees (with_heap_limit s heap limit) p objects → allocator.IsSound (with_heap_limit s heap limit)
+    → IsKept p objects (record { allocator = with_heap_limit s heap limit; blocks = blocks }) o
+limited_is_kept {p = p} {objects = objects} {s = s} {blocks = blocks} heap limit kept owned agrees sound = record {
+  sound = record {
+    agrees = agrees;
+    allocator = sound;
+    blocks = λ name. wherever (map.get blocks name) (session.IsBlock p (with_heap_limit s heap limit) objects) (λ b at.
+        let lives = here (map.get blocks name) (session.IsBlock p s objects) ((kept.sound).blocks name) b at in
+        record { nonempty = lives.nonempty; owned = owned b lives.owned; inside = lives.inside; whole_atoms = lives.whole_atoms; agrees = lives.agrees });
+    apart = (kept.sound).apart;
+    named = λ span live. (kept.sound).named span live;
+  };
+  offer = kept.offer;
+}

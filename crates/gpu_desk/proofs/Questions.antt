@@ -18,13 +18,12 @@ use Rattle.gpu_alloc_base.specs.Case.{Case}
 use Rattle.gpu_alloc_base.specs.NewChunk.{ChunkQuestion, LacksDeviceMemory, LacksHostMemory, IsGivenBack, made, whole_of}
 use Rattle.gpu_alloc_usage.specs.Ranking.{Before, IsRankingWithin, IsRising, candidates, implied, key_of}
 use Rattle.gpu_alloc_usage.proofs.Ranking.Candidates.{candidates_IsRankingWithin}
-use Rattle.gpu_alloc.specs.Allocation.{ask, Allocates, IsPassed, Refuses, TriesAll, candidates_of, strategy}
+use Rattle.gpu_alloc.specs.Allocation.{AllocatesBy, IsPassed, Plan, Refuses, TriesAll, candidates_of, plan, plan_in_pages, strategy}
 use Rattle.gpu_alloc.specs.Candidates.{candidate}
 use Rattle.gpu_alloc.specs.Request.{is_required}
 use Rattle.gpu_alloc.specs.State.{Block, State}
 use Rattle.gpu_alloc.specs.Types.AllocationError.{AllocationError}
 use Rattle.gpu_alloc.specs.Types.AllocationError.TheVariants.{OutOfDeviceMemory, OutOfHostMemory, TooManyObjects, NoCompatibleMemoryTypes}
-use Rattle.gpu_alloc.specs.declared.request.Dedicated.{Dedicated}
 use Rattle.gpu_alloc.specs.declared.request.Request.{Request}
 use Rattle.gpu_answers.specs.Asking.{begun}
 use Rattle.gpu_answers.specs.declared.question.Answered.{Answered}
@@ -32,9 +31,10 @@ use Rattle.gpu_answers.specs.declared.question.Question.{Question}
 use Rattle.gpu_answers.specs.declared.run.Stop.{Stop}
 use Rattle.gpu_answers.specs.declared.run.Stop.TheVariants as Stopped
 use Rattle.gpu_answers.proofs.Asked.{open_uses_all, questions}
-use Rattle.gpu_desk.specs.Calls.{AllocationDenied, denial_after}
+use Rattle.gpu_desk.specs.Calls.{AllocationDenied, denial_after, plan_of}
 use Rattle.gpu_desk.specs.Desk.{DeskState}
 use Rattle.gpu_desk.specs.declared.denial.Denial.{Denial}
+use Rattle.gpu_desk.specs.Wishes.{goes_by_pages, plan_for}
 use Rattle.gpu_desk.specs.declared.wish.Wish.{Wish}
 use Rattle.gpu_desk.specs.declared.denial.Denial.TheVariants.{Open, Refused}
 
@@ -119,12 +119,12 @@ module _ {B S : Type 0} (c : Case B S) where
 
 -- What an allocation asks.
 
-module _ (s : State) (r : Request) (hint : Option Dedicated) where
-  one_asks : (t : ℕ) (es : List Event) → IsPassed s r hint t es → questions es ≤ 2
+module _ (s : State) (p : Plan) where
+  one_asks : (t : ℕ) (es : List Event) → IsPassed s (p.asked t).request (p.asked t).hint t es → questions es ≤ 2
   one_asks t es (inl small) = none_asks 2 es small.1
-  one_asks t es (inr served) = passed_asks (candidate (strategy s r hint t) s r t) es served.1
+  one_asks t es (inr served) = passed_asks (candidate (strategy s (p.asked t).request (p.asked t).hint t) s (p.asked t).request t) es served.1
 
-  all_ask : (ts : List ℕ) (es : List Event) (answer : Result Block AllocationError) (new : State) → TriesAll s (ask r hint) ts es answer new
+  all_ask : (ts : List ℕ) (es : List Event) (answer : Result Block AllocationError) (new : State) → TriesAll s p.asked ts es answer new
       → questions es ≤ 2 * length ts
   all_ask [] es answer new tried = none_asks 0 es tried.0
   all_ask (t ∷ ts) es answer new (inl (first, rest, both, passed, later)) =
@@ -133,37 +133,43 @@ module _ (s : State) (r : Request) (hint : Option Dedicated) where
       let others = all_ask ts rest answer new later in
       omega (arith, asked, one, others)
   all_ask (t ∷ ts) es answer new (inr decides) =
-      let one = decided_asks (candidate (strategy s r hint t) s r t) es answer new decides.1 in omega (arith, one)
+      let one = decided_asks (candidate (strategy s (p.asked t).request (p.asked t).hint t) s (p.asked t).request t) es answer new decides.1 in omega (arith, one)
 
-  allocation_asks : (es : List Event) (answer : Result Block AllocationError) (new : State) → Allocates s r hint es answer new
-      → questions es ≤ 2 * length (candidates_of s r)
-  unfolding Allocates
-  allocation_asks es answer new h =
-      by (nat_lt s.properties.max_memory_allocation_size r.size) (is_required hint && (s.remaining == 0)) (nat_eq (length (candidates_of s r)) 0) h
+  allocation_asks : (es : List Event) (answer : Result Block AllocationError) (new : State) → AllocatesBy s p es answer new
+      → questions es ≤ 2 * length p.candidates
+  allocation_asks es answer new h = by p.too_large (is_required p.hint && (s.remaining == 0)) (nat_eq (length p.candidates) 0) h
     where
       by : (a b c : Bool) → MatchBool a (Refuses s OutOfDeviceMemory es answer new) (
           MatchBool b (Refuses s TooManyObjects es answer new) (
-          MatchBool c (Refuses s NoCompatibleMemoryTypes es answer new) (TriesAll s (ask r hint) (candidates_of s r) es answer new)))
-          → questions es ≤ 2 * length (candidates_of s r)
+          MatchBool c (Refuses s NoCompatibleMemoryTypes es answer new) (TriesAll s p.asked p.candidates es answer new)))
+          → questions es ≤ 2 * length p.candidates
       by true b c h = none_asks _ es h.0
       by false true c h = none_asks _ es h.0
       by false false true h = none_asks _ es h.0
-      by false false false h = all_ask (candidates_of s r) es answer new h
+      by false false false h = all_ask p.candidates es answer new h
 
 -- Calls that end with an open question.
 
-opened : (stop : Option Stop) (refusal : Denial) (question : Question) → (Open question ≡ refusal → ⊥) → Open question ≡ denial_after stop refusal
-    → stop ≡ Some (Stopped.Open question)
-opened None refusal question other is = absurd (other is)
-opened (Some (Stopped.Open asked)) refusal question other is = cc
-opened (Some Stopped.Strayed) refusal question other is = absurd (cc)
+opened : (own : Question → Bool) (stop : Option Stop) (refusal : Denial) (question : Question) (is : Bool) → (Open question is ≡ refusal → ⊥)
+    → Open question is ≡ denial_after own stop refusal → stop ≡ Some (Stopped.Open question)
+opened own None refusal question is other same = absurd (other same)
+opened own (Some (Stopped.Open asked)) refusal question is other same = cc
+opened own (Some Stopped.Strayed) refusal question is other same = absurd (cc)
 
-pub allocation_asks_few : (s : DeskState) (r : Request) (w : Wish) (answers : List Answered) (question : Question) → r.memory_types < 2 ^ 32
-    → AllocationDenied s r w answers (Open question) → length answers < 64
+-- the candidates are those of the request, whichever way it goes
+candidates_are : (s : State) (granularity : ℕ) (r : Request) (w : Wish) → (plan_for s granularity r w).candidates ≡ candidates_of s r
+candidates_are s granularity r w = elim (goes_by_pages granularity w) as (λ b. (cond b (plan_in_pages s r w.dedicated granularity) (plan s r w.dedicated)).candidates ≡ candidates_of s r) [
+  | true ↦ refl
+  | false ↦ refl
+]
+
+pub allocation_asks_few : (s : DeskState) (r : Request) (w : Wish) (answers : List Answered) (question : Question) (own : Bool) → r.memory_types < 2 ^ 32
+    → AllocationDenied s r w answers (Open question own) → length answers < 64
 unfolding AllocationDenied
-allocation_asks_few s r w answers question small (inl fault) = absurd (let is = fault.1 in cc)
-allocation_asks_few s r w answers question small (inr (able, (es, after, run, (e, decided, why)))) =
-    let used = open_uses_all (record (s.device) { run = begun answers }) es after run refl question (opened after.run.stop (Refused e) question (λ is. cc) why) in
-    let asked = allocation_asks s.allocator r w.dedicated es (Err e) s.allocator decided in
+allocation_asks_few s r w answers question own small (inl fault) = absurd (let is = fault.1 in cc)
+allocation_asks_few s r w answers question own small (inr (able, (es, after, run, (e, decided, why)))) =
+    let used = open_uses_all (record (s.device) { run = begun answers }) es after run refl question (opened _ after.run.stop (Refused e) question own (λ is. cc) why) in
+    let asked = allocation_asks s.allocator (plan_of s r w) es (Err e) s.allocator decided in
+    let many = ap length (candidates_are s.allocator s.granularity r w) in
     let few = few_candidates s.allocator.properties.memory_types (usage_bits r.usage) r.memory_types small in
-    omega (arith, used, asked, few)
+    omega (arith, used, asked, many, few)

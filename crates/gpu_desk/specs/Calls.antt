@@ -1,23 +1,23 @@
 -- What the calls of a desk do.
-use Rattle.std.specs.Prelude.{◌≡◌, ◌≢◌, ◌⊎◌, ◌↔◌, ℕ, ◌+◌, ◌==◌, ◌&&◌, ◌≤◌, false, not, cond, List}
+use Rattle.std.specs.Prelude.{◌≡◌, ◌≢◌, ◌⊎◌, ◌↔◌, ℕ, ◌<◌, ◌+◌, min, ◌==◌, ◌&&◌, ◌≤◌, Bool, true, false, not, cond, List}
 use Rattle.std.specs.Prelude.{◌++◌, length, Option, Some, None, is_some, IsSome, Ok, Err, IsTrue}
 use Rattle.std.specs.FinMap as map
 use Rattle.gpu_alloc_types.specs.Device.{Chain, Event, HeldWith}
-use Rattle.gpu_alloc_types.specs.Flags.{has_bit, host_visible}
+use Rattle.gpu_alloc_types.specs.Flags.{device_address, has_bit, host_visible, usage_bits}
+use Rattle.gpu_alloc_types.specs.declared.usage_flags.UsageFlags.{UsageFlags}
 use Rattle.gpu_alloc_types.specs.Properties.{are_non_coherent}
-use Rattle.gpu_alloc.specs.Allocation.{Allocates, IsGranted}
-use Rattle.gpu_alloc.specs.Budget.{heap_budget}
+use Rattle.gpu_alloc.specs.Allocation.{AllocatesBy, IsGranted, IsInPages, Plan}
+use Rattle.gpu_alloc.specs.Budget.{heap_budget, heap_bytes, with_heap_limit}
 use Rattle.gpu_alloc.specs.Importing.{imported_block}
 use Rattle.gpu_alloc.specs.Mapped.{AsksToMap, mapping_of, unmapping}
 use Rattle.gpu_alloc.specs.Ranges.{rounded}
 use Rattle.gpu_alloc.specs.Release.{Cleans, Frees, GoesBack}
-use Rattle.gpu_alloc.specs.State.{Block, is_shared, ledger, total}
+use Rattle.gpu_alloc.specs.State.{Block, heap_limit, is_shared, ledger, total}
 use Rattle.gpu_alloc.specs.Types.AllocationError.{AllocationError}
 use Rattle.gpu_alloc.specs.Types.Kind.TheVariants.{Dedicated as DedicatedObject}
 use Rattle.gpu_alloc.specs.Types.MapError.{MapError}
 use Rattle.gpu_alloc.specs.Types.MapError.TheVariants.{NonHostVisible}
 use Rattle.gpu_alloc.specs.Types.Mapping.{Mapping}
-use Rattle.gpu_alloc.specs.declared.request.Dedicated.{Dedicated}
 use Rattle.gpu_alloc.specs.declared.request.Dedicated.TheVariants.{Required}
 use Rattle.gpu_alloc.specs.declared.request.Request.{Request}
 use Rattle.gpu_answers.specs.Asking.{begun}
@@ -25,6 +25,7 @@ use Rattle.gpu_answers.specs.Device.{IsStep, objects_of}
 use Rattle.gpu_answers.specs.DeviceState.{DeviceState}
 use Rattle.gpu_answers.specs.Held.{KeepsNames}
 use Rattle.gpu_answers.specs.declared.question.Answered.{Answered}
+use Rattle.gpu_answers.specs.declared.question.Question.{Question}
 use Rattle.gpu_answers.specs.declared.run.Stop.{Stop}
 use Rattle.gpu_answers.specs.declared.run.Stop.TheVariants as Stopped
 use Rattle.gpu_session.specs.Faults.{fault_of_block, fault_of_import, fault_of_range, fault_of_request, where_true}
@@ -33,6 +34,7 @@ use Rattle.gpu_session.specs.declared.command.Fault.{Fault as FaultCode}
 use Rattle.gpu_session.specs.declared.command.Fault.TheVariants.{BadSize, NoMemory, UnknownName}
 use Rattle.gpu_slots.specs.SlotMap.{IsGiven, IsGone, SlotState, StaysGone}
 use Rattle.gpu_desk.specs.Desk.{DeskState, OfKey, objects, tag_of}
+use Rattle.gpu_desk.specs.Wishes.{asks_own, is_own, plan_for}
 use Rattle.gpu_desk.specs.declared.denial.Denial.{Denial}
 use Rattle.gpu_desk.specs.declared.denial.Denial.TheVariants.{Open, Strayed, Refused, MapRefused, Fault}
 use Rattle.gpu_desk.specs.declared.told.Counts.{Counts}
@@ -78,11 +80,15 @@ InRun s answers P =
     (es : List Event) × (after : DeviceState) × Chain IsStep (record (s.device) { run = begun answers }) es after
     × P es after
 
--- why a run gives nothing that ended so, with this refusal
-abbrev pub denial_after : Option Stop → Denial → Denial
-denial_after None refusal = refusal
-denial_after (Some (Stopped.Open question)) refusal = Open question
-denial_after (Some Stopped.Strayed) refusal = Strayed
+-- why a run gives nothing that ended so, with this refusal, and whether its open question is for an object of its own
+abbrev pub denial_after : (Question → Bool) → Option Stop → Denial → Denial
+denial_after own None refusal = refusal
+denial_after own (Some (Stopped.Open question)) refusal = Open question (own question)
+denial_after own (Some Stopped.Strayed) refusal = Strayed
+
+-- no question to map is
+abbrev pub none_own : Question → Bool
+none_own question = false
 
 -- Blocks and keys.
 
@@ -121,6 +127,10 @@ pub record Gives (old : DeskState) (g : Grant) (b : Block) (t : Tag) (new : Desk
   pub key : HasKey old.blocks g.key b new.blocks
   pub names : new.device.held.gone ≡ old.device.held.gone
 
+-- how the allocator tries a request of the desk
+abbrev pub plan_of : DeskState → Request → Wish → Plan
+plan_of s r w = plan_for s.allocator s.granularity r w
+
 -- A request is granted: as it asks, and as the allocator decides it in a run with these answers.
 pub record Allocated (old : DeskState) (r : Request) (w : Wish) (answers : List Answered) (new : DeskState) (g : Grant)
     : Type 0 where
@@ -128,7 +138,10 @@ pub record Allocated (old : DeskState) (r : Request) (w : Wish) (answers : List 
   pub gives : Gives old g block (wished w r.size) new
   pub as_asked : IsGranted old.allocator r new.allocator block
   pub own : w.dedicated ≡ Some Required → block.kind ≡ DedicatedObject
-  pub run : InRun old answers (λ es after. Allocates old.allocator r w.dedicated es (Ok block) new.allocator
+  -- it has its object alone exactly where its memory type was to be asked for one of its own
+  pub alone : IsTrue (is_own old.allocator (plan_of old r w) block.memory_type) ↔ (block.kind ≡ DedicatedObject)
+  pub pages : w.optimal ≡ true → IsInPages old.granularity r.size block
+  pub run : InRun old answers (λ es after. AllocatesBy old.allocator (plan_of old r w) es (Ok block) new.allocator
       × (objects new ≡ objects_of after))
   -- the object is new, or else it was held; no other object comes or goes
   pub fresh : IsTrue g.fresh ↔ (map.get old.allocator.held block.object ≡ None)
@@ -137,8 +150,8 @@ pub record Allocated (old : DeskState) (r : Request) (w : Wish) (answers : List 
 -- the allocator refuses it in a run that ends so
 abbrev pub RefusesIn : DeskState → Request → Wish → List Answered → Denial → Type 0
 RefusesIn s r w answers d =
-    InRun s answers (λ es after. (e : AllocationError) × Allocates s.allocator r w.dedicated es (Err e) s.allocator
-    × (d ≡ denial_after after.run.stop (Refused e)))
+    InRun s answers (λ es after. (e : AllocationError) × AllocatesBy s.allocator (plan_of s r w) es (Err e) s.allocator
+    × (d ≡ denial_after (asks_own s.allocator (plan_of s r w)) after.run.stop (Refused e)))
 
 -- why a request is denied: the first condition that it misses, or want of memory, or the run
 abbrev pub IsFaultOf : Option FaultCode → Denial → Type 0
@@ -231,7 +244,7 @@ fault_of_map s key offset size =
 abbrev pub MapRefusedIn : DeskState → (key offset size : ℕ) → List Answered → Denial → Type 0
 MapRefusedIn s key offset size answers d =
     OfKey s key (λ b. InRun s answers (λ es after. (e : MapError) × AsksToMap b offset size (Err e) es
-    × (d ≡ denial_after after.run.stop (MapRefused e))))
+    × (d ≡ denial_after none_own after.run.stop (MapRefused e))))
 
 unfoldable pub MapDenied : DeskState → (key offset size : ℕ) → List Answered → Denial → Type 0
 MapDenied s key offset size answers d =
@@ -272,6 +285,10 @@ RangeDenied s key offset size d =
 
 -- Counts.
 
+-- the usage asks for an address, of which the device cannot tell
+abbrev pub lacks_address : DeskState → UsageFlags → Bool
+lacks_address s usage = has_bit (usage_bits usage) device_address && not s.allocator.properties.buffer_device_address
+
 pub record CountsOf (s : DeskState) (c : Counts) : Type 0 where
   pub blocks : c.blocks ≡ map.len s.blocks.live
   pub unread : c.unread ≡ length s.device.held.gone
@@ -281,6 +298,14 @@ pub record CountsOf (s : DeskState) (c : Counts) : Type 0 where
 pub record HeapCountsOf (s : DeskState) (heap : ℕ) (c : HeapCounts) : Type 0 where
   pub used : c.used ≡ ledger s.allocator heap
   pub budget : c.budget ≡ heap_budget s.allocator heap
+  pub limit : c.limit ≡ heap_limit s.allocator heap
+
+-- nothing but the limit of one heap is another now
+pub record LimitsHeap (old : DeskState) (heap limit : ℕ) (new : DeskState) : Type 0 where
+  pub known : heap < length old.allocator.properties.memory_heaps
+  pub set : new ≡ record old { allocator = with_heap_limit old.allocator heap limit }
+  pub told : heap_limit new.allocator heap ≡ min limit (heap_bytes old.allocator.properties heap)
+  pub others : (other : ℕ) → other ≢ heap → heap_limit new.allocator other ≡ heap_limit old.allocator other
 
 -- a name was read, and nothing else changed
 pub record OnlyReads (old new : DeskState) : Type 0 where

@@ -1,10 +1,10 @@
 -- What a contract sees of a desk.
-use Rattle.std.specs.Prelude.{◌≡◌, ℕ, ◌==◌, ◌^◌, ◌≤◌, false, cond, List, [], length, Option, Some, IsTrue, refl, slice_index_or}
+use Rattle.std.specs.Prelude.{◌≡◌, ℕ, ◌==◌, cond, List, [], length, Option, Some, refl}
 use Rattle.std.specs.Coded.{Coded, code_by, coded×, coded_ℕ, coded_list}
 use Rattle.std.specs.FinMap as map
-use Rattle.std.specs.Int.{is_power_of_two}
 use Rattle.gpu_alloc_types.specs.Device.{Object}
 use Rattle.gpu_alloc.specs.Codes.{block_code, state_code}
+use Rattle.gpu_alloc.specs.Request.{IsGranularity}
 use Rattle.gpu_alloc.specs.State.{Block, State}
 use Rattle.gpu_answers.specs.Device.{objects_of}
 use Rattle.gpu_answers.specs.DeviceState.{DeviceState, device_code}
@@ -12,7 +12,9 @@ use Rattle.gpu_answers.specs.Held.{AreNamed}
 use Rattle.gpu_session.specs.Books.{Books}
 use Rattle.gpu_session.specs.Sound as session
 use Rattle.gpu_session.specs.declared.offer.Offer.{Offer}
-use Rattle.gpu_slots.specs.SlotMap.{SlotState, place_of, slots_code}
+use Rattle.gpu_slots.specs.SlotMap.{SlotState, slots_code}
+use Rattle.gpu_desk.specs.Pages.{ArePaged, ShareNoPage}
+use Rattle.gpu_desk.specs.Tags.{tag_at}
 use Rattle.gpu_desk.specs.contracts.wish.Tag as tag
 use Rattle.gpu_desk.specs.declared.wish.Tag.{Tag}
 
@@ -40,9 +42,6 @@ desk_code =
     (λ _. refl)
 
 -- what is kept with the block of a key
-abbrev pub tag_at : List Tag → ℕ → Tag
-tag_at tags key = slice_index_or tags (place_of key) (record { user = 0; asked = 0; optimal = false })
-
 abbrev pub tag_of : DeskState → ℕ → Tag
 tag_of s key = tag_at s.tags key
 
@@ -56,10 +55,11 @@ objects s = objects_of s.device
 
 -- Memory of its own, as in a session: each key's block is a live span of a held object, no two share a byte (nor an
 -- object where one of them has its own), nothing else is live, and allocator and device agree. And each name that waits
--- to be read is that of no held object, and waits once.
+-- to be read is that of no held object, and waits once. And blocks for optimal resources share no page with linear ones.
 pub record IsSound (s : DeskState) : Type 0 where
   pub memory : session.IsSound s.device.properties (objects s) (books s)
   pub names : AreNamed s.device.held
+  pub pages : ShareNoPage s.blocks.live s.tags s.granularity
 
 -- a block has the key, and it is so
 abbrev pub OfKey : DeskState → ℕ → (Block → Type 0) → Type 0
@@ -78,13 +78,9 @@ pub record IsEmpty (s : DeskState) : Type 0 where
 abbrev pub page_of : ℕ → ℕ
 page_of granularity = cond (granularity == 0) 1 granularity
 
--- a size of pages that a desk takes
-pub record IsPage (g : ℕ) : Type 0 where
-  pub power : IsTrue (is_power_of_two g)
-  pub small : g ≤ 2 ^ 32
-
 -- What a desk's fields keep: what a session's do, a place for each key, and a tag for each place.
 pub record IsDesk {A : Type 0} (o : Offer A) (s : DeskState) : Type 0 where
   pub kept : session.IsKept s.device.properties (objects s) (books s) o
   pub tagged : length s.tags ≡ length s.blocks.generations
-  pub page : IsPage s.granularity
+  pub page : IsGranularity s.granularity
+  pub paged : ArePaged s.blocks.live s.tags s.granularity

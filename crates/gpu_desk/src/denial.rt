@@ -20,7 +20,13 @@ pub enum OpenError {
 #[derive(Clone, Copy, Debug, PartialEq, Eq)]
 pub enum Denial {
     /// A question has no answer yet: the call is to be made again, with its answer after those so far.
-    Open(Question),
+    Open {
+        /// What is to be asked.
+        question: Question,
+
+        /// Whether it is for an object that will hold this request's block alone. Its size is then exactly the request's.
+        own: bool,
+    },
 
     /// An answer is to another question than is asked in its place.
     Strayed,
@@ -36,12 +42,12 @@ pub enum Denial {
 }
 
 /// Why a run gives nothing that ended by this refusal: the question that is open, or that an answer was to another one,
-/// or else the refusal.
-pub(crate) fn denial_after(device: &AnsweredDevice, refusal: Denial) -> Denial
-    ensures { result ≡ denial_after (device.now).run.stop refusal }
+/// or else the refusal. `own` tells of the open question whether it is for an object of the block's own.
+pub(crate) fn denial_after(device: &AnsweredDevice, own: bool, refusal: Denial) -> Denial
+    ensures { result ≡ denial_after (λ question. own) (device.now).run.stop refusal }
 {
     match device.open() {
-        Some(question) => Denial::Open(question),
+        Some(question) => Denial::Open { question, own },
         None if device.has_strayed() => Denial::Strayed,
         None => refusal,
     }

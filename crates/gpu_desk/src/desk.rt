@@ -4,8 +4,9 @@ ghost use Rattle.std.specs.Prelude.{◌≡◌, [], IfOk, OnOk, Err};
 ghost use Rattle.std.specs.FinMap as map;
 ghost use Rattle.gpu_alloc_types.specs.Properties.{IsUsable, properties_of};
 ghost use Rattle.gpu_alloc.specs.Opening.{opened};
+ghost use Rattle.gpu_alloc.specs.Request.{IsGranularity};
 ghost use Rattle.gpu_slots.specs.SlotMap as slots;
-ghost use Rattle.gpu_desk.specs.Desk.{IsEmpty, IsPage, IsSound, page_of};
+ghost use Rattle.gpu_desk.specs.Desk.{IsEmpty, IsSound, page_of};
 
 mod counting;
 mod granting;
@@ -90,9 +91,9 @@ impl Desk {
         ensures opened { IfOk result (λ desk. desk.allocator ≡ opened config (properties_of props.entry)) }
         ensures empty { IfOk result IsEmpty }
         ensures page { IfOk result (λ desk. desk.granularity ≡ page_of granularity) }
-        ensures usable { OnOk result (IsUsable (properties_of props.entry) × IsPage (page_of granularity)) }
+        ensures usable { OnOk result (IsUsable (properties_of props.entry) × IsGranularity (page_of granularity)) }
         ensures bad { result ≡ Err OpenError.BadProperties → IsUsable (properties_of props.entry)
-            → IsPage (page_of granularity) → ⊥ }
+            → IsGranularity (page_of granularity) → ⊥ }
     {
         let page = page_of(granularity);
         if !props.is_usable() || page > LARGEST_PAGE || !page.is_power_of_two() {
@@ -111,7 +112,7 @@ impl Desk {
         page: u64,
     ) -> Result<Desk, AllocError>
         requires usable { IsUsable (properties_of props) }
-        requires page { IsPage page }
+        requires page { IsGranularity page }
         ensures opened { IfOk result (λ desk. desk.allocator ≡ opened config (properties_of props.entry)) }
         ensures empty { IfOk result IsEmpty }
         ensures page { IfOk result (λ desk. desk.granularity ≡ page) }

@@ -1,8 +1,11 @@
 //! Laws of any calls of a desk, over the definitions alone. The functions do nothing.
 
 ghost use Rattle.std.specs.Prelude.{ℕ, List, All};
-ghost use Rattle.gpu_desk.specs.Desk.{DeskState, IsSound};
+ghost use Rattle.gpu_alloc.specs.Request.{IsGranularity};
+ghost use Rattle.gpu_session.specs.Sound as session;
+ghost use Rattle.gpu_desk.specs.Desk.{DeskState, IsSound, books, objects};
 ghost use Rattle.gpu_desk.specs.Names.{IsPast, IsSpent, MakesEver, NamesNothing, Waits};
+ghost use Rattle.gpu_desk.specs.Pages.{ArePaged, ShareNoPage};
 ghost use Rattle.gpu_desk.specs.Walk.{ComesOnce, IsLiveKey, NeverComes, WalksAll};
 
 /// However calls follow one another, a name never comes twice. An object that was given back is past: its name waits to
@@ -25,4 +28,13 @@ pub fn a_walk_meets_each_block_once()
         → All (IsLiveKey key) states → ComesOnce keys key }
     ensures never { (states : List DeskState) (keys : List ℕ) → WalksAll states keys → (key : ℕ)
         → All (λ s. IsLiveKey key s → ⊥) states → NeverComes keys key }
+{}
+
+/// Where each block for an optimal resource has its object alone, or begins at a page and has whole pages for what was
+/// asked, and blocks are memory of their own: no page of one object holds one of the first bytes, as many as were asked
+/// for, of a block for an optimal resource, and a byte of a block for a linear one. Every desk keeps so
+/// ([`Desk::keeps_sound`](crate::Desk::keeps_sound)).
+pub fn whole_pages_are_not_shared()
+    ensures { (s : DeskState) → session.IsSound s.device.properties (objects s) (books s) → IsGranularity s.granularity
+        → ArePaged s.blocks.live s.tags s.granularity → ShareNoPage s.blocks.live s.tags s.granularity }
 {}

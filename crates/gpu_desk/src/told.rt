@@ -68,4 +68,7 @@ pub struct HeapCounts {
 
     /// How many bytes may still be asked of it.
     pub budget: u64,
+
+    /// How many bytes of it may be held in all before no more are asked for: its size where no limit was set.
+    pub limit: u64,
 }

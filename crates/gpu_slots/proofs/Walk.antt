@@ -78,4 +78,3 @@ module _ {T : Type 0} (places : List (Place T)) (few : length places < 2 ^ 32) w
             ]
           ]
         ]
-

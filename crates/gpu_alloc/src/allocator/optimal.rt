@@ -5,7 +5,8 @@ ghost use Rattle.gpu_alloc_types.specs.Device.{Event, Chain};
 ghost use Rattle.gpu_alloc_block.specs.Agreement.{Agrees, BlockAgrees, KeepsBlocks};
 ghost use Rattle.gpu_alloc_block.specs.Kept.{LeavesInHand, AddsInHand};
 ghost use Rattle.gpu_alloc_block.specs.State.{is_shared, total};
-ghost use Rattle.gpu_alloc.specs.Allocation.{AllocatesBy, AllocatesOptimal, ObjectsAfter, IsGranted, IsInPages};
+ghost use Rattle.gpu_alloc.specs.Allocation.{AllocatesBy, AllocatesOptimal, ObjectsAfter, ObjectsTried, IsGranted};
+ghost use Rattle.gpu_alloc.specs.Allocation.{IsInPages, TriesAsked};
 ghost use Rattle.gpu_alloc.specs.Allocation.{IsAloneWhereServed, ask_in_pages, asked_of, plan_in_pages, serves_alone};
 ghost use Rattle.gpu_alloc.specs.Owned.{Leaves, Adds};
 ghost use Rattle.gpu_alloc.specs.Request.{IsAskable, IsGranularity, in_pages};
@@ -90,7 +91,7 @@ impl<M: MemoryObject, A: Allocator> GpuAllocator<M, A> {
         ensures objects { ObjectsAfter self.old result self.new (D.objects device.old) (D.objects device.new) }
     {
         match request.in_pages(granularity) {
-            Some(paged) => self.allocate(device, request, hint, Some(paged)),
+            Some(paged) => self.allocate(device, request, hint, &Some(paged)),
             None => Err(AllocationError::OutOfDeviceMemory),
         }
     }
@@ -113,26 +114,55 @@ impl<M: MemoryObject, A: Allocator> GpuAllocator<M, A> {
         }
     }
 
-    /// What a memory type is asked, where the same request in whole pages is given, or none.
+    /// Tries one memory type, for whole pages where the same request in them is given: none where it is passed.
     #[inline(always)]
-    pub(super) fn ask(
-        &self,
+    pub(super) fn try_asked<D: ObjectDevice<M>>(
+        &mut self,
+        device: &mut D,
         request: Request,
         hint: Option<Dedicated>,
-        paged: Option<Request>,
+        paged: &Option<Request>,
         memory_type: u32,
-    ) -> Ask
-        requires known { memory_type < length (self.now.properties).memory_types }
-        ensures { result ≡ asked_of self.now request hint paged memory_type }
+    ) -> Result<Option<MemoryBlock<M>>, AllocationError>
+        requires askable { IsAskable (self.old.properties).buffer_device_address request }
+        requires pages { IfSome paged.now (IsAskable (self.old.properties).buffer_device_address) }
+        requires known { memory_type < length (self.old.properties).memory_types }
+        requires agrees { Agrees self.old (D.properties device.old) (D.objects device.old) }
+        ensures tries { (es : List Event) × Chain D.step device.old es device.new
+            × TriesAsked self.old (asked_of self.old request hint paged.now) memory_type es result self.new }
+        ensures objects { ObjectsTried self.old result self.new (D.objects device.old) (D.objects device.new) }
     {
         match paged {
-            None => Ask { request, hint },
-            Some(paged) => self.ask_in_pages(request, hint, paged, memory_type),
+            None => self.try_type(device, request, hint, memory_type),
+            Some(paged) => self.try_in_pages(device, request, hint, *paged, memory_type),
         }
     }
 
-    /// What a memory type is asked for whole pages. (It stands apart, so that other requests do not pay for it.)
+    /// Tries one memory type for whole pages. (It stands apart, so that other requests do not pay for it.)
+    #[cold]
     #[inline(never)]
+    fn try_in_pages<D: ObjectDevice<M>>(
+        &mut self,
+        device: &mut D,
+        request: Request,
+        hint: Option<Dedicated>,
+        paged: Request,
+        memory_type: u32,
+    ) -> Result<Option<MemoryBlock<M>>, AllocationError>
+        requires askable { IsAskable (self.old.properties).buffer_device_address request }
+        requires pages { IsAskable (self.old.properties).buffer_device_address paged }
+        requires known { memory_type < length (self.old.properties).memory_types }
+        requires agrees { Agrees self.old (D.properties device.old) (D.objects device.old) }
+        ensures tries { (es : List Event) × Chain D.step device.old es device.new
+            × TriesAsked self.old (ask_in_pages self.old request hint paged) memory_type es result self.new }
+        ensures objects { ObjectsTried self.old result self.new (D.objects device.old) (D.objects device.new) }
+    {
+        let asked = self.ask_in_pages(request, hint, paged, memory_type);
+        self.try_type(device, asked.request, asked.hint, memory_type)
+    }
+
+    /// What a memory type is asked for whole pages.
+    #[inline(always)]
     fn ask_in_pages(
         &self,
         request: Request,

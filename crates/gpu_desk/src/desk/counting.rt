@@ -1,14 +1,16 @@
 //! Calls that tell and set counts.
 
-ghost use Rattle.std.specs.Prelude.{◌≡◌, ◌⊎◌, ◌↔◌, ◌<◌, ◌≤◌, ◌+◌, ◌^◌, ◌++◌, ◌∷◌, [], None, length, IfOk, IfErr, IfSome, OnOk, OnErr};
+ghost use Rattle.std.specs.Prelude.{◌≡◌, ◌⊎◌, ◌↔◌, ◌<◌, ◌≤◌, ◌+◌, ◌^◌, ◌++◌, ◌∷◌, [], None, length, IfOk, IfErr, IfSome, IsTrue, false, OnOk, OnErr, OnSome};
+ghost use Rattle.gpu_alloc_types.specs.Flags.{usage_bits};
+ghost use Rattle.gpu_alloc_usage.specs.Ranking.{candidates};
 ghost use Rattle.std.specs.FinMap as map;
 ghost use Rattle.gpu_session.specs.Does.{IsEachFreeRange};
 ghost use Rattle.gpu_answers.specs.Held.{KeepsNames};
-ghost use Rattle.gpu_desk.specs.Calls.{CountsOf, HeapCountsOf, OnlyReads};
+ghost use Rattle.gpu_desk.specs.Calls.{CountsOf, HeapCountsOf, LimitsHeap, OnlyReads, lacks_address};
 ghost use Rattle.gpu_desk.specs.Names.{IsSpent};
 
 use super::Desk;
-use crate::{Counts, Denial, Fault, FreeRange, HeapCounts};
+use crate::{Counts, Denial, Fault, FreeRange, HeapCounts, UsageFlags};
 
 impl Desk {
     /// Reads the name of an object that was given back, the latest of those that were not read, or answers `None` where
@@ -49,7 +51,50 @@ impl Desk {
         Some(HeapCounts {
             used: self.allocator.heap_used(heap),
             budget: self.allocator.heap_budget(heap),
+            limit: self.allocator.heap_limit(heap),
         })
+    }
+
+    /// From now on no more is asked of a heap than is left of this limit, in bytes, as `GpuAllocator::set_heap_limit`
+    /// has it. A limit at or over the heap's size is none. Nothing that is held goes, and nothing else changes.
+    ///
+    /// `None` exactly where there is no such heap. Nothing has changed then.
+    pub fn set_heap_limit(&mut self, heap: u32, limit: u64) -> Option<()>
+        ensures set { OnSome result (LimitsHeap self.old heap limit self.new) }
+        ensures none { (result ≡ None) ↔ (length ((self.old.allocator).properties).memory_heaps ≤ heap) }
+        ensures unchanged { result ≡ None → self.new ≡ self.old }
+        ensures names { KeepsNames (self.old.device).held (self.new.device).held }
+    {
+        if heap < self.offer.heaps {
+            self.allocator.set_heap_limit(heap, limit);
+            return Some(());
+        }
+        None
+    }
+
+    /// The indices of the memory types that would serve a usage, of those whose bit is set in `memory_types` (bit 0 for
+    /// the type with index 0), the best first: those that [`alloc`](Desk::alloc) tries for such a request, in its order.
+    /// There may be none. They are for objects that the caller makes itself.
+    ///
+    /// Takes memory for them. Denied are the usage `DEVICE_ADDRESS` without the device's feature, by
+    /// `Fault::NoDeviceAddress`, and want of memory, by `Fault::NoMemory`; nothing else is.
+    pub fn candidates(&self, usage: UsageFlags, memory_types: u32) -> Result<Vec<u32>, Denial>
+        ensures told { IfOk result (λ types. types.items ≡ candidates ((self.now.allocator).properties).memory_types
+            (usage_bits usage) memory_types) }
+        ensures denied { IfErr result (λ e. (e ≡ Denial.Fault Fault.NoDeviceAddress)
+            ↔ IsTrue (lacks_address self.now usage)) }
+        ensures able { OnOk result (lacks_address self.now usage ≡ false) }
+        ensures causes { IfErr result (λ e. (e ≡ Denial.Fault Fault.NoDeviceAddress)
+            ⊎ (e ≡ Denial.Fault Fault.NoMemory)) }
+    {
+        if usage.lacks_address(self.offer.buffer_device_address) {
+            return Err(Denial::Fault(Fault::NoDeviceAddress));
+        }
+        let alloc = *self.offer.memory_types.allocator();
+        match self.allocator.candidates(alloc, usage, memory_types) {
+            Ok(types) => Ok(types),
+            Err(_) => Err(Denial::Fault(Fault::NoMemory)),
+        }
     }
 
     /// From now on this many objects may be held beside those that are.

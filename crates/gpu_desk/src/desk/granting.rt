@@ -1,18 +1,19 @@
 //! Calls that grant blocks and take them back.
 
-ghost use Rattle.std.specs.Prelude.{◌≡◌, ◌<◌, ℕ, List, length, Some, Err, IfOk, IfErr, IsSome, OnOk, OnErr, vec_len, vec_capacity};
+ghost use Rattle.std.specs.Prelude.{◌≡◌, ◌<◌, ◌↔◌, ℕ, Bool, true, List, length, Some, Err, IfOk, IfErr, IfSome, IsSome, IsTrue, OnOk, OnErr, vec_len, vec_capacity};
 ghost use Rattle.std.specs.FinMap as map;
 ghost use Rattle.gpu_alloc_types.specs.Device.{Event, Chain};
 ghost use Rattle.gpu_alloc_block.specs.Agreement.{Agrees, BlockAgrees, KeepsBlocks};
 ghost use Rattle.gpu_alloc_block.specs.State.{total};
-ghost use Rattle.gpu_alloc.specs.Allocation.{Allocates, ObjectsAfter, IsGranted};
+ghost use Rattle.gpu_alloc.specs.Allocation.{AllocatesBy, ObjectsAfter, IsGranted, IsInPages};
 ghost use Rattle.gpu_alloc.specs.Owned.{Adds, Leaves};
-ghost use Rattle.gpu_alloc.specs.Request.{IsAskable};
+ghost use Rattle.gpu_alloc.specs.Request.{IsAskable, IsGranularity};
 ghost use Rattle.gpu_alloc.specs.Sound as allocator_sound;
 ghost use Rattle.gpu_answers.specs.Device.{IsStep, objects_of};
 ghost use Rattle.gpu_desk.specs.Calls.{AllocationDenied, Allocated, CleansUp, HasKey, ImportDenied, Imported};
 ghost use Rattle.gpu_desk.specs.Calls.{IsAsBefore, IsUnknown, Keeps, Returns, Tells, TellsTag};
-ghost use Rattle.gpu_desk.specs.Desk.{tag_at};
+ghost use Rattle.gpu_desk.specs.Tags.{tag_at};
+ghost use Rattle.gpu_desk.specs.Wishes.{MayCome, asks_own, goes_by_pages, is_own, plan_for};
 
 use super::{Blocks, Desk, place_of};
 use crate::denial::denial_after;
@@ -25,22 +26,36 @@ use gpu_answers::{Answer, Answered, AnsweredDevice, ObjectName, Question};
 use gpu_session::{import_fault, request_fault};
 use std::alloc::AllocError;
 
-/// Allocates a block, with a hint that it wants an object of its own or none.
+/// Whether a request goes by whole pages: for an optimal resource, where a page is of more than a byte.
+#[inline(always)]
+fn goes_by_pages(wish: Wish, granularity: u64) -> bool
+    ensures { result ≡ goes_by_pages granularity wish }
+{
+    wish.optimal && granularity != 1
+}
+
+/// Allocates a block, with a hint that it wants an object of its own or none, and by whole pages where it has to.
 fn allocate(
     allocator: &mut GpuAllocator<ObjectName>,
     device: &mut AnsweredDevice,
     request: Request,
-    dedicated: Option<Dedicated>,
+    wish: Wish,
+    granularity: u64,
 ) -> Result<MemoryBlock<ObjectName>, AllocationError>
     requires askable { IsAskable (allocator.old.properties).buffer_device_address request }
+    requires page { IsGranularity granularity }
     requires agrees { Agrees allocator.old device.old.properties (objects_of device.old) }
     ensures decided { (es : List Event) × Chain IsStep device.old es device.new
-        × Allocates allocator.old request dedicated es result allocator.new }
+        × AllocatesBy allocator.old (plan_for allocator.old granularity request wish) es result allocator.new }
     ensures objects { ObjectsAfter allocator.old result allocator.new (objects_of device.old) (objects_of device.new) }
     ensures agrees { Agrees allocator.new device.new.properties (objects_of device.new) }
     ensures granted { IfOk result (IsGranted allocator.old request allocator.new) }
+    ensures pages { IfOk result (λ block. wish.optimal ≡ true → IsInPages granularity request.size block) }
+    ensures alone { IfOk result (λ block.
+        IsTrue (is_own allocator.old (plan_for allocator.old granularity request wish) block.memory_type)
+        ↔ (block.kind ≡ Kind.Dedicated)) }
     ensures ready { IfOk result (λ block. BlockAgrees block device.new.properties (objects_of device.new)) }
-    ensures own { dedicated ≡ Some Dedicated.Required → IfOk result (λ block. block.kind ≡ Kind.Dedicated) }
+    ensures own { IfOk result (λ block. wish.dedicated ≡ Some Dedicated.Required → block.kind ≡ Kind.Dedicated) }
     ensures added { IfOk result (Adds allocator.old allocator.new) }
     ensures refused { OnErr result (allocator.new ≡ allocator.old) }
     ensures leaves { Leaves allocator.old allocator.new }
@@ -49,9 +64,37 @@ fn allocate(
     ensures total { total allocator.new ≡ total allocator.old }
     ensures sound { allocator_sound.IsSound allocator.new }
 {
-    match dedicated {
+    if goes_by_pages(wish, granularity) {
+        return allocator.alloc_optimal(device, request, wish.dedicated, granularity);
+    }
+    match wish.dedicated {
         None => allocator.alloc(device, request),
         Some(dedicated) => allocator.alloc_with_dedicated(device, request, dedicated),
+    }
+}
+
+/// Whether the question that is open in the run of a request, if one is, is for an object of the block's own.
+fn asks_own(
+    allocator: &GpuAllocator<ObjectName>,
+    request: Request,
+    wish: Wish,
+    granularity: u64,
+    pending: Option<Question>,
+) -> bool
+    requires page { IsGranularity granularity }
+    requires may_come { IfSome pending (MayCome allocator.now (plan_for allocator.now granularity request wish)) }
+    ensures { IfSome pending (λ question.
+        result ≡ asks_own allocator.now (plan_for allocator.now granularity request wish) question) }
+{
+    let Some(Question::Allocate { memory_type, .. }) = pending else {
+        return false;
+    };
+    if !goes_by_pages(wish, granularity) {
+        return allocator.serves_alone(request, wish.dedicated, memory_type);
+    }
+    match request.in_pages(granularity) {
+        Some(paged) => allocator.serves_alone(paged, wish.dedicated, memory_type),
+        None => unreachable!(),
     }
 }
 
@@ -130,6 +173,10 @@ impl Desk {
     /// memory for the key or the answers; `Open`, with the question that has no answer; `Strayed`; and `Refused`, as
     /// the allocator refuses. Nothing has changed then.
     ///
+    /// A request for an optimal resource goes by pages of the desk's granularity (`GpuAllocator::alloc_optimal`), so that
+    /// none of its bytes that were asked for is in a page with a byte of a linear block. With a granularity of 1 it is
+    /// served as any other.
+    ///
     /// A question is open after at most 63 answers: each of at most 32 candidates has at most two, for an object and for
     /// its mapping.
     #[tactic(auto, unfolding(crate::specs::Calls::AllocationDenied))]
@@ -141,7 +188,10 @@ impl Desk {
     ) -> Result<Grant, Denial>
         ensures granted { IfOk result (Allocated self.old request wish answers.now self.new) }
         ensures denied { IfErr result (AllocationDenied self.old request wish answers.now) }
-        ensures asks { (question : Question) → result ≡ Err (Denial.Open question) → length answers.now < 64 }
+        ensures asks { (question : Question) (own : Bool) → result ≡ Err (Denial.Open question own)
+            → length answers.now < 64 }
+        ensures own { (size memory_type flags : ℕ) → result ≡ Err (Denial.Open (Question.Allocate size memory_type flags) true)
+            → size ≡ request.size }
         ensures unchanged { OnErr result (IsAsBefore self.old self.new) }
         ensures keeps { Keeps self.old self.new }
     {
@@ -160,7 +210,8 @@ impl Desk {
             &mut self.allocator,
             &mut self.device,
             request,
-            wish.dedicated,
+            wish,
+            self.granularity,
         );
         self.device.forget_gone_after(told);
         match answer {
@@ -173,7 +224,11 @@ impl Desk {
                 };
                 Ok(keep(&mut self.blocks, &mut self.tags, block, fresh, tag))
             }
-            Err(refusal) => { Err(denial_after(&self.device, Denial::Refused(refusal))) }
+            Err(refusal) => {
+                let pending = self.device.open();
+                let own = asks_own(&self.allocator, request, wish, self.granularity, pending);
+                Err(denial_after(&self.device, own, Denial::Refused(refusal)))
+            }
         }
     }
 

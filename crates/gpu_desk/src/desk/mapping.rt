@@ -1,6 +1,6 @@
 //! Calls that map blocks, and tell where they lie.
 
-ghost use Rattle.std.specs.Prelude.{◌≡◌, length, Err, IfOk, IfErr, OnErr};
+ghost use Rattle.std.specs.Prelude.{◌≡◌, false, length, Err, IfOk, IfErr, OnErr};
 ghost use Rattle.gpu_desk.specs.Calls.{IsAsBefore, IsUnknown, Keeps, MapDenied, Maps, RangeDenied, RangeTold, Told};
 ghost use Rattle.gpu_desk.specs.Calls.{Unmaps, object_to_unmap};
 
@@ -56,7 +56,7 @@ impl Desk {
     ) -> Result<ObjectRange, Denial>
         ensures mapped { IfOk result (Maps self.old key offset size answers.now self.new) }
         ensures denied { IfErr result (MapDenied self.old key offset size answers.now) }
-        ensures asks { (question : Question) → result ≡ Err (Denial.Open question) → length answers.now ≡ 0 }
+        ensures asks { (question : Question) → result ≡ Err (Denial.Open question false) → length answers.now ≡ 0 }
         ensures unchanged { OnErr result (IsAsBefore self.old self.new) }
         ensures keeps { Keeps self.old self.new }
     {
@@ -83,7 +83,7 @@ impl Desk {
                 offset: mapping.start,
                 size: mapping.len,
             }),
-            Err(refusal) => Err(denial_after(&self.device, Denial::MapRefused(refusal))),
+            Err(refusal) => Err(denial_after(&self.device, false, Denial::MapRefused(refusal))),
         }
     }
 

@@ -11,6 +11,7 @@ invariant_of-self c =
       kept = cleanup_is_kept c.self.invariant.kept (record { leaves = done.leaves; rest = done.rest; keeps = done.keeps; sound = done.sound; agrees = done.agrees });
       tagged = c.self.invariant.tagged;
       page = c.self.invariant.page;
+      paged = c.self.invariant.paged;
     }
 
 pub returns-clause-cleaned : goal.returns-clause-cleaned

@@ -3,6 +3,7 @@ use Rattle.std.specs.FinMap as map
 use Rattle.gpu_session.proofs.Returns.{return_is_kept}
 use Rattle.gpu_desk.proofs.GoneNames.{returns_add}
 use Rattle.gpu_answers.proofs.Naming.{run_keeps_names}
+use Rattle.gpu_desk.proofs.Paged.{out_paged}
 use Rattle.gpu_desk.proofs.desk.Desk.free.Goals as goal
 
 pub invariant_of-self : goal.invariant_of-self
@@ -14,6 +15,7 @@ invariant_of-self c =
       kept = return_is_kept c.self.invariant.kept (record { named = at; removes = done.removed; keeps = done.keeps; sound = done.sound; agrees = done.agrees });
       tagged = c.self.invariant.tagged ∙ sym c.remove.ensures.places;
       page = c.self.invariant.page;
+      paged = out_paged c.self.inside.blocks.live c.self.inside.tags.items c.self.inside.granularity c.self.invariant.paged c.args.key;
     })
 
 pub returns-in-Some-clause-freed : goal.returns-in-Some-clause-freed

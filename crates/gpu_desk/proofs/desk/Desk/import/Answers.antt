@@ -16,9 +16,12 @@ use Rattle.gpu_session.proofs.Grants.{grant_is_kept}
 use Rattle.gpu_session.proofs.Imports.{faultless, import_agrees, importable_is_held, part_may_be_imported, undone}
 use Rattle.gpu_session.proofs.Moves.{agreed_is_kept}
 use Rattle.gpu_slots.specs.SlotMap.{SlotState}
-use Rattle.gpu_desk.specs.Desk.{tag_at}
+use Rattle.gpu_desk.specs.Tags.{tag_at}
+use Rattle.gpu_desk.specs.declared.wish.Tag.{Tag}
+use Rattle.gpu_desk.proofs.Paged.{put_paged, retagged}
 use Rattle.gpu_desk.proofs.GoneNames.{names_of_before}
 use Rattle.gpu_desk.proofs.Kept.{begun_keeps_names, forgetting_keeps_names, free_key, has_key, kept_over, same_objects}
+use Rattle.gpu_desk.proofs.Rooms.{room_is_kept}
 use Rattle.gpu_desk.proofs.desk.Desk.import.Goals as goal
 
 pub invariant_of-self-in-Ok-import_memory : goal.invariant_of-self-in-Ok-import_memory
@@ -42,6 +45,9 @@ invariant_of-self-in-Ok-import_memory c =
     rw (key.live, lives) (record {
       tagged = c.keep.ensures.tagged;
       page = c.self.invariant.page;
+      paged = put_paged c.self.inside.blocks.live c.self.inside.tags.items c.self.inside.granularity c.self.invariant.paged c.keep.result.key c.in-Ok-import_memory.block c.keep.new.tags.items
+          (λ q was. c.keep.ensures.others q (subst (λ (m : map.FinMap _ Block). IsSome (map.get m q)) (sym lives) was) ∙ ap (λ ts. tag_at ts q) c.make_room.ensures.tags)
+          (λ optimal. absurd (let linear = ap (λ (t : Tag). t.optimal) c.keep.ensures.tag in cc));
       kept = grant_is_kept begins (record {
         free = sym (ap (λ (m : map.FinMap _ Block). map.get m c.keep.result.key) lives) ∙ free_key c.make_room.new.blocks c.keep.result.key key.new_key;
         adds = done.added;
@@ -78,6 +84,7 @@ invariant_of-self-in-Err c =
     (record {
       tagged = ap length c.make_room.ensures.tags ∙ c.self.invariant.tagged ∙ sym (ap (λ (s : SlotState Block). length s.generations) c.make_room.ensures.kept);
       page = c.self.invariant.page;
+      paged = retagged c.self.inside.blocks.live c.self.inside.tags.items c.self.inside.granularity c.self.invariant.paged c.make_room.new.tags.items (λ q is. (ap (λ ts. (tag_at ts q).asked) c.make_room.ensures.tags, ap (λ ts. (tag_at ts q).optimal) c.make_room.ensures.tags));
       kept = kept_over c.deallocate_memory.new.self c.forget_gone_after.new.self forgets.offers forgets.objects (agreed_is_kept (agreed_is_kept begins (record {
         allocator = λ agrees. made.allocator dev c.args.object_size c.args.memory_type bits step agrees;
         blocks = λ b owned. made.blocks dev c.args.object_size c.args.memory_type bits b step;
@@ -172,3 +179,25 @@ returns-in-Err-clause-keeps c =
       tags = λ q was is. ap (λ ts. tag_at ts q) c.make_room.ensures.tags;
       page = refl;
     })
+
+pub invariant_of-self : goal.invariant_of-self
+invariant_of-self c =
+    room_is_kept c.self.inside.offer c.self.inside.allocator c.self.inside.blocks c.make_room.new.blocks c.self.inside.device c.self.inside.device c.self.inside.tags.items c.make_room.new.tags.items c.self.inside.granularity c.self.invariant c.make_room.ensures.kept c.make_room.ensures.tags c.self.invariant.kept
+
+pub invariant_of-self-in_default-begin : goal.invariant_of-self-in_default-begin
+invariant_of-self-in_default-begin c =
+    let begins = kept_over c.self.inside.device c.begin.new.self c.begin.ensures.offers (ap (λ (h : HeldState). h.objects) c.begin.ensures.held) c.self.invariant.kept in
+    room_is_kept c.self.inside.offer c.self.inside.allocator c.self.inside.blocks c.make_room.new.blocks c.self.inside.device c.begin.new.self c.self.inside.tags.items c.make_room.new.tags.items c.self.inside.granularity c.self.invariant c.make_room.ensures.kept c.make_room.ensures.tags begins
+
+pub invariant_of-self-in_default-made : goal.invariant_of-self-in_default-made
+invariant_of-self-in_default-made c =
+    let dev = c.begin.new.self in
+    let bits = allocation_bits c.flags-flags.result in
+    let made = c.made_objects_may_be_imported.ensures in
+    let step = c.allocate_memory-made.ensures in
+    let begins = kept_over c.self.inside.device c.begin.new.self c.begin.ensures.offers (ap (λ (h : HeldState). h.objects) c.begin.ensures.held) c.self.invariant.kept in
+    let kept = agreed_is_kept begins (record {
+      allocator = λ agrees. made.allocator dev c.args.object_size c.args.memory_type bits step agrees;
+      blocks = λ b owned. made.blocks dev c.args.object_size c.args.memory_type bits b step;
+    }) in
+    room_is_kept c.self.inside.offer c.self.inside.allocator c.self.inside.blocks c.make_room.new.blocks c.self.inside.device c.allocate_memory-made.new.self c.self.inside.tags.items c.make_room.new.tags.items c.self.inside.granularity c.self.invariant c.make_room.ensures.kept c.make_room.ensures.tags kept

@@ -13,6 +13,7 @@ use Rattle.gpu_session.proofs.Names.{put_again}
 use Rattle.gpu_desk.specs.Calls.{MapDenied}
 use Rattle.gpu_desk.proofs.GoneNames.{mapping_adds_none, refused_adds_none}
 use Rattle.gpu_desk.proofs.Kept.{begun_is, begun_keeps_names, gone_over_write, kept_over, range_is, same_objects}
+use Rattle.gpu_desk.proofs.Paged.{over_paged}
 use Rattle.gpu_desk.proofs.desk.Desk.map.Goals as goal
 use Rattle.gpu_desk.proofs.desk.Desk.map.Goals.{in-Ok-answer, in-Err}
 
@@ -24,6 +25,7 @@ invariant_of-self-2 c =
       kept = move_is_kept begins (record { named = sym c.in-Some-get_mut.ensures.value; same = done.same; ready = done.agrees; keeps = done.keeps; properties = done.properties });
       tagged = c.self.invariant.tagged;
       page = c.self.invariant.page;
+      paged = over_paged c.self.inside.blocks.live c.self.inside.tags.items c.self.inside.granularity c.self.invariant.paged c.args.key c.in-Some-get_mut.block.now c.map-answer.new.self (sym c.in-Some-get_mut.ensures.value) done.same;
     }
 
 pub returns-clause-mapped : goal.returns-clause-mapped

@@ -2,6 +2,7 @@ use Rattle.std.proofs.Common.{refl, sym}
 use Rattle.gpu_session.proofs.Moves.{move_is_kept}
 use Rattle.gpu_desk.proofs.Kept.{gone_over_write}
 use Rattle.gpu_answers.proofs.Naming.{run_keeps_names}
+use Rattle.gpu_desk.proofs.Paged.{over_paged}
 use Rattle.gpu_desk.proofs.desk.Desk.unmap.Goals as goal
 
 pub invariant_of-self-2 : goal.invariant_of-self-2
@@ -11,6 +12,7 @@ invariant_of-self-2 c =
       kept = move_is_kept c.self.invariant.kept (record { named = sym c.in-Some.ensures.value; same = done.same; ready = done.agrees; keeps = done.keeps; properties = done.properties });
       tagged = c.self.invariant.tagged;
       page = c.self.invariant.page;
+      paged = over_paged c.self.inside.blocks.live c.self.inside.tags.items c.self.inside.granularity c.self.invariant.paged c.args.key c.in-Some.block.now c.unmap.new.self (sym c.in-Some.ensures.value) done.same;
     }
 
 pub returns-clause-keeps : goal.returns-clause-keeps

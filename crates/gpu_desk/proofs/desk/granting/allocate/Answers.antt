@@ -1,0 +1,45 @@
+use Rattle.std.proofs.Common.{◌≡◌, ◌↔◌, IsTrue, Some, None, sym, ◌∙◌, ap, subst}
+use Rattle.gpu_alloc.specs.Allocation.{serves_alone}
+use Rattle.gpu_alloc.specs.Request.{in_pages}
+use Rattle.gpu_alloc.specs.State.{Block}
+use Rattle.gpu_alloc_block.specs.declared.block.Kind.TheVariants.{Dedicated as DedicatedObject}
+use Rattle.gpu_desk.proofs.OpenQuestions.{alone_then, bytes_then, by_bytes, by_pages, own_by_bytes, own_by_pages}
+use Rattle.gpu_desk.proofs.desk.granting.allocate.Goals as goal
+
+pub returns-then-goes_by_pages-clause-decided : goal.returns-then-goes_by_pages-clause-decided
+returns-then-goes_by_pages-clause-decided c =
+    let done = c.alloc_optimal.ensures.decided in
+    (done.0, done.1, by_pages c.args.allocator.now c.args.granularity c.args.request c.args.wish done.0 c.alloc_optimal.result c.alloc_optimal.new.self (sym c.goes_by_pages.ensures ∙ c.if-goes_by_pages.true) done.2)
+
+pub returns-then-goes_by_pages-clause-alone : goal.returns-then-goes_by_pages-clause-alone
+returns-then-goes_by_pages-clause-alone c =
+    alone_then c.args.allocator.now c.args.granularity c.args.request c.args.wish (in_pages c.args.granularity c.args.request) c.args.wish.dedicated c.alloc_optimal.result
+    (λ t. own_by_pages c.args.allocator.now c.args.granularity c.args.request c.args.wish t (sym c.goes_by_pages.ensures ∙ c.if-goes_by_pages.true)) c.alloc_optimal.ensures.alone
+
+pub returns-in-None-clause-decided : goal.returns-in-None-clause-decided
+returns-in-None-clause-decided c =
+    let done = c.alloc.ensures.decided in
+    (done.0, done.1, by_bytes c.args.allocator.now c.args.granularity c.args.request c.args.wish None done.0 c.alloc.result c.alloc.new.self (sym c.goes_by_pages.ensures ∙ c.if-goes_by_pages.false) c.in-None.is done.2)
+
+pub returns-in-None-clause-alone : goal.returns-in-None-clause-alone
+returns-in-None-clause-alone c =
+    alone_then c.args.allocator.now c.args.granularity c.args.request c.args.wish c.args.request None c.alloc.result
+    (λ t. own_by_bytes c.args.allocator.now c.args.granularity c.args.request c.args.wish None t (sym c.goes_by_pages.ensures ∙ c.if-goes_by_pages.false) c.in-None.is) c.alloc.ensures.alone
+
+pub returns-in-Some-clause-decided : goal.returns-in-Some-clause-decided
+returns-in-Some-clause-decided c =
+    let done = c.alloc_with_dedicated.ensures.decided in
+    (done.0, done.1, by_bytes c.args.allocator.now c.args.granularity c.args.request c.args.wish (Some c.in-Some.dedicated) done.0 c.alloc_with_dedicated.result c.alloc_with_dedicated.new.self (sym c.goes_by_pages.ensures ∙ c.if-goes_by_pages.false) c.in-Some.is done.2)
+
+pub returns-in-Some-clause-alone : goal.returns-in-Some-clause-alone
+returns-in-Some-clause-alone c =
+    alone_then c.args.allocator.now c.args.granularity c.args.request c.args.wish c.args.request (Some c.in-Some.dedicated) c.alloc_with_dedicated.result
+    (λ t. own_by_bytes c.args.allocator.now c.args.granularity c.args.request c.args.wish (Some c.in-Some.dedicated) t (sym c.goes_by_pages.ensures ∙ c.if-goes_by_pages.false) c.in-Some.is) c.alloc_with_dedicated.ensures.alone
+
+pub returns-in-None-clause-pages : goal.returns-in-None-clause-pages
+returns-in-None-clause-pages c =
+    bytes_then c.args.allocator.now c.args.granularity c.args.request c.args.wish c.alloc.result c.alloc.new.self (sym c.goes_by_pages.ensures ∙ c.if-goes_by_pages.false) c.alloc.ensures.granted
+
+pub returns-in-Some-clause-pages : goal.returns-in-Some-clause-pages
+returns-in-Some-clause-pages c =
+    bytes_then c.args.allocator.now c.args.granularity c.args.request c.args.wish c.alloc_with_dedicated.result c.alloc_with_dedicated.new.self (sym c.goes_by_pages.ensures ∙ c.if-goes_by_pages.false) c.alloc_with_dedicated.ensures.granted

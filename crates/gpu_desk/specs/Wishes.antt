@@ -1,0 +1,34 @@
+-- How a wish is asked of the allocator, and which of its questions are for an object of the block's own.
+use Rattle.std.specs.Prelude.{◌≡◌, ◌<◌, ◌==◌, ◌&&◌, ℕ, Bool, false, not, cond, length}
+use Rattle.gpu_alloc.specs.Allocation.{Plan, plan, plan_in_pages, serves_alone}
+use Rattle.gpu_alloc.specs.State.{State}
+use Rattle.gpu_alloc.specs.declared.request.Request.{Request}
+use Rattle.gpu_answers.specs.declared.question.Question.{Question}
+use Rattle.gpu_answers.specs.declared.question.Question.TheVariants.{Allocate, MapMade, Map}
+use Rattle.gpu_desk.specs.declared.wish.Wish.{Wish}
+
+-- A request goes by whole pages where it is for an optimal resource and a page is of more than a byte.
+abbrev pub goes_by_pages : ℕ → Wish → Bool
+goes_by_pages granularity w = w.optimal && not (granularity == 1)
+
+-- how the allocator tries it
+abbrev pub plan_for : State → ℕ → Request → Wish → Plan
+plan_for s granularity r w =
+    cond (goes_by_pages granularity w) (plan_in_pages s r w.dedicated granularity) (plan s r w.dedicated)
+
+-- whether a memory type serves what it is asked by an object of the block's own
+abbrev pub is_own : State → Plan → ℕ → Bool
+is_own s p t = serves_alone s (p.asked t).request (p.asked t).hint t
+
+-- whether a question is for such an object
+abbrev pub asks_own : State → Plan → Question → Bool
+asks_own s p (Allocate size t flags) = is_own s p t
+asks_own s p (MapMade offset size) = false
+asks_own s p (Map object offset size) = false
+
+-- The question may come of the plan: a question for an object comes where it is refused for no size, and its memory type
+-- is there.
+abbrev pub MayCome : State → Plan → Question → Type 0
+MayCome s p (Allocate size t flags) = (p.too_large ≡ false) × (t < length s.properties.memory_types)
+MayCome s p (MapMade offset size) = Unit {0}
+MayCome s p (Map object offset size) = Unit {0}
