@@ -111,7 +111,7 @@ fn granted(
     for _ in 0..64 {
         match desk.alloc(request, wish, answers.as_slice()) {
             Ok(grant) => return grant,
-            Err(Denial::Open(question)) => {
+            Err(Denial::Open { question, .. }) => {
                 let answer = Answered {
                     question,
                     answer: Answer::Granted,
