@@ -43,11 +43,15 @@ static void free_gone(wt_allocator *a) {
 int main(void) {
     const wt_memory_type type = { 0, WT_HOST_VISIBLE | WT_HOST_COHERENT };
     const uint64_t heap = 64 << 20;
-    const wt_limits limits = { 32 << 20, 64, 64, 0 };
+    const wt_limits limits = { 32 << 20, 64, 64, 0, 1 };
     const wt_config config = { 1 << 20, 1 << 16, 1 << 20, 1 << 16, 1 << 20, 256, 1 << 16 };
-    const wt_request request = { 12, 15, WT_USAGE_UPLOAD | WT_USAGE_TRANSIENT, 1, WT_SHARED };
+    wt_request request = WT_REQUEST_INIT;
     wt_allocator a = { 0, NULL };
     wt_block block;
+    request.size = 12;
+    request.align_mask = 15;
+    request.usage = WT_USAGE_UPLOAD | WT_USAGE_TRANSIENT;
+    request.memory_types = 1;
     if (wt_open(&a, &type, 1, &heap, 1, &limits, &config) != WT_OK || allocate(&a, &request, &block) != WT_OK) return 1;
     memcpy(find(block.object)->bytes + block.offset, "hello block", 12);
     puts(find(block.object)->bytes + block.offset);

@@ -120,6 +120,30 @@ uint32_t wt_layout(uint32_t number);
     ROW(102, sizeof(wt_heap_counts))                            \
     ROW(103, offsetof(wt_heap_counts, used))                    \
     ROW(104, offsetof(wt_heap_counts, used_high))               \
-    ROW(105, offsetof(wt_heap_counts, budget))
+    ROW(105, offsetof(wt_heap_counts, budget))                  \
+    ROW(106, WT_BAD_FLAGS)                                      \
+    ROW(107, WT_ALLOCATE_OWN)                                   \
+    ROW(108, WT_OPTIMAL)                                        \
+    ROW(109, offsetof(wt_limits, buffer_image_granularity))     \
+    ROW(110, offsetof(wt_request, flags))                       \
+    ROW(111, offsetof(wt_request, user))                        \
+    ROW(112, offsetof(wt_block, user))                          \
+    ROW(113, offsetof(wt_block, asked))                         \
+    ROW(114, offsetof(wt_block, flags))                         \
+    ROW(115, offsetof(wt_block, reserved))                      \
+    ROW(116, offsetof(wt_heap_counts, limit))                   \
+    ROW(117, sizeof(wt_kind_statistics))                        \
+    ROW(118, offsetof(wt_kind_statistics, objects))             \
+    ROW(119, offsetof(wt_kind_statistics, blocks))              \
+    ROW(120, offsetof(wt_kind_statistics, live_bytes))          \
+    ROW(121, offsetof(wt_kind_statistics, live_bytes_high))     \
+    ROW(122, offsetof(wt_kind_statistics, free_bytes))          \
+    ROW(123, offsetof(wt_kind_statistics, free_bytes_high))     \
+    ROW(124, offsetof(wt_kind_statistics, largest_free))        \
+    ROW(125, sizeof(wt_type_statistics))                        \
+    ROW(126, offsetof(wt_type_statistics, dedicated))           \
+    ROW(127, offsetof(wt_type_statistics, imported))            \
+    ROW(128, offsetof(wt_type_statistics, buddy))               \
+    ROW(129, offsetof(wt_type_statistics, free_list))
 
 #endif

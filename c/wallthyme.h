@@ -60,7 +60,7 @@ extern "C" {
 #endif
 
 /* The version of header and library, their own: 0xMMmmpp. While MM is 0, those of another mm do not fit together. */
-#define WT_VERSION 0x000700u
+#define WT_VERSION 0x000800u
 
 /* What a call answers. */
 enum {
@@ -79,8 +79,9 @@ enum {
     /* Misuses. Nothing was changed. */
     WT_NOT_OPEN = 9,                   /* the allocator is closed */
     WT_ALREADY_OPEN = 10,              /* the allocator is open */
-    WT_BAD_PROPERTIES = 11,            /* over 32 memory types, one of a heap that is not there, 2^32 heaps or more, or
-                                          an atom that is not a power of two of at most 2^62 */
+    WT_BAD_PROPERTIES = 11,            /* over 32 memory types, one of a heap that is not there, 2^32 heaps or more, an
+                                          atom that is not a power of two of at most 2^62, or a granularity that is
+                                          neither 0 nor a power of two of at most 2^32 */
     WT_UNKNOWN_KEY = 12,               /* no live block has this key: it was freed, or is another allocator's. (Keys of
                                           two allocators may be the same numbers.) */
     WT_OTHER_QUESTION = 13,            /* an answer is to another question than is asked in its place */
@@ -98,7 +99,8 @@ enum {
     WT_NO_REMAINING = 24,              /* an import, and as many objects are held as the device allows */
     WT_TOO_MANY_REMAINING = 25,        /* together with the held objects not below 2^32 */
     WT_STILL_HELD = 26,                /* an object is held: free all blocks, and call wt_cleanup */
-    WT_UNREAD_NAMES = 27               /* names of objects to free are still to be read by wt_gone */
+    WT_UNREAD_NAMES = 27,              /* names of objects to free are still to be read by wt_gone */
+    WT_BAD_FLAGS = 28                  /* flags of a request without a name */
 };
 
 /* How a question was answered: wt_question.answer. To an allocation WT_NO_DEVICE_MEMORY means that it goes on to the
@@ -117,8 +119,12 @@ enum {
     WT_MAP = 3                         /* map offset .. offset + size of the object of that name (vkMapMemory) */
 };
 
-/* wt_question.flags: the object has to have VK_MEMORY_ALLOCATE_DEVICE_ADDRESS_BIT */
-#define WT_ALLOCATE_DEVICE_ADDRESS 1u
+/* wt_question.flags: what an object is made with. */
+#define WT_ALLOCATE_DEVICE_ADDRESS 0x01u /* it has to have VK_MEMORY_ALLOCATE_DEVICE_ADDRESS_BIT */
+/* It will hold this request's block alone, and its size is that of the request: so what belongs to one resource may be
+   chained to it, as VkMemoryDedicatedAllocateInfo, a priority or an export. Set exactly where that is so (proved).
+   Answers are not compared by it. */
+#define WT_ALLOCATE_OWN 0x100u
 
 /* wt_request.usage: what the block is for. It says which memory types may serve and in which order they are tried;
    0 means WT_USAGE_FAST_DEVICE_ACCESS. With HOST_ACCESS, DOWNLOAD or UPLOAD only types that the host sees serve. What
@@ -135,6 +141,15 @@ enum {
 /* wt_request.dedicated: whether the block has to be a whole object of its own. WT_PREFERRED: it gets one from
    wt_config.preferred_dedicated_threshold on. */
 enum { WT_SHARED = 0, WT_PREFERRED = 1, WT_REQUIRED = 2 };
+
+/* wt_request.flags, and wt_block.flags: the block is for an optimal resource (an image of VK_IMAGE_TILING_OPTIMAL), and
+   else for a linear one (a buffer, a linear image). No page of wt_limits.buffer_image_granularity bytes of one object
+   holds one of the first wt_block.asked bytes of an optimal block and a byte of a linear one (proved). So bind nothing
+   to the bytes of an optimal block behind those asked: their page may be a linear block's too.
+   An optimal request is served as one whose size is rounded up to the granularity and that is aligned to it at least.
+   By that size it gets an object of its own, but such an object has the very size of the request. Where the granularity
+   is 1 the flag changes nothing but wt_block.flags. */
+#define WT_OPTIMAL 1u
 
 /* wt_memory_type.props: the lower six bits of VkMemoryType::propertyFlags. Other bits are ignored; leave such
    types out of wt_request.memory_types. Lazily allocated and protected types are never chosen. */
@@ -167,6 +182,7 @@ typedef struct wt_limits {
     uint64_t non_coherent_atom_size;
     uint32_t max_memory_allocation_count; /* how many objects may be held: less those that the program makes itself */
     uint32_t buffer_device_address;       /* not 0: the feature is enabled */
+    uint64_t buffer_image_granularity;    /* bufferImageGranularity, for WT_OPTIMAL; 0 counts as 1 */
 } wt_limits;
 
 /* The sizes by which the allocator decides, in bytes, as gpu-alloc's Config has them. Any values serve. A request
@@ -196,13 +212,20 @@ typedef struct wt_config {
 #define WT_CONFIG_POTATO { 32768, 1024, 131072, 8192, 131072, 1, 8192 }
 #define WT_CONFIG_PROTOTYPING { 33554432, 1048576, 134217728, 8388608, 134217728, 1024, 8388608 }
 
+/* What a block has to be. Zero it before you fill it, as by WT_REQUEST_INIT, so that each field that you do not know
+   is 0: that of a later version then asks for nothing. */
 typedef struct wt_request {
     uint64_t size;         /* at least 1 */
     uint64_t align_mask;   /* the alignment less 1 */
     uint32_t usage;        /* bits WT_USAGE_.. */
     uint32_t memory_types; /* bit i: memory type i is permitted (VkMemoryRequirements::memoryTypeBits) */
     uint32_t dedicated;    /* WT_SHARED, WT_PREFERRED or WT_REQUIRED */
+    uint32_t flags;        /* WT_OPTIMAL or 0. It is checked last of the request's fields with names */
+    uint64_t user;         /* a value of the caller's, which stands with the block: any number, a pointer as well */
 } wt_request;
+
+/* A zeroed request: wt_request request = WT_REQUEST_INIT; */
+#define WT_REQUEST_INIT { 0, 0, 0, 0, WT_SHARED, 0, 0 }
 
 /* A question to the device, with its answer. */
 typedef struct wt_question {
@@ -211,7 +234,7 @@ typedef struct wt_question {
     uint64_t size;
     uint32_t kind;
     uint32_t memory_type; /* WT_ALLOCATE; else 0 */
-    uint32_t flags;       /* WT_ALLOCATE; else 0 */
+    uint32_t flags;       /* WT_ALLOCATE: bits WT_ALLOCATE_..; else 0 */
     uint32_t answer;      /* the caller's to write. A question comes with an invalid one, so that none is forgotten */
 } wt_question;
 
@@ -223,6 +246,10 @@ typedef struct wt_block {
     uint64_t size; /* at least what was asked for */
     uint32_t memory_type;
     uint32_t fresh; /* wt_alloc: 1 where the object is the one that was made for it, and else 0. Elsewhere 0 */
+    uint64_t user;  /* the value of wt_request.user, or of the last wt_set_user. That of an import is 0 at first */
+    uint64_t asked; /* wt_request.size; of an import its size */
+    uint32_t flags; /* WT_OPTIMAL as the request had it, and else 0. An import counts as linear */
+    uint32_t reserved; /* 0 */
 } wt_block;
 
 /* A range of an object. */
@@ -242,8 +269,28 @@ typedef struct wt_counts {
 typedef struct wt_heap_counts {
     uint64_t used;      /* what the held objects of the heap count, its lower 64 bits */
     uint64_t used_high; /* the upper 64 bits, which imports alone can make other than 0 */
-    uint64_t budget;    /* how many bytes may still be asked of it: its size less used, or 0 */
+    uint64_t budget;    /* how many bytes may still be asked of it: limit less used, or 0 */
+    uint64_t limit;     /* the lesser of its size and what wt_set_heap_limit set last */
 } wt_heap_counts;
+
+/* Sums over the objects of a memory type that are held for one purpose. A sum of bytes is its lower 64 bits, and its
+   upper ones, which imports alone can make other than 0. */
+typedef struct wt_kind_statistics {
+    uint64_t objects;
+    uint64_t blocks;          /* live ones in them */
+    uint64_t live_bytes;      /* the sizes of those */
+    uint64_t live_bytes_high;
+    uint64_t free_bytes;      /* the sizes of their free ranges */
+    uint64_t free_bytes_high;
+    uint64_t largest_free;    /* the size of the largest of those, or 0 */
+} wt_kind_statistics;
+
+typedef struct wt_type_statistics {
+    wt_kind_statistics dedicated; /* objects of one block each, made for it */
+    wt_kind_statistics imported;  /* objects of one block each, by wt_import */
+    wt_kind_statistics buddy;     /* objects whose blocks are powers of two */
+    wt_kind_statistics free_list; /* objects of transient blocks */
+} wt_type_statistics;
 
 /* The library's version: WT_VERSION of its header. */
 uint32_t wt_version(void);
@@ -264,9 +311,10 @@ uint32_t wt_close(wt_allocator *a);
    call came between. Answers that are left over count nowhere, but have to be answers.
    WT_ASK: *question is the next one, to be answered and appended. It may lie behind the asked ones in their array.
    Any other status ends the request: WT_OUT_OF_DEVICE_MEMORY to WT_TOO_MANY_OBJECTS; WT_NOT_OPEN, WT_BAD_SIZE,
-   WT_BAD_ALIGNMENT, WT_BAD_USAGE, WT_BAD_DEDICATED, WT_NO_DEVICE_ADDRESS, WT_BAD_ANSWER, or WT_OTHER_QUESTION, as
-   where another call came between and something else is asked now. Nothing is changed then, and each object that
-   was made for this request is the caller's to free. */
+   WT_BAD_ALIGNMENT, WT_BAD_USAGE, WT_BAD_DEDICATED, WT_BAD_FLAGS, WT_NO_DEVICE_ADDRESS, WT_BAD_ANSWER, or
+   WT_OTHER_QUESTION, as where another call came between and something else is asked now. Nothing is changed then, and
+   each object that was made for this request is the caller's to free.
+   Of several misuses the first of these is told: closed, usage, dedicated, flags, an answer, and then the others. */
 uint32_t wt_alloc(wt_allocator *a, const wt_request *request, const wt_question *asked, size_t asked_len,
                   wt_block *block, wt_question *question);
 
@@ -280,6 +328,22 @@ uint32_t wt_import(wt_allocator *a, uint32_t memory_type, uint64_t object_size, 
 
 /* Says again where a block lies. WT_NOT_OPEN, WT_UNKNOWN_KEY. */
 uint32_t wt_block_of(wt_allocator *a, uint64_t key, wt_block *block);
+
+/* Sets a block's value of the caller's (wt_block.user), and changes nothing else. WT_NOT_OPEN, WT_UNKNOWN_KEY. */
+uint32_t wt_set_user(wt_allocator *a, uint64_t key, uint64_t user);
+
+/* Walks the live blocks, in the order of their keys' places: writes as many as there are and as fit in room, *count.
+   after is 0 for the first call, and then the key of the last block written. Fewer than room: there are no more.
+   after counts by its place alone (the lower 32 bits of a key), and may have been freed meanwhile. A walk without other
+   calls between writes each live block exactly once; one with calls between writes each block that lived all along
+   exactly once. With room 0 nothing is written. WT_NOT_OPEN. */
+uint32_t wt_blocks(wt_allocator *a, uint64_t after, wt_block *blocks, size_t room, size_t *count);
+
+/* The memory types that would serve a request with this usage and these permitted types, the best one first, for
+   imports and for objects that the program makes: as many as fit in room. *count is how many there are in all, at most
+   32; none is no error. WT_NOT_OPEN, WT_BAD_USAGE, WT_NO_DEVICE_ADDRESS, WT_OUT_OF_HOST_MEMORY. */
+uint32_t wt_candidates(wt_allocator *a, uint32_t usage, uint32_t memory_types, uint32_t *types, size_t room,
+                       size_t *count);
 
 /* Maps size bytes of a block from offset on, counted from its start.
    WT_OK: *mapped says where they lie in the object. A block of a shared object asks nothing, as that was mapped
@@ -319,6 +383,14 @@ uint32_t wt_count(wt_allocator *a, wt_counts *counts);
 /* What is held of a heap, and what may still be asked of it. WT_NOT_OPEN, WT_BAD_HEAP. */
 uint32_t wt_heap(wt_allocator *a, uint32_t heap, wt_heap_counts *counts);
 
+/* From now on at most limit bytes of a heap are held for what wt_alloc asks: no question asks for more than is left of
+   it, and a memory type whose heap has not so much left is passed, not asked. It is for what VK_EXT_memory_budget says
+   of a heap at run time, and may be set at any time, also between two answers to one request. One at or over the heap's
+   size is none, as at first. One below what is held refuses new objects and takes nothing away: blocks stay, and free
+   bytes of held objects are given out. Imports count, and are never refused for it. When an object is made, and how
+   large a shared one is, goes on by the heap's size: no smaller one is tried. WT_NOT_OPEN, WT_BAD_HEAP. */
+uint32_t wt_set_heap_limit(wt_allocator *a, uint32_t heap, uint64_t limit);
+
 /* From now on this many objects may be held beside those that are. WT_NOT_OPEN, WT_TOO_MANY_REMAINING. */
 uint32_t wt_set_remaining(wt_allocator *a, uint32_t remaining);
 
@@ -327,6 +399,16 @@ uint32_t wt_set_remaining(wt_allocator *a, uint32_t remaining);
    WT_OUT_OF_HOST_MEMORY. */
 uint32_t wt_free_ranges(wt_allocator *a, uint32_t memory_type, size_t first, wt_range *ranges, size_t room,
                         size_t *count);
+
+/* What is held of a memory type, by what it is held for. It takes memory and time for what is held in all, as wt_report.
+   WT_NOT_OPEN, WT_BAD_MEMORY_TYPE, WT_OUT_OF_HOST_MEMORY. */
+uint32_t wt_statistics(wt_allocator *a, uint32_t memory_type, wt_type_statistics *statistics);
+
+/* A report of all that is held, as JSON: heaps, memory types, sums by type and kind, and each object with its live blocks
+   (by key and user) and free ranges; scripts/picture of the repository draws it. At most room bytes are written, the first of
+   the text, with no 0 behind them. *length is the length of all of it, so that a call with room 0 tells how much room it
+   wants. WT_NOT_OPEN, WT_OUT_OF_HOST_MEMORY. */
+uint32_t wt_report(wt_allocator *a, char *text, size_t room, size_t *length);
 
 /* What a status means, in a line with no full stop. */
 static inline const char *wt_text(uint32_t status) {
@@ -360,6 +442,7 @@ static inline const char *wt_text(uint32_t status) {
     case WT_TOO_MANY_REMAINING: return "Remaining and held objects together are too many";
     case WT_STILL_HELD: return "Objects are still held";
     case WT_UNREAD_NAMES: return "Names of objects to free are still to be read";
+    case WT_BAD_FLAGS: return "The flags have bits without a name";
     default: return "No such status";
     }
 }

@@ -61,8 +61,11 @@ static const wt_config small_config = {
     8 * KIBIBYTE,  /* initial_buddy_dedicated_size */
 };
 
+/* A request that is linear and has no value of its own. */
+#define REQUEST(size, align_mask, usage, types, dedicated) { size, align_mask, usage, types, dedicated, 0, 0 }
+
 static inline wt_limits device_limits(uint32_t objects, uint32_t has_device_address) {
-    wt_limits limits = { 0, ATOM, 0, 0 };
+    wt_limits limits = { 0, ATOM, 0, 0, 0 };
     limits.max_memory_allocation_size = 12 * MEBIBYTE;
     limits.max_memory_allocation_count = objects;
     limits.buffer_device_address = has_device_address;
@@ -154,11 +157,26 @@ static inline uint64_t free_space(wt_allocator *a) {
 
 static inline int is_same_block(const wt_block *one, const wt_block *other) {
     return one->key == other->key && one->object == other->object && one->offset == other->offset
-        && one->size == other->size && one->memory_type == other->memory_type && one->fresh == other->fresh;
+        && one->size == other->size && one->memory_type == other->memory_type && one->fresh == other->fresh
+        && one->user == other->user && one->asked == other->asked && one->flags == other->flags
+        && one->reserved == other->reserved;
 }
 
 static inline int share_a_byte(uint64_t start, uint64_t size, uint64_t other_start, uint64_t other_size) {
     return start < other_start + other_size && other_start < start + size;
+}
+
+/* How many bytes of a block a resource may have: of an optimal one those that were asked for. */
+static inline uint64_t bytes_to_bind(const wt_block *block) {
+    return block->flags == WT_OPTIMAL ? block->asked : block->size;
+}
+
+/* Whether a page of that many bytes has bytes of an optimal block and of a linear one. */
+static inline int share_a_page(const wt_block *one, const wt_block *other, uint64_t granularity) {
+    uint64_t page = granularity ? granularity : 1;
+    uint64_t first = one->offset / page, last = (one->offset + bytes_to_bind(one) - 1) / page;
+    uint64_t other_first = other->offset / page, other_last = (other->offset + bytes_to_bind(other) - 1) / page;
+    return one->object == other->object && one->flags != other->flags && first <= other_last && other_first <= last;
 }
 
 /* Whether a key is refused by each call that takes one. */
@@ -169,7 +187,8 @@ static inline int is_refused_everywhere(wt_allocator *a, uint64_t key) {
     uint64_t object;
     return wt_free(a, key) == WT_UNKNOWN_KEY && wt_block_of(a, key, &block) == WT_UNKNOWN_KEY
         && wt_map(a, key, 0, 1, NULL, 0, &range, &question) == WT_UNKNOWN_KEY
-        && wt_unmap(a, key, &object) == WT_UNKNOWN_KEY && wt_range_of(a, key, 0, 1, &range) == WT_UNKNOWN_KEY;
+        && wt_unmap(a, key, &object) == WT_UNKNOWN_KEY && wt_range_of(a, key, 0, 1, &range) == WT_UNKNOWN_KEY
+        && wt_set_user(a, key, 1) == WT_UNKNOWN_KEY;
 }
 
 #endif

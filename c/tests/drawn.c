@@ -3,13 +3,15 @@
  *     drawn SEED STEPS PERCENT      PERCENT: how many of a hundred questions are refused */
 #include "common.h"
 
+#include <string.h>
+
 #define MOST 4096
 #define MOST_OBJECTS 160u
 
 typedef struct {
     uint64_t name, size, counted;
     uint32_t memory_type;
-    int is_imported, is_mapped_whole, is_mapped;
+    int is_imported, is_own, is_mapped_whole, is_mapped;
 } object;
 
 typedef struct {
@@ -30,7 +32,9 @@ static int has_pending;
 static uint64_t percent, last_name, made, freed, granted, refused, asked;
 static uint64_t total; /* the objects that are held and that may be */
 static uint32_t has_device_address;
-static uint64_t heaps[HEAPS];
+static uint64_t heaps[HEAPS], heap_limits[HEAPS];
+static uint64_t granularity;
+static const wt_request *serving; /* the request that the device is asked for */
 
 static object *find_object(uint64_t name) {
     for (size_t i = 0; i < objects_len; i++)
@@ -53,19 +57,55 @@ static void free_pending(void) {
 }
 
 static void make_pending(const wt_question *question) {
-    object fresh = { 0, question->size, question->size, question->memory_type, 0, 0, 0 };
+    object fresh = { 0, question->size, question->size, question->memory_type, 0, 0, 0, 0 };
     pending = fresh;
+    pending.is_own = (question->flags & WT_ALLOCATE_OWN) != 0;
     has_pending = 1;
     made++;
 }
 
+static uint64_t limit_of(uint32_t heap) {
+    return heap_limits[heap] < heaps[heap] ? heap_limits[heap] : heaps[heap];
+}
+
+/* What the objects count that were not read from wt_gone. */
+static uint64_t counted_of(uint32_t heap) {
+    uint64_t sum = 0;
+    for (size_t i = 0; i < objects_len; i++)
+        if (memory_types[objects[i].memory_type].heap == heap) sum += objects[i].counted;
+    return sum;
+}
+
+/* The size from which on a request gets an object of its own: 1/32 of its heap at most. */
+static uint64_t own_from(const wt_request *request, uint32_t memory_type) {
+    uint64_t part = heaps[memory_types[memory_type].heap] / 32, size = small_config.dedicated_threshold;
+    if (request->usage & WT_USAGE_TRANSIENT) size = small_config.transient_dedicated_threshold;
+    if (request->dedicated == WT_PREFERRED && small_config.preferred_dedicated_threshold < size)
+        size = small_config.preferred_dedicated_threshold;
+    if (request->dedicated == WT_REQUIRED) size = 0;
+    return size < part ? size : part;
+}
+
+static void check_own(const wt_question *question) {
+    int is_own = (question->flags & WT_ALLOCATE_OWN) != 0;
+    uint64_t page = serving->flags == WT_OPTIMAL && granularity ? granularity : 1;
+    uint64_t served = (serving->size + page - 1) / page * page;
+    expect(!is_own || question->size == serving->size, "an object of its own has another size than its request");
+    expect(is_own == (served >= own_from(serving, question->memory_type)), "an object of its own is told as shared, or not");
+}
+
 static void check_allocate(const wt_question *question) {
-    wt_heap_counts heap;
+    uint32_t flags = has_device_address ? WT_ALLOCATE_DEVICE_ADDRESS : 0, heap;
     expect(question->object == 0 && question->offset == 0, "a field of an object to make is not 0");
     expect(question->memory_type < TYPES, "an object is wanted of no memory type");
-    expect(question->flags == (has_device_address ? WT_ALLOCATE_DEVICE_ADDRESS : 0), "the address flag is wrong");
-    heap = heap_counts_of(&allocator, memory_types[question->memory_type].heap);
-    expect(question->size > 0 && question->size <= heap.budget, "an object is wanted that is over the heap's budget");
+    expect((question->flags & ~WT_ALLOCATE_OWN) == flags, "the address flag is wrong");
+    check_own(question);
+    heap = memory_types[question->memory_type].heap;
+    expect(question->size > 0 && question->size <= heap_counts_of(&allocator, heap).budget,
+           "an object is wanted that is over the heap's budget");
+    expect(heap_counts_of(&allocator, heap).used + question->size <= limit_of(heap), "an object passes the heap's limit");
+    expect(counts_of(&allocator).unread > 0 || counted_of(heap) + question->size <= limit_of(heap),
+           "with what is held an object passes the heap's limit");
 }
 
 static void check_map_made(const wt_question *question) {
@@ -106,12 +146,11 @@ static uint32_t answer(const wt_question *question) {
 
 static void check_heap(uint32_t heap, int is_all_read) {
     wt_heap_counts counts = heap_counts_of(&allocator, heap);
-    uint64_t sum = 0;
-    for (size_t i = 0; i < objects_len; i++)
-        if (memory_types[objects[i].memory_type].heap == heap) sum += objects[i].counted;
+    uint64_t sum = counted_of(heap), limit = limit_of(heap);
     expect(counts.used_high == 0, "a heap counts 2^64 bytes");
     expect(counts.used == sum || (!is_all_read && counts.used < sum), "a heap counts other bytes than are held");
-    expect(counts.budget == (counts.used < heaps[heap] ? heaps[heap] - counts.used : 0), "a wrong budget");
+    expect(counts.limit == limit, "a wrong limit");
+    expect(counts.budget == (counts.used < limit ? limit - counts.used : 0), "a wrong budget");
 }
 
 static void check_books(void) {
@@ -132,6 +171,7 @@ static void check_books(void) {
 static void remember(const wt_block *given) {
     block fresh = { *given, 0 };
     for (size_t i = 0; i < keys_len; i++) expect(keys[i] != given->key, "a key is given twice");
+    expect(keys_len < MOST, "so many blocks have no room");
     keys[keys_len++] = given->key;
     fresh.at.fresh = 0;
     blocks[blocks_len++] = fresh;
@@ -153,6 +193,14 @@ static void check_place(const wt_block *given, const object *of) {
                "two blocks share a byte");
 }
 
+/* No page has bytes of an optimal block and of a linear one, and no object of its own a second block. */
+static void check_neighbours(const wt_block *given, const object *of) {
+    for (size_t i = 0; i < blocks_len; i++) {
+        expect(!share_a_page(&blocks[i].at, given, granularity), "an optimal block and a linear one share a page");
+        expect(!of->is_own || blocks[i].at.object != given->object, "an object of its own has a second block");
+    }
+}
+
 static int serves(const wt_request *request, uint32_t memory_type) {
     uint32_t host = WT_USAGE_HOST_ACCESS | WT_USAGE_DOWNLOAD | WT_USAGE_UPLOAD;
     return (request->memory_types >> memory_type & 1) && (!(request->usage & host) || is_host_visible(memory_type));
@@ -169,15 +217,33 @@ static void check_granted(const wt_request *request, const questions *talk, cons
     free_pending();
     of = find_object(given->object);
     check_place(given, of);
+    check_neighbours(given, of);
     expect(!of->is_imported, "a block lies in an imported object");
+    expect(given->user == request->user && given->asked == request->size, "it is told otherwise than asked");
+    expect(given->flags == request->flags && given->reserved == 0, "its flags are others");
+    if (is_host_visible(of->memory_type)) expect(of->is_own != of->is_mapped_whole, "a shared object is of its own, or none");
+    if (of->is_own)
+        expect(given->fresh && given->offset == 0 && given->size == of->size && of->size == request->size,
+               "an object of its own is no whole block");
     expect(given->size >= request->size, "a block is smaller than was asked for");
     expect((given->offset & request->align_mask) == 0, "a block is not aligned");
     expect(serves(request, given->memory_type), "a block is of a memory type that may not serve it");
     if (request->dedicated == WT_REQUIRED)
-        expect(given->fresh && given->offset == 0 && given->size == of->size && !of->is_mapped_whole,
-               "a block that has to be a whole object is none");
+        expect(of->is_own && !of->is_mapped_whole, "a block that has to be a whole object is none");
     remember(given);
     granted++;
+}
+
+/* The memory types that were asked come in the order of the candidates. */
+static void check_order(const wt_request *request, const questions *talk) {
+    uint32_t types[TYPES];
+    size_t count, at = 0;
+    expect(wt_candidates(&allocator, request->usage, request->memory_types, types, TYPES, &count) == WT_OK, "no candidates");
+    for (size_t i = 0; i < talk->len; i++) {
+        if (talk->asked[i].kind != WT_ALLOCATE) continue;
+        while (at < count && types[at] != talk->asked[i].memory_type) at++;
+        expect(at++ < count, "a memory type is asked out of order, or is no candidate");
+    }
 }
 
 /* Whether a block with an object of its own was refused though a heap had room, and nothing was asked. */
@@ -210,13 +276,15 @@ static void check_refused(const wt_request *request, uint32_t status, const ques
 /* ---- The steps ---- */
 
 static wt_request draw_request(void) {
-    wt_request request = { 0, 0, 0, 0, WT_SHARED };
+    wt_request request = WT_REQUEST_INIT;
     request.size = 1 + (draw(10) ? draw(4000) : draw(200 * KIBIBYTE));
     request.align_mask = ((uint64_t)1 << draw(9)) - 1;
     request.usage = draw(2) ? WT_USAGE_TRANSIENT | (uint32_t)draw(16) : (uint32_t)draw(32);
     if (has_device_address && draw(2)) request.usage |= WT_USAGE_DEVICE_ADDRESS;
     request.memory_types = draw(4) ? UINT32_MAX : (uint32_t)draw(1 << TYPES);
     if (draw(8) == 0) request.dedicated = (uint32_t)draw(3);
+    request.flags = draw(2) ? WT_OPTIMAL : 0;
+    request.user = draw(UINT64_MAX);
     return request;
 }
 
@@ -225,7 +293,10 @@ static void step_allocate(void) {
     questions talk;
     wt_block given;
     uint64_t before = free_space(&allocator);
-    uint32_t status = allocate(&allocator, &request, answer, &talk, &given);
+    uint32_t status;
+    serving = &request;
+    status = allocate(&allocator, &request, answer, &talk, &given);
+    check_order(&request, &talk);
     if (status == WT_OK) {
         check_granted(&request, &talk, &given);
     } else {
@@ -245,14 +316,127 @@ static void step_abandon(void) {
         expect(free_space(&allocator) == before, "a question changed what is free");
 }
 
-static void step_free(void) {
-    size_t at = (size_t)draw(blocks_len + 1);
-    uint64_t key;
-    if (at == blocks_len) return;
-    key = blocks[at].at.key;
+static void free_block(size_t at) {
+    uint64_t key = blocks[at].at.key;
     expect(wt_free(&allocator, key) == WT_OK, "a live block is not taken back");
     blocks[at] = blocks[--blocks_len];
     expect(wt_free(&allocator, key) == WT_UNKNOWN_KEY, "a block is taken back twice");
+}
+
+static void step_free(void) {
+    size_t at = (size_t)draw(blocks_len + 1);
+    if (at < blocks_len) free_block(at);
+}
+
+static void step_set_user(void) {
+    block *of = &blocks[draw(blocks_len + 1)];
+    if (of == &blocks[blocks_len]) return;
+    of->at.user = draw(3) ? draw(UINT64_MAX) : 0;
+    expect(wt_set_user(&allocator, of->at.key, of->at.user) == WT_OK, "a value is refused");
+}
+
+static size_t place_of_live(uint64_t key) {
+    for (size_t i = 0; i < blocks_len; i++)
+        if (blocks[i].at.key == key) return i;
+    expect(0, "a walk tells a block that is not live");
+    return 0;
+}
+
+/* Goes on with a walk: its next blocks are live ones, as they were given, in the order of their keys' places. Answers
+ * whether it goes on behind them. */
+static int walk_on(uint64_t *after, uint64_t *walked, size_t *walked_len) {
+    wt_block page[4];
+    size_t count = SIZE_MAX, room = 1 + (size_t)draw(LENGTH(page));
+    expect(wt_blocks(&allocator, *after, page, room, &count) == WT_OK && count <= room, "a walk goes wrong");
+    for (size_t i = 0; i < count; i++) {
+        expect(is_same_block(&page[i], &blocks[place_of_live(page[i].key)].at), "a walk tells a block otherwise");
+        expect(*after == 0 || (uint32_t)page[i].key > (uint32_t)*after, "a walk goes back");
+        *after = page[i].key;
+        walked[(*walked_len)++] = page[i].key;
+    }
+    return count == room;
+}
+
+static unsigned times_in(uint64_t key, const uint64_t *walked, size_t walked_len) {
+    unsigned times = 0;
+    for (size_t i = 0; i < walked_len; i++) times += walked[i] == key;
+    return times;
+}
+
+static void step_walk(void) {
+    static uint64_t walked[MOST + 4];
+    wt_block last;
+    uint64_t after = 0;
+    size_t walked_len = 0, count = SIZE_MAX;
+    while (walk_on(&after, walked, &walked_len));
+    expect(walked_len == blocks_len, "a walk tells other blocks than are live");
+    for (size_t i = 0; i < blocks_len; i++)
+        expect(times_in(blocks[i].at.key, walked, walked_len) == 1, "a walk does not tell a block once");
+    expect(wt_blocks(&allocator, after, NULL, 0, &count) == WT_OK && count == 0, "a walk with no room writes");
+    expect(wt_blocks(&allocator, UINT32_MAX, &last, 1, &count) == WT_OK && count == 0, "a walk goes on behind its end");
+}
+
+/* A walk with grants and returns between: each block that lived all along is told once. The block that it goes on from
+ * may be freed, and its place may be another's. */
+static void step_walk_and_change(void) {
+    static uint64_t walked[2 * MOST], before[MOST];
+    uint64_t after = 0;
+    size_t walked_len = 0, before_len = blocks_len;
+    for (size_t i = 0; i < blocks_len; i++) before[i] = blocks[i].at.key;
+    while (walk_on(&after, walked, &walked_len)) {
+        if (draw(3) == 0 && is_live(after)) free_block(place_of_live(after));
+        if (draw(3) == 0) step_free();
+        if (draw(3) == 0 && keys_len < MOST - 1) step_allocate();
+        if (draw(3) == 0) step_set_user();
+    }
+    for (size_t i = 0; i < before_len; i++) {
+        unsigned times = times_in(before[i], walked, walked_len);
+        expect(is_live(before[i]) ? times == 1 : times <= 1, "a block that lived all along is not told once");
+    }
+}
+
+static int is_local(uint32_t memory_type) {
+    return (memory_types[memory_type].props & WT_DEVICE_LOCAL) != 0;
+}
+
+/* The candidates are the types that serve, each once, device-local ones first or last. */
+static void check_candidates(const wt_request *request, const uint32_t *types, size_t count) {
+    int is_fast = request->usage == 0 || (request->usage & WT_USAGE_FAST_DEVICE_ACCESS) != 0;
+    size_t serving_types = 0;
+    for (uint32_t type = 0; type < TYPES; type++) serving_types += (size_t)serves(request, type);
+    expect(count == serving_types, "other candidates are told than serve");
+    for (size_t i = 0; i < count; i++) {
+        expect(types[i] < TYPES && serves(request, types[i]), "a candidate does not serve");
+        for (size_t j = 0; j < i; j++) expect(types[i] != types[j], "a candidate is told twice");
+        if (i > 0 && is_local(types[i]) != is_local(types[i - 1]))
+            expect(is_local(types[i]) != is_fast, "device-local types are at the wrong end");
+    }
+}
+
+static void step_candidates(void) {
+    wt_request request = draw_request();
+    uint32_t types[TYPES], some[TYPES + 1];
+    size_t count = SIZE_MAX, again = SIZE_MAX, room = (size_t)draw(TYPES + 1);
+    uint32_t status = wt_candidates(&allocator, request.usage, request.memory_types, types, TYPES, &count);
+    expect(status == WT_OK, "candidates are refused");
+    check_candidates(&request, types, count);
+    for (size_t i = 0; i <= TYPES; i++) some[i] = UINT32_MAX;
+    expect(wt_candidates(&allocator, request.usage, request.memory_types, some, room, &again) == WT_OK && again == count,
+           "other candidates are told where there is less room");
+    for (size_t i = 0; i <= TYPES; i++)
+        expect(some[i] == (i < room && i < count ? types[i] : UINT32_MAX), "candidates pass their room, or are others");
+}
+
+/* From now on a heap has another limit: none, some of it, less than is held, or a little more. */
+static void step_set_heap_limit(void) {
+    uint32_t heap = (uint32_t)draw(HEAPS);
+    uint64_t used = heap_counts_of(&allocator, heap).used, before = free_space(&allocator);
+    const uint64_t drawn[] = { UINT64_MAX, heaps[heap], draw(heaps[heap] + 1), draw(used + 1), used + draw(64 * KIBIBYTE),
+                               UINT64_MAX };
+    heap_limits[heap] = drawn[draw(LENGTH(drawn))];
+    expect(wt_set_heap_limit(&allocator, heap, heap_limits[heap]) == WT_OK, "a limit is refused");
+    expect(wt_set_heap_limit(&allocator, HEAPS + (uint32_t)draw(3), 0) == WT_BAD_HEAP, "a limit of no heap is taken");
+    expect(free_space(&allocator) == before, "a limit changed what is free");
 }
 
 static void step_old_key(void) {
@@ -353,13 +537,14 @@ static void check_imported(object own, uint64_t offset, uint64_t size, const wt_
     add_object(own, given->object);
     expect(given->offset == offset && given->size == size, "an import is another range");
     expect(given->fresh == 0, "an import is told as fresh");
+    expect(given->user == 0 && given->asked == size && given->flags == 0 && given->reserved == 0, "an import is told as asked");
     check_place(given, &objects[objects_len - 1]);
     remember(given);
     made++;
 }
 
 static void step_import(void) {
-    object own = { 0, 1 + draw(20000), 0, (uint32_t)draw(TYPES), 1, 0, 0 };
+    object own = { 0, 1 + draw(20000), 0, (uint32_t)draw(TYPES), 1, 1, 0, 0 };
     uint64_t offset = draw(own.size), size = 1 + draw(own.size - offset);
     uint32_t remaining = counts_of(&allocator).remaining, status;
     int is_bad_end;
@@ -450,6 +635,78 @@ static void step_free_ranges(void) {
         if (objects[i].memory_type == type) check_filled(&objects[i], free_bytes[i]);
 }
 
+/* The sums of a memory type are those of the books: each object is held for one purpose. */
+static void step_statistics(void) {
+    uint32_t type = (uint32_t)draw(TYPES);
+    wt_type_statistics told;
+    wt_kind_statistics own = { 0, 0, 0, 0, 0, 0, 0 }, imported = own, shared = own;
+    uint64_t free_bytes = 0, largest = 0;
+    wt_range ranges[1];
+    size_t count = 1;
+    expect(wt_statistics(&allocator, type, &told) == WT_OK, "statistics are refused");
+    for (size_t i = 0; i < blocks_len; i++) {
+        const object *of = find_object(blocks[i].at.object);
+        wt_kind_statistics *sums = of->is_imported ? &imported : of->is_own ? &own : &shared;
+        if (of->memory_type != type) continue;
+        sums->blocks++;
+        sums->live_bytes += blocks[i].at.size;
+    }
+    for (size_t first = 0; first < count; first++) {
+        expect(wt_free_ranges(&allocator, type, first, ranges, 1, &count) == WT_OK, "free ranges are not told");
+        if (first == count) break;
+        free_bytes += ranges[0].size;
+        if (ranges[0].size > largest) largest = ranges[0].size;
+    }
+    expect(told.dedicated.objects == own.blocks && told.dedicated.blocks == own.blocks
+               && told.dedicated.live_bytes == own.live_bytes && told.dedicated.free_bytes == 0,
+           "objects of their own are summed otherwise");
+    expect(told.imported.objects == imported.blocks && told.imported.blocks == imported.blocks
+               && told.imported.live_bytes == imported.live_bytes && told.imported.free_bytes == 0,
+           "imports are summed otherwise");
+    expect(told.buddy.blocks + told.free_list.blocks == shared.blocks
+               && told.buddy.live_bytes + told.free_list.live_bytes == shared.live_bytes
+               && told.buddy.free_bytes + told.free_list.free_bytes == free_bytes,
+           "shared objects are summed otherwise");
+    expect((told.buddy.largest_free > told.free_list.largest_free ? told.buddy : told.free_list).largest_free == largest,
+           "another free range is told as the largest");
+    expect(told.dedicated.live_bytes_high + told.imported.live_bytes_high + told.buddy.live_bytes_high
+               + told.free_list.live_bytes_high + told.dedicated.free_bytes_high + told.imported.free_bytes_high
+               + told.buddy.free_bytes_high + told.free_list.free_bytes_high == 0, "sums pass 64 bits");
+}
+
+/* How many times words stand in a text. */
+static size_t times_written(const char *text, const char *words) {
+    size_t times = 0;
+    for (const char *at = text; (at = strstr(at, words)) != NULL; at++) times++;
+    return times;
+}
+
+/* A report is the same however much room there is, and has each live block with its value, and no other. */
+static void step_report(void) {
+    static char text[MOST * 128], some[MOST * 128];
+    char words[80];
+    size_t length = SIZE_MAX, again = SIZE_MAX, room;
+    expect(wt_report(&allocator, NULL, 0, &length) == WT_OK && length < sizeof text, "a report is refused, or too long");
+    text[length] = 'x';
+    expect(wt_report(&allocator, text, length, &again) == WT_OK && again == length, "a report has another length");
+    expect(text[length] == 'x', "a report passes its room");
+    text[length] = 0;
+    expect(strlen(text) == length, "a report has a 0");
+    room = (size_t)draw(length);
+    memset(some, 'x', length);
+    expect(wt_report(&allocator, some, room, &again) == WT_OK && again == length, "a report has another length");
+    expect(memcmp(some, text, room) == 0 && some[room] == 'x', "a report with less room is another");
+    for (size_t i = 0; i < blocks_len; i++) {
+        snprintf(words, sizeof words, "{\"key\":%llu,\"user\":%llu,\"offset\":%llu,\"size\":%llu}",
+                 (unsigned long long)blocks[i].at.key, (unsigned long long)blocks[i].at.user,
+                 (unsigned long long)blocks[i].at.offset, (unsigned long long)blocks[i].at.size);
+        expect(times_written(text, words) == 1, "a live block is not reported once");
+    }
+    expect(times_written(text, "{\"key\":") - times_written(text, "{\"key\":null,") == blocks_len,
+           "other blocks are reported than are live");
+    expect(times_written(text, "{\"object\":") == counts_of(&allocator).held, "other objects are reported than are held");
+}
+
 static void take_step(void) {
     static const struct {
         void (*step)(void);
@@ -458,6 +715,8 @@ static void take_step(void) {
         { step_allocate, 40 }, { step_abandon, 3 }, { step_free, 22 },   { step_old_key, 3 },     { step_other_key, 2 },
         { step_map, 8 },       { step_unmap, 6 },   { step_range, 6 },   { step_import, 3 },      { step_gone, 8 },
         { step_cleanup, 1 },   { step_set_remaining, 1 },                { step_free_ranges, 3 },
+        { step_set_user, 3 },  { step_walk, 2 },    { step_walk_and_change, 2 },                  { step_candidates, 2 },
+        { step_set_heap_limit, 3 },                 { step_statistics, 2 },                       { step_report, 1 },
     };
     unsigned sum = 0;
     uint64_t drawn;
@@ -475,7 +734,7 @@ static void take_step(void) {
 /* Some blocks of another allocator, each in a place that another block had before. */
 static void fill_other(void) {
     wt_limits limits = device_limits(LENGTH(other_keys) + 1, 0);
-    wt_request request = { 16, 0, WT_USAGE_TRANSIENT, UINT32_MAX, WT_SHARED };
+    wt_request request = REQUEST(16, 0, WT_USAGE_TRANSIENT, UINT32_MAX, WT_SHARED);
     questions talk;
     wt_block first, given;
     open_device(&other, &limits);
@@ -510,6 +769,7 @@ static void finish(void) {
 }
 
 int main(int argc, char **argv) {
+    static const uint64_t granularities[] = { 0, 1, ATOM, 1024, 4096, 65536 };
     unsigned long steps;
     wt_limits limits;
     if (argc != 4) {
@@ -523,8 +783,13 @@ int main(int argc, char **argv) {
     has_device_address = (uint32_t)draw(2);
     limits = device_limits(MOST_OBJECTS, has_device_address);
     total = MOST_OBJECTS;
+    granularity = granularities[draw(LENGTH(granularities))];
+    limits.buffer_image_granularity = granularity;
     /* Some heaps are small, so that they are often full. */
-    for (size_t i = 0; i < HEAPS; i++) heaps[i] = heap_sizes[i] >> (draw(2) ? 3 + draw(5) : 0);
+    for (size_t i = 0; i < HEAPS; i++) {
+        heaps[i] = heap_sizes[i] >> (draw(2) ? 3 + draw(5) : 0);
+        heap_limits[i] = UINT64_MAX;
+    }
     open_heaps(&allocator, &limits, heaps);
     fill_other();
     for (unsigned long i = 0; i < steps; i++) {

@@ -9,6 +9,8 @@
 #define HEAP_SIZE ((uint64_t)1 << 40)
 #define OBJECTS_ALLOWED 40
 #define ADDRESS_FLAG 1u /* wt_limits.buffer_device_address: any number but 0 */
+#define GRANULARITY 8192u
+#define USER 0x123456789abcdefu
 
 enum { DEVICE_SIDE, COHERENT, NON_COHERENT, KINDS };
 
@@ -34,6 +36,7 @@ static void open_it(wt_allocator *a) {
     limits.non_coherent_atom_size = ATOM;
     limits.max_memory_allocation_count = OBJECTS_ALLOWED;
     limits.buffer_device_address = ADDRESS_FLAG;
+    limits.buffer_image_granularity = GRANULARITY;
     config.dedicated_threshold = 64 * KIBIBYTE;
     config.preferred_dedicated_threshold = 4 * KIBIBYTE;
     config.transient_dedicated_threshold = 256 * KIBIBYTE;
@@ -45,9 +48,8 @@ static void open_it(wt_allocator *a) {
 }
 
 static wt_request request_of(uint64_t size, uint32_t usage, uint32_t memory_type, uint32_t dedicated) {
-    wt_request request;
+    wt_request request = WT_REQUEST_INIT;
     request.size = size;
-    request.align_mask = 0;
     request.usage = usage;
     request.memory_types = 1u << memory_type;
     request.dedicated = dedicated;
@@ -129,12 +131,16 @@ static void check_own(wt_allocator *a) {
     wt_range mapped;
     current_case = "an object of its own";
     request.align_mask = 4095;
+    request.flags = WT_OPTIMAL;
+    request.user = USER;
     block = granted(a, &request, &talk);
     expect(talk.len == 1 && talk.asked[0].object == 0 && talk.asked[0].offset == 0, "an object is asked for otherwise");
     expect(talk.asked[0].kind == WT_ALLOCATE && talk.asked[0].size == 5000, "an object is asked for otherwise");
     expect(talk.asked[0].memory_type == NON_COHERENT, "another memory type is asked");
-    expect(talk.asked[0].flags == WT_ALLOCATE_DEVICE_ADDRESS, "other flags are asked");
+    expect(talk.asked[0].flags == (WT_ALLOCATE_DEVICE_ADDRESS | WT_ALLOCATE_OWN), "other flags are asked");
     expect(block.offset == 0 && block.size == 5000, "it lies elsewhere");
+    expect(block.user == USER && block.asked == 5000, "user and asked are others");
+    expect(block.flags == WT_OPTIMAL && block.reserved == 0, "flags and reserved are others");
     expect(block.memory_type == NON_COHERENT && block.fresh == 1, "memory_type and fresh are others");
     expect(heap_counts_of(a, heap_of[NON_COHERENT]).used == 5000, "another heap pays");
     expect(map(a, block.key, 2 * ATOM + 1, ATOM / 2, grants, &talk, &mapped) == WT_OK, "it is not mapped");
@@ -173,6 +179,7 @@ static void check_shared(wt_allocator *a) {
     expect(talk.asked[1].offset == 0 && talk.asked[1].size == 8 * KIBIBYTE, "it is not mapped whole");
     other = granted(a, &request, &talk);
     expect(talk.len == 0 && one.fresh == 1 && other.fresh == 0, "there is no room in it, or fresh is another");
+    expect(talk.len == 0 && one.flags == 0 && one.user == 0 && one.asked == 640, "it is told otherwise than asked");
     expect(one.object == other.object && one.key != other.key, "keys are not told by blocks, or objects by objects");
     expect(one.size == 640 && other.size == 640 && one.offset != other.offset, "offsets or sizes are others");
     expect(one.offset % ATOM == 0 && other.offset % ATOM == 0, "a block is not aligned");
@@ -190,6 +197,23 @@ static void check_shared(wt_allocator *a) {
     read_gone(a, 3);
 }
 
+/* An optimal block of a shared object: whole pages of the granularity. */
+static void check_optimal(wt_allocator *a) {
+    wt_request request = request_of(700, WT_USAGE_TRANSIENT, DEVICE_SIDE, WT_SHARED);
+    questions talk;
+    wt_block linear, optimal;
+    current_case = "an optimal block";
+    linear = granted(a, &request, &talk);
+    expect(talk.len == 1 && talk.asked[0].flags == WT_ALLOCATE_DEVICE_ADDRESS, "a shared object is of its own");
+    request.flags = WT_OPTIMAL;
+    optimal = granted(a, &request, &talk);
+    expect(optimal.offset % GRANULARITY == 0 && optimal.size >= GRANULARITY, "it is not of whole pages");
+    expect(linear.flags == 0 && optimal.flags == WT_OPTIMAL && optimal.asked == 700, "it is told otherwise than asked");
+    expect(wt_free(a, linear.key) == WT_OK && wt_free(a, optimal.key) == WT_OK, "a block is not taken back");
+    expect(wt_cleanup(a) == WT_OK, "it is not cleaned up");
+    read_gone(a, (size_t)counts_of(a).unread);
+}
+
 /* What a heap counts is past 64 bits by imports alone. */
 static void check_heap_counts(wt_allocator *a) {
     const uint32_t heap = heap_of[DEVICE_SIDE];
@@ -199,11 +223,47 @@ static void check_heap_counts(wt_allocator *a) {
     expect(wt_import(a, DEVICE_SIDE, 700, 0, 700, &one) == WT_OK, "it is not imported");
     counts = heap_counts_of(a, heap);
     expect(counts.used == 700 && counts.used_high == 0 && counts.budget == HEAP_SIZE - 700, "it is counted otherwise");
+    expect(counts.limit == HEAP_SIZE, "its limit is another than its size");
+    expect(wt_set_heap_limit(a, heap, 1000) == WT_OK, "no limit is set");
+    counts = heap_counts_of(a, heap);
+    expect(counts.budget == 300 && counts.limit == 1000, "its limit is counted otherwise");
+    expect(wt_set_heap_limit(a, heap, UINT64_MAX) == WT_OK, "no limit is taken away");
+    expect(heap_counts_of(a, heap).limit == HEAP_SIZE, "a limit over the heap's size is one");
     expect(wt_import(a, DEVICE_SIDE, UINT64_MAX, 0, UINT64_MAX, &other) == WT_OK, "it is not imported");
     counts = heap_counts_of(a, heap);
     expect(counts.used == 699 && counts.used_high == 1 && counts.budget == 0, "its upper bits are counted otherwise");
     expect(wt_free(a, one.key) == WT_OK && wt_free(a, other.key) == WT_OK, "a block is not taken back");
     read_gone(a, 2);
+}
+
+/* The sums of each kind, all of them others, and past 64 bits by imports. */
+static void check_statistics(wt_allocator *a) {
+    const wt_request own = request_of(5000, 0, DEVICE_SIDE, WT_REQUIRED), buddy = request_of(300, 0, DEVICE_SIDE, WT_SHARED);
+    const wt_request transient = request_of(640, WT_USAGE_TRANSIENT, DEVICE_SIDE, WT_SHARED);
+    wt_type_statistics told;
+    wt_block blocks[8];
+    uint64_t chunk;
+    questions talk;
+    current_case = "statistics";
+    blocks[0] = granted(a, &own, &talk);
+    for (size_t i = 1; i < 4; i++) blocks[i] = granted(a, &buddy, &talk);
+    blocks[4] = granted(a, &transient, &talk);
+    chunk = talk.asked[0].size;
+    blocks[5] = granted(a, &transient, &talk);
+    for (size_t i = 6; i < 8; i++) expect(wt_import(a, DEVICE_SIDE, UINT64_MAX, 0, UINT64_MAX, &blocks[i]) == WT_OK, "no import");
+    expect(wt_statistics(a, DEVICE_SIDE, &told) == WT_OK, "they are not told");
+    expect(told.dedicated.objects == 1 && told.dedicated.blocks == 1 && told.dedicated.live_bytes == 5000, "dedicated");
+    expect(told.imported.objects == 2 && told.imported.blocks == 2, "imported");
+    expect(told.imported.live_bytes == UINT64_MAX - 1 && told.imported.live_bytes_high == 1, "imported: its bytes");
+    expect(told.buddy.objects == 1 && told.buddy.blocks == 3 && told.buddy.live_bytes == 3 * 512, "buddy");
+    expect(told.buddy.free_bytes == 32 * KIBIBYTE - 3 * 512 && told.buddy.free_bytes_high == 0, "buddy: its free bytes");
+    expect(told.buddy.largest_free == 16 * KIBIBYTE, "buddy: its largest free range");
+    expect(told.free_list.objects == 1 && told.free_list.blocks == 2 && told.free_list.live_bytes == 1280, "free_list");
+    expect(told.free_list.free_bytes == chunk - 1280 && told.free_list.largest_free == chunk - 1280,
+           "free_list: its free bytes");
+    for (size_t i = 0; i < LENGTH(blocks); i++) expect(wt_free(a, blocks[i].key) == WT_OK, "a block is not taken back");
+    expect(wt_cleanup(a) == WT_OK, "it is not cleaned up");
+    read_gone(a, (size_t)counts_of(a).unread);
 }
 
 int main(void) {
@@ -217,7 +277,9 @@ int main(void) {
     check_own(&allocator);
     check_unanswered(&allocator);
     check_shared(&allocator);
+    check_optimal(&allocator);
     check_heap_counts(&allocator);
+    check_statistics(&allocator);
     expect(wt_close(&allocator) == WT_OK, "it is not closed");
     printf("fields: each where the library has it\n");
     return 0;

@@ -27,7 +27,7 @@ static void open_large_heap(wt_allocator *a) {
 }
 
 static void take_and_map(wt_allocator *a, wt_block *block) {
-    wt_request request = { 16 * MEBIBYTE, 0, WT_USAGE_HOST_ACCESS, 1, WT_REQUIRED };
+    wt_request request = REQUEST(16 * MEBIBYTE, 0, WT_USAGE_HOST_ACCESS, 1, WT_REQUIRED);
     questions talk;
     wt_range mapped;
     expect(allocate(a, &request, grants, &talk, block) == WT_OK, "a block is refused");

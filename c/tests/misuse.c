@@ -30,9 +30,10 @@ typedef struct test_case {
 #define ONLY(type) (1u << (type))
 #define ANY_TYPE UINT32_MAX
 
-static const wt_request shared_request = { 100, 0, WT_USAGE_UPLOAD | WT_USAGE_TRANSIENT, ONLY(COHERENT_TYPE), WT_SHARED };
-static const wt_request host_request = { 1000, 0, WT_USAGE_HOST_ACCESS, ONLY(CACHED_TYPE), WT_REQUIRED };
-static const wt_request local_request = { 1000, 0, 0, ONLY(LOCAL_TYPE), WT_REQUIRED };
+static const wt_request shared_request = REQUEST(100, 0, WT_USAGE_UPLOAD | WT_USAGE_TRANSIENT, ONLY(COHERENT_TYPE),
+                                                 WT_SHARED);
+static const wt_request host_request = REQUEST(1000, 0, WT_USAGE_HOST_ACCESS, ONLY(CACHED_TYPE), WT_REQUIRED);
+static const wt_request local_request = REQUEST(1000, 0, 0, ONLY(LOCAL_TYPE), WT_REQUIRED);
 
 static wt_block granted(wt_allocator *a, const wt_request *request) {
     questions talk;
@@ -137,6 +138,13 @@ static void map_blocks(world *w, const test_case *c) {
     w->mapped_object = w->blocks[HOST_BLOCK].object;
 }
 
+/* As much as is held, and less, and nothing. */
+static void limit_heap(world *w, const test_case *c) {
+    uint64_t used = heap_counts_of(&w->allocator, LOCAL_HEAP).used;
+    const uint64_t limits[] = { used + 999, used, used - 1, 0 };
+    expect(wt_set_heap_limit(&w->allocator, LOCAL_HEAP, limits[c->which]) == WT_OK, "a limit is refused");
+}
+
 /* The first question of the case's request, answered, and nothing done with it yet. */
 static void begin_request(world *w, const test_case *c) {
     wt_block block;
@@ -146,9 +154,15 @@ static void begin_request(world *w, const test_case *c) {
 }
 
 static void take_most_of_the_heap(world *w, const test_case *c) {
-    wt_request most = { 10 * MEBIBYTE, 0, 0, ONLY(LOCAL_TYPE), WT_REQUIRED };
+    wt_request most = REQUEST(10 * MEBIBYTE, 0, 0, ONLY(LOCAL_TYPE), WT_REQUIRED);
     (void)c;
     w->blocks[EXTRA_BLOCK] = granted(&w->allocator, &most);
+}
+
+/* Between the question and its answer its heap gets a limit, so that the question is another one. */
+static void begin_and_limit_its_heap(world *w, const test_case *c) {
+    begin_request(w, c);
+    expect(wt_set_heap_limit(&w->allocator, LOCAL_HEAP, 7 * MEBIBYTE) == WT_OK, "a limit is refused");
 }
 
 /* Between the question and its answer, most of the heap goes to another block, so that the question is another one. */
@@ -163,6 +177,19 @@ static uint32_t request(world *w, const test_case *c) {
     questions talk;
     wt_block block;
     return allocate(&w->allocator, &c->request, c->answer ? c->answer : grants, &talk, &block);
+}
+
+static uint32_t is_never_asked(const wt_question *question) {
+    (void)question;
+    expect(0, "it is asked");
+    return WT_GRANTED;
+}
+
+/* Two faults at once: flags without a name, and an answer that is none. */
+static uint32_t request_with_a_bad_answer(world *w, const test_case *c) {
+    wt_question answered = { 0, 0, 1, WT_ALLOCATE, 0, 0, 4 }, question;
+    wt_block block;
+    return wt_alloc(&w->allocator, &c->request, &answered, 1, &block, &question);
 }
 
 static uint32_t answer_begun_into(world *w, const test_case *c, wt_block *block) {
@@ -268,6 +295,7 @@ static uint32_t open_again(world *w, const test_case *c) {
 
 static uint32_t open_wrongly(world *w, const test_case *c) {
     static const uint64_t bad_atoms[] = { 0, 3, 96, (uint64_t)1 << 63 };
+    static const uint64_t bad_granularities[] = { 3, 96, (uint64_t)1 << 33, UINT64_MAX };
     wt_memory_type many[33];
     wt_limits limits = device_limits(32, 0);
     size_t types_len = 1;
@@ -275,6 +303,7 @@ static uint32_t open_wrongly(world *w, const test_case *c) {
     if (c->which < LENGTH(bad_atoms)) limits.non_coherent_atom_size = bad_atoms[c->which];
     if (c->which == 4) many[0].heap = HEAPS;
     if (c->which == 5) types_len = LENGTH(many);
+    if (c->which > 5) limits.buffer_image_granularity = bad_granularities[c->which - 6];
     return wt_open(&w->allocator, many, types_len, heap_sizes, HEAPS, &limits, &small_config);
 }
 
@@ -317,10 +346,27 @@ static uint32_t look_at_no_heap(world *w, const test_case *c) {
     return wt_heap(&w->allocator, HEAPS, &counts);
 }
 
+static uint32_t limit_no_heap(world *w, const test_case *c) {
+    static const uint32_t none[] = { HEAPS, HEAPS + 1, UINT32_MAX };
+    return wt_set_heap_limit(&w->allocator, none[c->which], 0);
+}
+
+static uint32_t candidates_for(world *w, const test_case *c) {
+    uint32_t types[TYPES];
+    size_t count;
+    return wt_candidates(&w->allocator, c->request.usage, c->request.memory_types, types, LENGTH(types), &count);
+}
+
 static uint32_t ranges_of_no_type(world *w, const test_case *c) {
     size_t count;
     (void)c;
     return wt_free_ranges(&w->allocator, TYPES, 0, NULL, 0, &count);
+}
+
+static uint32_t statistics_of_no_type(world *w, const test_case *c) {
+    static const uint32_t none[] = { TYPES, TYPES + 1, UINT32_MAX };
+    wt_type_statistics statistics;
+    return wt_statistics(&w->allocator, none[c->which], &statistics);
 }
 
 static uint32_t close_it(world *w, const test_case *c) {
@@ -335,6 +381,8 @@ static uint32_t any_call(world *w, const test_case *c) {
     wt_counts counts;
     wt_heap_counts heap;
     uint64_t name;
+    wt_type_statistics statistics;
+    uint32_t type;
     size_t count;
     switch (c->which) {
     case 0: return wt_alloc(&w->allocator, &local_request, NULL, 0, &block, &question);
@@ -349,7 +397,14 @@ static uint32_t any_call(world *w, const test_case *c) {
     case 9: return wt_count(&w->allocator, &counts);
     case 10: return wt_heap(&w->allocator, 0, &heap);
     case 11: return wt_set_remaining(&w->allocator, 1);
-    default: return wt_free_ranges(&w->allocator, 0, 0, &range, 1, &count);
+    case 12: return wt_free_ranges(&w->allocator, 0, 0, &range, 1, &count);
+    case 13: return wt_set_user(&w->allocator, w->freed_key, 1);
+    case 14: return wt_blocks(&w->allocator, 0, &block, 1, &count);
+    case 15: return wt_candidates(&w->allocator, c->request.usage, 1, &type, 1, &count);
+    case 16: return wt_set_heap_limit(&w->allocator, c->request.dedicated, 1);
+    case 17: return wt_alloc(&w->allocator, &c->request, NULL, 0, &block, &question);
+    case 18: return wt_report(&w->allocator, NULL, 0, &count);
+    default: return wt_statistics(&w->allocator, c->request.usage, &statistics);
     }
 }
 
@@ -369,10 +424,10 @@ static uint32_t makes_and_fails_to_map(const wt_question *q) { return makes_and(
 
 /* ---- The cases ---- */
 
-#define REQUEST(size, align_mask, usage, types, dedicated) { size, align_mask, usage, types, dedicated }
 #define OF_OWN REQUEST(1000, 0, 0, ONLY(LOCAL_TYPE), WT_REQUIRED)
 #define OF_NEW_CHUNK REQUEST(100, 0, WT_USAGE_UPLOAD | WT_USAGE_TRANSIENT, ONLY(CACHED_TYPE), WT_SHARED)
 #define OF_EITHER_HEAP REQUEST(7 * MEBIBYTE, 0, 0, ONLY(LOCAL_TYPE) | ONLY(COHERENT_TYPE), WT_REQUIRED)
+#define WITH_FLAGS(size, align_mask, usage, types, dedicated, flags) { size, align_mask, usage, types, dedicated, flags, 0 }
 
 static const test_case cases[] = {
     { "a request over the limit is served", WT_OUT_OF_DEVICE_MEMORY, NULL, request,
@@ -391,6 +446,12 @@ static const test_case cases[] = {
       makes_and_maps_without_host, 0 },
     { "a shared object that was not mapped is used", WT_OUT_OF_HOST_MEMORY, NULL, request, OF_NEW_CHUNK,
       makes_and_fails_to_map, 0 },
+    { "a request over its heap's limit is asked", WT_OUT_OF_DEVICE_MEMORY, limit_heap, request, OF_OWN, is_never_asked, 0 },
+    { "a request is asked where as much is held as the limit", WT_OUT_OF_DEVICE_MEMORY, limit_heap, request, OF_OWN,
+      is_never_asked, 1 },
+    { "a request is asked where more is held than the limit", WT_OUT_OF_DEVICE_MEMORY, limit_heap, request, OF_OWN,
+      is_never_asked, 2 },
+    { "a request is asked at a limit of 0", WT_OUT_OF_DEVICE_MEMORY, limit_heap, request, OF_OWN, is_never_asked, 3 },
     { "no permitted type, and one serves", WT_NO_COMPATIBLE_MEMORY_TYPES, NULL, request, REQUEST(1, 0, 0, 0, WT_SHARED),
       grants, 0 },
     { "a type that the host does not see serves it", WT_NO_COMPATIBLE_MEMORY_TYPES, NULL, request,
@@ -419,6 +480,19 @@ static const test_case cases[] = {
     { "a closed one counts a heap", WT_NOT_OPEN, shut, any_call, OF_OWN, NULL, 10 },
     { "a closed one takes a number of objects", WT_NOT_OPEN, shut, any_call, OF_OWN, NULL, 11 },
     { "a closed one tells free ranges", WT_NOT_OPEN, shut, any_call, OF_OWN, NULL, 12 },
+    { "a closed one takes a value", WT_NOT_OPEN, shut, any_call, OF_OWN, NULL, 13 },
+    { "a closed one walks", WT_NOT_OPEN, shut, any_call, OF_OWN, NULL, 14 },
+    { "a closed one tells candidates", WT_NOT_OPEN, shut, any_call, OF_OWN, NULL, 15 },
+    { "a closed one tells candidates for a usage without a name", WT_NOT_OPEN, shut, any_call,
+      REQUEST(1, 0, 0x40, ANY_TYPE, WT_SHARED), NULL, 15 },
+    { "a closed one takes a limit", WT_NOT_OPEN, shut, any_call, REQUEST(1, 0, 0, 1, LOCAL_HEAP), NULL, 16 },
+    { "a closed one takes a limit of no heap", WT_NOT_OPEN, shut, any_call, REQUEST(1, 0, 0, 1, HEAPS), NULL, 16 },
+    { "a closed one allocates with flags without a name", WT_NOT_OPEN, shut, any_call,
+      WITH_FLAGS(1, 0, 0, ANY_TYPE, WT_SHARED, 2), NULL, 17 },
+    { "a closed one reports", WT_NOT_OPEN, shut, any_call, OF_OWN, NULL, 18 },
+    { "a closed one tells statistics", WT_NOT_OPEN, shut, any_call, OF_OWN, NULL, 19 },
+    { "a closed one tells statistics of no memory type", WT_NOT_OPEN, shut, any_call,
+      REQUEST(1, 0, TYPES, 1, WT_SHARED), NULL, 19 },
     { "it is closed twice", WT_NOT_OPEN, shut, close_it, OF_OWN, NULL, 0 },
     { "it is opened twice", WT_ALREADY_OPEN, NULL, open_again, OF_OWN, NULL, 0 },
     { "an atom of 0", WT_BAD_PROPERTIES, shut, open_wrongly, OF_OWN, NULL, 0 },
@@ -427,6 +501,10 @@ static const test_case cases[] = {
     { "an atom of 2^63", WT_BAD_PROPERTIES, shut, open_wrongly, OF_OWN, NULL, 3 },
     { "a memory type of no heap", WT_BAD_PROPERTIES, shut, open_wrongly, OF_OWN, NULL, 4 },
     { "33 memory types", WT_BAD_PROPERTIES, shut, open_wrongly, OF_OWN, NULL, 5 },
+    { "a granularity of 3", WT_BAD_PROPERTIES, shut, open_wrongly, OF_OWN, NULL, 6 },
+    { "a granularity of 96", WT_BAD_PROPERTIES, shut, open_wrongly, OF_OWN, NULL, 7 },
+    { "a granularity of 2^33", WT_BAD_PROPERTIES, shut, open_wrongly, OF_OWN, NULL, 8 },
+    { "a granularity of 2^64 - 1", WT_BAD_PROPERTIES, shut, open_wrongly, OF_OWN, NULL, 9 },
 
     { "a freed key is taken", WT_UNKNOWN_KEY, NULL, use_key, OF_OWN, NULL, 0 },
     { "a key is taken that its place has not had yet", WT_UNKNOWN_KEY, NULL, use_key, OF_OWN, NULL, 1 },
@@ -441,6 +519,8 @@ static const test_case cases[] = {
     { "an answer about other flags counts", WT_OTHER_QUESTION, begin_request, answer_with_another_field, OF_OWN, NULL, 3 },
     { "an answer counts that is to the question before another call", WT_OTHER_QUESTION, begin_and_take_its_heap,
       answer_begun, OF_EITHER_HEAP, NULL, 0 },
+    { "an answer counts that is to the question before a limit", WT_OTHER_QUESTION, begin_and_limit_its_heap, answer_begun,
+      OF_EITHER_HEAP, NULL, 0 },
     { "an answer about another object maps", WT_OTHER_QUESTION, NULL, map_with_another_field, OF_OWN, NULL, 0 },
     { "an answer about another offset maps", WT_OTHER_QUESTION, NULL, map_with_another_field, OF_OWN, NULL, 1 },
     { "an answer about another size maps", WT_OTHER_QUESTION, NULL, map_with_another_field, OF_OWN, NULL, 2 },
@@ -461,6 +541,39 @@ static const test_case cases[] = {
     { "a usage without a name", WT_BAD_USAGE, NULL, request, REQUEST(1, 0, 0x40, ANY_TYPE, WT_SHARED), grants, 0 },
     { "a usage of 32 bits", WT_BAD_USAGE, NULL, request, REQUEST(1, 0, 0x100, ANY_TYPE, WT_SHARED), grants, 0 },
     { "a wish of no name for an object of its own", WT_BAD_DEDICATED, NULL, request, REQUEST(1, 0, 0, ANY_TYPE, 3), grants, 0 },
+    { "candidates for a usage without a name", WT_BAD_USAGE, NULL, candidates_for,
+      REQUEST(1, 0, 0x40, ANY_TYPE, WT_SHARED), NULL, 0 },
+    { "candidates for a usage of 32 bits", WT_BAD_USAGE, NULL, candidates_for,
+      REQUEST(1, 0, 0x80000000, ANY_TYPE, WT_SHARED), NULL, 0 },
+    { "candidates for a usage without a name, of no permitted type", WT_BAD_USAGE, NULL, candidates_for,
+      REQUEST(1, 0, 0x100, 0, WT_SHARED), NULL, 0 },
+    { "candidates for a usage without a name, and an address", WT_BAD_USAGE, NULL, candidates_for,
+      REQUEST(1, 0, 0x40 | WT_USAGE_DEVICE_ADDRESS, ANY_TYPE, WT_SHARED), NULL, 0 },
+    { "candidates for an address without the feature", WT_NO_DEVICE_ADDRESS, NULL, candidates_for,
+      REQUEST(1, 0, WT_USAGE_DEVICE_ADDRESS, ANY_TYPE, WT_SHARED), NULL, 0 },
+
+    { "flags without a name", WT_BAD_FLAGS, NULL, request, WITH_FLAGS(1, 0, 0, ANY_TYPE, WT_SHARED, 2), grants, 0 },
+    { "a flag without a name beside one with it", WT_BAD_FLAGS, NULL, request,
+      WITH_FLAGS(1, 0, 0, ANY_TYPE, WT_SHARED, WT_OPTIMAL | 4), grants, 0 },
+    { "the highest flag", WT_BAD_FLAGS, NULL, request, WITH_FLAGS(1, 0, 0, ANY_TYPE, WT_SHARED, 0x80000000), grants, 0 },
+    { "all flags", WT_BAD_FLAGS, NULL, request, WITH_FLAGS(1, 0, 0, ANY_TYPE, WT_SHARED, UINT32_MAX), grants, 0 },
+    { "flags without a name, and a usage", WT_BAD_USAGE, NULL, request, WITH_FLAGS(1, 0, 0x40, ANY_TYPE, WT_SHARED, 2),
+      grants, 0 },
+    { "flags without a name, and a wish", WT_BAD_DEDICATED, NULL, request, WITH_FLAGS(1, 0, 0, ANY_TYPE, 3, 2), grants, 0 },
+    { "flags without a name, and an answer that is none", WT_BAD_FLAGS, NULL, request_with_a_bad_answer,
+      WITH_FLAGS(1, 0, 0, ANY_TYPE, WT_SHARED, 2), NULL, 0 },
+    { "an optimal request, and an answer that is none", WT_BAD_ANSWER, NULL, request_with_a_bad_answer,
+      WITH_FLAGS(1, 0, 0, ANY_TYPE, WT_SHARED, WT_OPTIMAL), NULL, 0 },
+    { "flags without a name, and no bytes", WT_BAD_FLAGS, NULL, request, WITH_FLAGS(0, 0, 0, ANY_TYPE, WT_SHARED, 2),
+      grants, 0 },
+    { "flags without a name, and an alignment of 3", WT_BAD_FLAGS, NULL, request,
+      WITH_FLAGS(1, 2, 0, ANY_TYPE, WT_SHARED, 2), grants, 0 },
+    { "flags without a name, and an address", WT_BAD_FLAGS, NULL, request,
+      WITH_FLAGS(1, 0, WT_USAGE_DEVICE_ADDRESS, ANY_TYPE, WT_SHARED, 2), grants, 0 },
+    { "flags without a name, and no permitted type", WT_BAD_FLAGS, NULL, request, WITH_FLAGS(1, 0, 0, 0, WT_SHARED, 2),
+      grants, 0 },
+    { "an optimal block of no bytes", WT_BAD_SIZE, NULL, request, WITH_FLAGS(0, 0, 0, ANY_TYPE, WT_SHARED, WT_OPTIMAL),
+      grants, 0 },
     { "an address without the feature", WT_NO_DEVICE_ADDRESS, NULL, request,
       REQUEST(1, 0, WT_USAGE_DEVICE_ADDRESS, ANY_TYPE, WT_SHARED), grants, 0 },
     { "a mapping passes its block by a byte", WT_BAD_RANGE, NULL, map_past_the_end, OF_OWN, NULL, 0 },
@@ -478,7 +591,13 @@ static const test_case cases[] = {
     { "an import's size wraps", WT_BAD_RANGE, NULL, import_wrongly, OF_OWN, NULL, 5 },
     { "an import of no memory type", WT_BAD_MEMORY_TYPE, NULL, import_wrongly, OF_OWN, NULL, 0 },
     { "free ranges of no memory type", WT_BAD_MEMORY_TYPE, NULL, ranges_of_no_type, OF_OWN, NULL, 0 },
+    { "statistics of no memory type", WT_BAD_MEMORY_TYPE, NULL, statistics_of_no_type, OF_OWN, NULL, 0 },
+    { "statistics of the type behind the last", WT_BAD_MEMORY_TYPE, NULL, statistics_of_no_type, OF_OWN, NULL, 1 },
+    { "statistics of the type of the largest number", WT_BAD_MEMORY_TYPE, NULL, statistics_of_no_type, OF_OWN, NULL, 2 },
     { "a heap that is not there is counted", WT_BAD_HEAP, NULL, look_at_no_heap, OF_OWN, NULL, 0 },
+    { "a heap that is not there gets a limit", WT_BAD_HEAP, NULL, limit_no_heap, OF_OWN, NULL, 0 },
+    { "a heap behind the last gets a limit", WT_BAD_HEAP, NULL, limit_no_heap, OF_OWN, NULL, 1 },
+    { "the heap of the largest number gets a limit", WT_BAD_HEAP, NULL, limit_no_heap, OF_OWN, NULL, 2 },
     { "an import ends inside an atom", WT_BAD_IMPORT_END, NULL, import_wrongly, OF_OWN, NULL, 6 },
     { "an import ends a byte behind an atom", WT_BAD_IMPORT_END, NULL, import_wrongly, OF_OWN, NULL, 7 },
     { "an import more than may be held", WT_NO_REMAINING, allow_no_more, import_wrongly, OF_OWN, NULL, 8 },
@@ -528,7 +647,7 @@ int main(void) {
     check_answers_left_over();
     for (size_t i = 0; i < LENGTH(cases); i++) run(&cases[i]);
     current_case = "";
-    for (uint32_t status = WT_OUT_OF_DEVICE_MEMORY; status <= WT_UNREAD_NAMES; status++) {
+    for (uint32_t status = WT_OUT_OF_DEVICE_MEMORY; status <= WT_BAD_FLAGS; status++) {
         int is_seen = 0;
         for (size_t i = 0; i < LENGTH(cases); i++) is_seen |= cases[i].wanted == status;
         expect(is_seen, "a status is wanted by no case");

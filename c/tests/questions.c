@@ -41,7 +41,7 @@ static void check_each_asked_once(const questions *talk) {
 
 /* The status of a request to the device that refuses so many mappings, after a look at what was asked for it. */
 static uint32_t ask(wt_allocator *a, size_t refused, wt_block *block) {
-    const wt_request request = { 100, 0, WT_USAGE_UPLOAD | WT_USAGE_TRANSIENT, UINT32_MAX, WT_SHARED };
+    const wt_request request = REQUEST(100, 0, WT_USAGE_UPLOAD | WT_USAGE_TRANSIENT, UINT32_MAX, WT_SHARED);
     questions talk;
     uint32_t status;
     refused_first = refused;

@@ -48,17 +48,17 @@ static uint32_t open_it(void) {
 }
 
 static uint32_t take_own(void) {
-    wt_request request = { 1000, 0, WT_USAGE_HOST_ACCESS, 1u << COHERENT_TYPE, WT_REQUIRED };
+    wt_request request = REQUEST(1000, 0, WT_USAGE_HOST_ACCESS, 1u << COHERENT_TYPE, WT_REQUIRED);
     return take(&request);
 }
 
 static uint32_t take_transient(void) {
-    wt_request request = { 3000, 0, WT_USAGE_TRANSIENT | WT_USAGE_UPLOAD, 1u << COHERENT_TYPE, WT_SHARED };
+    wt_request request = REQUEST(3000, 0, WT_USAGE_TRANSIENT | WT_USAGE_UPLOAD, 1u << COHERENT_TYPE, WT_SHARED);
     return take(&request);
 }
 
 static uint32_t take_lasting(void) {
-    wt_request request = { 100, 0, WT_USAGE_UPLOAD, 1u << COHERENT_TYPE, WT_SHARED };
+    wt_request request = REQUEST(100, 0, WT_USAGE_UPLOAD, 1u << COHERENT_TYPE, WT_SHARED);
     return take(&request);
 }
 
@@ -80,9 +80,27 @@ static uint32_t tell_free_ranges(void) {
     return wt_free_ranges(&allocator, COHERENT_TYPE, 0, ranges, LENGTH(ranges), &count);
 }
 
+static uint32_t tell_candidates(void) {
+    uint32_t types[TYPES];
+    size_t count;
+    return wt_candidates(&allocator, WT_USAGE_UPLOAD, UINT32_MAX, types, LENGTH(types), &count);
+}
+
+static uint32_t report(void) {
+    char text[64];
+    size_t length;
+    return wt_report(&allocator, text, LENGTH(text), &length);
+}
+
+static uint32_t tell_statistics(void) {
+    wt_type_statistics statistics;
+    return wt_statistics(&allocator, COHERENT_TYPE, &statistics);
+}
+
 static uint32_t (*const calls[])(void) = {
-    open_it,      take_own,       take_transient, take_transient, take_lasting, take_lasting,
-    take_lasting, take_transient, import_one,     map_first,      take_own,     tell_free_ranges,
+    open_it,        take_own,   take_transient, take_transient, take_lasting,     take_lasting,    take_lasting,
+    take_transient, import_one, map_first,      take_own,       tell_free_ranges, tell_candidates, report,
+    tell_statistics,
 };
 
 /* ---- The rounds ---- */
@@ -105,8 +123,12 @@ static void call_with_little_memory(uint32_t (*call)(void)) {
 /* Gives all back, with no memory at all. */
 static void end_without_memory(void) {
     uint64_t names[BLOCKS], object;
+    wt_block walked[BLOCKS];
     size_t count = 0, blocks_before = blocks_len;
     is_all_refused = 1;
+    expect(wt_set_user(&allocator, blocks[0].key, 1) == WT_OK, "setting a value takes memory");
+    expect(wt_blocks(&allocator, 0, walked, BLOCKS, &count) == WT_OK && count == blocks_len, "a walk takes memory");
+    expect(wt_set_heap_limit(&allocator, HOST_HEAP, 0) == WT_OK, "setting a limit takes memory");
     expect(wt_unmap(&allocator, blocks[0].key, &object) == WT_OK && object == blocks[0].object, "an unmapping takes memory");
     while (blocks_len) expect(wt_free(&allocator, blocks[--blocks_len].key) == WT_OK, "a return takes memory");
     expect(wt_cleanup(&allocator) == WT_OK, "a cleanup takes memory");

@@ -5,7 +5,7 @@ enum { BLOCKS = 200 };
 
 static const wt_memory_type only_type = { 0, WT_DEVICE_LOCAL };
 static const uint64_t only_heap = 64 * MEBIBYTE;
-static const wt_limits no_limits = { UINT64_MAX, 1, UINT32_MAX, 0 };
+static const wt_limits no_limits = { UINT64_MAX, 1, UINT32_MAX, 0, 0 };
 static const wt_config potato = WT_CONFIG_POTATO, prototyping = WT_CONFIG_PROTOTYPING;
 
 static wt_allocator space;
@@ -18,7 +18,7 @@ static int are_apart(const wt_block *one, const wt_block *other) {
 
 /* Takes a range, in one object or another, that no other has a part of. */
 static void take(uint32_t place) {
-    wt_request request = { 1 + draw(20000), 0, 0, 1, WT_SHARED };
+    wt_request request = REQUEST(1 + draw(20000), 0, 0, 1, WT_SHARED);
     questions asked;
     request.align_mask = ((uint64_t)1 << draw(9)) - 1;
     if (place % 2) request.usage = WT_USAGE_FAST_DEVICE_ACCESS | WT_USAGE_TRANSIENT;

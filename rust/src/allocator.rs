@@ -17,6 +17,9 @@ use std::sync::atomic::{AtomicU64, Ordering};
 use std::sync::Arc;
 use std::thread::panicking;
 
+/// Why there is a panic over a heap.
+const NO_HEAP: &str = "`heap` has to be the index of one of the device's heaps";
+
 /// How many allocators were made. Each keeps its number, by which it knows its blocks.
 static MADE: AtomicU64 = AtomicU64::new(0);
 
@@ -36,6 +39,9 @@ pub struct GpuAllocator<M> {
     memory_types: Box<[MemoryType]>,
     atom_mask: u64,
     max_allocation_size: u64,
+    heap_sizes: Box<[u64]>,
+    /// Of each heap, as the library has it, so that it is told without a call: at most the heap's size.
+    heap_limits: Box<[u64]>,
     /// As the library counts it, so that it is told without a call.
     remaining: u32,
 }
@@ -61,7 +67,24 @@ impl<M> GpuAllocator<M> {
     ///
     /// [`NewError`] says which. Nothing is held then.
     pub fn try_new(config: Config, props: DeviceProperties<'_>) -> Result<Self, NewError> {
-        let library = Library::open(&config, &props)?;
+        GpuAllocator::with_granularity(config, props, 1)
+    }
+
+    /// As [`try_new`](GpuAllocator::try_new), for a device with this `granularity` of buffers and images in bytes
+    /// (`VkPhysicalDeviceLimits::bufferImageGranularity`): a power of two of at most 2^32, or 0, which counts as 1.
+    ///
+    /// No page of that size of a memory object has bytes of an optimal block ([`alloc_optimal`]) and of a linear one
+    /// ([`alloc`]).
+    ///
+    /// # Errors
+    ///
+    /// [`NewError`] says which: for another granularity `BadProperties`. Nothing is held then.
+    ///
+    /// [`alloc_optimal`]: GpuAllocator::alloc_optimal
+    /// [`alloc`]: GpuAllocator::alloc
+    pub fn with_granularity(config: Config, props: DeviceProperties<'_>, granularity: u64) -> Result<Self, NewError> {
+        let library = Library::open(&config, &props, granularity)?;
+        let heap_sizes: Box<[u64]> = props.memory_heaps.iter().map(|heap| heap.size).collect();
         Ok(GpuAllocator {
             library,
             objects: Objects::new(),
@@ -71,6 +94,8 @@ impl<M> GpuAllocator<M> {
             memory_types: props.memory_types.iter().copied().collect(),
             atom_mask: props.non_coherent_atom_size - 1,
             max_allocation_size: props.max_memory_allocation_size,
+            heap_limits: heap_sizes.clone(),
+            heap_sizes,
             remaining: props.max_memory_allocation_count,
         })
     }
@@ -98,7 +123,7 @@ impl<M> GpuAllocator<M> {
         request: Request,
     ) -> Result<MemoryBlock<M>, AllocationError> {
         // SAFETY: the caller keeps this function's conditions, which are the same.
-        unsafe { self.grant(device, request.with(None)) }
+        unsafe { self.grant(device, request.with(None, false)) }
     }
 
     /// As [`alloc`](GpuAllocator::alloc), with a word on whether the block has to be a memory object of its own.
@@ -121,7 +146,37 @@ impl<M> GpuAllocator<M> {
         dedicated: Dedicated,
     ) -> Result<MemoryBlock<M>, AllocationError> {
         // SAFETY: the caller keeps this function's conditions, which are the same.
-        unsafe { self.grant(device, request.with(Some(dedicated))) }
+        unsafe { self.grant(device, request.with(Some(dedicated), false)) }
+    }
+
+    /// As [`alloc`](GpuAllocator::alloc), for an optimal resource: an image of `VK_IMAGE_TILING_OPTIMAL`. With `dedicated`
+    /// as [`alloc_with_dedicated`](GpuAllocator::alloc_with_dedicated).
+    ///
+    /// No page of the granularity ([`with_granularity`](GpuAllocator::with_granularity)) has one of the block's first
+    /// `request.size` bytes and a byte of a linear block. So bind nothing to the bytes behind those: their page may be a
+    /// linear block's too. The request is served as one whose size is rounded up to the granularity and that is aligned
+    /// to it at least. By that size it gets an object of its own, but such an object has the very size of the request.
+    /// Where the granularity is 1 the block is the one that the other two calls give.
+    ///
+    /// # Errors
+    ///
+    /// As for `alloc`.
+    ///
+    /// # Panics
+    ///
+    /// As for `alloc`.
+    ///
+    /// # Safety
+    ///
+    /// As for `alloc`.
+    pub unsafe fn alloc_optimal(
+        &mut self,
+        device: &impl MemoryDevice<M>,
+        request: Request,
+        dedicated: Option<Dedicated>,
+    ) -> Result<MemoryBlock<M>, AllocationError> {
+        // SAFETY: the caller keeps this function's conditions, which are the same.
+        unsafe { self.grant(device, request.with(dedicated, true)) }
     }
 
     /// Takes `size` bytes of a memory object of the caller's from `offset` on as a block. The object is the
@@ -222,6 +277,36 @@ impl<M> GpuAllocator<M> {
         self.remaining = remaining;
     }
 
+    /// How many bytes of a heap may be held for what is asked: the lesser of its size and the limit that was set last.
+    ///
+    /// # Panics
+    ///
+    /// Where there is no such heap.
+    #[track_caller]
+    pub fn heap_limit(&self, heap: u32) -> u64 {
+        *self.heap_limits.get(heap as usize).expect(NO_HEAP)
+    }
+
+    /// Lets at most `limit` bytes of a heap be held for what is asked, from now on: the device is asked for no more than
+    /// is left of it, and a memory type whose heap has too little left is passed, not asked. It is for what
+    /// `VK_EXT_memory_budget` says of a heap at run time.
+    ///
+    /// A limit at or over the heap's size is none, as at first. One below what is held refuses new objects and takes
+    /// nothing away: blocks stay, and free bytes of held objects are given out. Imports count, and are never refused for
+    /// it. When an object is made, and how large a shared one is, goes on by the heap's size.
+    ///
+    /// # Panics
+    ///
+    /// Where there is no such heap. Nothing is changed.
+    #[track_caller]
+    pub fn set_heap_limit(&mut self, heap: u32, limit: u64) {
+        match self.library.set_heap_limit(heap, limit) {
+            Ok(()) => self.heap_limits[heap as usize] = limit.min(self.heap_sizes[heap as usize]),
+            Err(ffi::BAD_HEAP) => panic!("{NO_HEAP}"),
+            Err(status) => unexpected("wt_set_heap_limit", status),
+        }
+    }
+
     /// Gives each memory object back to the device that no block needs. Where all blocks were given back none is held
     /// after it, and the allocator can be dropped, or used on.
     ///
@@ -250,7 +335,7 @@ impl<M> GpuAllocator<M> {
         let memory = if block.fresh != 0 {
             self.count();
             let made = asked.made.take().expect("a fresh block has to be in an object that was made for it");
-            self.keep(block.object, made, props)
+            self.keep(block.object, made)
         } else {
             Memory::Shared(self.objects.get(block.object).clone())
         };
@@ -258,12 +343,8 @@ impl<M> GpuAllocator<M> {
     }
 
     /// Takes a new object in: into the books, or for its block alone.
-    ///
-    /// The library maps a new object where the host sees it and blocks will share it. So one that the host sees, and
-    /// that is not mapped, is its block's own. Of one that the host does not see nothing tells; it is kept as a
-    /// shared one, which it may be, since nothing is ever asked of it but to go back.
-    fn keep(&mut self, name: u64, made: Made<M>, props: MemoryPropertyFlags) -> Memory<M> {
-        if made.start.is_none() && props.contains(MemoryPropertyFlags::HOST_VISIBLE) {
+    fn keep(&mut self, name: u64, made: Made<M>) -> Memory<M> {
+        if made.own {
             return Memory::Own(made.memory);
         }
         let shared = Shared { memory: Arc::new(made.memory), start: made.start };
@@ -339,10 +420,11 @@ impl<M> Debug for GpuAllocator<M> {
     }
 }
 
-/// An object that was made for a request, and where it is mapped.
+/// An object that was made for a request, where it is mapped, and whether it is for that request's block alone.
 struct Made<M> {
     memory: M,
     start: Option<Start>,
+    own: bool,
 }
 
 /// The device as it is asked for a request. However the request ends, an object that was made for it and not taken goes
@@ -390,12 +472,14 @@ impl<M, D: MemoryDevice<M>> Asked<'_, M, D> {
         // SAFETY: the library goes on without what was made before, if something was.
         unsafe { self.give_back() };
         let mut flags = AllocationFlags::empty();
+        let own = question.flags & ffi::ALLOCATE_OWN != 0;
         flags.set(AllocationFlags::DEVICE_ADDRESS, question.flags & ffi::ALLOCATE_DEVICE_ADDRESS != 0);
-        // SAFETY: the memory type is the device's, and the size at least 1. The flag is there if the feature is
+        flags.set(AllocationFlags::OWN, own);
+        // SAFETY: the memory type is the device's, and the size at least 1. `DEVICE_ADDRESS` is there if its feature is
         // enabled.
         match unsafe { self.device.allocate_memory(question.size, question.memory_type, flags) } {
             Ok(memory) => {
-                self.made = Some(Made { memory, start: None });
+                self.made = Some(Made { memory, start: None, own });
                 ffi::GRANTED
             }
             Err(OutOfMemory::OutOfDeviceMemory) => ffi::NO_DEVICE_MEMORY,
@@ -597,6 +681,19 @@ mod tests {
         let unwound = catch_unwind(AssertUnwindSafe(|| unsafe { allocator.dealloc(&device, block) }));
         assert!(unwound.is_err());
         assert_eq!(device.held.get(), 0);
+    }
+
+    /// Limits as they are told here are the library's.
+    #[test]
+    fn limits_are_the_librarys() {
+        let size = 1 << 40;
+        let mut allocator = allocator(1, PROPS);
+        for limit in [size, 0, 1, size - 1, size + 1, u64::MAX, 1000] {
+            allocator.set_heap_limit(0, limit);
+            let counts = allocator.library.heap_counts(0);
+            assert_eq!((allocator.heap_limit(0), counts.budget), (counts.limit, counts.limit));
+            assert_eq!((counts.limit, counts.used, counts.used_high), (limit.min(size), 0, 0));
+        }
     }
 
     /// More objects go at once than are read at once.

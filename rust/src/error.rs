@@ -7,7 +7,8 @@ use std::fmt::{Display, Formatter, Result};
 /// Why an allocation was refused. The allocator and the device then hold what they held before.
 #[derive(Clone, Copy, Debug, PartialEq, Eq, Hash)]
 pub enum AllocationError {
-    /// The device, or each heap that could serve, has too little memory left, or the request is larger than
+    /// The device, or each heap that could serve, has too little memory left of its size or of its limit, or the request
+    /// is larger than
     /// [`DeviceProperties::max_memory_allocation_size`](crate::DeviceProperties::max_memory_allocation_size).
     OutOfDeviceMemory,
 

@@ -37,7 +37,7 @@ macro_rules! structs {
 }
 
 constants! {
-    VERSION: u32 = 0x0000_0700;
+    VERSION: u32 = 0x0000_0800;
 
     OK: u32 = 0;
     ASK: u32 = 1;
@@ -51,6 +51,7 @@ constants! {
     BAD_USAGE: u32 = 17;
     NO_DEVICE_ADDRESS: u32 = 19;
     BAD_MEMORY_TYPE: u32 = 21;
+    BAD_HEAP: u32 = 22;
     NO_REMAINING: u32 = 24;
 
     GRANTED: u32 = 0;
@@ -62,6 +63,9 @@ constants! {
     MAP_MADE: u32 = 2;
 
     ALLOCATE_DEVICE_ADDRESS: u32 = 1;
+    ALLOCATE_OWN: u32 = 0x100;
+
+    OPTIMAL: u32 = 1;
 
     SHARED: u32 = 0;
     PREFERRED: u32 = 1;
@@ -86,6 +90,7 @@ structs! {
         non_coherent_atom_size: u64,
         max_memory_allocation_count: u32,
         buffer_device_address: u32,
+        buffer_image_granularity: u64,
     }
 
     struct wt_config Config {
@@ -104,6 +109,8 @@ structs! {
         usage: u32,
         memory_types: u32,
         dedicated: u32,
+        flags: u32,
+        user: u64,
     }
 
     #[derive(Clone, Copy, Default)]
@@ -117,6 +124,8 @@ structs! {
         answer: u32,
     }
 
+    /// Its last four fields nothing here reads.
+    #[allow(dead_code)]
     #[derive(Default)]
     struct wt_block Block {
         key: u64,
@@ -125,6 +134,10 @@ structs! {
         size: u64,
         memory_type: u32,
         fresh: u32,
+        user: u64,
+        asked: u64,
+        flags: u32,
+        reserved: u32,
     }
 
     #[derive(Default)]
@@ -133,6 +146,16 @@ structs! {
         unread: u64,
         held: u32,
         remaining: u32,
+    }
+
+    /// What is held of a heap, which only tests ask for.
+    #[cfg(test)]
+    #[derive(Default)]
+    struct wt_heap_counts HeapCounts {
+        used: u64,
+        used_high: u64,
+        budget: u64,
+        limit: u64,
     }
 
     /// A range of an object, which only tests ask for.
@@ -183,6 +206,9 @@ extern "C" {
     pub(crate) fn wt_gone(a: *mut Allocator, names: *mut u64, room: usize, count: *mut usize) -> u32;
     pub(crate) fn wt_count(a: *mut Allocator, counts: *mut Counts) -> u32;
     pub(crate) fn wt_set_remaining(a: *mut Allocator, remaining: u32) -> u32;
+    pub(crate) fn wt_set_heap_limit(a: *mut Allocator, heap: u32, limit: u64) -> u32;
+    #[cfg(test)]
+    pub(crate) fn wt_heap(a: *mut Allocator, heap: u32, counts: *mut HeapCounts) -> u32;
     #[cfg(test)]
     pub(crate) fn wt_range_of(a: *mut Allocator, key: u64, offset: u64, size: u64, range: *mut Range) -> u32;
     #[cfg(test)]

@@ -28,7 +28,8 @@ unsafe impl Send for Library {}
 unsafe impl Sync for Library {}
 
 impl Library {
-    pub(crate) fn open(config: &Config, props: &DeviceProperties<'_>) -> Result<Library, NewError> {
+    /// Opens one for a device of this granularity of buffers and images.
+    pub(crate) fn open(config: &Config, props: &DeviceProperties<'_>, granularity: u64) -> Result<Library, NewError> {
         // SAFETY: it has no parameters. Only the patch level, its lower eight bits, may differ: the calls are then
         // the same.
         if (unsafe { ffi::wt_version() } ^ ffi::VERSION) >> 8 != 0 {
@@ -53,7 +54,7 @@ impl Library {
                 types.len(),
                 heaps.as_ptr(),
                 heaps.len(),
-                &limits_of(props),
+                &limits_of(props, granularity),
                 &sizes_of(config),
             )
         };
@@ -148,6 +149,23 @@ impl Library {
         unsafe { ffi::wt_set_remaining(&mut self.state.handle, remaining) == ffi::OK }
     }
 
+    /// Sets the limit of a heap. Where there is no such heap the status says so, and nothing is changed.
+    pub(crate) fn set_heap_limit(&mut self, heap: u32, limit: u64) -> Result<(), u32> {
+        // SAFETY: the handle is open.
+        match unsafe { ffi::wt_set_heap_limit(&mut self.state.handle, heap, limit) } {
+            ffi::OK => Ok(()),
+            status => Err(status),
+        }
+    }
+
+    #[cfg(test)]
+    pub(crate) fn heap_counts(&mut self, heap: u32) -> ffi::HeapCounts {
+        let mut counts = ffi::HeapCounts::default();
+        // SAFETY: the handle is open, and `counts` lives until the call ends.
+        expect("wt_heap", unsafe { ffi::wt_heap(&mut self.state.handle, heap, &mut counts) });
+        counts
+    }
+
     /// Gives the library's memory back, once no object is held and all names were read. Else it stays where it is: the
     /// blocks that are live say that it is needed.
     pub(crate) fn close(&mut self) {
@@ -164,12 +182,13 @@ impl Library {
     }
 }
 
-fn limits_of(props: &DeviceProperties<'_>) -> ffi::Limits {
+fn limits_of(props: &DeviceProperties<'_>, granularity: u64) -> ffi::Limits {
     ffi::Limits {
         max_memory_allocation_size: props.max_memory_allocation_size,
         non_coherent_atom_size: props.non_coherent_atom_size,
         max_memory_allocation_count: props.max_memory_allocation_count,
         buffer_device_address: props.buffer_device_address.into(),
+        buffer_image_granularity: granularity,
     }
 }
 

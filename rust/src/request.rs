@@ -21,8 +21,8 @@ pub struct Request {
 }
 
 impl Request {
-    /// The request as the library takes it.
-    pub(crate) fn with(self, dedicated: Option<Dedicated>) -> ffi::Request {
+    /// The request as the library takes it. Its blocks have no value of a user's.
+    pub(crate) fn with(self, dedicated: Option<Dedicated>, optimal: bool) -> ffi::Request {
         ffi::Request {
             size: self.size.max(1),
             align_mask: self.align_mask,
@@ -33,6 +33,8 @@ impl Request {
                 Some(Dedicated::Preferred) => ffi::PREFERRED,
                 Some(Dedicated::Required) => ffi::REQUIRED,
             },
+            flags: if optimal { ffi::OPTIMAL } else { 0 },
+            user: 0,
         }
     }
 }

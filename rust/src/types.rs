@@ -32,6 +32,11 @@ flags! {
     pub struct AllocationFlags {
         /// The device address of what is bound to it can be fetched (`VK_MEMORY_ALLOCATE_DEVICE_ADDRESS_BIT`).
         const DEVICE_ADDRESS = 0x01;
+
+        /// The object will hold the block of this request alone, and its size is that of the request. So what belongs to
+        /// one resource may be chained to it (`VkMemoryDedicatedAllocateInfo`, a priority, an export). It is no bit of
+        /// Vulkan's.
+        const OWN = 0x02;
     }
 }
 
@@ -48,7 +53,8 @@ pub struct MemoryType {
 /// A memory heap of a device.
 #[derive(Clone, Copy, Debug, PartialEq, Eq, Hash)]
 pub struct MemoryHeap {
-    /// Its size in bytes. The allocator never asks for more than is left of it.
+    /// Its size in bytes. The allocator never asks for more than is left of it, or of a limit below it
+    /// ([`GpuAllocator::set_heap_limit`](crate::GpuAllocator::set_heap_limit)).
     pub size: u64,
 }
 
@@ -127,8 +133,8 @@ pub trait MemoryDevice<M> {
     ///
     /// # Safety
     ///
-    /// `memory_type` is the index of a memory type of the device, `size` is at least 1, and each flag is of a feature
-    /// that is enabled.
+    /// `memory_type` is the index of a memory type of the device, `size` is at least 1, and
+    /// [`DEVICE_ADDRESS`](AllocationFlags::DEVICE_ADDRESS) is there only where its feature is enabled.
     unsafe fn allocate_memory(&self, size: u64, memory_type: u32, flags: AllocationFlags) -> Result<M, OutOfMemory>;
 
     /// Takes a memory object back, mapped or not.

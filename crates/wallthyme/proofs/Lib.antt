@@ -1,2 +1,3 @@
 pub mod AsBox
 pub mod Same
+pub mod Walks

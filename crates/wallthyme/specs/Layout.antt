@@ -1,5 +1,5 @@
 -- What the structs of C stand for.
-use Rattle.std.specs.Prelude.{◌+◌, ◌-◌, ◌*◌, ◌^◌, ◌==◌, ℕ, not, List, map, Option, Some, None, bit_and, if◌then◌else◌}
+use Rattle.std.specs.Prelude.{◌+◌, ◌-◌, ◌*◌, ◌^◌, ◌==◌, ◌&&◌, ℕ, Bool, not, nat_lt, List, map, Option, Some, None, bit_and, if◌then◌else◌}
 use Rattle.gpu_alloc_base.specs.declared.config.Config as desk_config
 use Rattle.gpu_alloc_types.specs.Flags.{named_property_bits}
 use Rattle.gpu_alloc_types.specs.Properties.{Properties}
@@ -18,6 +18,7 @@ use Rattle.gpu_desk.specs.declared.told.Counts as desk_counts
 use Rattle.gpu_desk.specs.declared.told.Grant.{Grant}
 use Rattle.gpu_desk.specs.declared.told.HeapCounts as desk_heap
 use Rattle.gpu_desk.specs.declared.told.ObjectRange.{ObjectRange}
+use Rattle.gpu_desk.specs.declared.wish.Wish.{Wish}
 use Rattle.wallthyme.specs.declared.layout.TheConstants as number
 use Rattle.wallthyme.specs.declared.layout.Block.{Block}
 use Rattle.wallthyme.specs.declared.layout.Config.{Config}
@@ -71,10 +72,22 @@ request_of r = record {
 abbrev pub hint_of : ℕ → Option Dedicated
 hint_of n = if n == number.SHARED then None else (if n == number.PREFERRED then Some Preferred else Some Required)
 
+-- a request's wish, where its flags are none or that of an optimal resource; any others are refused
+abbrev pub wish_of : Request → Wish
+wish_of r = record { dedicated = hint_of r.dedicated; optimal = r.flags == number.OPTIMAL; user = r.user }
+
+-- the desk's flags among those of a question to make an object
+abbrev pub desk_flags_of : Question → ℕ
+desk_flags_of q = if nat_lt q.flags number.ALLOCATE_OWN then q.flags else q.flags - number.ALLOCATE_OWN
+
+-- the question is for an object that will hold the request's block alone
+abbrev pub is_own : Question → Bool
+is_own q = q.kind == number.ALLOCATE && not (nat_lt q.flags number.ALLOCATE_OWN)
+
 -- a question; any other kind is refused
 abbrev pub question_of : Question → desk_question.Question
 question_of q =
-    if q.kind == number.ALLOCATE then Allocate q.size q.memory_type q.flags
+    if q.kind == number.ALLOCATE then Allocate q.size q.memory_type (desk_flags_of q)
     else (if q.kind == number.MAP_MADE then MapMade q.offset q.size else Map q.object q.offset q.size)
 
 -- an answer; any other number is refused
@@ -97,6 +110,9 @@ grant_of b = record {
   size = b.size;
   memory_type = b.memory_type;
   fresh = b.fresh == 1;
+  user = b.user;
+  asked = b.asked;
+  optimal = b.flags == number.OPTIMAL;
 }
 
 abbrev pub range_of : Range → ObjectRange
@@ -110,4 +126,4 @@ abbrev pub counts_of : Counts → desk_counts.Counts
 counts_of c = record { blocks = c.blocks; unread = c.unread; held = c.held; remaining = c.remaining }
 
 abbrev pub heap_counts_of : HeapCounts → desk_heap.HeapCounts
-heap_counts_of c = record { used = c.used + 2 ^ 64 * c.used_high; budget = c.budget }
+heap_counts_of c = record { used = c.used + 2 ^ 64 * c.used_high; budget = c.budget; limit = c.limit }

@@ -1,7 +1,10 @@
+pub mod Candidates
 pub mod Handles
 pub mod Layout
 pub mod Malformed
 pub mod Objects
 pub mod Opening
+pub mod Reports
 pub mod Sealed
 pub mod Status
+pub mod Walk

@@ -1,14 +1,15 @@
 -- How a desk begins and ends.
-use Rattle.std.specs.Prelude.{◌≡◌, []}
+use Rattle.std.specs.Prelude.{◌≡◌, ℕ, []}
 use Rattle.std.specs.FinMap as map
 use Rattle.gpu_alloc_base.specs.declared.config.Config.{Config}
 use Rattle.gpu_alloc_types.specs.Properties.{Properties}
 use Rattle.gpu_alloc.specs.Opening.{opened}
-use Rattle.gpu_desk.specs.Desk.{DeskState, IsEmpty}
+use Rattle.gpu_desk.specs.Desk.{DeskState, IsEmpty, page_of}
 
--- a desk for such a device, with nothing held
-pub record IsOpened (config : Config) (properties : Properties) (s : DeskState) : Type 0 where
+-- a desk for such a device, of this granularity of buffers and images, with nothing held
+pub record IsOpened (config : Config) (properties : Properties) (granularity : ℕ) (s : DeskState) : Type 0 where
   pub allocator : s.allocator ≡ opened config properties
+  pub page : s.granularity ≡ page_of granularity
   pub empty : IsEmpty s
 
 -- no block is live, no object is held, and each name of an object that went was read

@@ -1,5 +1,5 @@
 -- The status of each denial.
-use Rattle.std.specs.Prelude.{◌≡◌, ℕ}
+use Rattle.std.specs.Prelude.{◌≡◌, ℕ, Bool}
 use Rattle.gpu_alloc_base.specs.declared.error.AllocationError.{AllocationError}
 use Rattle.gpu_alloc_base.specs.declared.error.AllocationError.TheVariants as allocation
 use Rattle.gpu_alloc_base.specs.declared.error.MapError.{MapError}
@@ -10,6 +10,9 @@ use Rattle.gpu_desk.specs.declared.denial.OpenError.{OpenError}
 use Rattle.gpu_desk.specs.declared.denial.OpenError.TheVariants.{BadProperties, OutOfHostMemory}
 use Rattle.gpu_session.specs.declared.command.Fault as faults
 use Rattle.gpu_session.specs.declared.command.Fault.TheVariants as fault
+use Rattle.wallthyme.specs.Layout.{is_own, question_of}
+use Rattle.wallthyme.specs.declared.layout.TheConstants as number
+use Rattle.wallthyme.specs.declared.layout.Question.{Question}
 use Rattle.wallthyme.specs.declared.status.TheConstants as status
 
 abbrev pub status_of_refusal : AllocationError → ℕ
@@ -40,7 +43,7 @@ status_of_fault fault.NotMapped = status.UNKNOWN_KEY
 status_of_fault fault.NoMemory = status.OUT_OF_HOST_MEMORY
 
 abbrev pub status_of : Denial → ℕ
-status_of (Open question) = status.ASK
+status_of (Open question own) = status.ASK
 status_of Strayed = status.OTHER_QUESTION
 status_of (Refused refusal) = status_of_refusal refusal
 status_of (MapRefused refusal) = status_of_map_refusal refusal
@@ -49,6 +52,14 @@ status_of (Fault fault) = status_of_fault fault
 abbrev pub status_of_opening : OpenError → ℕ
 status_of_opening BadProperties = status.BAD_PROPERTIES
 status_of_opening OutOfHostMemory = status.OUT_OF_HOST_MEMORY
+
+-- the question is the one that a denial leaves open
+abbrev pub IsQuestionOf : Denial → Question → Type 0
+IsQuestionOf d q = (own : Bool) × (d ≡ Open (question_of q) own) × (q.kind ≡ number.ALLOCATE → own ≡ is_own q)
+
+-- a denial which is so leaves the question open
+abbrev pub Asks : (Denial → Type 0) → Question → Type 0
+Asks P q = (d : Denial) × P d × IsQuestionOf d q
 
 -- the status is that of a denial which is so
 abbrev pub Denies : (Denial → Type 0) → ℕ → Type 0

@@ -1,9 +1,9 @@
 //! Questions to the device, as they cross to C and come back.
 
 ghost use Rattle.std.specs.Prelude.{◌≡◌, ◌≢◌, ◌⊎◌, IfErr, OnOk, map};
-ghost use Rattle.wallthyme.specs.Layout.{answered_of, question_of};
+ghost use Rattle.wallthyme.specs.Layout.{answered_of};
 ghost use Rattle.wallthyme.specs.Malformed.{AreAnswered, HasNoAnswer, IsAsked};
-ghost use Rattle.wallthyme.specs.Status.{status_of};
+ghost use Rattle.wallthyme.specs.Status.{IsQuestionOf, status_of};
 
 use crate::layout;
 use crate::status::{ASK, BAD_ANSWER, NOT_OPEN, OK, OUT_OF_HOST_MEMORY, denied};
@@ -36,12 +36,16 @@ pub(crate) fn answers_of(answers: &mut Vec<Answered>, asked: &[layout::Question]
 pub(crate) fn denied_or_asked(denial: Denial, question: &mut layout::Question) -> u32
     ensures status { result ≡ status_of denial }
     ensures unanswered { result ≡ ASK → IsAsked question.new }
-    ensures asked { result ≡ ASK → denial ≡ Denial.Open (question_of question.new) }
+    ensures asked { result ≡ ASK → IsQuestionOf denial question.new }
     ensures failed { result ≢ OK }
     ensures is_open { result ≢ NOT_OPEN }
 {
-    if let Denial::Open(open) = denial {
-        *question = open.into();
+    if let Denial::Open {
+        question: open,
+        own,
+    } = denial
+    {
+        *question = layout::Question::asked(open, own);
     }
     denied(denial)
 }

@@ -1,18 +1,19 @@
 //! The calls that give blocks out and take them back.
 
-ghost use Rattle.std.specs.Prelude.{◌≡◌, ◌≢◌, ◌↔◌, ◌⊎◌, ◌<◌, ◌≤◌, IsNone, length, map};
-ghost use Rattle.gpu_desk.specs.Calls.{AllocationDenied, Allocated, ImportDenied, Imported, IsAsBefore, Keeps, Returns, Told};
+ghost use Rattle.std.specs.Prelude.{◌≡◌, ◌≢◌, ◌↔◌, ◌⊎◌, ◌<◌, IsNone, length, map, true};
+ghost use Rattle.gpu_desk.specs.Calls.{AllocationDenied, Allocated, ImportDenied, Imported, IsAsBefore, Keeps, Returns, SetsUser, Told};
+ghost use Rattle.gpu_desk.specs.Desk.{IsSound};
 ghost use Rattle.wallthyme.specs.Handles.{KeepsSound, NoBlock, OnDesks, desk_of};
-ghost use Rattle.wallthyme.specs.Malformed.{IsAsked, IsMalformed, IsWellFormed};
-ghost use Rattle.wallthyme.specs.Status.{Denies};
-ghost use Rattle.wallthyme.specs.Layout.{answered_of, grant_of, hint_of, question_of, request_of};
+ghost use Rattle.wallthyme.specs.Malformed.{HasFlags, IsAsked, IsMalformed, IsWellFormed};
+ghost use Rattle.wallthyme.specs.Status.{Asks, Denies};
+ghost use Rattle.wallthyme.specs.Layout.{answered_of, grant_of, is_own, request_of, wish_of};
 
 use crate::answers::{answers_of, denied_or_asked};
 use crate::handle::Handle;
 use crate::kept::KeptDesk;
 use crate::layout;
 use crate::status::{ASK, NOT_OPEN, OK, OUT_OF_HOST_MEMORY, UNKNOWN_KEY, denied};
-use gpu_desk::{Answered, Denial, Desk};
+use gpu_desk::{Answered, Desk};
 use std::alloc::Global;
 
 #[unsafe(no_mangle)]
@@ -26,17 +27,17 @@ pub extern "C" fn wt_alloc(
 ) -> u32
     ensures closed { (result ≡ NOT_OPEN) ↔ IsNone (desk_of handle.old) }
     ensures granted { result ≡ OK → OnDesks (λ old new. Allocated old (request_of request.now)
-        (hint_of request.now.dedicated) (map answered_of asked.now) new (grant_of block.new)) handle.old handle.new }
-    ensures asks { result ≡ ASK → OnDesks (λ old _. AllocationDenied old (request_of request.now)
-        (hint_of request.now.dedicated) (map answered_of asked.now) (Denial.Open (question_of question.new)))
-        handle.old handle.new }
+        (wish_of request.now) (map answered_of asked.now) new (grant_of block.new)) handle.old handle.new }
+    ensures asks { result ≡ ASK → OnDesks (λ old _. Asks (AllocationDenied old (request_of request.now)
+        (wish_of request.now) (map answered_of asked.now)) question.new) handle.old handle.new }
     ensures denied { result ≢ OK → result ≢ NOT_OPEN → result ≢ OUT_OF_HOST_MEMORY
         → IsMalformed request.now asked.now result ⊎ OnDesks (λ old _. Denies (AllocationDenied old
-        (request_of request.now) (hint_of request.now.dedicated) (map answered_of asked.now)) result)
+        (request_of request.now) (wish_of request.now) (map answered_of asked.now)) result)
         handle.old handle.new }
     ensures formed { (result ≡ OK) ⊎ (result ≡ ASK) → IsWellFormed request.now asked.now }
-    ensures flag { result ≡ OK → block.new.fresh ≤ 1 }
+    ensures flags { result ≡ OK → HasFlags block.new }
     ensures unanswered { result ≡ ASK → IsAsked question.new }
+    ensures own { result ≡ ASK → is_own question.new ≡ true → question.new.size ≡ request.now.size }
     ensures limit { result ≡ ASK → length asked.now < 64 }
     ensures unchanged { result ≢ OK → OnDesks IsAsBefore handle.old handle.new }
     ensures keeps { OnDesks KeepsSound handle.old handle.new }
@@ -67,28 +68,29 @@ fn allocate(
     question: &mut layout::Question,
 ) -> u32
     ensures is_open { result ≢ NOT_OPEN }
-    ensures granted { result ≡ OK → Allocated desk.old (request_of request.now) (hint_of request.now.dedicated)
+    ensures granted { result ≡ OK → Allocated desk.old (request_of request.now) (wish_of request.now)
         (map answered_of asked.now) desk.new (grant_of block.new) }
-    ensures asks { result ≡ ASK → AllocationDenied desk.old (request_of request.now) (hint_of request.now.dedicated)
-        (map answered_of asked.now) (Denial.Open (question_of question.new)) }
+    ensures asks { result ≡ ASK → Asks (AllocationDenied desk.old (request_of request.now) (wish_of request.now)
+        (map answered_of asked.now)) question.new }
     ensures denied { result ≢ OK → result ≢ OUT_OF_HOST_MEMORY → IsMalformed request.now asked.now result
-        ⊎ Denies (AllocationDenied desk.old (request_of request.now) (hint_of request.now.dedicated)
+        ⊎ Denies (AllocationDenied desk.old (request_of request.now) (wish_of request.now)
         (map answered_of asked.now)) result }
     ensures formed { (result ≡ OK) ⊎ (result ≡ ASK) → IsWellFormed request.now asked.now }
-    ensures flag { result ≡ OK → block.new.fresh ≤ 1 }
+    ensures flags { result ≡ OK → HasFlags block.new }
     ensures unanswered { result ≡ ASK → IsAsked question.new }
+    ensures own { result ≡ ASK → is_own question.new ≡ true → question.new.size ≡ request.now.size }
     ensures limit { result ≡ ASK → length asked.now < 64 }
     ensures unchanged { result ≢ OK → IsAsBefore desk.old desk.new }
     ensures keeps { Keeps desk.old desk.new }
 {
-    let (request, dedicated) = match request.to_parts() {
+    let (request, wish) = match request.to_parts() {
         Ok(parts) => parts,
         Err(status) => return status,
     };
     if let Err(status) = answers_of(answers, asked) {
         return status;
     }
-    match desk.alloc(request, dedicated, answers) {
+    match desk.alloc(request, wish, answers) {
         Ok(grant) => {
             *block = grant.into();
             OK
@@ -112,7 +114,8 @@ pub extern "C" fn wt_import(
         Imported old memory_type object_size offset size new (grant_of block.new)) handle.old handle.new }
     ensures denied { result ≢ OK → result ≢ NOT_OPEN → OnDesks (λ old _.
         Denies (ImportDenied old memory_type object_size offset size) result) handle.old handle.new }
-    ensures flag { result ≡ OK → block.new.fresh ≡ 0 }
+    ensures fresh { result ≡ OK → block.new.fresh ≡ 0 }
+    ensures flags { result ≡ OK → HasFlags block.new }
     ensures unchanged { result ≢ OK → OnDesks IsAsBefore handle.old handle.new }
     ensures keeps { OnDesks KeepsSound handle.old handle.new }
 {
@@ -140,7 +143,8 @@ pub extern "C" fn wt_block_of(
     ensures closed { (result ≡ NOT_OPEN) ↔ IsNone (desk_of handle.old) }
     ensures status { (result ≡ OK) ⊎ ((result ≡ NOT_OPEN) ⊎ (result ≡ UNKNOWN_KEY)) }
     ensures told { result ≡ OK → OnDesks (λ old _. Told old key (grant_of block.new)) handle.old handle.new }
-    ensures flag { result ≡ OK → block.new.fresh ≡ 0 }
+    ensures fresh { result ≡ OK → block.new.fresh ≡ 0 }
+    ensures flags { result ≡ OK → HasFlags block.new }
     ensures unknown { result ≢ OK → OnDesks (λ old _. NoBlock old key) handle.old handle.new }
     ensures same { desk_of handle.new ≡ desk_of handle.old }
 {
@@ -154,6 +158,26 @@ pub extern "C" fn wt_block_of(
             *block = found.into();
             OK
         }
+        Err(denial) => denied(denial),
+    }
+}
+
+#[unsafe(no_mangle)]
+pub extern "C" fn wt_set_user(alloc: Global, handle: &mut Handle, key: u64, user: u64) -> u32
+    ensures closed { (result ≡ NOT_OPEN) ↔ IsNone (desk_of handle.old) }
+    ensures status { (result ≡ OK) ⊎ ((result ≡ NOT_OPEN) ⊎ (result ≡ UNKNOWN_KEY)) }
+    ensures set { result ≡ OK → OnDesks (λ old new. SetsUser old key user new) handle.old handle.new }
+    ensures unknown { result ≢ OK → OnDesks (λ old _. NoBlock old key) handle.old handle.new }
+    ensures unchanged { result ≢ OK → desk_of handle.new ≡ desk_of handle.old }
+    ensures sound { OnDesks (λ _ new. IsSound new) handle.old handle.new }
+{
+    let Some(mut kept) = handle.take(alloc) else {
+        return NOT_OPEN;
+    };
+    let set = kept.desk.set_user(key, user);
+    handle.put(kept);
+    match set {
+        Ok(()) => OK,
         Err(denial) => denied(denial),
     }
 }

@@ -1,11 +1,15 @@
 //! The structs of `c/wallthyme.h`, field for field, and what they are to a desk.
 
-ghost use Rattle.std.specs.Prelude.{◌≡◌, ◌≢◌, ◌⊎◌, None, true, false, IfErr, IfOk, OnOk, IfSome};
+ghost use Rattle.std.specs.Prelude.{◌≡◌, ◌≢◌, None, true, false, IfErr, IfOk, OnOk, IfSome};
+ghost use Rattle.wallthyme.specs.Candidates.{usage_of as usage_with};
+ghost use Rattle.wallthyme.specs.Malformed.{IsUsage};
 
-use crate::status::{ASK, BAD_DEDICATED, BAD_USAGE, NOT_OPEN, OK};
+use crate::status::{ASK, BAD_DEDICATED, BAD_FLAGS, BAD_USAGE, NOT_OPEN, OK};
 use gpu_desk::{
     Answer, Answered, Dedicated, FreeRange, Grant, MemoryPropertyFlags, ObjectRange, UsageFlags,
+    Wish,
 };
+use gpu_report::{KindReport, Statistics};
 
 /// The property bits that have a name.
 const NAMED_PROPERTIES: u32 = 0x3f;
@@ -43,6 +47,13 @@ pub(crate) const PREFERRED: u32 = 1;
 /// A [`Request::dedicated`]: the block must have an object of its own.
 pub(crate) const REQUIRED: u32 = 2;
 
+/// A bit of [`Question::flags`] of an object to make: it will hold the request's block alone. It stands above the bits of
+/// the desk's flags.
+pub(crate) const ALLOCATE_OWN: u32 = 0x100;
+
+/// The one bit of [`Request::flags`] and of [`Block::flags`]: the block is for an optimal resource.
+pub(crate) const OPTIMAL: u32 = 1;
+
 /// `wt_memory_type`.
 #[repr(C)]
 #[derive(Clone, Copy)]
@@ -59,6 +70,7 @@ pub struct Limits {
     pub non_coherent_atom_size: u64,
     pub max_memory_allocation_count: u32,
     pub buffer_device_address: u32,
+    pub buffer_image_granularity: u64,
 }
 
 /// `wt_config`.
@@ -83,6 +95,8 @@ pub struct Request {
     pub usage: u32,
     pub memory_types: u32,
     pub dedicated: u32,
+    pub flags: u32,
+    pub user: u64,
 }
 
 /// `wt_question`.
@@ -108,6 +122,10 @@ pub struct Block {
     pub size: u64,
     pub memory_type: u32,
     pub fresh: u32,
+    pub user: u64,
+    pub asked: u64,
+    pub flags: u32,
+    pub reserved: u32,
 }
 
 /// `wt_range`.
@@ -136,6 +154,30 @@ pub struct HeapCounts {
     pub used: u64,
     pub used_high: u64,
     pub budget: u64,
+    pub limit: u64,
+}
+
+/// `wt_kind_statistics`.
+#[repr(C)]
+#[derive(Clone, Copy)]
+pub struct KindStatistics {
+    pub objects: u64,
+    pub blocks: u64,
+    pub live_bytes: u64,
+    pub live_bytes_high: u64,
+    pub free_bytes: u64,
+    pub free_bytes_high: u64,
+    pub largest_free: u64,
+}
+
+/// `wt_type_statistics`.
+#[repr(C)]
+#[derive(Clone, Copy)]
+pub struct TypeStatistics {
+    pub dedicated: KindStatistics,
+    pub imported: KindStatistics,
+    pub buddy: KindStatistics,
+    pub free_list: KindStatistics,
 }
 
 impl From<MemoryType> for gpu_desk::MemoryType {
@@ -169,26 +211,34 @@ impl From<Config> for gpu_desk::Config {
     }
 }
 
-impl Request {
-    ghost use Rattle.wallthyme.specs.Layout.{request_of, hint_of};
-    ghost use Rattle.wallthyme.specs.Malformed.{HasNames, HasNoHint, HasUnnamedUsage};
+/// The usage of these bits, if each of them has a name.
+pub(crate) fn usage_of(bits: u32) -> Option<UsageFlags>
+    ensures usage { IfSome result (λ usage. usage ≡ usage_with bits) }
+    ensures some { result ≢ None → IsUsage bits }
+    ensures none { result ≡ None → IsUsage bits → ⊥ }
+{
+    match u8::try_from(bits) {
+        Ok(bits) => UsageFlags::from_bits(bits),
+        Err(_) => None,
+    }
+}
 
-    /// What is asked of the desk, with the hint, or the status of bits and hints that it has no word for.
-    pub(crate) fn to_parts(self) -> Result<(gpu_desk::Request, Option<Dedicated>), u32>
+impl Request {
+    ghost use Rattle.wallthyme.specs.Layout.{request_of, wish_of};
+    ghost use Rattle.wallthyme.specs.Malformed.{HasNames, IsUnnamed};
+
+    /// What is asked of the desk, with the wish, or the status of bits and hints that it has no word for: of the first of
+    /// usage, hint and flags that has one.
+    pub(crate) fn to_parts(self) -> Result<(gpu_desk::Request, Wish), u32>
         ensures request { IfOk result (λ parts. parts.0 ≡ request_of self) }
-        ensures hint { IfOk result (λ parts. parts.1 ≡ hint_of self.dedicated) }
+        ensures wish { IfOk result (λ parts. parts.1 ≡ wish_of self) }
         ensures formed { OnOk result (HasNames self) }
-        ensures malformed { IfErr result (λ status. ((status ≡ BAD_USAGE) × HasUnnamedUsage self)
-            ⊎ ((status ≡ BAD_DEDICATED) × HasNoHint self)) }
+        ensures malformed { IfErr result (IsUnnamed self) }
         ensures failed { IfErr result (λ status. status ≢ OK) }
         ensures unasked { IfErr result (λ status. status ≢ ASK) }
         ensures is_open { IfErr result (λ status. status ≢ NOT_OPEN) }
     {
-        let usage = match u8::try_from(self.usage) {
-            Ok(bits) => UsageFlags::from_bits(bits),
-            Err(_) => None,
-        };
-        let Some(usage) = usage else {
+        let Some(usage) = usage_of(self.usage) else {
             return Err(BAD_USAGE);
         };
         let dedicated = match self.dedicated {
@@ -197,19 +247,65 @@ impl Request {
             REQUIRED => Some(Dedicated::Required),
             _ => return Err(BAD_DEDICATED),
         };
+        if self.flags > OPTIMAL {
+            return Err(BAD_FLAGS);
+        }
         let request = gpu_desk::Request {
             size: self.size,
             align_mask: self.align_mask,
             usage,
             memory_types: self.memory_types,
         };
-        Ok((request, dedicated))
+        let wish = Wish {
+            dedicated,
+            optimal: self.flags == OPTIMAL,
+            user: self.user,
+        };
+        Ok((request, wish))
     }
 }
 
 impl Question {
-    ghost use Rattle.wallthyme.specs.Layout.{answered_of, question_of};
-    ghost use Rattle.wallthyme.specs.Malformed.{is_answered, is_question};
+    ghost use Rattle.std.specs.Prelude.{nat_lt};
+    ghost use Rattle.wallthyme.specs.Layout.{answered_of, desk_flags_of, is_own, question_of};
+    ghost use Rattle.wallthyme.specs.Malformed.{IsAsked, is_answered, is_question};
+
+    /// A question as C is told it, with whether the object to make will hold the request's block alone.
+    pub(crate) fn asked(question: gpu_desk::Question, own: bool) -> Question
+        ensures question { question_of result ≡ question }
+        ensures asked { IsAsked result }
+        ensures own { result.kind ≡ ALLOCATE → own ≡ is_own result }
+    {
+        let (kind, object, offset, size) = match question {
+            gpu_desk::Question::Allocate { size, .. } => (ALLOCATE, 0, 0, size),
+            gpu_desk::Question::MapMade { offset, size } => (MAP_MADE, 0, offset, size),
+            gpu_desk::Question::Map {
+                object,
+                offset,
+                size,
+            } => (MAP, object, offset, size),
+        };
+        let (memory_type, flags) = match question {
+            gpu_desk::Question::Allocate {
+                memory_type,
+                flags,
+                ..
+            } => (
+                memory_type,
+                u32::from(flags) + if own { ALLOCATE_OWN } else { 0 },
+            ),
+            _ => (0, 0),
+        };
+        Question {
+            object,
+            offset,
+            size,
+            kind,
+            memory_type,
+            flags,
+            answer: UNANSWERED,
+        }
+    }
 
     /// The question and its answer, if it is one and has one.
     pub(crate) fn to_answered(self) -> Option<Answered>
@@ -237,7 +333,7 @@ impl Question {
             ALLOCATE => Some(gpu_desk::Question::Allocate {
                 size: self.size,
                 memory_type: self.memory_type,
-                flags: u8::try_from(self.flags).ok()?,
+                flags: self.desk_flags()?,
             }),
             MAP_MADE => Some(gpu_desk::Question::MapMade {
                 offset: self.offset,
@@ -251,49 +347,27 @@ impl Question {
             _ => None,
         }
     }
-}
 
-impl From<gpu_desk::Question> for Question {
-    ghost use Rattle.wallthyme.specs.Layout.{question_of};
-    ghost use Rattle.wallthyme.specs.Malformed.{IsAsked};
-
-    ghost from_gives = { λ question told. (question_of told ≡ question) × IsAsked told };
-
-    fn from(question: gpu_desk::Question) -> Question {
-        let (kind, object, offset, size) = match question {
-            gpu_desk::Question::Allocate { size, .. } => (ALLOCATE, 0, 0, size),
-            gpu_desk::Question::MapMade { offset, size } => (MAP_MADE, 0, offset, size),
-            gpu_desk::Question::Map {
-                object,
-                offset,
-                size,
-            } => (MAP, object, offset, size),
+    /// The desk's flags of an object to make, if no bit is set but theirs and [`ALLOCATE_OWN`].
+    fn desk_flags(self) -> Option<u8>
+        ensures flags { IfSome result (λ flags. flags ≡ desk_flags_of self) }
+        ensures some { result ≢ None → nat_lt self.flags 512 ≡ true }
+        ensures none { result ≡ None → nat_lt self.flags 512 ≡ false }
+    {
+        let flags = if self.flags < ALLOCATE_OWN {
+            self.flags
+        } else {
+            self.flags - ALLOCATE_OWN
         };
-        let (memory_type, flags) = match question {
-            gpu_desk::Question::Allocate {
-                memory_type,
-                flags,
-                ..
-            } => (memory_type, u32::from(flags)),
-            _ => (0, 0),
-        };
-        Question {
-            object,
-            offset,
-            size,
-            kind,
-            memory_type,
-            flags,
-            answer: UNANSWERED,
-        }
+        u8::try_from(flags).ok()
     }
 }
 
 impl From<Grant> for Block {
     ghost use Rattle.wallthyme.specs.Layout.{grant_of};
-    ghost use Rattle.std.specs.Prelude.{◌≡◌, ◌≤◌};
+    ghost use Rattle.wallthyme.specs.Malformed.{HasFlags};
 
-    ghost from_gives = { λ grant told. (grant_of told ≡ grant) × (told.fresh ≤ 1) };
+    ghost from_gives = { λ grant told. (grant_of told ≡ grant) × HasFlags told };
 
     fn from(grant: Grant) -> Block {
         Block {
@@ -303,6 +377,10 @@ impl From<Grant> for Block {
             size: grant.size,
             memory_type: grant.memory_type,
             fresh: u32::from(grant.fresh),
+            user: grant.user,
+            asked: grant.asked,
+            flags: if grant.optimal { OPTIMAL } else { 0 },
+            reserved: 0,
         }
     }
 }
@@ -360,6 +438,40 @@ impl From<gpu_desk::HeapCounts> for HeapCounts {
             used: (counts.used % (1 << 64)) as u64,
             used_high: (counts.used / (1 << 64)) as u64,
             budget: counts.budget,
+            limit: counts.limit,
+        }
+    }
+}
+
+impl From<KindReport> for KindStatistics {
+    ghost use Rattle.wallthyme.specs.Reports.{AreKindSums};
+
+    ghost from_gives = { λ sums told. AreKindSums sums told };
+
+    fn from(sums: KindReport) -> KindStatistics {
+        KindStatistics {
+            objects: sums.objects,
+            blocks: sums.live_blocks,
+            live_bytes: (sums.live_bytes % (1 << 64)) as u64,
+            live_bytes_high: (sums.live_bytes / (1 << 64)) as u64,
+            free_bytes: (sums.free_bytes % (1 << 64)) as u64,
+            free_bytes_high: (sums.free_bytes / (1 << 64)) as u64,
+            largest_free: sums.largest_free,
+        }
+    }
+}
+
+impl From<Statistics> for TypeStatistics {
+    ghost use Rattle.wallthyme.specs.Reports.{AreTypeSums};
+
+    ghost from_gives = { λ sums told. AreTypeSums sums told };
+
+    fn from(sums: Statistics) -> TypeStatistics {
+        TypeStatistics {
+            dedicated: sums.dedicated.into(),
+            imported: sums.imported.into(),
+            buddy: sums.buddy.into(),
+            free_list: sums.free_list.into(),
         }
     }
 }

@@ -2,9 +2,9 @@
 
 use crate::handle::Handle;
 use crate::layout::{
-    ALLOCATE, Block, Config, Counts, DEVICE_MAP_FAILED, GRANTED, HeapCounts, Limits, MAP, MAP_MADE,
-    MemoryType, NO_DEVICE_MEMORY, NO_HOST_MEMORY, PREFERRED, Question, REQUIRED, Range, Request,
-    SHARED,
+    ALLOCATE, ALLOCATE_OWN, Block, Config, Counts, DEVICE_MAP_FAILED, GRANTED, HeapCounts,
+    KindStatistics, Limits, MAP, MAP_MADE, MemoryType, NO_DEVICE_MEMORY, NO_HOST_MEMORY, OPTIMAL,
+    PREFERRED, Question, REQUIRED, Range, Request, SHARED, TypeStatistics,
 };
 use crate::opening::VERSION;
 use crate::status;
@@ -77,6 +77,35 @@ static PLACES: [u32; 53] = [
     size_of::<HeapCounts>() as u32, 0, 8, 16,
 ];
 
+/// What came later: a status, flags, the offsets of the last fields of `Limits`, `Request`, `Block` and `HeapCounts`,
+/// and the size of each struct of statistics, with the offsets of its fields.
+static LATER: [u32; 24] = [
+    status::BAD_FLAGS,
+    ALLOCATE_OWN,
+    OPTIMAL,
+    24,
+    28,
+    32,
+    40,
+    48,
+    56,
+    60,
+    24,
+    size_of::<KindStatistics>() as u32,
+    0,
+    8,
+    16,
+    24,
+    32,
+    40,
+    48,
+    size_of::<TypeStatistics>() as u32,
+    0,
+    56,
+    112,
+    168,
+];
+
 /// The bits of flags, which stand between the numbers and the places.
 fn flags() -> [u8; 13] {
     [
@@ -108,5 +137,9 @@ pub extern "C" fn wt_layout(row: u32) -> u32 {
     if row < flags.len() {
         return u32::from(flags[row]);
     }
-    PLACES.get(row - flags.len()).copied().unwrap_or(END)
+    let row = row - flags.len();
+    if row < PLACES.len() {
+        return PLACES[row];
+    }
+    LATER.get(row - PLACES.len()).copied().unwrap_or(END)
 }

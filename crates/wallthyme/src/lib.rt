@@ -3,12 +3,16 @@
 
 mod answers;
 mod blocks;
+mod candidates;
 mod handle;
 mod kept;
+pub mod laws;
 mod layout;
 mod layout_rows;
 mod objects;
 mod opening;
 mod ranges;
+mod report;
 mod seal;
 mod status;
+mod walk;

@@ -2,7 +2,8 @@
 
 ghost use Rattle.std.specs.Prelude.{◌≡◌, ◌≢◌, ◌↔◌, ◌⊎◌, ◌<◌, ◌≤◌, ◌+◌, ◌^◌, [], IsNone, List, drop, length, take};
 ghost use Rattle.std.specs.FinMap as map;
-ghost use Rattle.gpu_desk.specs.Calls.{CleansUp, CountsOf, HeapCountsOf};
+ghost use Rattle.gpu_desk.specs.Calls.{CleansUp, CountsOf, HeapCountsOf, LimitsHeap};
+ghost use Rattle.gpu_desk.specs.Desk.{IsSound};
 ghost use Rattle.gpu_alloc_types.specs.declared.types.FreeRange.{FreeRange};
 ghost use Rattle.gpu_session.specs.Does.{IsEachFreeRange};
 ghost use Rattle.wallthyme.specs.Handles.{KeepsSound, OnDesks, desk_of};
@@ -113,6 +114,34 @@ pub extern "C" fn wt_heap(
             *counts = found.into();
             OK
         }
+        None => BAD_HEAP,
+    }
+}
+
+#[unsafe(no_mangle)]
+pub extern "C" fn wt_set_heap_limit(
+    alloc: Global,
+    handle: &mut Handle,
+    heap: u32,
+    limit: u64,
+) -> u32
+    ensures closed { (result ≡ NOT_OPEN) ↔ IsNone (desk_of handle.old) }
+    ensures status { (result ≡ OK) ⊎ ((result ≡ NOT_OPEN) ⊎ (result ≡ BAD_HEAP)) }
+    ensures set { result ≡ OK → OnDesks (λ old new. LimitsHeap old heap limit new) handle.old handle.new }
+    ensures bad { result ≢ OK → OnDesks (λ old _. length old.allocator.properties.memory_heaps ≤ heap)
+        handle.old handle.new }
+    ensures known { result ≡ OK → OnDesks (λ old _. heap < length old.allocator.properties.memory_heaps)
+        handle.old handle.new }
+    ensures unchanged { result ≢ OK → desk_of handle.new ≡ desk_of handle.old }
+    ensures sound { OnDesks (λ _ new. IsSound new) handle.old handle.new }
+{
+    let Some(mut kept) = handle.take(alloc) else {
+        return NOT_OPEN;
+    };
+    let set = kept.desk.set_heap_limit(heap, limit);
+    handle.put(kept);
+    match set {
+        Some(()) => OK,
         None => BAD_HEAP,
     }
 }

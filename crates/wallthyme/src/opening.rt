@@ -3,7 +3,8 @@
 ghost use Rattle.std.specs.Prelude.{◌≡◌, ◌≢◌, ◌↔◌, ◌⊎◌, ◌+◌, [], None, map, IfErr, IfOk, OnOk, IsNone, IsSome, IsSomeAnd};
 ghost use Rattle.std.specs.FinMap as finite;
 ghost use Rattle.gpu_alloc_types.specs.Properties.{IsUsable};
-ghost use Rattle.gpu_desk.specs.Desk.{IsEmpty};
+ghost use Rattle.gpu_alloc.specs.Request.{IsGranularity};
+ghost use Rattle.gpu_desk.specs.Desk.{IsEmpty, page_of};
 ghost use Rattle.wallthyme.specs.Handles.{desk_of};
 ghost use Rattle.wallthyme.specs.Layout.{config_of, heap_of, memory_type_of, properties_of};
 ghost use Rattle.wallthyme.specs.Opening.{HasNothing, IsOpened};
@@ -19,7 +20,7 @@ use gpu_desk::{Desk, DeviceProperties, MemoryHeap, MemoryType, OpenError};
 use std::alloc::{AllocError, Global};
 
 /// `WT_VERSION` of the header that this library is built for.
-pub(crate) const VERSION: u32 = 0x000700;
+pub(crate) const VERSION: u32 = 0x000800;
 
 #[unsafe(no_mangle)]
 pub extern "C" fn wt_version() -> u32
@@ -39,10 +40,13 @@ pub extern "C" fn wt_open(
 ) -> u32
     ensures already { (result ≡ ALREADY_OPEN) ↔ IsSome (desk_of handle.old) }
     ensures opened { result ≡ OK → IsSomeAnd (desk_of handle.new)
-        (IsOpened (config_of config.now) (properties_of types.now heap_sizes.now limits.now)) }
+        (IsOpened (config_of config.now) (properties_of types.now heap_sizes.now limits.now)
+        limits.now.buffer_image_granularity) }
     ensures usable { result ≡ OK → IsUsable (properties_of types.now heap_sizes.now limits.now) }
+    ensures page { result ≡ OK → IsGranularity (page_of limits.now.buffer_image_granularity) }
     ensures status { (result ≡ OK) ⊎ ((result ≡ ALREADY_OPEN) ⊎ ((result ≡ BAD_PROPERTIES) ⊎ (result ≡ OUT_OF_HOST_MEMORY))) }
-    ensures bad { result ≡ BAD_PROPERTIES → IsUsable (properties_of types.now heap_sizes.now limits.now) → ⊥ }
+    ensures bad { result ≡ BAD_PROPERTIES → IsUsable (properties_of types.now heap_sizes.now limits.now)
+        → IsGranularity (page_of limits.now.buffer_image_granularity) → ⊥ }
     ensures refused { result ≢ OK → desk_of handle.new ≡ desk_of handle.old }
 {
     if handle.is_open() {
@@ -65,10 +69,13 @@ fn opened(
     config: &layout::Config,
 ) -> Result<Box<KeptDesk>, OpenError>
     ensures opened { IfOk result (λ kept.
-        IsOpened (config_of config.now) (properties_of types.now heap_sizes.now limits.now) kept.value) }
+        IsOpened (config_of config.now) (properties_of types.now heap_sizes.now limits.now)
+        limits.now.buffer_image_granularity kept.value) }
     ensures usable { OnOk result (IsUsable (properties_of types.now heap_sizes.now limits.now)) }
+    ensures page { OnOk result (IsGranularity (page_of limits.now.buffer_image_granularity)) }
     ensures bad { result ≡ Err OpenError.BadProperties
-        → IsUsable (properties_of types.now heap_sizes.now limits.now) → ⊥ }
+        → IsUsable (properties_of types.now heap_sizes.now limits.now)
+        → IsGranularity (page_of limits.now.buffer_image_granularity) → ⊥ }
 {
     let Ok(memory_types) = memory_types(alloc, types) else {
         return Err(OpenError::OutOfHostMemory);
@@ -84,7 +91,12 @@ fn opened(
         non_coherent_atom_size: limits.non_coherent_atom_size,
         buffer_device_address: limits.buffer_device_address != 0,
     };
-    let desk = Desk::new(alloc, (*config).into(), props)?;
+    let desk = Desk::new(
+        alloc,
+        (*config).into(),
+        props,
+        limits.buffer_image_granularity,
+    )?;
     boxed(alloc, desk)
 }
 

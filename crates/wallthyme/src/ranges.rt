@@ -4,15 +4,15 @@ ghost use Rattle.std.specs.Prelude.{◌≡◌, ◌≢◌, ◌↔◌, ◌⊎◌, 
 ghost use Rattle.gpu_desk.specs.Calls.{IsAsBefore, Keeps, MapDenied, Maps, RangeDenied, RangeTold, Unmaps};
 ghost use Rattle.wallthyme.specs.Handles.{KeepsSound, NoBlock, OnDesks, desk_of};
 ghost use Rattle.wallthyme.specs.Malformed.{AreAnswered, HasNoAnswer, IsAsked};
-ghost use Rattle.wallthyme.specs.Status.{Denies};
-ghost use Rattle.wallthyme.specs.Layout.{answered_of, question_of, range_of};
+ghost use Rattle.wallthyme.specs.Status.{Asks, Denies};
+ghost use Rattle.wallthyme.specs.Layout.{answered_of, range_of};
 
 use crate::answers::{answers_of, denied_or_asked};
 use crate::handle::Handle;
 use crate::kept::KeptDesk;
 use crate::layout;
 use crate::status::{ASK, BAD_ANSWER, NOT_OPEN, OK, OUT_OF_HOST_MEMORY, UNKNOWN_KEY, denied};
-use gpu_desk::{Answered, Denial, Desk};
+use gpu_desk::{Answered, Desk};
 use std::alloc::Global;
 
 /// No object: objects have names from 1 on.
@@ -32,8 +32,8 @@ pub extern "C" fn wt_map(
     ensures closed { (result ≡ NOT_OPEN) ↔ IsNone (desk_of handle.old) }
     ensures mapped { result ≡ OK → OnDesks (λ old new.
         Maps old key offset size (map answered_of asked.now) new (range_of mapped.new)) handle.old handle.new }
-    ensures asks { result ≡ ASK → OnDesks (λ old _. MapDenied old key offset size (map answered_of asked.now)
-        (Denial.Open (question_of question.new))) handle.old handle.new }
+    ensures asks { result ≡ ASK → OnDesks (λ old _. Asks (MapDenied old key offset size (map answered_of asked.now))
+        question.new) handle.old handle.new }
     ensures denied { result ≢ OK → result ≢ NOT_OPEN → result ≢ OUT_OF_HOST_MEMORY
         → ((result ≡ BAD_ANSWER) × HasNoAnswer asked.now) ⊎ OnDesks (λ old _.
         Denies (MapDenied old key offset size (map answered_of asked.now)) result) handle.old handle.new }
@@ -82,8 +82,8 @@ fn map_part(
     ensures is_open { result ≢ NOT_OPEN }
     ensures mapped { result ≡ OK → Maps desk.old part.key part.offset part.size (map answered_of asked.now) desk.new
         (range_of mapped.new) }
-    ensures asks { result ≡ ASK → MapDenied desk.old part.key part.offset part.size (map answered_of asked.now)
-        (Denial.Open (question_of question.new)) }
+    ensures asks { result ≡ ASK → Asks (MapDenied desk.old part.key part.offset part.size (map answered_of asked.now))
+        question.new }
     ensures denied { result ≢ OK → result ≢ OUT_OF_HOST_MEMORY → ((result ≡ BAD_ANSWER) × HasNoAnswer asked.now)
         ⊎ Denies (MapDenied desk.old part.key part.offset part.size (map answered_of asked.now)) result }
     ensures formed { (result ≡ OK) ⊎ (result ≡ ASK) → AreAnswered asked.now }

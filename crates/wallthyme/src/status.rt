@@ -61,6 +61,8 @@ pub(crate) const STILL_HELD: u32 = 26;
 
 pub(crate) const UNREAD_NAMES: u32 = 27;
 
+pub(crate) const BAD_FLAGS: u32 = 28;
+
 /// The status of what a desk denies.
 pub(crate) fn denied(denial: Denial) -> u32
     ensures status { result ≡ status_of denial }
@@ -68,7 +70,7 @@ pub(crate) fn denied(denial: Denial) -> u32
     ensures is_open { result ≢ NOT_OPEN }
 {
     match denial {
-        Denial::Open(_) => ASK,
+        Denial::Open { .. } => ASK,
         Denial::Strayed => OTHER_QUESTION,
         Denial::Refused(refusal) => refused(refusal),
         Denial::MapRefused(refusal) => map_refused(refusal),

@@ -169,7 +169,17 @@ impl Device {
     }
 
     pub fn all_with_address(&self) -> bool {
-        self.state().flags.iter().all(|&flags| flags == AllocationFlags::DEVICE_ADDRESS)
+        self.state().flags.iter().all(|flags| flags.contains(AllocationFlags::DEVICE_ADDRESS))
+    }
+
+    /// What the objects were asked for with, in their order, whether they were made or refused.
+    pub fn flags(&self) -> Vec<AllocationFlags> {
+        self.state().flags.clone()
+    }
+
+    /// How many bytes of a heap the objects have.
+    pub fn used(&self, heap: u32) -> u64 {
+        self.state().used(heap)
     }
 
     /// An object of the program's own.

@@ -1,0 +1,18 @@
+-- Where the room is full, all of it is told.
+use Rattle.std.proofs.Common.{◌≡◌, ◌≤◌, ℕ, List, length, take, arith, sym, ◌∙◌, subst}
+use Rattle.std.proofs.lemmas.List.{take_all}
+use Rattle.wallthyme.specs.Candidates.{AreListed}
+use Rattle.wallthyme.proofs.candidates.tell_types.Goals as goal
+
+-- what is told of as many as there is room for
+told_in_full : (found told : List ℕ) → length told ≤ length found
+    → take (length told) told ≡ take (length told) found → AreListed found told
+told_in_full found told fits each =
+    take_all (length found) told fits ∙ sym (take_all (length told) told (omega arith)) ∙ each
+
+pub returns : goal.returns
+returns c =
+    let full : c.loop-index.index ≡ length c.loop-index.types = omega arith in
+    told_in_full c.args.found.now c.loop-index.types (omega arith)
+    (let P : ℕ → Type 0 = λ n. take n c.loop-index.types ≡ take n c.args.found.now in
+    subst P full c.loop-index.invariant.told)

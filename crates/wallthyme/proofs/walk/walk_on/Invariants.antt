@@ -1,0 +1,10 @@
+-- The blocks before the index are told, and the walk goes on behind the last of them.
+use Rattle.std.proofs.Common.{◌≡◌, take}
+use Rattle.wallthyme.specs.Walk.{AreNext, key_behind}
+use Rattle.wallthyme.proofs.walk.walk_on.Given as goal
+
+abbrev pub invariant-loop-count : goal.invariant-loop-count
+invariant-loop-count l = record {
+  told : AreNext l.desk l.fn.after (take l.count l.blocks);
+  last : l.last ≡ key_behind l.fn.after (take l.count l.blocks);
+}
