@@ -1,10 +1,14 @@
 //! The callers of `gpu_uses`, over the simulated device.
 
-use super::bench::{Ask, again, are_usable, one_type};
-use super::same::same;
+ghost use Rattle.std.specs.Prelude.{false};
+ghost use Rattle.gpu_alloc.specs.Request.{IsAskable};
+
+use super::bench::{Ask, again, are_usable, bytes, one_type};
+use super::same::{holds, same};
 use crate::sim::{Question, Sim, SimMemory};
-use gpu_alloc::DeviceProperties;
+use gpu_alloc::{AllocationError, Config, DeviceProperties, Request};
 use gpu_uses::opening::open_and_close;
+use gpu_uses::textures::TextureCache;
 use std::process::Abort;
 use std::test::Fail;
 
@@ -29,4 +33,67 @@ fn an_allocator_is_opened_used_and_closed(rt: HostRuntime) -> Result<(), Fail> {
     same(&rt, "whether it is served", &done.is_ok(), &true);
     same(&rt, "allocations and objects", &counts, &(1, 0));
     Ok(())
+}
+
+type Cache = TextureCache<SimMemory, Sim>;
+
+/// A texture of so many bytes, which may be asked for.
+fn texture(rt: &impl Abort, size: u64) -> Request
+    ensures { IsAskable false result }
+{
+    let request = bytes(size);
+    holds(rt, request.is_askable(false), "a request");
+    request
+}
+
+/// The sizes under four keys.
+fn found(cache: &Cache) -> [Option<u64>; 4] {
+    let at = |key: u64| cache.get(key).map(|texture| texture.size());
+    [at(1), at(2), at(3), at(4)]
+}
+
+/// Three textures of a third of the heap and one more, for which the oldest goes; one that is larger than the heap, for
+/// which none goes; and one that is taken out by its key.
+fn cache_textures(rt: &impl Abort, cache: &mut Cache) {
+    let third = 340 << 10;
+    for key in 1..5 {
+        let asked = texture(rt, third);
+        same(rt, "a texture", &cache.load(key, asked), &Ok(()));
+    }
+    let kept = [None, Some(third), Some(third), Some(third)];
+    same(rt, "without the oldest", &found(cache), &kept);
+    let asked = texture(rt, (1 << 20) + 1);
+    let refused = cache.load(1, asked);
+    same(
+        rt,
+        "a refusal",
+        &refused,
+        &Err(AllocationError::OutOfDeviceMemory),
+    );
+    same(rt, "after a refusal", &found(cache), &kept);
+    same(rt, "whether it went", &cache.evict(3), &true);
+    same(rt, "whether it went again", &cache.evict(3), &false);
+    let kept = [None, Some(third), None, Some(third)];
+    same(rt, "without one", &found(cache), &kept);
+}
+
+/// A cache keeps what the heap has room for, and leaves nothing held.
+#[test]
+fn a_cache_evicts_its_oldest_texture_and_none_in_vain(rt: HostRuntime) -> Result<(), Fail> {
+    let props = one_type();
+    are_usable(&rt, &props);
+    let device: Sim = Sim::new(rt.alloc(), again(&props))?;
+    match TextureCache::new(rt.alloc(), Config::i_am_potato(), props, device) {
+        Ok(mut cache) => {
+            cache_textures(&rt, &mut cache);
+            let device = cache.end();
+            same(&rt, "objects at the end", &device.objects(), &0);
+            drop(device);
+            Ok(())
+        }
+        Err(device) => {
+            drop(device);
+            Err(Fail::from("no memory for a cache"))
+        }
+    }
 }
