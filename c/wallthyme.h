@@ -400,14 +400,14 @@ uint32_t wt_set_remaining(wt_allocator *a, uint32_t remaining);
 uint32_t wt_free_ranges(wt_allocator *a, uint32_t memory_type, size_t first, wt_range *ranges, size_t room,
                         size_t *count);
 
-/* What is held of a memory type, by what it is held for. It takes memory and time for what is held in all, as wt_report.
+/* What is held of a memory type, by what it is held for. As wt_report, it takes memory and time for what is held in all.
    WT_NOT_OPEN, WT_BAD_MEMORY_TYPE, WT_OUT_OF_HOST_MEMORY. */
 uint32_t wt_statistics(wt_allocator *a, uint32_t memory_type, wt_type_statistics *statistics);
 
-/* A report of all that is held, as JSON: heaps, memory types, sums by type and kind, and each object with its live blocks
-   (by key and user) and free ranges; scripts/picture of the repository draws it. At most room bytes are written, the first of
-   the text, with no 0 behind them. *length is the length of all of it, so that a call with room 0 tells how much room it
-   wants. WT_NOT_OPEN, WT_OUT_OF_HOST_MEMORY. */
+/* A report of all that is held, as JSON: heaps, memory types, sums by type and kind, and each object with its live
+   blocks (by key and user) and free ranges; scripts/picture of the repository draws it. At most room bytes are written,
+   the first of the text, with no 0 behind them. *length is the length of all of it, so that a call with room 0 tells
+   how much room it wants. WT_NOT_OPEN, WT_OUT_OF_HOST_MEMORY. */
 uint32_t wt_report(wt_allocator *a, char *text, size_t room, size_t *length);
 
 /* What a status means, in a line with no full stop. */

@@ -1,7 +1,7 @@
 //! The allocator.
 
 ghost use Rattle.std.specs.Prelude.{◌≡◌, ◌⊎◌, ◌↔◌, ℕ, ◌+◌, ◌^◌, ◌<◌, ◌≤◌, true, length, List, All, IsTrue, IfOk, IfErr, IfSome};
-ghost use Rattle.std.specs.Prelude.{OnErr, Some, None, false, is_some, not, min, ◌==◌, ◌≢◌};
+ghost use Rattle.std.specs.Prelude.{OnErr, Some, None, false, is_some, not, ◌==◌};
 ghost use Rattle.std.specs.FinMap as map;
 ghost use Rattle.std.specs.FinSet as set;
 ghost use Rattle.gpu_alloc_types.specs.Properties.{IsUsable, properties_of, heap_size};
@@ -14,20 +14,20 @@ ghost use Rattle.gpu_alloc_usage.specs.Ranking.{implied, named, ranking};
 ghost use Rattle.gpu_alloc.specs.Allocation.{Allocates, AllocatesBy, ObjectsAfter, ObjectsTried, IsGranted};
 ghost use Rattle.gpu_alloc.specs.Allocation.{IsAloneWhereServed, asked_of, candidates_of, plan_with};
 ghost use Rattle.gpu_alloc.specs.Atoms.{KeepsAtoms};
-ghost use Rattle.gpu_alloc.specs.Budget.{heap_budget, heap_bytes, with_heap_limit};
 ghost use Rattle.gpu_alloc.specs.Candidates.{own_candidate};
 ghost use Rattle.gpu_alloc_base.specs.Case.{IsOverBudget, IsWithinBudget};
 ghost use Rattle.gpu_alloc.specs.declared.allocator.Strategy.TheVariants.{OwnObject, InBuddyChunk, InFreeList};
 ghost use Rattle.gpu_alloc.specs.Opening.{opened};
-ghost use Rattle.gpu_alloc.specs.Owned.{AreOwned, HoldsNothing, Leaves, Adds, Removes, LeavesNoRest, StaysAgreed};
+ghost use Rattle.gpu_alloc.specs.Owned.{HoldsNothing, Leaves, Adds, Removes, LeavesNoRest, StaysAgreed};
 ghost use Rattle.gpu_alloc.specs.Release.{Frees, ObjectsFreed, Cleans, ObjectsCleaned, IsCleanedUp, GoesBack};
 ghost use Rattle.gpu_alloc.specs.Request.{IsAskable};
 ghost use Rattle.gpu_alloc.specs.Sound as Sound;
-ghost use Rattle.gpu_alloc_block.specs.State.{Block, HeldObject, Span, IsLive, IsOwned, heap_limit, ledger, total};
+ghost use Rattle.gpu_alloc_block.specs.State.{HeldObject, Span, IsLive, IsOwned, ledger, total};
 
 mod by_type;
 mod candidates;
 mod choosing;
+mod heaps;
 mod importing;
 mod listing;
 mod optimal;
@@ -737,59 +737,6 @@ impl<M: MemoryObject, A: Allocator> GpuAllocator<M, A> {
         ensures { result ≡ is_some (map.get self.now.held object) }
     {
         self.spans.held(object).is_some()
-    }
-
-    /// A heap's ledger: how many bytes the held objects of its memory types count. Only imports bring it past the heap's
-    /// size: what is held beside them is never more than that. The heap has to be there.
-    pub fn heap_used(&self, heap: u32) -> u128
-        requires { heap < length (self.now.properties).memory_heaps }
-        ensures { result ≡ ledger self.now heap }
-    {
-        self.heaps[heap as usize].used()
-    }
-
-    /// A heap's limit: how many bytes of it may be held in all before no more are asked for. It is the heap's size where
-    /// none was set, and never more. The heap has to be there.
-    pub fn heap_limit(&self, heap: u32) -> u64
-        requires { heap < length (self.now.properties).memory_heaps }
-        ensures { result ≡ heap_limit self.now heap }
-    {
-        self.heaps[heap as usize].limit()
-    }
-
-    /// From now on no more is asked of a heap than is left of this limit, in bytes, whatever is held: a memory type of it
-    /// that would have to be asked for more is passed. A limit at or over the heap's size is none. The heap has to be
-    /// there.
-    ///
-    /// Nothing that is held goes, even where it is more than the limit; a place in a held object is used whatever the
-    /// limit, and imports are never refused for it. Which way a request is served and how large chunks are goes by the
-    /// heap's size as before: no smaller chunk is tried. (A driver tells by Vulkan's VK_EXT_memory_budget how much of a heap
-    /// a program should use. The original crate has no such limit.)
-    pub fn set_heap_limit(&mut self, heap: u32, limit: u64)
-        requires { heap < length (self.old.properties).memory_heaps }
-        ensures set { self.new ≡ with_heap_limit self.old heap limit }
-
-        // What follows from it.
-        ensures told { heap_limit self.new heap ≡ min limit (heap_bytes self.old.properties heap) }
-        ensures others { (other : ℕ) → other ≢ heap → heap_limit self.new other ≡ heap_limit self.old other }
-        ensures owned { (block : Block) → IsOwned self.old block → IsOwned self.new block }
-        ensures all { (blocks : List Block) → AreOwned self.old blocks → AreOwned self.new blocks }
-        ensures agrees { StaysAgreed self.old self.new }
-        ensures sound { Sound.IsSound self.new }
-    {
-        self.heaps[heap as usize].set_limit(limit);
-        self.keeps_sound();
-    }
-
-    /// A heap's budget: how many bytes may still be asked of it, its limit less its ledger, 0 where the ledger is at or past
-    /// it. A request that would ask for more passes the heap's memory types. (The original crate names the budget in its
-    /// README, and does not keep it. What a driver tells by Vulkan's VK_EXT_memory_budget is
-    /// [`set_heap_limit`](GpuAllocator::set_heap_limit)'s.) The heap has to be there.
-    pub fn heap_budget(&self, heap: u32) -> u64
-        requires { heap < length (self.now.properties).memory_heaps }
-        ensures { result ≡ heap_budget self.now heap }
-    {
-        self.heaps[heap as usize].budget()
     }
 
     /// Ends the allocator, which may hold no object: `held_objects` tells. After all returns

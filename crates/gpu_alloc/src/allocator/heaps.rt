@@ -1,0 +1,66 @@
+//! Heaps: what is held of them, and how much may be asked.
+
+ghost use Rattle.std.specs.Prelude.{◌≡◌, ◌≢◌, ◌<◌, ℕ, List, length, min};
+ghost use Rattle.gpu_alloc_block.specs.State.{Block, IsOwned, heap_limit, ledger};
+ghost use Rattle.gpu_alloc.specs.Budget.{heap_budget, heap_bytes, with_heap_limit};
+ghost use Rattle.gpu_alloc.specs.Owned.{AreOwned, StaysAgreed};
+ghost use Rattle.gpu_alloc.specs.Sound as Sound;
+
+use super::GpuAllocator;
+use gpu_alloc_types::MemoryObject;
+use std::alloc::Allocator;
+
+impl<M: MemoryObject, A: Allocator> GpuAllocator<M, A> {
+    /// A heap's ledger: how many bytes the held objects of its memory types count. Only imports bring it past the heap's
+    /// size: what is held beside them is never more than that. The heap has to be there.
+    pub fn heap_used(&self, heap: u32) -> u128
+        requires { heap < length (self.now.properties).memory_heaps }
+        ensures { result ≡ ledger self.now heap }
+    {
+        self.heaps[heap as usize].used()
+    }
+
+    /// A heap's limit: how many bytes of it may be held in all before no more are asked for. It is the heap's size where
+    /// none was set, and never more. The heap has to be there.
+    pub fn heap_limit(&self, heap: u32) -> u64
+        requires { heap < length (self.now.properties).memory_heaps }
+        ensures { result ≡ heap_limit self.now heap }
+    {
+        self.heaps[heap as usize].limit()
+    }
+
+    /// From now on no more is asked of a heap than is left of this limit, in bytes, whatever is held: a memory type of it
+    /// that would have to be asked for more is passed. A limit at or over the heap's size is none. The heap has to be
+    /// there.
+    ///
+    /// Nothing that is held goes, even where it is more than the limit; a place in a held object is used whatever the
+    /// limit, and imports are never refused for it. Which way a request is served and how large chunks are goes by the
+    /// heap's size as before: no smaller chunk is tried. (A driver tells by Vulkan's VK_EXT_memory_budget how much of a heap
+    /// a program should use. The original crate has no such limit.)
+    pub fn set_heap_limit(&mut self, heap: u32, limit: u64)
+        requires { heap < length (self.old.properties).memory_heaps }
+        ensures set { self.new ≡ with_heap_limit self.old heap limit }
+
+        // What follows from it.
+        ensures told { heap_limit self.new heap ≡ min limit (heap_bytes self.old.properties heap) }
+        ensures others { (other : ℕ) → other ≢ heap → heap_limit self.new other ≡ heap_limit self.old other }
+        ensures owned { (block : Block) → IsOwned self.old block → IsOwned self.new block }
+        ensures all { (blocks : List Block) → AreOwned self.old blocks → AreOwned self.new blocks }
+        ensures agrees { StaysAgreed self.old self.new }
+        ensures sound { Sound.IsSound self.new }
+    {
+        self.heaps[heap as usize].set_limit(limit);
+        self.keeps_sound();
+    }
+
+    /// A heap's budget: how many bytes may still be asked of it, its limit less its ledger, 0 where the ledger is at or past
+    /// it. A request that would ask for more passes the heap's memory types. (The original crate names the budget in its
+    /// README, and does not keep it. What a driver tells by Vulkan's VK_EXT_memory_budget is
+    /// [`set_heap_limit`](GpuAllocator::set_heap_limit)'s.) The heap has to be there.
+    pub fn heap_budget(&self, heap: u32) -> u64
+        requires { heap < length (self.now.properties).memory_heaps }
+        ensures { result ≡ heap_budget self.now heap }
+    {
+        self.heaps[heap as usize].budget()
+    }
+}
