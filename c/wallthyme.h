@@ -400,7 +400,7 @@ uint32_t wt_set_remaining(wt_allocator *a, uint32_t remaining);
 uint32_t wt_free_ranges(wt_allocator *a, uint32_t memory_type, size_t first, wt_range *ranges, size_t room,
                         size_t *count);
 
-/* What is held of a memory type, by what it is held for. As wt_report, it takes memory and time for what is held in all.
+/* What is held of a memory type, by what it is held for. As wt_report, it takes memory and time for all that is held.
    WT_NOT_OPEN, WT_BAD_MEMORY_TYPE, WT_OUT_OF_HOST_MEMORY. */
 uint32_t wt_statistics(wt_allocator *a, uint32_t memory_type, wt_type_statistics *statistics);
 
