@@ -20,24 +20,25 @@ pub put_again : {X : Type 0} (m : map.FinMap nat_cmp X) (key : ℕ) {b now : X} 
 put_again m key {now = now} there same =
     map.same_map nat_cmp_total nat_cmp-IsAntisymmetric _ _ (λ k. grind (arith, nat_tests, name_test, map.get-insert nat_cmp_total m key now k))
 
-module _ {s after : State} {p q : Properties} {old new : ℕ → Option Object} {m n : map.FinMap nat_cmp Block} {key : ℕ} {b : Block}
-    (managed : IsManaged s p old m) (agrees : Agrees after q new) where
-  pub granted : PutsAt m key b n → AddsInHand s p old after q new b → Adds s after b → IsManaged after q new n
+module _ {s after : State} {p q : Properties} {old new : ℕ → Option Object} {m n : map.FinMap nat_cmp Block} {key granularity : ℕ} {b : Block}
+    (managed : IsManaged s p old m granularity) (agrees : Agrees after q new) where
+  pub granted : PutsAt m key b n → AddsInHand s p old after q new b → Adds s after b → IsManaged after q new n granularity
   granted puts joins adds =
       let kept = joins.kept _ _ _ managed.kept puts.free (record { changed = puts.there; others = puts.others }) in
-      record { agrees = agrees; kept = kept; count = omega arith }
+      record { agrees = agrees; kept = kept; count = omega arith; pages = managed.pages }
 
-  pub gone : TakesAt m key b n → RemovesInHand s p old b after q new → Removes s b after → IsManaged after q new n
+  pub gone : TakesAt m key b n → RemovesInHand s p old b after q new → Removes s b after → IsManaged after q new n granularity
   gone takes leaves removes =
       let kept = leaves.kept _ _ _ managed.kept takes.taken (record { changed = takes.gone; others = takes.others }) in
-      record { agrees = agrees; kept = kept; count = omega arith }
+      record { agrees = agrees; kept = kept; count = omega arith; pages = managed.pages }
 
 -- what it keeps where a block of its own moved bytes
-pub moved : {s : State} {p q : Properties} {old new : ℕ → Option Object} {m : map.FinMap nat_cmp Block} (key : ℕ) {b now : Block}
-    → IsManaged s p old m → Some b ≡ map.get m key → now ≡ b → KeepsInHand b p old now q new → KeepsAgreement b p old q new
-    → IsManaged s q new (map.insert m key now)
+pub moved : {s : State} {p q : Properties} {old new : ℕ → Option Object} {m : map.FinMap nat_cmp Block} {granularity : ℕ} (key : ℕ)
+    {b now : Block} → IsManaged s p old m granularity → Some b ≡ map.get m key → now ≡ b → KeepsInHand b p old now q new → KeepsAgreement b p old q new
+    → IsManaged s q new (map.insert m key now) granularity
 moved {m = m} key managed there same stays keeps = rw (put_again m key there same) (record {
   agrees = keeps.owner _ (managed.kept.owned key _ (sym there)) managed.agrees;
   kept = stays.kept _ _ _ key managed.kept (sym there) (record { changed = sym (cc (there, same)); others = λ other ne. refl });
   count = managed.count;
+  pages = managed.pages;
 })

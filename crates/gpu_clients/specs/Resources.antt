@@ -11,22 +11,32 @@ use Rattle.gpu_alloc_block.specs.Codes.{block_code}
 use Rattle.gpu_alloc_block.specs.Contents.{HasSameBytes}
 use Rattle.gpu_alloc_block.specs.Kept.{AreKept, outside}
 use Rattle.gpu_alloc_block.specs.State.{Block, State}
+use Rattle.gpu_alloc.specs.Allocation.{IsInPages}
 use Rattle.gpu_alloc.specs.Codes.{state_code}
+use Rattle.gpu_alloc.specs.Pages.{SharesNoPage}
+use Rattle.gpu_alloc.specs.Request.{IsGranularity}
 use Rattle.gpu_slots.specs.SlotMap.{SlotState, IsGiven, IsGone}
 
--- its allocator, its device, the blocks by handle, and the generation of each slot
+-- its allocator, its device, the blocks by handle, the generation of each slot, and how many bytes a page has
 pub record ManagerState (D : Type 0) : Type 0 where
   pub allocator : State
   pub device : D
   pub blocks : map.FinMap nat_cmp Block
   pub generations : List ℕ
+  pub granularity : ℕ
 
 abbrev pub manager_code : {D : Type 0} → Coded D → Coded (ManagerState D)
 manager_code {D} d =
-    code_by (State × (D × (map.FinMap nat_cmp Block × List ℕ)))
-    (coded× state_code (coded× d (coded× (map.code coded_ℕ block_code) (coded_list coded_ℕ))))
-    (λ m. (m.allocator, (m.device, (m.blocks, m.generations))))
-    (λ c. record { allocator = c.0; device = c.1.0; blocks = c.1.1.0; generations = c.1.1.1 }) (λ _. refl)
+    code_by (State × (D × (map.FinMap nat_cmp Block × (List ℕ × ℕ))))
+    (coded× state_code (coded× d (coded× (map.code coded_ℕ block_code) (coded× (coded_list coded_ℕ) coded_ℕ))))
+    (λ m. (m.allocator, (m.device, (m.blocks, (m.generations, m.granularity)))))
+    (λ c. record {
+      allocator = c.0;
+      device = c.1.0;
+      blocks = c.1.1.0;
+      generations = c.1.1.1.0;
+      granularity = c.1.1.1.1;
+    }) (λ _. refl)
 
 module _ {D : Type 0} where
   -- the block that a handle finds
@@ -56,6 +66,12 @@ module _ {D : Type 0} where
   abbrev pub OthersStay : ManagerState D → ManagerState D → ℕ → Type 0
   OthersStay old new handle = (other : ℕ) → other ≢ handle → block_at new other ≡ block_at old other
 
+  -- a block that has whole pages for so many bytes shares none of those pages with the block of another handle
+  abbrev pub KeepsPagesApart : ManagerState D → Type 0
+  KeepsPagesApart m =
+      (image other size : ℕ) (b c : Block) → block_at m image ≡ Some b → block_at m other ≡ Some c → image ≢ other
+      → IsInPages m.granularity size b → SharesNoPage m.granularity size b c
+
   -- its allocator and all its handles are as before
   pub record IsAsBefore (old new : ManagerState D) : Type 0 where
     pub allocator : new.allocator ≡ old.allocator
@@ -76,8 +92,11 @@ module _ {D : Type 0} where
     KeepsBytes old new = (handle : ℕ) (b : Block) → block_at old handle ≡ Some b → block_at new handle ≡ Some b
         → HasSameBytes b (objects old.device) (objects new.device)
 
--- What holds of a manager between calls: allocator and device agree, its blocks are kept, and nothing else is live.
-pub record IsManaged (s : State) (p : Properties) (objects : ℕ → Option Object) (blocks : map.FinMap nat_cmp Block) : Type 0 where
+-- What holds of a manager between calls: allocator and device agree, its blocks are kept, nothing else is live, and its
+-- granularity is one.
+pub record IsManaged (s : State) (p : Properties) (objects : ℕ → Option Object) (blocks : map.FinMap nat_cmp Block)
+    (granularity : ℕ) : Type 0 where
   pub agrees : Agrees s p objects
   pub kept : AreKept s p objects (map.get blocks)
   pub count : set.len s.live ≡ map.len blocks
+  pub pages : IsGranularity granularity

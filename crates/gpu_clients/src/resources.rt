@@ -6,15 +6,15 @@ ghost use Rattle.std.specs.FinSet as set;
 ghost use Rattle.gpu_alloc_types.specs.Properties.{IsUsable, properties_of};
 ghost use Rattle.gpu_alloc_block.specs.Contents.{HasSameDeviceBytes, Stores};
 ghost use Rattle.gpu_alloc_block.specs.State.{Block};
-ghost use Rattle.gpu_alloc.specs.Allocation.{IsGranted};
+ghost use Rattle.gpu_alloc.specs.Allocation.{IsGranted, IsInPages};
 ghost use Rattle.gpu_alloc.specs.Kept.{AreKept};
-ghost use Rattle.gpu_alloc.specs.Request.{IsAskable};
+ghost use Rattle.gpu_alloc.specs.Request.{IsAskable, IsGranularity};
 ghost use Rattle.gpu_clients.specs.Resources.{block_at, FindsBlock, WasGiven, HasEnded, StayEnded, OthersStay};
-ghost use Rattle.gpu_clients.specs.Resources.{IsAsBefore, beside, IsSameBeside, KeepsBytes};
+ghost use Rattle.gpu_clients.specs.Resources.{IsAsBefore, KeepsPagesApart, beside, IsSameBeside, KeepsBytes};
 ghost use Rattle.gpu_clients.specs.Staging.{Keeps};
 
 use crate::closing::close;
-use gpu_alloc::laws::{agrees_at_first, bytes_stay};
+use gpu_alloc::laws::{agrees_at_first, bytes_stay, pages_are_not_shared};
 use gpu_alloc::{
     AllocationError, Config, DeviceProperties, GpuAllocator, MapError, MemoryBlock, Request,
 };
@@ -47,10 +47,16 @@ impl Model for Handle {
 /// A handle is a slot with the slot's generation, so that a look-up is one step, and a handle whose block went back
 /// finds nothing for ever after, whatever the slot holds by then. A slot whose 2^32 generations are used up is never
 /// used again.
+///
+/// Its granularity is how many bytes a page has. A block for an optimal image ([`create_optimal`]) shares no page with
+/// another block. The granularity stays as it was given at first.
+///
+/// [`create_optimal`]: ResourceManager::create_optimal
 pub struct ResourceManager<M: MemoryObject, D: ObjectDevice<M>, A: Allocator + Copy = Global> {
     allocator: GpuAllocator<M, A>,
     device: D,
     blocks: SlotMap<MemoryBlock<M>, A>,
+    granularity: u64,
 }
 
 impl<M: MemoryObject, D: ObjectDevice<M>, A: Allocator + Copy> Model for ResourceManager<M, D, A> {
@@ -65,16 +71,18 @@ impl<M: MemoryObject, D: ObjectDevice<M>, A: Allocator + Copy> Model for Resourc
       device = m.device;
       blocks = m.blocks.live;
       generations = m.blocks.generations;
+      granularity = m.granularity;
     } };
 
-    ghost invariant = { λ m. IsManaged m.allocator (D.properties m.device) (D.objects m.device) m.blocks.live };
+    ghost invariant = { λ m.
+        IsManaged m.allocator (D.properties m.device) (D.objects m.device) m.blocks.live m.granularity };
 }
 
 impl<M: MemoryObject, D: ObjectDevice<M>, A: Allocator + Copy> ResourceManager<M, D, A> {
     /// A manager of no block, over a device with these properties. `alloc` gives the host memory of its tables.
     ///
-    /// The properties have to be usable (`DeviceProperties::is_usable`) and those of the device. Want of host memory
-    /// gives the device back as it was.
+    /// The properties have to be usable (`DeviceProperties::is_usable`) and those of the device. The granularity is 1,
+    /// with which an optimal image may lie beside any block. Want of host memory gives the device back as it was.
     pub fn new(alloc: A, config: Config, props: DeviceProperties<'_>, device: D) -> Result<Self, D>
         requires usable { IsUsable (properties_of props) }
         requires same { D.properties device ≡ properties_of props }
@@ -83,6 +91,31 @@ impl<M: MemoryObject, D: ObjectDevice<M>, A: Allocator + Copy> ResourceManager<M
         ensures none { IfOk result (λ manager. (handle : ℕ) → block_at manager handle ≡ None) }
         ensures unused { IfOk result (λ manager. (handle : ℕ) → WasGiven manager handle → ⊥) }
         ensures properties { IfOk result (λ manager. (manager.allocator).properties ≡ properties_of props.entry) }
+        ensures granularity { IfOk result (λ manager. manager.granularity ≡ 1) }
+        ensures beside { IfOk result (λ manager. (name : ℕ) → beside D.objects manager name ≡ D.objects device name) }
+        ensures given_back { IfErr result (λ other. other ≡ device) }
+    {
+        Self::with_granularity(alloc, config, props, device, 1)
+    }
+
+    /// A manager as [`new`](ResourceManager::new) makes one, with pages of `granularity` bytes (Vulkan's
+    /// `bufferImageGranularity`), which has to be a power of two of at most 2^32.
+    pub fn with_granularity(
+        alloc: A,
+        config: Config,
+        props: DeviceProperties<'_>,
+        device: D,
+        granularity: u64,
+    ) -> Result<Self, D>
+        requires usable { IsUsable (properties_of props) }
+        requires same { D.properties device ≡ properties_of props }
+        requires granularity { IsGranularity granularity }
+        ensures over { IfOk result (λ manager. manager.device ≡ device) }
+        ensures empty { IfOk result (λ manager. manager.blocks ≡ map.empty) }
+        ensures none { IfOk result (λ manager. (handle : ℕ) → block_at manager handle ≡ None) }
+        ensures unused { IfOk result (λ manager. (handle : ℕ) → WasGiven manager handle → ⊥) }
+        ensures properties { IfOk result (λ manager. (manager.allocator).properties ≡ properties_of props.entry) }
+        ensures granularity { IfOk result (λ manager. manager.granularity ≡ granularity) }
         ensures beside { IfOk result (λ manager. (name : ℕ) → beside D.objects manager name ≡ D.objects device name) }
         ensures given_back { IfErr result (λ other. other ≡ device) }
     {
@@ -93,6 +126,7 @@ impl<M: MemoryObject, D: ObjectDevice<M>, A: Allocator + Copy> ResourceManager<M
                     allocator,
                     device,
                     blocks: SlotMap::new(alloc),
+                    granularity,
                 })
             }
             Err(_) => Err(device),
@@ -117,6 +151,7 @@ impl<M: MemoryObject, D: ObjectDevice<M>, A: Allocator + Copy> ResourceManager<M
         ensures bytes { KeepsBytes D.objects self.old self.new }
         ensures ended { StayEnded self.old self.new }
         ensures properties { (self.new.allocator).properties ≡ (self.old.allocator).properties }
+        ensures granularity { self.new.granularity ≡ self.old.granularity }
         ensures beside { IsSameBeside D.objects self.old self.new }
         ensures offers { D.properties self.new.device ≡ D.properties self.old.device }
     {
@@ -125,6 +160,42 @@ impl<M: MemoryObject, D: ObjectDevice<M>, A: Allocator + Copy> ResourceManager<M
             return Err(AllocationError::OutOfHostMemory);
         }
         let block = self.allocator.alloc(&mut self.device, request)?;
+        Ok(Handle {
+            key: self.blocks.insert_reserved(block),
+        })
+    }
+
+    /// A block as [`create`](ResourceManager::create) makes one, for an image that is not linear. In a shared object it
+    /// begins at a page and has whole pages for the request's size, so that no page with one of its first `size` bytes
+    /// has a byte of another block ([`keeps_pages`](ResourceManager::keeps_pages)).
+    ///
+    /// The request has to be askable, as for `create`. The refusals are those of [`GpuAllocator::alloc_optimal`], and
+    /// `OutOfHostMemory` as `create` has it. Nothing has changed then.
+    #[tactic(auto, using(crate::proofs::Managed::granted))]
+    pub fn create_optimal(&mut self, request: Request) -> Result<Handle, AllocationError>
+        requires askable { IsAskable ((self.old.allocator).properties).buffer_device_address request }
+        ensures fresh { IfOk result (λ handle. WasGiven self.old handle → ⊥) }
+        ensures was_free { IfOk result (λ handle. block_at self.old handle ≡ None) }
+        ensures granted { IfOk result (λ handle.
+            FindsBlock self.new handle (IsGranted self.old.allocator request self.new.allocator)) }
+        ensures pages { IfOk result (λ handle.
+            FindsBlock self.new handle (IsInPages self.new.granularity request.size)) }
+        ensures others { IfOk result (OthersStay self.old self.new) }
+        ensures count { IfOk result (λ handle. map.len self.new.blocks ≡ map.len self.old.blocks + 1) }
+        ensures refused { OnErr result (IsAsBefore self.old self.new) }
+        ensures bytes { KeepsBytes D.objects self.old self.new }
+        ensures ended { StayEnded self.old self.new }
+        ensures properties { (self.new.allocator).properties ≡ (self.old.allocator).properties }
+        ensures granularity { self.new.granularity ≡ self.old.granularity }
+        ensures beside { IsSameBeside D.objects self.old self.new }
+        ensures offers { D.properties self.new.device ≡ D.properties self.old.device }
+    {
+        bytes_stay();
+        if self.blocks.reserve().is_err() {
+            return Err(AllocationError::OutOfHostMemory);
+        }
+        let pages = self.granularity;
+        let block = self.allocator.alloc_optimal(&mut self.device, request, None, pages)?;
         Ok(Handle {
             key: self.blocks.insert_reserved(block),
         })
@@ -142,6 +213,7 @@ impl<M: MemoryObject, D: ObjectDevice<M>, A: Allocator + Copy> ResourceManager<M
         ensures bytes { KeepsBytes D.objects self.old self.new }
         ensures ended { StayEnded self.old self.new }
         ensures properties { (self.new.allocator).properties ≡ (self.old.allocator).properties }
+        ensures granularity { self.new.granularity ≡ self.old.granularity }
         ensures beside { IsSameBeside D.objects self.old self.new }
         ensures offers { D.properties self.new.device ≡ D.properties self.old.device }
     {
@@ -187,6 +259,18 @@ impl<M: MemoryObject, D: ObjectDevice<M>, A: Allocator + Copy> ResourceManager<M
         let _ = &self.device;
     }
 
+    /// Nothing is done: its contract tells what every manager keeps, whatever calls were made. No page of the
+    /// granularity of one object holds one of the first `size` bytes, as asked, of a block from
+    /// [`create_optimal`](ResourceManager::create_optimal) and a byte of another block. For the block under a handle
+    /// stays as it was granted (`others` of each call), and so does the granularity.
+    pub fn keeps_pages(&self)
+        ensures granularity { IsGranularity self.now.granularity }
+        ensures apart { KeepsPagesApart self.now }
+    {
+        pages_are_not_shared();
+        let _ = &self.device;
+    }
+
     /// Gives every block back, and then the device, which holds nothing of the manager's any more. It takes no memory
     /// and cannot fail.
     pub fn end(self) -> D
@@ -197,6 +281,7 @@ impl<M: MemoryObject, D: ObjectDevice<M>, A: Allocator + Copy> ResourceManager<M
             mut allocator,
             mut device,
             blocks,
+            granularity: _,
         } = self;
         let mut blocks = blocks.into_values();
         while let Some(block) = blocks.next() {

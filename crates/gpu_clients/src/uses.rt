@@ -2,8 +2,9 @@
 
 ghost use Rattle.std.specs.Prelude.{◌≡◌, ℕ, ◌≤◌, All, IfOk, OnErr, length};
 ghost use Rattle.gpu_alloc_types.specs.Properties.{IsUsable, properties_of};
+ghost use Rattle.gpu_alloc.specs.Pages.{SharesNoPage};
 ghost use Rattle.gpu_alloc.specs.Request.{IsAskable};
-ghost use Rattle.gpu_clients.specs.Resources.{WasGiven, IsAsBefore};
+ghost use Rattle.gpu_clients.specs.Resources.{WasGiven, FindsBlock, IsAsBefore};
 ghost use Rattle.gpu_clients.specs.Staging.{beside};
 
 use crate::frames::FramePlanner;
@@ -62,6 +63,23 @@ pub fn replace<M: MemoryObject, D: ObjectDevice<M>, A: Allocator + Copy>(
     let new = manager.create(request)?;
     manager.destroy(handle);
     Ok(new)
+}
+
+/// An optimal image and then a buffer, which share no page; or a refusal, after which there may be the image.
+pub fn image_and_buffer<M: MemoryObject, D: ObjectDevice<M>, A: Allocator + Copy>(
+    manager: &mut ResourceManager<M, D, A>,
+    image: Request,
+    buffer: Request,
+) -> Result<(Handle, Handle), AllocationError>
+    requires image { IsAskable ((manager.old.allocator).properties).buffer_device_address image }
+    requires buffer { IsAskable ((manager.old.allocator).properties).buffer_device_address buffer }
+    ensures { IfOk result (λ made. FindsBlock manager.new made.0 (λ b.
+        FindsBlock manager.new made.1 (SharesNoPage manager.new.granularity image.size b))) }
+{
+    let first = manager.create_optimal(image)?;
+    let second = manager.create(buffer)?;
+    manager.keeps_pages();
+    Ok((first, second))
 }
 
 /// Begins a flight, after the oldest of three was given back.

@@ -6,7 +6,8 @@ use Rattle.gpu_clients.proofs.resources.ResourceManager.end.Given as goal
 
 abbrev pub invariant-loop-block : goal.invariant-loop-block
 invariant-loop-block g l = record {
-  managed : IsManaged l.allocator (g.D.ObjectDevice.properties l.device) (g.D.ObjectDevice.objects l.device) l.blocks;
+  managed : IsManaged l.allocator (g.D.ObjectDevice.properties l.device) (g.D.ObjectDevice.objects l.device) l.blocks
+      l.fn.self.granularity;
   outside : IsSameOutside l.fn.self.allocator (g.D.ObjectDevice.objects l.fn.self.device) l.allocator (g.D.ObjectDevice.objects l.device);
   properties : g.D.ObjectDevice.properties l.device ≡ g.D.ObjectDevice.properties l.fn.self.device;
 }

@@ -1,8 +1,6 @@
-use Rattle.std.proofs.Common.{sym, ◌∙◌}
-use Rattle.gpu_alloc_block.proofs.Lists.{none_kept}
+use Rattle.std.proofs.Common.{refl, arith}
 use Rattle.gpu_clients.proofs.resources.ResourceManager.new.Goals as goal
 
-pub invariant_of-result : goal.invariant_of-result
-invariant_of-result g c =
-    let none = c.new-in-Ok.ensures.none in
-    record { agrees = c.agrees_at_first.ensures; kept = none_kept none.none; count = c.in-Ok.ensures.empty.live ∙ sym none.count }
+pub with_granularity-requires-clause-granularity : goal.with_granularity-requires-clause-granularity
+unfolding lib.Count.ones
+with_granularity-requires-clause-granularity g c = record { power = refl; bound = omega arith }
