@@ -195,7 +195,9 @@ impl<M: MemoryObject, D: ObjectDevice<M>, A: Allocator + Copy> ResourceManager<M
             return Err(AllocationError::OutOfHostMemory);
         }
         let pages = self.granularity;
-        let block = self.allocator.alloc_optimal(&mut self.device, request, None, pages)?;
+        let block = self
+            .allocator
+            .alloc_optimal(&mut self.device, request, None, pages)?;
         Ok(Handle {
             key: self.blocks.insert_reserved(block),
         })
