@@ -220,7 +220,7 @@ typedef struct wt_request {
     uint32_t usage;        /* bits WT_USAGE_.. */
     uint32_t memory_types; /* bit i: memory type i is permitted (VkMemoryRequirements::memoryTypeBits) */
     uint32_t dedicated;    /* WT_SHARED, WT_PREFERRED or WT_REQUIRED */
-    uint32_t flags;        /* WT_OPTIMAL or 0. It is checked last of the request's fields with names */
+    uint32_t flags;        /* WT_OPTIMAL or 0 */
     uint64_t user;         /* a value of the caller's, which stands with the block: any number, a pointer as well */
 } wt_request;
 
