@@ -17,6 +17,8 @@
  * - A call that ends otherwise than in WT_OK leaves all as it was.
  * - Names of objects rise, and none comes twice. Each object is reported once to be freed, when no block needs it.
  * - After all blocks are freed and wt_cleanup, no object is held.
+ * - What was asked for of an optimal block shares no page with a linear one (WT_OPTIMAL), no question passes a heap's
+ *   limit, and WT_ALLOCATE_OWN is set exactly where an object will hold one block, of its size.
  *
  * What the caller owes, and nothing checks:
  * - Pointers are valid; one to 0 elements may be null. Nothing that a call writes overlaps anything else that the
@@ -100,7 +102,7 @@ enum {
     WT_TOO_MANY_REMAINING = 25,        /* together with the held objects not below 2^32 */
     WT_STILL_HELD = 26,                /* an object is held: free all blocks, and call wt_cleanup */
     WT_UNREAD_NAMES = 27,              /* names of objects to free are still to be read by wt_gone */
-    WT_BAD_FLAGS = 28                  /* flags of a request without a name */
+    WT_BAD_FLAGS = 28                  /* wt_request.flags has a bit without a name */
 };
 
 /* How a question was answered: wt_question.answer. To an allocation WT_NO_DEVICE_MEMORY means that it goes on to the
@@ -332,11 +334,11 @@ uint32_t wt_block_of(wt_allocator *a, uint64_t key, wt_block *block);
 /* Sets a block's value of the caller's (wt_block.user), and changes nothing else. WT_NOT_OPEN, WT_UNKNOWN_KEY. */
 uint32_t wt_set_user(wt_allocator *a, uint64_t key, uint64_t user);
 
-/* Walks the live blocks, in the order of their keys' places: writes as many as there are and as fit in room, *count.
-   after is 0 for the first call, and then the key of the last block written. Fewer than room: there are no more.
-   after counts by its place alone (the lower 32 bits of a key), and may have been freed meanwhile. A walk without other
-   calls between writes each live block exactly once; one with calls between writes each block that lived all along
-   exactly once. With room 0 nothing is written. WT_NOT_OPEN. */
+/* Walks the live blocks, in the order of their keys' places: writes as many as there are and as fit in room. *count is
+   how many it wrote; fewer than room: there are no more. after is 0 for the first call, and then the key of the last
+   block written. It counts by its place alone (the lower 32 bits of a key), and may have been freed meanwhile. A walk
+   without other calls between writes each live block exactly once; one with calls between writes each block that lived
+   all along exactly once. With room 0 nothing is written. WT_NOT_OPEN. */
 uint32_t wt_blocks(wt_allocator *a, uint64_t after, wt_block *blocks, size_t room, size_t *count);
 
 /* The memory types that would serve a request with this usage and these permitted types, the best one first, for
@@ -383,8 +385,8 @@ uint32_t wt_count(wt_allocator *a, wt_counts *counts);
 /* What is held of a heap, and what may still be asked of it. WT_NOT_OPEN, WT_BAD_HEAP. */
 uint32_t wt_heap(wt_allocator *a, uint32_t heap, wt_heap_counts *counts);
 
-/* From now on at most limit bytes of a heap are held for what wt_alloc asks: no question asks for more than is left of
-   it, and a memory type whose heap has not so much left is passed, not asked. It is for what VK_EXT_memory_budget says
+/* From now on no question asks for more of a heap than is left of limit bytes, by all that is held of it: a memory type
+   whose heap has not so much left is passed, not asked. It is for what VK_EXT_memory_budget says
    of a heap at run time, and may be set at any time, also between two answers to one request. One at or over the heap's
    size is none, as at first. One below what is held refuses new objects and takes nothing away: blocks stay, and free
    bytes of held objects are given out. Imports count, and are never refused for it. When an object is made, and how

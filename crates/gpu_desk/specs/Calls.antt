@@ -52,10 +52,11 @@ KeepsTags old new =
     (key : ℕ) → IsSome (map.get old.blocks.live key) → IsSome (map.get new.blocks.live key)
     → tag_of new key ≡ tag_of old key
 
--- What was given to the allocator and the desk, how many objects may be held in all, each key that is gone, each name that
--- is past, and what is kept with each block that lives on.
+-- What was given to the allocator and the desk, each heap's limit, how many objects may be held in all, each key that is
+-- gone, each name that is past, and what is kept with each block that lives on.
 pub record Keeps (old new : DeskState) : Type 0 where
   pub given : KeepsGiven old.allocator new.allocator
+  pub limits : new.allocator.heap_limits ≡ old.allocator.heap_limits
   pub total : total new.allocator ≡ total old.allocator
   pub gone : StaysGone old.blocks new.blocks
   pub names : KeepsNames old.device.held new.device.held

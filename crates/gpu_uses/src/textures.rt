@@ -138,7 +138,8 @@ impl<M: MemoryObject, D: ObjectDevice<M>, A: Allocator + Copy> TextureCache<M, D
     /// Sees to it that a key has a texture: the one that it has, or a new one as the request asks. As long as that one
     /// is refused, the oldest texture goes. A request that can never be served evicts nothing.
     ///
-    /// The request has to be askable (`Request::is_askable`). The refusals are those of [`GpuAllocator::alloc`].
+    /// The request has to be askable (`Request::is_askable`). The refusals are those of [`GpuAllocator::alloc`], and
+    /// `OutOfDeviceMemory` for one that can never be served.
     pub fn load(&mut self, key: u64, request: Request) -> Result<(), AllocationError>
         requires { IsAskable ((self.old.allocator).properties).buffer_device_address request }
         ensures there { OnOk result (IsSome (texture_at self.new key)) }

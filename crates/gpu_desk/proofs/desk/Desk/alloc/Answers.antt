@@ -132,6 +132,7 @@ returns-in-Ok-answer-clause-keeps c =
     let lives : c.make_room.new.blocks.live ≡ c.self.inside.blocks.live = ap (λ (s : SlotState Block). s.live) c.make_room.ensures.kept in
     rw (← c.self.view_is) (record {
       given = search rules;
+      limits = done.leaves.limits;
       total = search rules;
       gone = search rules;
       names = forgetting_keeps_names c.self.inside.device.held mid.held c.forget_gone_after.new.self.held _ run forgets.gone forgets.objects forgets.last_name;
@@ -147,6 +148,7 @@ returns-in-Err-clause-keeps c =
     let run = begun_keeps_names c.self.inside.device c.begin.new.self done.decided.0 mid c.begin.ensures.held done.decided.1 in
     rw (← c.self.view_is) (record {
       given = search rules;
+      limits = done.leaves.limits;
       total = search rules;
       gone = search rules;
       names = forgetting_keeps_names c.self.inside.device.held mid.held c.forget_gone_after.new.self.held _ run forgets.gone forgets.objects forgets.last_name;

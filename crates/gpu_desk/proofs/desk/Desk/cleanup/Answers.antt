@@ -30,6 +30,7 @@ returns-clause-keeps c =
     let done = c.cleanup.ensures in
     rw (← c.self.view_is) (record {
       given = search rules;
+      limits = done.leaves.limits;
       total = search rules;
       gone = search rules;
       names = run_keeps_names c.self.inside.device done.cleaned.0 c.cleanup.new.device done.cleaned.1;

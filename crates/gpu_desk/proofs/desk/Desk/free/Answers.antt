@@ -36,6 +36,7 @@ returns-in-Some-clause-keeps c =
     let done = c.dealloc.ensures in
     rw (← c.self.view_is) (record {
       given = search rules;
+      limits = done.removed.limits;
       total = search rules;
       gone = search rules;
       names = run_keeps_names c.self.inside.device done.freed.0 c.dealloc.new.device done.freed.1;

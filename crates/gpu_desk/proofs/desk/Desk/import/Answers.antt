@@ -146,6 +146,7 @@ pub returns-in_default-made-clause-keeps : goal.returns-in_default-made-clause-k
 returns-in_default-made-clause-keeps c =
     rw (← c.self.view_is) (record {
       given = search rules;
+      limits = search rules;
       total = search rules;
       gone = search rules;
       names = begun_keeps_names c.self.inside.device c.begin.new.self (_ ∷ []) c.allocate_memory-made.new.self c.begin.ensures.held (c.allocate_memory-made.new.self, c.allocate_memory-made.ensures, refl);
@@ -158,6 +159,7 @@ returns-in-Ok-import_memory-clause-keeps c =
     let lives : c.make_room.new.blocks.live ≡ c.self.inside.blocks.live = ap (λ (s : SlotState Block). s.live) c.make_room.ensures.kept in
     rw (← c.self.view_is) (record {
       given = search rules;
+      limits = search rules;
       total = search rules;
       gone = search rules;
       names = begun_keeps_names c.self.inside.device c.begin.new.self (_ ∷ []) c.allocate_memory-made.new.self c.begin.ensures.held (c.allocate_memory-made.new.self, c.allocate_memory-made.ensures, refl);
@@ -173,6 +175,7 @@ returns-in-Err-clause-keeps c =
     let run = begun_keeps_names c.self.inside.device c.begin.new.self (_ ∷ _ ∷ []) last c.begin.ensures.held (mid, c.allocate_memory-made.ensures, (last, c.deallocate_memory.ensures, refl)) in
     rw (← c.self.view_is) (record {
       given = search rules;
+      limits = search rules;
       total = search rules;
       gone = search rules;
       names = forgetting_keeps_names c.self.inside.device.held last.held c.forget_gone_after.new.self.held _ run forgets.gone forgets.objects forgets.last_name;

@@ -95,6 +95,7 @@ returns-clause-keeps c =
     let asked = c.map-answer.ensures.asked in
     rw (← c.self.view_is) (record {
       given = record { properties = refl; config = refl };
+      limits = refl;
       total = refl;
       gone = gone_over_write c.self.inside.blocks c.args.key c.in-Some-get_mut.block.now c.map-answer.new.self (sym c.in-Some-get_mut.ensures.value);
       names = begun_keeps_names c.self.inside.device c.begin.new.self asked.0 c.map-answer.new.device c.begin.ensures.held asked.1;

@@ -19,6 +19,7 @@ pub returns-clause-keeps : goal.returns-clause-keeps
 returns-clause-keeps c =
     rw (← c.self.view_is) (record {
       given = record { properties = refl; config = refl };
+      limits = refl;
       total = refl;
       gone = gone_over_write c.self.inside.blocks c.args.key c.in-Some.block.now c.unmap.new.self (sym c.in-Some.ensures.value);
       names = run_keeps_names c.self.inside.device c.unmap.ensures.asked.0 c.unmap.new.device c.unmap.ensures.asked.1;
