@@ -12,9 +12,7 @@ ghost use Rattle.gpu_alloc.specs.UnderKeys.{PutsUnder, TakesUnder};
 ghost use Rattle.gpu_uses.specs.Textures.{texture_at};
 
 use gpu_alloc::laws::{agrees_at_first, blocks_under_keys_come_and_go};
-use gpu_alloc::{
-    AllocationError, Config, DeviceProperties, GpuAllocator, MemoryBlock, Request,
-};
+use gpu_alloc::{AllocationError, Config, DeviceProperties, GpuAllocator, MemoryBlock, Request};
 use gpu_alloc_types::{MemoryObject, ObjectDevice};
 use indexmap::IndexMap;
 use std::alloc::{Allocator, Global};
