@@ -36,7 +36,7 @@ flags! {
         /// The object will hold the block of this request alone, and its size is that of the request. So what belongs to
         /// one resource may be chained to it (`VkMemoryDedicatedAllocateInfo`, a priority, an export). It is no bit of
         /// Vulkan's, and not to be passed on to it.
-        const OWN = 0x100;
+        const OWN = 0x80;
     }
 }
 
