@@ -1,0 +1,1242 @@
+#include "wallthyme_vulkan.h"
+
+#include <inttypes.h>
+#include <pthread.h>
+#include <stdarg.h>
+#include <stdbool.h>
+#include <stdio.h>
+#include <stdlib.h>
+#include <string.h>
+
+enum {
+    KNOWN_PROPERTIES = 0x3f, /* the bits of a memory type that wallthyme knows */
+    KNOWN_FLAGS = 0x1f,      /* of wtv_create_info */
+    NAMES_READ = 16,         /* by one wt_gone */
+    BLOCKS_READ = 16,        /* by one wt_blocks */
+    RANGES_AT_HAND = 32,     /* of a flush, before memory is taken for them */
+    LEAST_SLOTS = 16,
+};
+
+/* ---- Tables from numbers other than 0 to values, by open addressing. At most half of the slots are taken. ---- */
+
+typedef struct slot {
+    uint64_t key; /* 0: empty */
+    uintptr_t value;
+} slot;
+
+typedef struct table {
+    slot *slots;
+    size_t capacity; /* 0, or a power of two */
+    size_t count;
+} table;
+
+/* Where a search for a key begins. */
+static size_t home_of(const table *t, uint64_t key)
+{
+    return (size_t)((key * UINT64_C(0x9e3779b97f4a7c15)) >> 32) & (t->capacity - 1);
+}
+
+/* The slot of a key, or the empty one where it belongs. The table has slots. */
+static slot *slot_of(const table *t, uint64_t key)
+{
+    size_t i = home_of(t, key);
+    while (t->slots[i].key != 0 && t->slots[i].key != key)
+        i = (i + 1) & (t->capacity - 1);
+    return &t->slots[i];
+}
+
+/* The value of a key, or null where it has none. */
+static uintptr_t *value_of(const table *t, uint64_t key)
+{
+    slot *found = t->count == 0 ? NULL : slot_of(t, key);
+    return found != NULL && found->key == key ? &found->value : NULL;
+}
+
+/* Sees to it that one more key can be put in. */
+static bool has_room(table *t)
+{
+    table larger = {NULL, t->capacity == 0 ? LEAST_SLOTS : 2 * t->capacity, t->count};
+    if (2 * (t->count + 1) <= t->capacity)
+        return true;
+    larger.slots = calloc(larger.capacity, sizeof *larger.slots);
+    if (larger.slots == NULL)
+        return false;
+    for (size_t i = 0; i < t->capacity; i++)
+        if (t->slots[i].key != 0)
+            *slot_of(&larger, t->slots[i].key) = t->slots[i];
+    free(t->slots);
+    *t = larger;
+    return true;
+}
+
+/* Puts a new key in, for which there is room. */
+static void put(table *t, uint64_t key, uintptr_t value)
+{
+    *slot_of(t, key) = (slot){key, value};
+    t->count++;
+}
+
+/* Takes a key out. Later ones move up to where their search passes. */
+static void take_out(table *t, uint64_t key)
+{
+    size_t mask = t->capacity - 1, hole = (size_t)(slot_of(t, key) - t->slots);
+    for (size_t i = (hole + 1) & mask; t->slots[i].key != 0; i = (i + 1) & mask) {
+        size_t way = (i - home_of(t, t->slots[i].key)) & mask;
+        if (way >= ((i - hole) & mask)) {
+            t->slots[hole] = t->slots[i];
+            hole = i;
+        }
+    }
+    t->slots[hole] = (slot){0, 0};
+    t->count--;
+}
+
+/* ---- The allocator. ---- */
+
+/* A memory object. */
+typedef struct object {
+    VkDeviceMemory memory;
+    unsigned char *host;      /* what vkMapMemory returned while it is mapped, else null */
+    VkDeviceSize host_offset; /* of that byte in the object */
+    bool is_dedicated;
+} object;
+
+struct wtv_allocator {
+    wt_allocator core;
+    wtv_functions call;
+    VkPhysicalDevice physical_device;
+    VkDevice device;
+    VkPhysicalDeviceMemoryProperties memory;
+    const VkAllocationCallbacks *callbacks; /* null, or the copy below */
+    VkAllocationCallbacks copied_callbacks;
+    uint32_t known_types; /* bit i: memory type i has no property that wallthyme does not know */
+    bool has_lock, has_budget, has_dedicated;
+    pthread_mutex_t lock;
+    table objects;  /* by their names, as pointers */
+    table mappings; /* how often a block is mapped, by its key */
+};
+
+static void enter(wtv_allocator *a)
+{
+    if (a->has_lock)
+        pthread_mutex_lock(&a->lock);
+}
+
+static void leave(wtv_allocator *a)
+{
+    if (a->has_lock)
+        pthread_mutex_unlock(&a->lock);
+}
+
+static VkResult result_of(uint32_t status)
+{
+    switch (status) {
+    case WT_OK: return VK_SUCCESS;
+    case WT_OUT_OF_DEVICE_MEMORY: return VK_ERROR_OUT_OF_DEVICE_MEMORY;
+    case WT_OUT_OF_HOST_MEMORY: return VK_ERROR_OUT_OF_HOST_MEMORY;
+    case WT_NO_COMPATIBLE_MEMORY_TYPES: return VK_ERROR_FEATURE_NOT_PRESENT;
+    case WT_TOO_MANY_OBJECTS:
+    case WT_NO_REMAINING: return VK_ERROR_TOO_MANY_OBJECTS;
+    case WT_NON_HOST_VISIBLE:
+    case WT_MAP_FAILED: return VK_ERROR_MEMORY_MAP_FAILED;
+    default: return VK_ERROR_VALIDATION_FAILED_EXT; /* a misuse */
+    }
+}
+
+static object *object_of(const wtv_allocator *a, uint64_t name)
+{
+    return (object *)*value_of(&a->objects, name);
+}
+
+static void free_object(wtv_allocator *a, object *held)
+{
+    a->call.free_memory(a->device, held->memory, a->callbacks);
+    free(held);
+}
+
+/* Frees the memory objects that the core has let go. */
+static void free_gone(wtv_allocator *a)
+{
+    uint64_t names[NAMES_READ];
+    size_t count = 0;
+    do {
+        wt_gone(&a->core, names, NAMES_READ, &count);
+        for (size_t i = 0; i < count; i++) {
+            free_object(a, object_of(a, names[i]));
+            take_out(&a->objects, names[i]);
+        }
+    } while (count == NAMES_READ);
+}
+
+static void tell_block(const wtv_allocator *a, const wt_block *block, wtv_block *told)
+{
+    const object *held = object_of(a, block->object);
+    *told = (wtv_block){
+        .allocation = block->key,
+        .memory = held->memory,
+        .offset = block->offset,
+        .size = block->size,
+        .asked = block->asked,
+        .mapped = held->host == NULL ? NULL : held->host + (block->offset - held->host_offset),
+        .user = block->user,
+        .memory_type = block->memory_type,
+        .properties = a->memory.memoryTypes[block->memory_type].propertyFlags,
+        .flags = block->flags,
+        .dedicated = held->is_dedicated,
+    };
+}
+
+/* ---- Requests. ---- */
+
+/* A request at work: whom an object of its own is for, and what was made for it so far. */
+typedef struct work {
+    VkBuffer buffer; /* one of the two, or none */
+    VkImage image;
+    const void *next; /* of wtv_request */
+    object *made;     /* or null */
+    VkResult result;  /* of the last call of the driver */
+} work;
+
+static uint32_t answer_of(VkResult result)
+{
+    switch (result) {
+    case VK_SUCCESS: return WT_GRANTED;
+    case VK_ERROR_OUT_OF_DEVICE_MEMORY:
+    case VK_ERROR_TOO_MANY_OBJECTS: return WT_NO_DEVICE_MEMORY; /* another memory type may do */
+    case VK_ERROR_MEMORY_MAP_FAILED: return WT_DEVICE_MAP_FAILED;
+    default: return WT_NO_HOST_MEMORY; /* ends the request */
+    }
+}
+
+static void free_made(wtv_allocator *a, work *w)
+{
+    if (w->made != NULL)
+        free_object(a, w->made);
+    w->made = NULL;
+}
+
+/* What belongs to one resource is chained where the object will hold the request's block alone. */
+static VkResult make_object(wtv_allocator *a, work *w, const wt_question *question)
+{
+    bool is_dedicated = (question->flags & WT_ALLOCATE_OWN) != 0;
+    bool has_resource = w->buffer != VK_NULL_HANDLE || w->image != VK_NULL_HANDLE;
+    VkMemoryDedicatedAllocateInfo owner = {
+        .sType = VK_STRUCTURE_TYPE_MEMORY_DEDICATED_ALLOCATE_INFO,
+        .pNext = w->next,
+        .image = w->image,
+        .buffer = w->buffer,
+    };
+    VkMemoryAllocateFlagsInfo address = {
+        .sType = VK_STRUCTURE_TYPE_MEMORY_ALLOCATE_FLAGS_INFO,
+        .flags = VK_MEMORY_ALLOCATE_DEVICE_ADDRESS_BIT,
+    };
+    VkMemoryAllocateInfo info = {
+        .sType = VK_STRUCTURE_TYPE_MEMORY_ALLOCATE_INFO,
+        .allocationSize = question->size,
+        .memoryTypeIndex = question->memory_type,
+    };
+    if (is_dedicated)
+        info.pNext = a->has_dedicated && has_resource ? &owner : w->next;
+    if (question->flags & WT_ALLOCATE_DEVICE_ADDRESS) {
+        address.pNext = info.pNext;
+        info.pNext = &address;
+    }
+    object *made = calloc(1, sizeof *made);
+    if (made == NULL || !has_room(&a->objects)) {
+        free(made);
+        return VK_ERROR_OUT_OF_HOST_MEMORY;
+    }
+    VkResult result = a->call.allocate_memory(a->device, &info, a->callbacks, &made->memory);
+    made->is_dedicated = is_dedicated;
+    if (result == VK_SUCCESS)
+        w->made = made;
+    else
+        free(made);
+    return result;
+}
+
+static VkResult map_object(wtv_allocator *a, object *held, const wt_question *question)
+{
+    void *host = NULL;
+    VkResult result = a->call.map_memory(a->device, held->memory, question->offset, question->size, 0, &host);
+    if (result == VK_SUCCESS) {
+        held->host = host;
+        held->host_offset = question->offset;
+    }
+    return result;
+}
+
+/* Puts a question of an allocation to the driver. An object that was made for an earlier one is not needed any more. */
+static uint32_t answer(wtv_allocator *a, work *w, const wt_question *question)
+{
+    if (question->kind == WT_ALLOCATE) {
+        free_made(a, w);
+        w->result = make_object(a, w, question);
+    } else {
+        w->result = map_object(a, w->made, question);
+    }
+    return answer_of(w->result);
+}
+
+/* A refusal that the driver caused is the driver's. */
+static VkResult ended(const work *w, uint32_t status)
+{
+    bool is_of_driver = status == WT_OUT_OF_DEVICE_MEMORY || status == WT_OUT_OF_HOST_MEMORY || status == WT_MAP_FAILED;
+    return is_of_driver && w->result != VK_SUCCESS ? w->result : result_of(status);
+}
+
+/* Serves a request, under the lock. */
+static VkResult serve(wtv_allocator *a, const wt_request *request, work *w, wt_block *block)
+{
+    wt_question asked[WT_MAX_QUESTIONS + 1];
+    uint32_t status;
+    for (size_t n = 0; (status = wt_alloc(&a->core, request, asked, n, block, &asked[n])) == WT_ASK; n++)
+        asked[n].answer = answer(a, w, &asked[n]);
+    if (status == WT_OK && block->fresh) {
+        put(&a->objects, block->object, (uintptr_t)w->made);
+        w->made = NULL;
+    }
+    free_made(a, w);
+    return ended(w, status);
+}
+
+static bool is_in_chain(const void *chain, VkStructureType type)
+{
+    const VkBaseInStructure *structure = chain;
+    while (structure != NULL && structure->sType != type)
+        structure = structure->pNext;
+    return structure != NULL;
+}
+
+/* What this side chains itself may not come from the program. */
+static bool is_chain(const void *chain)
+{
+    return !is_in_chain(chain, VK_STRUCTURE_TYPE_MEMORY_DEDICATED_ALLOCATE_INFO)
+           && !is_in_chain(chain, VK_STRUCTURE_TYPE_MEMORY_ALLOCATE_FLAGS_INFO);
+}
+
+static uint32_t greater(uint32_t one, uint32_t other)
+{
+    return one > other ? one : other;
+}
+
+/* What is asked of the core. */
+static wt_request request_of(const wtv_allocator *a, const VkMemoryRequirements *needs, const wtv_request *wish)
+{
+    return (wt_request){
+        .size = needs->size,
+        .align_mask = needs->alignment - 1,
+        .usage = wish->usage,
+        .memory_types = needs->memoryTypeBits & a->known_types & (wish->memory_types != 0 ? wish->memory_types : ~0u),
+        .dedicated = wish->dedicated,
+        .flags = wish->flags,
+        .user = wish->user,
+    };
+}
+
+static VkResult allocate(wtv_allocator *a, const VkMemoryRequirements *needs, const wtv_request *wish, work *w,
+                         wtv_allocation *allocation, wtv_block *told)
+{
+    wt_request request = request_of(a, needs, wish);
+    wt_block block;
+    if (!is_chain(wish->next))
+        return VK_ERROR_VALIDATION_FAILED_EXT;
+    w->next = wish->next;
+    enter(a);
+    VkResult result = serve(a, &request, w, &block);
+    if (result == VK_SUCCESS) {
+        *allocation = block.key;
+        if (told != NULL)
+            tell_block(a, &block, told);
+    }
+    leave(a);
+    return result;
+}
+
+static const wtv_request NO_WISH;
+
+VkResult wtv_allocate(wtv_allocator *a, const VkMemoryRequirements *requirements, const wtv_request *request,
+                      wtv_allocation *allocation, wtv_block *block)
+{
+    work w = {.result = VK_SUCCESS};
+    return allocate(a, requirements, request != NULL ? request : &NO_WISH, &w, allocation, block);
+}
+
+/* The requirements of the resource that a request is for, and the wish, raised to what the driver asks for. */
+static VkMemoryRequirements requirements_of(const wtv_allocator *a, const work *w, wtv_request *wish)
+{
+    VkMemoryDedicatedRequirements own = {.sType = VK_STRUCTURE_TYPE_MEMORY_DEDICATED_REQUIREMENTS};
+    VkMemoryRequirements2 needs = {.sType = VK_STRUCTURE_TYPE_MEMORY_REQUIREMENTS_2, .pNext = &own};
+    VkBufferMemoryRequirementsInfo2 buffer = {VK_STRUCTURE_TYPE_BUFFER_MEMORY_REQUIREMENTS_INFO_2, NULL, w->buffer};
+    VkImageMemoryRequirementsInfo2 image = {VK_STRUCTURE_TYPE_IMAGE_MEMORY_REQUIREMENTS_INFO_2, NULL, w->image};
+    bool is_buffer = w->buffer != VK_NULL_HANDLE;
+    if (a->has_dedicated && is_buffer)
+        a->call.get_buffer_memory_requirements2(a->device, &buffer, &needs);
+    else if (a->has_dedicated)
+        a->call.get_image_memory_requirements2(a->device, &image, &needs);
+    else if (is_buffer)
+        a->call.get_buffer_memory_requirements(a->device, w->buffer, &needs.memoryRequirements);
+    else
+        a->call.get_image_memory_requirements(a->device, w->image, &needs.memoryRequirements);
+    if (own.requiresDedicatedAllocation)
+        wish->dedicated = greater(wish->dedicated, WT_REQUIRED);
+    else if (own.prefersDedicatedAllocation)
+        wish->dedicated = greater(wish->dedicated, WT_PREFERRED);
+    return needs.memoryRequirements;
+}
+
+static VkResult bind(const wtv_allocator *a, const work *w, VkDeviceMemory memory, VkDeviceSize offset)
+{
+    return w->buffer != VK_NULL_HANDLE ? a->call.bind_buffer_memory(a->device, w->buffer, memory, offset)
+                                       : a->call.bind_image_memory(a->device, w->image, memory, offset);
+}
+
+/* Allocates for a resource, and binds it. */
+static VkResult allocate_and_bind(wtv_allocator *a, work *w, wtv_request wish, wtv_allocation *allocation,
+                                  wtv_block *told)
+{
+    wtv_block block;
+    wtv_allocation key;
+    VkMemoryRequirements needs = requirements_of(a, w, &wish);
+    VkResult result = allocate(a, &needs, &wish, w, &key, &block);
+    if (result != VK_SUCCESS)
+        return result;
+    result = bind(a, w, block.memory, block.offset);
+    if (result != VK_SUCCESS) {
+        wtv_free(a, key);
+        return result;
+    }
+    *allocation = key;
+    if (told != NULL)
+        *told = block;
+    return VK_SUCCESS;
+}
+
+VkResult wtv_allocate_for_buffer(wtv_allocator *a, VkBuffer buffer, const wtv_request *request,
+                                 wtv_allocation *allocation, wtv_block *block)
+{
+    work w = {.buffer = buffer, .result = VK_SUCCESS};
+    wtv_request wish = request != NULL ? *request : NO_WISH;
+    if (buffer == VK_NULL_HANDLE || wish.flags != 0)
+        return VK_ERROR_VALIDATION_FAILED_EXT;
+    return allocate_and_bind(a, &w, wish, allocation, block);
+}
+
+VkResult wtv_allocate_for_image(wtv_allocator *a, VkImage image, const wtv_request *request, wtv_allocation *allocation,
+                                wtv_block *block)
+{
+    work w = {.image = image, .result = VK_SUCCESS};
+    if (image == VK_NULL_HANDLE)
+        return VK_ERROR_VALIDATION_FAILED_EXT;
+    return allocate_and_bind(a, &w, request != NULL ? *request : NO_WISH, allocation, block);
+}
+
+VkResult wtv_create_buffer(wtv_allocator *a, const VkBufferCreateInfo *info, const wtv_request *request,
+                           VkBuffer *buffer, wtv_allocation *allocation, wtv_block *block)
+{
+    const VkBufferCreateFlags sparse = VK_BUFFER_CREATE_SPARSE_BINDING_BIT | VK_BUFFER_CREATE_SPARSE_RESIDENCY_BIT
+                                       | VK_BUFFER_CREATE_SPARSE_ALIASED_BIT;
+    wtv_request wish = request != NULL ? *request : NO_WISH;
+    VkBuffer created;
+    if ((info->flags & sparse) != 0)
+        return VK_ERROR_FEATURE_NOT_PRESENT;
+    if ((info->usage & VK_BUFFER_USAGE_SHADER_DEVICE_ADDRESS_BIT) != 0)
+        wish.usage = (wish.usage != 0 ? wish.usage : WT_USAGE_FAST_DEVICE_ACCESS) | WT_USAGE_DEVICE_ADDRESS;
+    VkResult result = a->call.create_buffer(a->device, info, a->callbacks, &created);
+    if (result != VK_SUCCESS)
+        return result;
+    result = wtv_allocate_for_buffer(a, created, &wish, allocation, block);
+    if (result == VK_SUCCESS)
+        *buffer = created;
+    else
+        a->call.destroy_buffer(a->device, created, a->callbacks);
+    return result;
+}
+
+VkResult wtv_create_image(wtv_allocator *a, const VkImageCreateInfo *info, const wtv_request *request, VkImage *image,
+                          wtv_allocation *allocation, wtv_block *block)
+{
+    const VkImageCreateFlags refused = VK_IMAGE_CREATE_SPARSE_BINDING_BIT | VK_IMAGE_CREATE_SPARSE_RESIDENCY_BIT
+                                       | VK_IMAGE_CREATE_SPARSE_ALIASED_BIT | VK_IMAGE_CREATE_DISJOINT_BIT;
+    wtv_request wish = request != NULL ? *request : NO_WISH;
+    VkImage created;
+    if ((info->flags & refused) != 0)
+        return VK_ERROR_FEATURE_NOT_PRESENT;
+    if (info->tiling != VK_IMAGE_TILING_LINEAR)
+        wish.flags |= WT_OPTIMAL;
+    VkResult result = a->call.create_image(a->device, info, a->callbacks, &created);
+    if (result != VK_SUCCESS)
+        return result;
+    result = wtv_allocate_for_image(a, created, &wish, allocation, block);
+    if (result == VK_SUCCESS)
+        *image = created;
+    else
+        a->call.destroy_image(a->device, created, a->callbacks);
+    return result;
+}
+
+/* ---- Returns. ---- */
+
+/* What is bound to the block is destroyed before its place can be granted again, and before its object is freed. */
+static VkResult take_back(wtv_allocator *a, wtv_allocation allocation, VkBuffer buffer, VkImage image)
+{
+    enter(a);
+    uint32_t status = wt_free(&a->core, allocation);
+    if (status == WT_OK) {
+        if (value_of(&a->mappings, allocation) != NULL)
+            take_out(&a->mappings, allocation);
+        if (buffer != VK_NULL_HANDLE)
+            a->call.destroy_buffer(a->device, buffer, a->callbacks);
+        if (image != VK_NULL_HANDLE)
+            a->call.destroy_image(a->device, image, a->callbacks);
+        free_gone(a);
+    }
+    leave(a);
+    return result_of(status);
+}
+
+VkResult wtv_free(wtv_allocator *a, wtv_allocation allocation)
+{
+    return allocation == 0 ? VK_SUCCESS : take_back(a, allocation, VK_NULL_HANDLE, VK_NULL_HANDLE);
+}
+
+VkResult wtv_destroy_buffer(wtv_allocator *a, VkBuffer buffer, wtv_allocation allocation)
+{
+    if (buffer == VK_NULL_HANDLE && allocation == 0)
+        return VK_SUCCESS;
+    return take_back(a, allocation, buffer, VK_NULL_HANDLE);
+}
+
+VkResult wtv_destroy_image(wtv_allocator *a, VkImage image, wtv_allocation allocation)
+{
+    if (image == VK_NULL_HANDLE && allocation == 0)
+        return VK_SUCCESS;
+    return take_back(a, allocation, VK_NULL_HANDLE, image);
+}
+
+VkResult wtv_cleanup(wtv_allocator *a)
+{
+    enter(a);
+    uint32_t status = wt_cleanup(&a->core);
+    free_gone(a);
+    leave(a);
+    return result_of(status);
+}
+
+/* ---- Blocks. ---- */
+
+/* A live block and the object that holds it, under the lock. */
+static VkResult find(const wtv_allocator *a, wtv_allocation allocation, wt_block *block, object **held)
+{
+    uint32_t status = wt_block_of((wt_allocator *)&a->core, allocation, block);
+    *held = status == WT_OK ? object_of(a, block->object) : NULL;
+    return result_of(status);
+}
+
+VkResult wtv_block_of(wtv_allocator *a, wtv_allocation allocation, wtv_block *told)
+{
+    wt_block block;
+    object *held;
+    enter(a);
+    VkResult result = find(a, allocation, &block, &held);
+    if (result == VK_SUCCESS)
+        tell_block(a, &block, told);
+    leave(a);
+    return result;
+}
+
+/* Binds a resource within a block. */
+static VkResult bind_within(wtv_allocator *a, const work *w, wtv_allocation allocation, VkDeviceSize offset)
+{
+    wtv_block block;
+    VkResult result = wtv_block_of(a, allocation, &block);
+    if (result == VK_SUCCESS && offset >= block.asked)
+        result = VK_ERROR_VALIDATION_FAILED_EXT;
+    return result == VK_SUCCESS ? bind(a, w, block.memory, block.offset + offset) : result;
+}
+
+VkResult wtv_bind_buffer(wtv_allocator *a, wtv_allocation allocation, VkDeviceSize offset, VkBuffer buffer)
+{
+    const work w = {.buffer = buffer};
+    return buffer == VK_NULL_HANDLE ? VK_ERROR_VALIDATION_FAILED_EXT : bind_within(a, &w, allocation, offset);
+}
+
+VkResult wtv_bind_image(wtv_allocator *a, wtv_allocation allocation, VkDeviceSize offset, VkImage image)
+{
+    const work w = {.image = image};
+    return image == VK_NULL_HANDLE ? VK_ERROR_VALIDATION_FAILED_EXT : bind_within(a, &w, allocation, offset);
+}
+
+/* The live blocks, under the lock. */
+static uint32_t walk(wtv_allocator *a, uint64_t after, wtv_block *blocks, size_t room, size_t *count)
+{
+    wt_block read[BLOCKS_READ];
+    size_t written = 0, some = 0;
+    uint32_t status = WT_OK;
+    do {
+        size_t wanted = room - written < BLOCKS_READ ? room - written : BLOCKS_READ;
+        status = wt_blocks(&a->core, after, read, wanted, &some);
+        for (size_t i = 0; i < some; i++)
+            tell_block(a, &read[i], &blocks[written++]);
+        if (some > 0)
+            after = read[some - 1].key;
+    } while (some == BLOCKS_READ && written < room);
+    *count = written;
+    return status;
+}
+
+VkResult wtv_blocks(wtv_allocator *a, wtv_allocation after, wtv_block *blocks, size_t room, size_t *count)
+{
+    enter(a);
+    uint32_t status = walk(a, after, blocks, room, count);
+    leave(a);
+    return result_of(status);
+}
+
+VkResult wtv_set_user(wtv_allocator *a, wtv_allocation allocation, uint64_t user)
+{
+    enter(a);
+    uint32_t status = wt_set_user(&a->core, allocation, user);
+    leave(a);
+    return result_of(status);
+}
+
+VkResult wtv_import(wtv_allocator *a, VkDeviceMemory memory, uint32_t memory_type, VkDeviceSize object_size,
+                    VkDeviceSize offset, VkDeviceSize size, wtv_allocation *allocation, wtv_block *told)
+{
+    wt_block block;
+    object *held = calloc(1, sizeof *held);
+    if (held == NULL)
+        return VK_ERROR_OUT_OF_HOST_MEMORY;
+    *held = (object){.memory = memory, .is_dedicated = true};
+    enter(a);
+    uint32_t status = WT_OUT_OF_HOST_MEMORY;
+    if (has_room(&a->objects))
+        status = wt_import(&a->core, memory_type, object_size, offset, size, &block);
+    if (status == WT_OK) {
+        put(&a->objects, block.object, (uintptr_t)held);
+        *allocation = block.key;
+        if (told != NULL)
+            tell_block(a, &block, told);
+    }
+    leave(a);
+    if (status != WT_OK)
+        free(held);
+    return result_of(status);
+}
+
+VkResult wtv_candidates(wtv_allocator *a, uint32_t usage, uint32_t memory_type_bits, uint32_t types[32],
+                        uint32_t *count)
+{
+    size_t found = 0;
+    enter(a);
+    uint32_t status = wt_candidates(&a->core, usage, memory_type_bits & a->known_types, types, 32, &found);
+    leave(a);
+    if (status == WT_OK)
+        *count = (uint32_t)found;
+    return result_of(status);
+}
+
+/* ---- The host's side. ---- */
+
+/* Maps the whole of a block that is not mapped. */
+static VkResult map_first(wtv_allocator *a, const wt_block *block, object *held)
+{
+    wt_question asked[2];
+    wt_range mapped;
+    uint32_t status;
+    VkResult result = VK_SUCCESS;
+    size_t n = 0;
+    if (!has_room(&a->mappings))
+        return VK_ERROR_OUT_OF_HOST_MEMORY;
+    while ((status = wt_map(&a->core, block->key, 0, block->size, asked, n, &mapped, &asked[n])) == WT_ASK) {
+        result = map_object(a, held, &asked[n]);
+        asked[n++].answer = answer_of(result);
+    }
+    if (status == WT_OK) {
+        put(&a->mappings, block->key, 1);
+        return VK_SUCCESS;
+    }
+    if (n > 0 && result == VK_SUCCESS) { /* it was mapped in vain */
+        a->call.unmap_memory(a->device, held->memory);
+        held->host = NULL;
+    }
+    return result != VK_SUCCESS ? result : result_of(status);
+}
+
+/* Maps a block, under the lock. */
+static VkResult map(wtv_allocator *a, wtv_allocation allocation, unsigned char **bytes)
+{
+    wt_block block;
+    object *held;
+    VkResult result = find(a, allocation, &block, &held);
+    if (result != VK_SUCCESS)
+        return result;
+    uintptr_t *times = value_of(&a->mappings, allocation);
+    if (times == NULL)
+        result = map_first(a, &block, held);
+    else
+        ++*times;
+    if (result == VK_SUCCESS)
+        *bytes = held->host + (block.offset - held->host_offset);
+    return result;
+}
+
+/* Ends one mapping of a block, under the lock. */
+static VkResult unmap(wtv_allocator *a, wtv_allocation allocation)
+{
+    uint64_t name = 0;
+    uintptr_t *times = value_of(&a->mappings, allocation);
+    if (times == NULL)
+        return VK_ERROR_VALIDATION_FAILED_EXT;
+    if (--*times > 0)
+        return VK_SUCCESS;
+    take_out(&a->mappings, allocation);
+    uint32_t status = wt_unmap(&a->core, allocation, &name);
+    if (status == WT_OK && name != 0) {
+        object *held = object_of(a, name);
+        a->call.unmap_memory(a->device, held->memory);
+        held->host = NULL;
+    }
+    return result_of(status);
+}
+
+VkResult wtv_map(wtv_allocator *a, wtv_allocation allocation, void **bytes)
+{
+    unsigned char *first;
+    enter(a);
+    VkResult result = map(a, allocation, &first);
+    leave(a);
+    if (result == VK_SUCCESS)
+        *bytes = first;
+    return result;
+}
+
+VkResult wtv_unmap(wtv_allocator *a, wtv_allocation allocation)
+{
+    enter(a);
+    VkResult result = unmap(a, allocation);
+    leave(a);
+    return result;
+}
+
+typedef VkResult(VKAPI_PTR *over_ranges)(VkDevice, uint32_t, const VkMappedMemoryRange *);
+
+/* The range of the driver's that covers a range of a block, if there is one: *count rises. */
+static VkResult add_range(wtv_allocator *a, const wtv_range *range, VkMappedMemoryRange *ranges, uint32_t *count)
+{
+    wt_block block;
+    object *held;
+    wt_range whole;
+    VkResult result = find(a, range->allocation, &block, &held);
+    if (result != VK_SUCCESS)
+        return result;
+    VkDeviceSize size = range->size;
+    if (size == VK_WHOLE_SIZE && range->offset <= block.size)
+        size = block.size - range->offset;
+    result = result_of(wt_range_of(&a->core, range->allocation, range->offset, size, &whole));
+    if (result == VK_SUCCESS && held->host == NULL)
+        result = VK_ERROR_VALIDATION_FAILED_EXT;
+    if (result == VK_SUCCESS && whole.size > 0)
+        ranges[(*count)++] = (VkMappedMemoryRange){
+            .sType = VK_STRUCTURE_TYPE_MAPPED_MEMORY_RANGE,
+            .memory = held->memory,
+            .offset = whole.offset,
+            .size = whole.size,
+        };
+    return result;
+}
+
+/* Puts ranges to a call of the driver, with room for as many of its own. */
+static VkResult pass_ranges(wtv_allocator *a, const wtv_range *ranges, size_t count, VkMappedMemoryRange *room,
+                            over_ranges call)
+{
+    VkResult result = VK_SUCCESS;
+    uint32_t covered = 0;
+    enter(a);
+    for (size_t i = 0; i < count && result == VK_SUCCESS; i++)
+        result = add_range(a, &ranges[i], room, &covered);
+    if (result == VK_SUCCESS && covered > 0)
+        result = call(a->device, covered, room);
+    leave(a);
+    return result;
+}
+
+static VkResult over_many(wtv_allocator *a, const wtv_range *ranges, size_t count, over_ranges call)
+{
+    VkMappedMemoryRange at_hand[RANGES_AT_HAND];
+    if (count <= RANGES_AT_HAND)
+        return pass_ranges(a, ranges, count, at_hand, call);
+    if (count > UINT32_MAX)
+        return VK_ERROR_VALIDATION_FAILED_EXT;
+    VkMappedMemoryRange *room = calloc(count, sizeof *room);
+    if (room == NULL)
+        return VK_ERROR_OUT_OF_HOST_MEMORY;
+    VkResult result = pass_ranges(a, ranges, count, room, call);
+    free(room);
+    return result;
+}
+
+VkResult wtv_flush(wtv_allocator *a, const wtv_range *ranges, size_t count)
+{
+    return over_many(a, ranges, count, a->call.flush_mapped_memory_ranges);
+}
+
+VkResult wtv_invalidate(wtv_allocator *a, const wtv_range *ranges, size_t count)
+{
+    return over_many(a, ranges, count, a->call.invalidate_mapped_memory_ranges);
+}
+
+/* Maps a block for a copy of these bytes, which have to be the block's. */
+static VkResult map_to_copy(wtv_allocator *a, const wtv_range *range, unsigned char **bytes)
+{
+    wt_block block;
+    object *held;
+    enter(a);
+    VkResult result = find(a, range->allocation, &block, &held);
+    if (result == VK_SUCCESS && (range->offset > block.size || range->size > block.size - range->offset))
+        result = VK_ERROR_VALIDATION_FAILED_EXT;
+    if (result == VK_SUCCESS)
+        result = map(a, range->allocation, bytes);
+    leave(a);
+    return result;
+}
+
+VkResult wtv_write(wtv_allocator *a, wtv_allocation allocation, VkDeviceSize offset, const void *bytes, size_t size)
+{
+    const wtv_range range = {allocation, offset, size};
+    unsigned char *first;
+    VkResult result = map_to_copy(a, &range, &first);
+    if (result != VK_SUCCESS)
+        return result;
+    if (size > 0)
+        memcpy(first + offset, bytes, size);
+    result = wtv_flush(a, &range, 1);
+    wtv_unmap(a, allocation);
+    return result;
+}
+
+VkResult wtv_read(wtv_allocator *a, wtv_allocation allocation, VkDeviceSize offset, void *bytes, size_t size)
+{
+    const wtv_range range = {allocation, offset, size};
+    unsigned char *first;
+    VkResult result = map_to_copy(a, &range, &first);
+    if (result != VK_SUCCESS)
+        return result;
+    result = wtv_invalidate(a, &range, 1);
+    if (result == VK_SUCCESS && size > 0)
+        memcpy(bytes, first + offset, size);
+    wtv_unmap(a, allocation);
+    return result;
+}
+
+/* ---- How much is held. ---- */
+
+static uint64_t less(uint64_t one, uint64_t other)
+{
+    return one > other ? one - other : 0;
+}
+
+/* Limits each heap to what its budget leaves beside what others hold, under the lock. */
+static uint32_t follow(wtv_allocator *a, const VkPhysicalDeviceMemoryBudgetPropertiesEXT *budget)
+{
+    uint32_t status = WT_OK;
+    for (uint32_t i = 0; i < a->memory.memoryHeapCount && status == WT_OK; i++) {
+        wt_heap_counts counts;
+        status = wt_heap(&a->core, i, &counts);
+        if (status != WT_OK)
+            break;
+        uint64_t held = counts.used_high != 0 ? UINT64_MAX : counts.used;
+        uint64_t others = less(budget->heapUsage[i], held);
+        status = wt_set_heap_limit(&a->core, i, less(budget->heapBudget[i], others));
+    }
+    return status;
+}
+
+/* The lock is taken before the driver is asked, so that what is held is what the driver counts. */
+VkResult wtv_update_budget(wtv_allocator *a)
+{
+    VkPhysicalDeviceMemoryBudgetPropertiesEXT budget = {
+        .sType = VK_STRUCTURE_TYPE_PHYSICAL_DEVICE_MEMORY_BUDGET_PROPERTIES_EXT,
+    };
+    VkPhysicalDeviceMemoryProperties2 properties = {
+        .sType = VK_STRUCTURE_TYPE_PHYSICAL_DEVICE_MEMORY_PROPERTIES_2,
+        .pNext = &budget,
+    };
+    if (!a->has_budget)
+        return VK_ERROR_EXTENSION_NOT_PRESENT;
+    enter(a);
+    a->call.get_physical_device_memory_properties2(a->physical_device, &properties);
+    uint32_t status = follow(a, &budget);
+    leave(a);
+    return result_of(status);
+}
+
+VkResult wtv_set_heap_limit(wtv_allocator *a, uint32_t heap, VkDeviceSize limit)
+{
+    enter(a);
+    uint32_t status = wt_set_heap_limit(&a->core, heap, limit);
+    leave(a);
+    return result_of(status);
+}
+
+VkResult wtv_heap(wtv_allocator *a, uint32_t heap, wt_heap_counts *counts)
+{
+    enter(a);
+    uint32_t status = wt_heap(&a->core, heap, counts);
+    leave(a);
+    return result_of(status);
+}
+
+VkResult wtv_count(wtv_allocator *a, wt_counts *counts)
+{
+    enter(a);
+    uint32_t status = wt_count(&a->core, counts);
+    leave(a);
+    return result_of(status);
+}
+
+VkResult wtv_statistics(wtv_allocator *a, uint32_t memory_type, wt_type_statistics *statistics)
+{
+    enter(a);
+    uint32_t status = wt_statistics(&a->core, memory_type, statistics);
+    leave(a);
+    return result_of(status);
+}
+
+/* A text that grows. Once memory lacked it stays as it is. */
+typedef struct writer {
+    char *text;
+    size_t length, room;
+    bool lacks;
+} writer;
+
+static void add(writer *w, const char *format, ...)
+{
+    enum { LONGEST = 512 }; /* of what is added at once */
+    va_list values;
+    if (w->room - w->length < LONGEST && !w->lacks) {
+        char *larger = realloc(w->text, 2 * w->room + LONGEST);
+        w->lacks = larger == NULL;
+        w->text = larger != NULL ? larger : w->text;
+        w->room = larger != NULL ? 2 * w->room + LONGEST : w->room;
+    }
+    if (w->lacks)
+        return;
+    va_start(values, format);
+    w->length += (size_t)vsnprintf(w->text + w->length, LONGEST, format, values);
+    va_end(values);
+}
+
+/* A number of 128 bits, of which the upper ones are mostly 0. */
+static void add_sum(writer *w, const char *name, uint64_t high, uint64_t low)
+{
+    const uint64_t parts[] = {high >> 32, high & UINT32_MAX, low >> 32, low & UINT32_MAX};
+    char digits[40], *first = digits + sizeof digits;
+    uint64_t rest[4];
+    memcpy(rest, parts, sizeof rest);
+    *--first = '\0';
+    do {
+        uint64_t left = 0;
+        for (int i = 0; i < 4; i++) {
+            left = left << 32 | rest[i];
+            rest[i] = left / 10;
+            left %= 10;
+        }
+        *--first = (char)('0' + left);
+    } while ((rest[0] | rest[1] | rest[2] | rest[3]) != 0);
+    add(w, "\"%s\":%s", name, first);
+}
+
+static void add_kind(writer *w, const char *name, const wt_kind_statistics *kind)
+{
+    add(w, ",\"%s\":{\"objects\":%" PRIu64 ",\"blocks\":%" PRIu64 ",", name, kind->objects, kind->blocks);
+    add_sum(w, "live_bytes", kind->live_bytes_high, kind->live_bytes);
+    add(w, ",");
+    add_sum(w, "free_bytes", kind->free_bytes_high, kind->free_bytes);
+    add(w, ",\"largest_free\":%" PRIu64 "}", kind->largest_free);
+}
+
+static uint32_t add_heap(wtv_allocator *a, writer *w, uint32_t heap)
+{
+    wt_heap_counts counts;
+    uint32_t status = wt_heap(&a->core, heap, &counts);
+    if (status == WT_OK) {
+        add(w, "%s{\"size\":%" PRIu64 ",\"limit\":%" PRIu64 ",", heap == 0 ? "" : ",",
+            (uint64_t)a->memory.memoryHeaps[heap].size, counts.limit);
+        add_sum(w, "used", counts.used_high, counts.used);
+        add(w, ",\"budget\":%" PRIu64 "}", counts.budget);
+    }
+    return status;
+}
+
+static uint32_t add_type(wtv_allocator *a, writer *w, uint32_t type)
+{
+    wt_type_statistics statistics;
+    uint32_t status = wt_statistics(&a->core, type, &statistics);
+    if (status == WT_OK) {
+        const VkMemoryType *offered = &a->memory.memoryTypes[type];
+        add(w, "%s{\"heap\":%" PRIu32 ",\"properties\":%" PRIu32, type == 0 ? "" : ",", offered->heapIndex,
+            (uint32_t)offered->propertyFlags);
+        add_kind(w, "dedicated", &statistics.dedicated);
+        add_kind(w, "imported", &statistics.imported);
+        add_kind(w, "buddy", &statistics.buddy);
+        add_kind(w, "free_list", &statistics.free_list);
+        add(w, "}");
+    }
+    return status;
+}
+
+VkResult wtv_statistics_text(wtv_allocator *a, char **text)
+{
+    writer w = {NULL, 0, 0, false};
+    uint32_t status = WT_OK;
+    enter(a);
+    add(&w, "{\"heaps\":[");
+    for (uint32_t i = 0; i < a->memory.memoryHeapCount && status == WT_OK; i++)
+        status = add_heap(a, &w, i);
+    add(&w, "],\"types\":[");
+    for (uint32_t i = 0; i < a->memory.memoryTypeCount && status == WT_OK; i++)
+        status = add_type(a, &w, i);
+    add(&w, "]}");
+    leave(a);
+    if (w.lacks)
+        status = WT_OUT_OF_HOST_MEMORY;
+    if (status == WT_OK)
+        *text = w.text;
+    else
+        free(w.text);
+    return result_of(status);
+}
+
+VkResult wtv_report_text(wtv_allocator *a, char **text)
+{
+    size_t length = 0;
+    char *written = NULL;
+    enter(a);
+    uint32_t status = wt_report(&a->core, NULL, 0, &length);
+    if (status == WT_OK) {
+        written = malloc(length + 1);
+        status = written == NULL ? WT_OUT_OF_HOST_MEMORY : wt_report(&a->core, written, length, &length);
+    }
+    leave(a);
+    if (status == WT_OK) {
+        written[length] = '\0';
+        *text = written;
+    } else {
+        free(written);
+    }
+    return result_of(status);
+}
+
+void wtv_free_text(char *text)
+{
+    free(text);
+}
+
+/* ---- Created and destroyed. ---- */
+
+void wtv_default_config(const VkPhysicalDeviceMemoryProperties *memory, wt_config *config)
+{
+    uint64_t largest = 0, largest_local = 0, unit = 64 << 10;
+    for (uint32_t i = 0; i < memory->memoryHeapCount; i++) {
+        const VkMemoryHeap *heap = &memory->memoryHeaps[i];
+        if (heap->size > largest)
+            largest = heap->size;
+        if ((heap->flags & VK_MEMORY_HEAP_DEVICE_LOCAL_BIT) != 0 && heap->size > largest_local)
+            largest_local = heap->size;
+    }
+    if (largest_local > 0)
+        largest = largest_local;
+    while (unit < 8 << 20 && 2 * unit <= largest / 1024)
+        unit *= 2;
+    *config = (wt_config){
+        .dedicated_threshold = 4 * unit,
+        .preferred_dedicated_threshold = unit / 8,
+        .transient_dedicated_threshold = 16 * unit,
+        .starting_free_list_chunk = unit,
+        .final_free_list_chunk = 16 * unit,
+        .minimal_buddy_size = 1024,
+        .initial_buddy_dedicated_size = unit,
+    };
+}
+
+/* Loads one function where the table has none. */
+static PFN_vkVoidFunction loaded(const wtv_create_info *info, PFN_vkGetDeviceProcAddr of_device, const char *name)
+{
+    if (info->get_instance_proc_addr == NULL)
+        return NULL;
+    return of_device == NULL ? info->get_instance_proc_addr(info->instance, name) : of_device(info->device, name);
+}
+
+/* Fills a field of the table under these names: of an instance's function, of a device's, and of an extension's. */
+#define LOAD(type, field, of, name) \
+    do { \
+        if (call->field == NULL) \
+            call->field = (type)loaded(info, of, name); \
+    } while (0)
+
+static void load_extended(const wtv_create_info *info, wtv_functions *call, PFN_vkGetDeviceProcAddr device)
+{
+    bool is_core = info->api_version >= VK_API_VERSION_1_1;
+    if (is_core || (info->flags & WTV_CREATE_PROPERTIES2) != 0) {
+        LOAD(PFN_vkGetPhysicalDeviceProperties2, get_physical_device_properties2, NULL,
+             is_core ? "vkGetPhysicalDeviceProperties2" : "vkGetPhysicalDeviceProperties2KHR");
+        LOAD(PFN_vkGetPhysicalDeviceMemoryProperties2, get_physical_device_memory_properties2, NULL,
+             is_core ? "vkGetPhysicalDeviceMemoryProperties2" : "vkGetPhysicalDeviceMemoryProperties2KHR");
+    }
+    if (is_core || (info->flags & WTV_CREATE_DEDICATED_ALLOCATION) != 0) {
+        LOAD(PFN_vkGetBufferMemoryRequirements2, get_buffer_memory_requirements2, device,
+             is_core ? "vkGetBufferMemoryRequirements2" : "vkGetBufferMemoryRequirements2KHR");
+        LOAD(PFN_vkGetImageMemoryRequirements2, get_image_memory_requirements2, device,
+             is_core ? "vkGetImageMemoryRequirements2" : "vkGetImageMemoryRequirements2KHR");
+    }
+}
+
+static void load(const wtv_create_info *info, wtv_functions *call)
+{
+    PFN_vkGetDeviceProcAddr device = (PFN_vkGetDeviceProcAddr)loaded(info, NULL, "vkGetDeviceProcAddr");
+    LOAD(PFN_vkGetPhysicalDeviceProperties, get_physical_device_properties, NULL, "vkGetPhysicalDeviceProperties");
+    LOAD(PFN_vkGetPhysicalDeviceMemoryProperties, get_physical_device_memory_properties, NULL,
+         "vkGetPhysicalDeviceMemoryProperties");
+    LOAD(PFN_vkAllocateMemory, allocate_memory, device, "vkAllocateMemory");
+    LOAD(PFN_vkFreeMemory, free_memory, device, "vkFreeMemory");
+    LOAD(PFN_vkMapMemory, map_memory, device, "vkMapMemory");
+    LOAD(PFN_vkUnmapMemory, unmap_memory, device, "vkUnmapMemory");
+    LOAD(PFN_vkFlushMappedMemoryRanges, flush_mapped_memory_ranges, device, "vkFlushMappedMemoryRanges");
+    LOAD(PFN_vkInvalidateMappedMemoryRanges, invalidate_mapped_memory_ranges, device,
+         "vkInvalidateMappedMemoryRanges");
+    LOAD(PFN_vkCreateBuffer, create_buffer, device, "vkCreateBuffer");
+    LOAD(PFN_vkDestroyBuffer, destroy_buffer, device, "vkDestroyBuffer");
+    LOAD(PFN_vkCreateImage, create_image, device, "vkCreateImage");
+    LOAD(PFN_vkDestroyImage, destroy_image, device, "vkDestroyImage");
+    LOAD(PFN_vkGetBufferMemoryRequirements, get_buffer_memory_requirements, device, "vkGetBufferMemoryRequirements");
+    LOAD(PFN_vkGetImageMemoryRequirements, get_image_memory_requirements, device, "vkGetImageMemoryRequirements");
+    LOAD(PFN_vkBindBufferMemory, bind_buffer_memory, device, "vkBindBufferMemory");
+    LOAD(PFN_vkBindImageMemory, bind_image_memory, device, "vkBindImageMemory");
+    load_extended(info, call, device);
+}
+
+static bool has_all(const wtv_functions *call)
+{
+    return call->get_physical_device_properties != NULL && call->get_physical_device_memory_properties != NULL
+           && call->allocate_memory != NULL && call->free_memory != NULL && call->map_memory != NULL
+           && call->unmap_memory != NULL && call->flush_mapped_memory_ranges != NULL
+           && call->invalidate_mapped_memory_ranges != NULL && call->create_buffer != NULL
+           && call->destroy_buffer != NULL && call->create_image != NULL && call->destroy_image != NULL
+           && call->get_buffer_memory_requirements != NULL && call->get_image_memory_requirements != NULL
+           && call->bind_buffer_memory != NULL && call->bind_image_memory != NULL;
+}
+
+/* Opens the core for the device. */
+static VkResult open_core(wtv_allocator *a, const wtv_create_info *info)
+{
+    VkPhysicalDeviceMaintenance3Properties sizes = {
+        .sType = VK_STRUCTURE_TYPE_PHYSICAL_DEVICE_MAINTENANCE_3_PROPERTIES,
+        .maxMemoryAllocationSize = UINT64_MAX,
+    };
+    VkPhysicalDeviceProperties2 properties = {.sType = VK_STRUCTURE_TYPE_PHYSICAL_DEVICE_PROPERTIES_2, .pNext = &sizes};
+    const VkPhysicalDeviceLimits *offered = &properties.properties.limits;
+    wt_memory_type types[VK_MAX_MEMORY_TYPES];
+    uint64_t heaps[VK_MAX_MEMORY_HEAPS];
+    wt_config config;
+    if (a->call.get_physical_device_properties2 != NULL)
+        a->call.get_physical_device_properties2(a->physical_device, &properties);
+    else
+        a->call.get_physical_device_properties(a->physical_device, &properties.properties);
+    a->call.get_physical_device_memory_properties(a->physical_device, &a->memory);
+    for (uint32_t i = 0; i < a->memory.memoryTypeCount; i++) {
+        VkMemoryPropertyFlags told = a->memory.memoryTypes[i].propertyFlags;
+        types[i] = (wt_memory_type){a->memory.memoryTypes[i].heapIndex, told & KNOWN_PROPERTIES};
+        if ((told & ~(VkMemoryPropertyFlags)KNOWN_PROPERTIES) == 0)
+            a->known_types |= (uint32_t)1 << i;
+    }
+    for (uint32_t i = 0; i < a->memory.memoryHeapCount; i++)
+        heaps[i] = a->memory.memoryHeaps[i].size;
+    const wt_limits limits = {
+        .max_memory_allocation_size = sizes.maxMemoryAllocationSize,
+        .non_coherent_atom_size = offered->nonCoherentAtomSize,
+        .max_memory_allocation_count = (uint32_t)less(offered->maxMemoryAllocationCount, info->other_objects),
+        .buffer_device_address = (info->flags & WTV_CREATE_DEVICE_ADDRESS) != 0,
+        .buffer_image_granularity = offered->bufferImageGranularity,
+    };
+    wtv_default_config(&a->memory, &config);
+    uint32_t status = wt_open(&a->core, types, a->memory.memoryTypeCount, heaps, a->memory.memoryHeapCount, &limits,
+                              info->config != NULL ? info->config : &config);
+    return status == WT_BAD_PROPERTIES ? VK_ERROR_INITIALIZATION_FAILED : result_of(status);
+}
+
+/* While the first number of a version is 0, the second tells what fits what. */
+static bool is_version_of_library(void)
+{
+    return wt_version() >> 8 == WT_VERSION >> 8;
+}
+
+static VkResult open_all(wtv_allocator *a, const wtv_create_info *info)
+{
+    bool has_properties2 = a->call.get_physical_device_memory_properties2 != NULL;
+    a->has_budget = (info->flags & WTV_CREATE_MEMORY_BUDGET) != 0;
+    a->has_dedicated =
+        a->call.get_buffer_memory_requirements2 != NULL && a->call.get_image_memory_requirements2 != NULL;
+    if (!has_all(&a->call) || (a->has_budget && !has_properties2) || !is_version_of_library())
+        return VK_ERROR_INITIALIZATION_FAILED;
+    a->has_lock = (info->flags & WTV_CREATE_NO_LOCK) == 0;
+    if (a->has_lock && pthread_mutex_init(&a->lock, NULL) != 0)
+        return VK_ERROR_OUT_OF_HOST_MEMORY;
+    VkResult result = open_core(a, info);
+    if (result != VK_SUCCESS && a->has_lock)
+        pthread_mutex_destroy(&a->lock);
+    return result;
+}
+
+VkResult wtv_create(const wtv_create_info *info, wtv_allocator **allocator)
+{
+    bool has_handles = info->physical_device != VK_NULL_HANDLE && info->device != VK_NULL_HANDLE;
+    if (!has_handles || (info->flags & ~(uint32_t)KNOWN_FLAGS) != 0)
+        return VK_ERROR_INITIALIZATION_FAILED;
+    wtv_allocator *a = calloc(1, sizeof *a);
+    if (a == NULL)
+        return VK_ERROR_OUT_OF_HOST_MEMORY;
+    a->physical_device = info->physical_device;
+    a->device = info->device;
+    if (info->functions != NULL)
+        a->call = *info->functions;
+    if (info->callbacks != NULL) {
+        a->copied_callbacks = *info->callbacks;
+        a->callbacks = &a->copied_callbacks;
+    }
+    load(info, &a->call);
+    VkResult result = open_all(a, info);
+    if (result == VK_SUCCESS)
+        *allocator = a;
+    else
+        free(a);
+    return result;
+}
+
+VkResult wtv_destroy(wtv_allocator *a, wtv_block *live, size_t room, size_t *count)
+{
+    wt_counts counts;
+    size_t written = 0;
+    if (a == NULL)
+        return VK_SUCCESS;
+    enter(a);
+    uint32_t status = wt_count(&a->core, &counts);
+    if (status == WT_OK && counts.blocks > 0) {
+        walk(a, 0, live, room, &written);
+        if (count != NULL)
+            *count = (size_t)counts.blocks;
+        leave(a);
+        return VK_ERROR_VALIDATION_FAILED_EXT;
+    }
+    wt_cleanup(&a->core);
+    free_gone(a);
+    wt_close(&a->core);
+    leave(a);
+    if (a->has_lock)
+        pthread_mutex_destroy(&a->lock);
+    free(a->objects.slots);
+    free(a->mappings.slots);
+    free(a);
+    return VK_SUCCESS;
+}
