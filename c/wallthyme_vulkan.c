@@ -526,9 +526,9 @@ VkResult wtv_cleanup(wtv_allocator *a)
 /* ---- Blocks. ---- */
 
 /* A live block and the object that holds it, under the lock. */
-static VkResult find(const wtv_allocator *a, wtv_allocation allocation, wt_block *block, object **held)
+static VkResult find(wtv_allocator *a, wtv_allocation allocation, wt_block *block, object **held)
 {
-    uint32_t status = wt_block_of((wt_allocator *)&a->core, allocation, block);
+    uint32_t status = wt_block_of(&a->core, allocation, block);
     *held = status == WT_OK ? object_of(a, block->object) : NULL;
     return result_of(status);
 }
@@ -1076,16 +1076,22 @@ static PFN_vkVoidFunction loaded(const wtv_create_info *info, PFN_vkGetDevicePro
             call->field = (type)loaded(info, of, name); \
     } while (0)
 
+/* Whether the program enabled what a flag names. Vulkan 1.1 has it. */
+static bool is_enabled(const wtv_create_info *info, uint32_t flag)
+{
+    return info->api_version >= VK_API_VERSION_1_1 || (info->flags & flag) != 0;
+}
+
 static void load_extended(const wtv_create_info *info, wtv_functions *call, PFN_vkGetDeviceProcAddr device)
 {
     bool is_core = info->api_version >= VK_API_VERSION_1_1;
-    if (is_core || (info->flags & WTV_CREATE_PROPERTIES2) != 0) {
+    if (is_enabled(info, WTV_CREATE_PROPERTIES2)) {
         LOAD(PFN_vkGetPhysicalDeviceProperties2, get_physical_device_properties2, NULL,
              is_core ? "vkGetPhysicalDeviceProperties2" : "vkGetPhysicalDeviceProperties2KHR");
         LOAD(PFN_vkGetPhysicalDeviceMemoryProperties2, get_physical_device_memory_properties2, NULL,
              is_core ? "vkGetPhysicalDeviceMemoryProperties2" : "vkGetPhysicalDeviceMemoryProperties2KHR");
     }
-    if (is_core || (info->flags & WTV_CREATE_DEDICATED_ALLOCATION) != 0) {
+    if (is_enabled(info, WTV_CREATE_DEDICATED_ALLOCATION)) {
         LOAD(PFN_vkGetBufferMemoryRequirements2, get_buffer_memory_requirements2, device,
              is_core ? "vkGetBufferMemoryRequirements2" : "vkGetBufferMemoryRequirements2KHR");
         LOAD(PFN_vkGetImageMemoryRequirements2, get_image_memory_requirements2, device,
@@ -1117,6 +1123,16 @@ static void load(const wtv_create_info *info, wtv_functions *call)
     load_extended(info, call, device);
 }
 
+static bool has_extended(const wtv_create_info *info, const wtv_functions *call)
+{
+    bool has_properties2 =
+        call->get_physical_device_properties2 != NULL && call->get_physical_device_memory_properties2 != NULL;
+    bool has_requirements2 =
+        call->get_buffer_memory_requirements2 != NULL && call->get_image_memory_requirements2 != NULL;
+    return (has_properties2 || !is_enabled(info, WTV_CREATE_PROPERTIES2))
+           && (has_requirements2 || !is_enabled(info, WTV_CREATE_DEDICATED_ALLOCATION));
+}
+
 static bool has_all(const wtv_functions *call)
 {
     return call->get_physical_device_properties != NULL && call->get_physical_device_memory_properties != NULL
@@ -1140,7 +1156,7 @@ static VkResult open_core(wtv_allocator *a, const wtv_create_info *info)
     wt_memory_type types[VK_MAX_MEMORY_TYPES];
     uint64_t heaps[VK_MAX_MEMORY_HEAPS];
     wt_config config;
-    if (a->call.get_physical_device_properties2 != NULL)
+    if (is_enabled(info, WTV_CREATE_PROPERTIES2))
         a->call.get_physical_device_properties2(a->physical_device, &properties);
     else
         a->call.get_physical_device_properties(a->physical_device, &properties.properties);
@@ -1174,11 +1190,11 @@ static bool is_version_of_library(void)
 
 static VkResult open_all(wtv_allocator *a, const wtv_create_info *info)
 {
-    bool has_properties2 = a->call.get_physical_device_memory_properties2 != NULL;
     a->has_budget = (info->flags & WTV_CREATE_MEMORY_BUDGET) != 0;
-    a->has_dedicated =
-        a->call.get_buffer_memory_requirements2 != NULL && a->call.get_image_memory_requirements2 != NULL;
-    if (!has_all(&a->call) || (a->has_budget && !has_properties2) || !is_version_of_library())
+    a->has_dedicated = is_enabled(info, WTV_CREATE_DEDICATED_ALLOCATION);
+    if (!has_all(&a->call) || !has_extended(info, &a->call) || !is_version_of_library())
+        return VK_ERROR_INITIALIZATION_FAILED;
+    if (a->has_budget && !is_enabled(info, WTV_CREATE_PROPERTIES2))
         return VK_ERROR_INITIALIZATION_FAILED;
     a->has_lock = (info->flags & WTV_CREATE_NO_LOCK) == 0;
     if (a->has_lock && pthread_mutex_init(&a->lock, NULL) != 0)
