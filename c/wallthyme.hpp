@@ -1,14 +1,15 @@
-/* Wallthyme over Vulkan, for C++ (C++11 and later): objects that own their memory and free it themselves. A header alone,
- * over wallthyme_vulkan.h, whose structs, rules and results are its own too.
+/* Wallthyme over Vulkan, for C++ (C++11 and later): objects that own their memory and free it themselves. It is a
+ * header alone, over wallthyme_vulkan.h, whose structs, rules and results it shares.
  *
  *     wallthyme::Allocator memory = wallthyme::Allocator::create(info);
  *     wallthyme::Buffer buffer = memory.create_buffer(buffer_info, wallthyme::request(WT_USAGE_UPLOAD));
  *     buffer.write(0, bytes, size);
  *
- * Errors. A call throws wallthyme::Error, which carries the VkResult, and then nothing has changed. Where exceptions are
- * off, or with WALLTHYME_NO_EXCEPTIONS, it returns: Returned<T> is a Result<T> then, which has value and VkResult, and
- * Done is a VkResult. Files of both forms may be linked into one program. Destructors and moves never fail.
- * VK_ERROR_VALIDATION_FAILED_EXT also stands for each call of an empty object.
+ * Errors. A call that fails throws wallthyme::Error, which carries the VkResult, and nothing has changed. Which results
+ * there are stands at the call of wallthyme_vulkan.h that is named; each call of an empty object adds
+ * VK_ERROR_VALIDATION_FAILED_EXT. Where exceptions are off, or with WALLTHYME_NO_EXCEPTIONS, a call returns its result:
+ * Returned<T> is a Result<T> then, with a value and a VkResult, and Done is a VkResult. Files of both forms may be
+ * linked into one program. Moves and destructors never fail.
  *
  * Ownership. Each object can be moved, and not copied. One that was moved from is empty, as one that was created
  * without arguments: it may be assigned, reset or destroyed. Objects may end in any order: each of them keeps the
@@ -50,11 +51,16 @@
 #else
 #define WALLTHYME_NODISCARD
 #endif
+#ifdef WALLTHYME_NO_EXCEPTIONS
+#define WALLTHYME_DONE WALLTHYME_NODISCARD Done
+#else
+#define WALLTHYME_DONE Done
+#endif
 
 namespace wallthyme {
 
-/* The name of a result, as "VK_ERROR_DEVICE_LOST", for those that wallthyme_vulkan.h names and the usual ones of drivers;
-   of another one "a VkResult". */
+/* The name of a result, as "VK_ERROR_DEVICE_LOST", where wallthyme_vulkan.h names it or drivers return it from the
+   calls that are made; of another one "a VkResult". */
 inline const char *name_of(VkResult result) noexcept {
     switch (result) {
     case VK_SUCCESS: return "VK_SUCCESS";
@@ -230,11 +236,11 @@ public:
     template <class T> T *as() const noexcept { return static_cast<T *>(bytes_); }
 
     /* wtv_flush after the host wrote, and wtv_invalidate before it reads, from offset on; VK_WHOLE_SIZE: to the end. */
-    Done flush(VkDeviceSize offset = 0, VkDeviceSize size = VK_WHOLE_SIZE) const {
+    WALLTHYME_DONE flush(VkDeviceSize offset = 0, VkDeviceSize size = VK_WHOLE_SIZE) const {
         const wtv_range range = {allocation_, offset, size};
         return detail::done(detail::call(wtv_flush, keeper_, &range, std::size_t(1)), "flush");
     }
-    Done invalidate(VkDeviceSize offset = 0, VkDeviceSize size = VK_WHOLE_SIZE) const {
+    WALLTHYME_DONE invalidate(VkDeviceSize offset = 0, VkDeviceSize size = VK_WHOLE_SIZE) const {
         const wtv_range range = {allocation_, offset, size};
         return detail::done(detail::call(wtv_invalidate, keeper_, &range, std::size_t(1)), "invalidate");
     }
@@ -284,15 +290,15 @@ public:
     }
 
     /* Copies bytes into the block from offset on, and flushes them: wtv_write. Or out, once invalidated: wtv_read. */
-    Done write(VkDeviceSize offset, const void *bytes, std::size_t size) const {
+    WALLTHYME_DONE write(VkDeviceSize offset, const void *bytes, std::size_t size) const {
         return detail::done(detail::call(wtv_write, keeper_, allocation_, offset, bytes, size), "write");
     }
-    Done read(VkDeviceSize offset, void *bytes, std::size_t size) const {
+    WALLTHYME_DONE read(VkDeviceSize offset, void *bytes, std::size_t size) const {
         return detail::done(detail::call(wtv_read, keeper_, allocation_, offset, bytes, size), "read");
     }
 
     /* Sets the program's value of the block: wtv_set_user. */
-    Done set_user(uint64_t user) const {
+    WALLTHYME_DONE set_user(uint64_t user) const {
         return detail::done(detail::call(wtv_set_user, keeper_, allocation_, user), "set_user");
     }
 
@@ -381,10 +387,10 @@ public:
     }
 
     /* Binds a resource of the program's to the block, from offset on: wtv_bind_buffer, wtv_bind_image. */
-    Done bind_buffer(VkBuffer buffer, VkDeviceSize offset = 0) const {
+    WALLTHYME_DONE bind_buffer(VkBuffer buffer, VkDeviceSize offset = 0) const {
         return detail::done(detail::call(wtv_bind_buffer, keeper_, allocation_, offset, buffer), "bind_buffer");
     }
-    Done bind_image(VkImage image, VkDeviceSize offset = 0) const {
+    WALLTHYME_DONE bind_image(VkImage image, VkDeviceSize offset = 0) const {
         return detail::done(detail::call(wtv_bind_image, keeper_, allocation_, offset, image), "bind_image");
     }
 
@@ -457,16 +463,19 @@ public:
     }
 
     /* Flushes or invalidates ranges of mapped blocks in at most one call of the driver: wtv_flush, wtv_invalidate. */
-    Done flush(const wtv_range *ranges, std::size_t count) const {
+    WALLTHYME_DONE flush(const wtv_range *ranges, std::size_t count) const {
         return detail::done(detail::call(wtv_flush, keeper_, ranges, count), "flush");
     }
-    Done invalidate(const wtv_range *ranges, std::size_t count) const {
+    WALLTHYME_DONE invalidate(const wtv_range *ranges, std::size_t count) const {
         return detail::done(detail::call(wtv_invalidate, keeper_, ranges, count), "invalidate");
     }
 
-    /* Limits each heap by the budget that the driver reports: wtv_update_budget. One heap by hand: wtv_set_heap_limit. */
-    Done update_budget() const { return detail::done(detail::call(wtv_update_budget, keeper_), "update_budget"); }
-    Done set_heap_limit(uint32_t heap, VkDeviceSize limit) const {
+    /* Limits each heap by the budget that the driver reports, or one heap by hand: wtv_update_budget and
+       wtv_set_heap_limit. */
+    WALLTHYME_DONE update_budget() const {
+        return detail::done(detail::call(wtv_update_budget, keeper_), "update_budget");
+    }
+    WALLTHYME_DONE set_heap_limit(uint32_t heap, VkDeviceSize limit) const {
         return detail::done(detail::call(wtv_set_heap_limit, keeper_, heap, limit), "set_heap_limit");
     }
 
@@ -492,7 +501,7 @@ public:
     Returned<Text> report_text() const { return text(wtv_report_text, "report_text"); }
 
     /* Frees the memory objects that no block needs: wtv_cleanup. */
-    Done cleanup() const { return detail::done(detail::call(wtv_cleanup, keeper_), "cleanup"); }
+    WALLTHYME_DONE cleanup() const { return detail::done(detail::call(wtv_cleanup, keeper_), "cleanup"); }
 
 private:
     template <class Made, class Info, class Handle>
@@ -528,5 +537,8 @@ private:
 
 } // inline namespace
 } // namespace wallthyme
+
+#undef WALLTHYME_NODISCARD
+#undef WALLTHYME_DONE
 
 #endif
