@@ -8,6 +8,10 @@ PLUS_SOURCES = wallthyme.hpp wallthyme_vulkan.h wallthyme_vulkan.c wallthyme.h t
 PLUS_CXX = $(CXX11) -Itests/vulkan -Wshadow -Wold-style-cast
 PLUS_HPP = $(wildcard /usr/include/vulkan/vulkan.hpp)
 
+# A result that is discarded is warned of, and one that is looked at is not.
+DISCARDS = (echo '\#include "wallthyme.hpp"'; echo 'int f(wallthyme::Allocator &a) { $(1) }') \
+    | $(CXX11) -O1 -Werror -DWALLTHYME_NO_EXCEPTIONS -x c++ -c -o /dev/null - 2> /dev/null
+
 .PHONY: check-plus check-plus-threads
 
 $(PROGRAMS)/vulkan_plus: tests/vulkan/plus.cc $(PLUS_SOURCES) $(BUILD)/libwallthyme.a
@@ -24,6 +28,9 @@ $(PROGRAMS)/vulkan_plus_hpp: tests/vulkan/plus_hpp.cc $(PROGRAMS)/vulkan_plus
 
 check-plus: $(PROGRAMS)/vulkan_plus $(if $(PLUS_HPP),$(PROGRAMS)/vulkan_plus_hpp)
 	@$(PROGRAMS)/vulkan_plus
+	@$(call DISCARDS,return a.cleanup();)
+	@if $(call DISCARDS,a.cleanup(); return 0;) || $(call DISCARDS,a.allocate({}); return 0;); then \
+	    echo 'FAILED: nothing is warned of where a result is discarded' >&2; exit 1; fi
 	@$(if $(PLUS_HPP),$(PROGRAMS)/vulkan_plus_hpp,echo 'plus_hpp: left out, since vulkan.hpp is not installed')
 
 check-plus-threads:
