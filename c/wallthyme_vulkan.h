@@ -110,7 +110,8 @@ typedef struct wtv_request {
     uint32_t memory_types; /* bit i permits memory type i; 0 permits all. Those of the resource's requirements that the
                               library knows remain of it */
     uint32_t dedicated;    /* WT_SHARED, WT_PREFERRED or WT_REQUIRED; raised to what the driver asks for */
-    uint32_t flags;        /* for wtv_allocate: WT_OPTIMAL for an image whose tiling is not linear. Else 0 */
+    uint32_t flags;        /* for wtv_allocate and wtv_allocate_for_image: WT_OPTIMAL for an image whose tiling is not
+                              linear. Else 0 */
     uint64_t user;         /* a value of the program's, which stands with the block */
     const void *next;      /* chained to VkMemoryAllocateInfo exactly where the object holds this block alone: a
                               priority, an export. It stays the program's. A structure that has to be chained wants
