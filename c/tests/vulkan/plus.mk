@@ -1,38 +1,65 @@
-# The tests of wallthyme.hpp, a part of c/Makefile:
+# The tests of wallthyme.hpp: a part of c/Makefile.
 #
-#   make check-plus            with SANITIZE=1 under the sanitizers for addresses and undefined behaviour
-#   make check-plus-threads    under the one for threads
-#
-# One program holds the test with exceptions and, compiled again, without exceptions and RTTI.
-PLUS_SOURCES = wallthyme.hpp wallthyme_vulkan.h wallthyme_vulkan.c wallthyme.h tests/vulkan/stub.h tests/vulkan/stub.c
-PLUS_CXX = $(CXX11) -Itests/vulkan -Wshadow -Wold-style-cast
-PLUS_HPP = $(wildcard /usr/include/vulkan/vulkan.hpp)
+# One program has the test with exceptions and, compiled again, without exceptions and RTTI.
+PLUS_CXX = $(CXX11) -Wshadow -Wold-style-cast -pthread -Itests/vulkan
+PLUS_HEADERS = wallthyme.hpp $(VULKAN_HEADERS)
+NO_EXCEPTIONS = -fno-exceptions -fno-rtti
+VULKAN_HPP := $(shell echo '\#include <vulkan/vulkan.hpp>' | $(CXX) -std=c++11 -E -x c++ - > /dev/null 2>&1 && echo yes)
+
+.PHONY: check-plus check-plus-programs check-plus-valgrind check-plus-threads
+
+check-plus: $(if $(PLUS),check-plus-programs check-plus-valgrind check-plus-threads)
+	@$(if $(PLUS),:,echo 'vulkan/plus: left out, since there is no C++ compiler ($(CXX))')
+
+$(VULKAN_PROGRAMS)/plus_exceptions.o: tests/vulkan/plus.cc $(PLUS_HEADERS)
+	@mkdir -p $(VULKAN_PROGRAMS)
+	$(PLUS_CXX) -c $< -o $@
+
+$(VULKAN_PROGRAMS)/plus_results.o: tests/vulkan/plus.cc $(PLUS_HEADERS)
+	@mkdir -p $(VULKAN_PROGRAMS)
+	$(PLUS_CXX) $(NO_EXCEPTIONS) $(if $(SANITIZE),-fno-sanitize=vptr) -c $< -o $@
+
+$(VULKAN_PROGRAMS)/plus_hpp.o: tests/vulkan/plus_hpp.cc $(PLUS_HEADERS)
+	@mkdir -p $(VULKAN_PROGRAMS)
+	$(CXX11) -Itests/vulkan -c $< -o $@
+
+$(VULKAN_PROGRAMS)/plus: $(addprefix $(VULKAN_PROGRAMS)/,plus_exceptions.o plus_results.o)
+$(VULKAN_PROGRAMS)/plus_hpp: $(VULKAN_PROGRAMS)/plus_hpp.o
+$(VULKAN_PROGRAMS)/plus $(VULKAN_PROGRAMS)/plus_hpp: $(VULKAN_PROGRAMS)/stub.o $(VULKAN_SIDE) $(BUILD)/libwallthyme.a
+	$(CXX11) -pthread $^ -o $@
 
 # A result that is discarded is warned of, and one that is looked at is not.
 DISCARDS = (echo '\#include "wallthyme.hpp"'; echo 'int f(wallthyme::Allocator &a) { $(1) }') \
     | $(CXX11) -O1 -Werror -DWALLTHYME_NO_EXCEPTIONS -x c++ -c -o /dev/null - 2> /dev/null
 
-.PHONY: check-plus check-plus-threads
-
-$(PROGRAMS)/vulkan_plus: tests/vulkan/plus.cc $(PLUS_SOURCES) $(BUILD)/libwallthyme.a
-	@mkdir -p $@.parts
-	$(C99) -c tests/vulkan/stub.c -o $@.parts/stub.o
-	$(C99) -c wallthyme_vulkan.c -o $@.parts/side.o
-	$(PLUS_CXX) -c $< -o $@.parts/exceptions.o
-	$(PLUS_CXX) -fno-exceptions -fno-rtti $(if $(SANITIZERS),-fno-sanitize=vptr) -c $< -o $@.parts/results.o
-	$(CXX11) $@.parts/*.o $(BUILD)/libwallthyme.a -pthread -o $@
-
-$(PROGRAMS)/vulkan_plus_hpp: tests/vulkan/plus_hpp.cc $(PROGRAMS)/vulkan_plus
-	$(CXX11) -Itests/vulkan $< $(addprefix $(PROGRAMS)/vulkan_plus.parts/,stub.o side.o) $(BUILD)/libwallthyme.a \
-	    -pthread -o $@
-
-check-plus: $(PROGRAMS)/vulkan_plus $(if $(PLUS_HPP),$(PROGRAMS)/vulkan_plus_hpp)
-	@$(PROGRAMS)/vulkan_plus
+check-plus-programs: $(addprefix $(VULKAN_PROGRAMS)/,plus $(if $(VULKAN_HPP),plus_hpp))
+	@$(VULKAN_PROGRAMS)/plus
 	@$(call DISCARDS,return a.cleanup();)
 	@if $(call DISCARDS,a.cleanup(); return 0;) || $(call DISCARDS,a.allocate({}); return 0;); then \
 	    echo 'FAILED: nothing is warned of where a result is discarded' >&2; exit 1; fi
-	@$(if $(PLUS_HPP),$(PROGRAMS)/vulkan_plus_hpp,echo 'plus_hpp: left out, since vulkan.hpp is not installed')
+	@$(if $(VULKAN_HPP),$(VULKAN_PROGRAMS)/plus_hpp,echo 'vulkan/plus_hpp: left out, since vulkan.hpp is not installed')
 
-check-plus-threads:
-	@$(MAKE) --no-print-directory PROGRAMS=$(BUILD)/threads SANITIZERS=-fsanitize=thread $(BUILD)/threads/vulkan_plus
-	@$(BUILD)/threads/vulkan_plus
+check-plus-valgrind: check-plus-programs
+	@if [ -n '$(SANITIZE)' ] || ! command -v valgrind > /dev/null; then :; \
+	else $(VALGRIND) $(VULKAN_PROGRAMS)/plus > /dev/null && echo 'vulkan/plus under valgrind'; fi
+
+# As drawn.c of check-vulkan-threads.
+$(TSAN)/plus: $(addprefix tests/vulkan/,plus.cc stub.c ordered.c) wallthyme_vulkan.c $(PLUS_HEADERS) \
+    $(BUILD)/libwallthyme.a
+	@mkdir -p $(TSAN)/plus.parts
+	@for source in $(filter %.c,$^); do \
+	    $(CC) -std=c99 $(CFLAGS) $(WARNINGS) -fsanitize=thread -pthread -I. -c $$source \
+	        -o $(TSAN)/plus.parts/$$(basename $$source .c).o || exit 1; done
+	$(PLUS_CXX) -fsanitize=thread -c $< -o $(TSAN)/plus.parts/exceptions.o
+	$(PLUS_CXX) -fsanitize=thread $(NO_EXCEPTIONS) -c $< -o $(TSAN)/plus.parts/results.o
+	$(CXX11) -fsanitize=thread -pthread $(TSAN)/plus.parts/*.o $(BUILD)/libwallthyme.a \
+	    $(addprefix -Wl$(comma)--wrap=,$(ORDERED)) -o $@
+
+check-plus-threads: check-plus-programs
+	@mkdir -p $(TSAN)
+	@if [ -n '$(SANITIZE)' ]; then :; \
+	elif ! echo 'int main() { return 0; }' | $(CXX) -fsanitize=thread -x c++ - -o $(TSAN)/probe 2> /dev/null \
+	    || ! $(TSAN)/probe; then \
+	    echo 'vulkan/plus under the thread sanitizer: left out, since $(CXX) does not have it here'; \
+	else $(MAKE) --no-print-directory $(TSAN)/plus && TSAN_OPTIONS='halt_on_error=1 exitcode=66' $(TSAN)/plus > /dev/null \
+	    && echo 'vulkan/plus under the thread sanitizer'; fi
