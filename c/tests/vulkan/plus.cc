@@ -167,6 +167,7 @@ template <class T, class Make> void test_moves_of(const Driver &driver, const Al
 void test_moves_of_mappings(const Driver &driver, const Allocator &memory) {
     wtv_request alone = visible(STUB_CACHED); // the driver maps it when it is asked
     alone.dedicated = WT_REQUIRED;
+    DONE(memory.cleanup()); // shared objects are mapped
     const Buffer buffer = got(memory.create_buffer(stub_buffer_info(100), alone));
     must(driver.held().mapped == 0, "a block of its own object is mapped");
     Mapping first = got(buffer.map());
@@ -282,8 +283,10 @@ void test_vectors(const Driver &driver, const Allocator &memory) {
         return bytes[0] > bytes[1];
     });
     must(buffers.size() == 70 && live(memory) == 70 && driver.held().buffers == 70, "not the buffers that were left");
-    for (unsigned i = 0; i < 70; i++)
-        must(*stub_buffer_bytes(driver.get(), buffers[i].get()) == (i < 60 ? 99 - i : 69 - i), "a buffer is not its own");
+    for (unsigned i = 0; i < 70; i++) {
+        const unsigned char byte = *stub_buffer_bytes(driver.get(), buffers[i].get());
+        must(byte == (i < 60 ? 99 - i : 69 - i), "a buffer is not its own");
+    }
 }
 
 void test_containers() {
@@ -383,8 +386,8 @@ void test_release() {
     block.release();
     must(!buffer && !block && buffer.get() == VkBuffer(), "a released object is not empty");
     must(live(memory) == 2 && driver.held().buffers == 1, "a released resource ended");
-    must(wtv_destroy_buffer(memory.get(), handle, name) == VK_SUCCESS && wtv_free(memory.get(), block_name) == VK_SUCCESS,
-         "a released resource is not the program's");
+    must(wtv_destroy_buffer(memory.get(), handle, name) == VK_SUCCESS, "a released buffer is not the program's");
+    must(wtv_free(memory.get(), block_name) == VK_SUCCESS, "a released block is not the program's");
 }
 
 // ---- What is held. ----
