@@ -278,11 +278,15 @@ static uint32_t answer(wtv_allocator *a, work *w, const wt_question *question)
     return answer_of(w->result);
 }
 
-/* A refusal that the driver caused is the driver's. */
+/* A refusal that the driver caused is the driver's. Where it lacked device memory, the core may still end the request
+   for another reason. */
 static VkResult ended(const work *w, uint32_t status)
 {
-    bool is_of_driver = status == WT_OUT_OF_DEVICE_MEMORY || status == WT_OUT_OF_HOST_MEMORY || status == WT_MAP_FAILED;
-    return is_of_driver && w->result != VK_SUCCESS ? w->result : result_of(status);
+    uint32_t answered = answer_of(w->result);
+    bool lacked_device_memory = answered == WT_NO_DEVICE_MEMORY && status == WT_OUT_OF_DEVICE_MEMORY;
+    bool was_ended = (answered == WT_NO_HOST_MEMORY || answered == WT_DEVICE_MAP_FAILED)
+                     && status == WT_OUT_OF_HOST_MEMORY;
+    return lacked_device_memory || was_ended ? w->result : result_of(status);
 }
 
 /* Serves a request, under the lock. */
@@ -1076,6 +1080,7 @@ static PFN_vkVoidFunction loaded(const wtv_create_info *info, PFN_vkGetDevicePro
             call->field = (type)loaded(info, of, name); \
     } while (0)
 
+/* What the program did not enable is not called, also where the table has it. */
 static void load_extended(const wtv_create_info *info, wtv_functions *call, PFN_vkGetDeviceProcAddr device)
 {
     bool is_core = info->api_version >= VK_API_VERSION_1_1;
@@ -1084,12 +1089,18 @@ static void load_extended(const wtv_create_info *info, wtv_functions *call, PFN_
              is_core ? "vkGetPhysicalDeviceProperties2" : "vkGetPhysicalDeviceProperties2KHR");
         LOAD(PFN_vkGetPhysicalDeviceMemoryProperties2, get_physical_device_memory_properties2, NULL,
              is_core ? "vkGetPhysicalDeviceMemoryProperties2" : "vkGetPhysicalDeviceMemoryProperties2KHR");
+    } else {
+        call->get_physical_device_properties2 = NULL;
+        call->get_physical_device_memory_properties2 = NULL;
     }
     if (is_core || (info->flags & WTV_CREATE_DEDICATED_ALLOCATION) != 0) {
         LOAD(PFN_vkGetBufferMemoryRequirements2, get_buffer_memory_requirements2, device,
              is_core ? "vkGetBufferMemoryRequirements2" : "vkGetBufferMemoryRequirements2KHR");
         LOAD(PFN_vkGetImageMemoryRequirements2, get_image_memory_requirements2, device,
              is_core ? "vkGetImageMemoryRequirements2" : "vkGetImageMemoryRequirements2KHR");
+    } else {
+        call->get_buffer_memory_requirements2 = NULL;
+        call->get_image_memory_requirements2 = NULL;
     }
 }
 
