@@ -302,6 +302,8 @@ static VKAPI_ATTR VkResult VKAPI_CALL allocate_memory(VkDevice device, const VkM
         result = vkAllocateMemory(device, info, callbacks, made);
     if (result == VK_SUCCESS)
         keep(info, *made, false);
+    refusing_met()->made = result == VK_SUCCESS ? *made : VK_NULL_HANDLE;
+    refusing_met()->is_chained = chained(info->pNext, VK_STRUCTURE_TYPE_EXPORT_MEMORY_ALLOCATE_INFO) != NULL;
     go_out();
     return refusing_noted(ALLOCATE_MEMORY, result);
 }

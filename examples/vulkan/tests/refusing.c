@@ -36,6 +36,11 @@ void refusing_begins(void)
     by->met = (met){.first = VK_SUCCESS, .last = VK_SUCCESS, .ending = VK_SUCCESS};
 }
 
+met *refusing_met(void)
+{
+    return &by->met;
+}
+
 VkResult refusing_draw(enum refusable function)
 {
     const struct refused_function *drawn = &FUNCTIONS[function];

@@ -19,11 +19,13 @@ enum refusable {
 
 /* What the driver returned during a call of the allocator. */
 typedef struct met {
-    uint32_t objects; /* asked for */
-    VkResult first;   /* the first error, or VK_SUCCESS */
-    VkResult last;    /* the last result; an error after which another memory type may be tried counts too */
-    VkResult ending;  /* the first error that a request for memory ends with, or VK_SUCCESS */
-    bool is_unbound;  /* a bind was refused */
+    uint32_t objects;    /* asked for */
+    VkResult first;      /* the first error, or VK_SUCCESS */
+    VkResult last;       /* the last result; an error after which another memory type may be tried counts too */
+    VkResult ending;     /* the first error that a request for memory ends with, or VK_SUCCESS */
+    bool is_unbound;     /* a bind was refused */
+    VkDeviceMemory made; /* the object that was made last, or null */
+    bool is_chained;     /* it has what the program chains to its requests */
 } met;
 
 /* A thread's draws. */
@@ -38,6 +40,9 @@ void refusing_by(refuser *r);
 
 /* A call of the allocator begins in this thread. */
 void refusing_begins(void);
+
+/* What the thread's current call of the allocator met. */
+met *refusing_met(void);
 
 /* The error with which a call is refused, or VK_SUCCESS. */
 VkResult refusing_draw(enum refusable function);

@@ -7,10 +7,19 @@
 /* How resources come to their memory, in percent; the others are created by the allocator. */
 enum { ALLOCATED_FOR_PERCENT = 8, BOUND_BY_HAND_PERCENT = 6, IMPORTED_PERCENT = 4 };
 /* What is drawn of a request, in percent. */
-enum { ADDRESSES_PERCENT = 25, REQUIRED_PERCENT = 4, PREFERRED_PERCENT = 6, FEW_TYPES_PERCENT = 4 };
+enum {
+    ADDRESSES_PERCENT = 25,
+    REQUIRED_PERCENT = 4,
+    PREFERRED_PERCENT = 6,
+    FEW_TYPES_PERCENT = 4,
+    CHAINED_PERCENT = 10,
+};
 enum { MAPPED_AT_END_PERCENT = 5 };
 
 static const VkFormat FORMAT = VK_FORMAT_R8G8B8A8_UNORM;
+
+/* What the program chains to a request: an export to nothing. */
+static const VkExportMemoryAllocateInfo CHAINED = {.sType = VK_STRUCTURE_TYPE_EXPORT_MEMORY_ALLOCATE_INFO};
 
 static VkDevice handle_of(const worker *w)
 {
@@ -117,6 +126,7 @@ static wtv_request drawn_request(worker *w, const resource *r)
         .memory_types = random_in_hundred(&w->random, FEW_TYPES_PERCENT) ? random_below(&w->random, 64) : 0,
         .dedicated = drawn_dedicated(w),
         .user = (uint64_t)w->number << 32 | w->opened,
+        .next = random_in_hundred(&w->random, CHAINED_PERCENT) ? &CHAINED : NULL,
     };
 }
 
@@ -131,26 +141,54 @@ static void add_what_is_known(resource *r)
 
 /* ---- Memory. ---- */
 
+static wt_heap_counts heap_of(const worker *w, uint32_t memory_type)
+{
+    wt_heap_counts heap;
+    uint32_t index = driver_memory().memoryTypes[memory_type].heapIndex;
+    must(wtv_heap(w->run->allocator, index, &heap) == VK_SUCCESS, "wtv_heap");
+    return heap;
+}
+
+/* An object that was made for a block has what the program chained, exactly if it holds the block alone. A block in a
+   held object is granted even where its heap is over its limit. */
+static VkResult granted(worker *w, const resource *r, VkResult result)
+{
+    const met *met = refusing_met();
+    if (result != VK_SUCCESS)
+        return result;
+    const wt_heap_counts heap = heap_of(w, r->block.memory_type);
+    if (met->made == r->block.memory)
+        must(met->is_chained == (r->request.next != NULL && r->block.dedicated),
+             "an object has another chain than its request");
+    else
+        w->tally.over_limit += heap.used > heap.limit;
+    return result;
+}
+
 static VkResult create(worker *w, resource *r)
 {
     wtv_allocator *a = w->run->allocator;
-    const wtv_request *request = &r->request;
     const VkBufferCreateInfo buffer = buffer_info(r);
     const VkImageCreateInfo image = image_info(r);
+    VkResult result;
     request_begins(w);
     if (r->kind == BUFFER)
-        return request_ends(w, wtv_create_buffer(a, &buffer, request, &r->buffer, &r->allocation, &r->block));
-    return request_ends(w, wtv_create_image(a, &image, request, &r->image, &r->allocation, &r->block));
+        result = wtv_create_buffer(a, &buffer, &r->request, &r->buffer, &r->allocation, &r->block);
+    else
+        result = wtv_create_image(a, &image, &r->request, &r->image, &r->allocation, &r->block);
+    return granted(w, r, request_ends(w, result));
 }
 
 static VkResult allocate_for(worker *w, resource *r)
 {
     wtv_allocator *a = w->run->allocator;
-    const wtv_request *request = &r->request;
+    VkResult result;
     request_begins(w);
     if (r->kind == BUFFER)
-        return request_ends(w, wtv_allocate_for_buffer(a, r->buffer, request, &r->allocation, &r->block));
-    return request_ends(w, wtv_allocate_for_image(a, r->image, request, &r->allocation, &r->block));
+        result = wtv_allocate_for_buffer(a, r->buffer, &r->request, &r->allocation, &r->block);
+    else
+        result = wtv_allocate_for_image(a, r->image, &r->request, &r->allocation, &r->block);
+    return granted(w, r, request_ends(w, result));
 }
 
 /* Binds a resource to the block that it has already. A bind that is refused is made again. */
@@ -170,7 +208,8 @@ static VkResult allocate_by_hand(worker *w, resource *r, const VkMemoryRequireme
 {
     wtv_allocator *a = w->run->allocator;
     request_begins(w);
-    VkResult result = request_ends(w, wtv_allocate(a, needs, &r->request, &r->allocation, &r->block));
+    VkResult result = wtv_allocate(a, needs, &r->request, &r->allocation, &r->block);
+    result = granted(w, r, request_ends(w, result));
     if (result == VK_SUCCESS)
         bind(w, r);
     return result;
@@ -192,15 +231,7 @@ static VkResult make_object(const resource *r, uint32_t memory_type, VkDeviceSiz
     return driver_make(&info, memory);
 }
 
-/* Whether a heap's limit leaves room. An import is not refused for it, so the program looks. */
-static bool has_room(const worker *w, uint32_t memory_type, VkDeviceSize size)
-{
-    wt_heap_counts heap;
-    uint32_t index = driver_memory().memoryTypes[memory_type].heapIndex;
-    must(wtv_heap(w->run->allocator, index, &heap) == VK_SUCCESS, "wtv_heap");
-    return size <= heap.budget;
-}
-
+/* An import is not refused for a heap's limit, so the program looks. */
 static VkResult import(worker *w, resource *r, const VkMemoryRequirements *needs)
 {
     wtv_allocator *a = w->run->allocator;
@@ -208,7 +239,7 @@ static VkResult import(worker *w, resource *r, const VkMemoryRequirements *needs
     uint32_t types[32], count;
     uint32_t permitted = needs->memoryTypeBits & (r->request.memory_types != 0 ? r->request.memory_types : UINT32_MAX);
     must(wtv_candidates(a, r->request.usage, permitted, types, &count) == VK_SUCCESS, "wtv_candidates");
-    if (count == 0 || !has_room(w, types[0], needs->size)
+    if (count == 0 || needs->size > heap_of(w, types[0]).budget
         || make_object(r, types[0], needs->size, &memory) != VK_SUCCESS)
         return VK_ERROR_OUT_OF_DEVICE_MEMORY;
     VkResult result = wtv_import(a, memory, types[0], needs->size, 0, needs->size, &r->allocation, &r->block);
@@ -294,15 +325,6 @@ static void check_address(const worker *w, const resource *r)
     must(!r->has_address || vkGetBufferDeviceAddress(handle_of(w), &info) != 0, "a buffer has no address");
 }
 
-/* Counts blocks that were granted in held objects while their heap was over its limit. */
-static void count_over_limit(worker *w, const resource *r)
-{
-    wt_heap_counts heap;
-    uint32_t index = driver_memory().memoryTypes[r->block.memory_type].heapIndex;
-    must(wtv_heap(w->run->allocator, index, &heap) == VK_SUCCESS, "wtv_heap");
-    w->tally.over_limit += w->refuser.met.objects == 0 && heap.used > heap.limit;
-}
-
 VkResult resource_open(worker *w, resource *r, const content *bytes, enum kind kind, bool is_seen)
 {
     *r = (resource){.content = *bytes, .kind = kind, .is_seen = is_seen};
@@ -316,7 +338,6 @@ VkResult resource_open(worker *w, resource *r, const content *bytes, enum kind k
         return result;
     }
     w->tally.created++;
-    count_over_limit(w, r);
     check_block(w, r);
     keep_pages(w, r);
     check_address(w, r);
