@@ -1,4 +1,4 @@
-/* Allocations and returns without a question, to be counted by callgrind: see the script cost.
+/* Allocations and returns without a question, with the block shown, to be counted by callgrind: see the script cost.
  *
  *     cost TIMES */
 #include "stub.h"
@@ -14,15 +14,14 @@ int main(int argc, char **argv)
     wtv_create_info info = stub_info(driver);
     wtv_allocator *a;
     wtv_allocation held, allocation;
+    wtv_block block;
     info.flags |= WTV_CREATE_NO_LOCK;
     must(wtv_create(&info, &a) == VK_SUCCESS, "no allocator is created");
     must(wtv_allocate(a, &needs, &request, &held, NULL) == VK_SUCCESS, "no block is allocated");
     uint64_t objects = stub_calls(driver, STUB_ALLOCATE);
     for (unsigned long i = 0; i < times; i++) {
-        if (wtv_allocate(a, &needs, &request, &allocation, NULL) != VK_SUCCESS)
-            must(false, "no block is allocated");
-        if (wtv_free(a, allocation) != VK_SUCCESS)
-            must(false, "a block is not taken back");
+        must(wtv_allocate(a, &needs, &request, &allocation, &block) == VK_SUCCESS, "no block is allocated");
+        must(wtv_free(a, allocation) == VK_SUCCESS, "a block is not taken back");
     }
     must(stub_calls(driver, STUB_ALLOCATE) == objects, "a question came");
     must(wtv_free(a, held) == VK_SUCCESS, "a block is not taken back");

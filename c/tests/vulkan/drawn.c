@@ -16,7 +16,7 @@ enum {
     MOST_MAPS = 3,
     MOST_RANGES = 40,
     MOST_TRIES = 2000,
-    RUN_OF_NOTE = 2000,    /* resources from which on each thing has to come to pass */
+    RUN_OF_NOTE = 8000,    /* resources from which on each thing has to come to pass */
     MANY_REFUSALS = 50000, /* resources by percents */
     COARSE = 1024, /* a multiple of each atom */
 };
@@ -640,9 +640,11 @@ static void limit_heap(worker *w)
 {
     world *o = w->world;
     uint32_t heap = (uint32_t)drawn(w, STUB_HEAPS);
-    VkDeviceSize limit = drawn(w, 2) == 0 ? stub_heaps[heap].size : drawn(w, stub_heaps[heap].size);
+    uint64_t dice = drawn(w, 4);
     wt_heap_counts before, after;
     must(wtv_heap(o->allocator, heap, &before) == VK_SUCCESS, "a heap is not counted");
+    VkDeviceSize size = stub_heaps[heap].size;
+    VkDeviceSize limit = dice < 2 ? size : drawn(w, dice == 2 ? size : before.used + 1);
     if (limit > before.limit)
         stub_set_limit(o->driver, heap, limit);
     must(wtv_set_heap_limit(o->allocator, heap, limit) == VK_SUCCESS, "a limit is not set");
@@ -680,7 +682,7 @@ static void touch(worker *w, resource *r)
 {
     static const wtv_allocation unknown = UINT64_C(0xffffffff00000001);
     wtv_block block;
-    uint64_t dice = drawn(w, 12);
+    uint64_t dice = drawn(w, 16);
     if (dice == 0) {
         write_by_device(w, r);
     } else if (dice == 1) {
@@ -694,7 +696,7 @@ static void touch(worker *w, resource *r)
         compare_by_host(w, r);
     } else if (is_visible(r) && dice < 8) {
         write_by_host(w, r);
-    } else if (is_visible(r) && dice < 10 && r->maps < MOST_MAPS) {
+    } else if (is_visible(r) && dice < 14 && r->maps < MOST_MAPS) {
         map(w, r);
     } else {
         unmap(w, r);
@@ -737,8 +739,10 @@ static uint64_t opened_of(const worker *w)
 static void *work(void *argument)
 {
     worker *w = argument;
-    while (opened_of(w) < w->wanted)
+    while (opened_of(w) < w->wanted) {
         step(w);
+        must(stub_failures(w->world->driver) == 0, "the stub found a failure");
+    }
     return NULL;
 }
 
@@ -980,15 +984,15 @@ static void check_not_destroyed(world *o, const worker *workers)
     must(count == wanted && known == wanted, "a list of live blocks lacks one");
 }
 
-/* Each function was refused, and in longer runs with each of its errors. */
+/* In long runs each function was refused, and in longer ones with each of its errors. */
 static void check_refusals(const world *o, uint64_t resources)
 {
-    if (o->percent == 0 || resources < RUN_OF_NOTE)
+    if (resources * o->percent < MANY_REFUSALS)
         return;
     for (int i = 0; i < STUB_FUNCTIONS; i++) {
         const VkResult *errors = stub_errors_of((stub_function)i);
         must(errors[0] == VK_SUCCESS || stub_refusals(o->driver, (stub_function)i) > 0, "a function is never refused");
-        for (size_t j = 0; errors[j] != VK_SUCCESS && resources * o->percent >= MANY_REFUSALS; j++)
+        for (size_t j = 0; errors[j] != VK_SUCCESS && resources * o->percent >= 4 * MANY_REFUSALS; j++)
             must(stub_refusals_with(o->driver, (stub_function)i, j) > 0, "an error is never returned");
     }
 }

@@ -1,9 +1,12 @@
-/* A million allocations and returns leave the process as large as a thousand. */
+/* A million allocations and returns leave the process as large as a thousand: the same ones come again and again, so
+ * that what the device holds, which is memory of the process here, is never more than in the first round. */
 #include "stub.h"
 
 #include <string.h>
 
-enum { FEW = 1000, MANY = 1000000, LIVE = 64, MOST_KIBIBYTES = 256 };
+enum { ROUND = 1000, ROUNDS = 1000, LIVE = 64 };
+/* What malloc may take more until its free pieces fit. Where one allocation in 16 loses a piece, it is 2 MiB. */
+enum { MOST_KIBIBYTES = 512 };
 
 typedef struct held {
     VkBuffer buffer;
@@ -25,7 +28,7 @@ static long peak_kibibytes(void)
     return peak;
 }
 
-/* One of them in sixteen has an object of its own, and is mapped when it is freed; one in 128 has a resource. */
+/* One of them in sixteen has an object of its own, and is mapped when it is freed; another one has a buffer. */
 static void exchange(wtv_allocator *a, held *h, uint64_t number)
 {
     const VkMemoryRequirements needs = {1 + mixed(number) % 3000, 64, STUB_ALL_TYPES};
@@ -38,7 +41,7 @@ static void exchange(wtv_allocator *a, held *h, uint64_t number)
         request.usage |= WT_USAGE_TRANSIENT;
     if (number % 16 == 0)
         request.dedicated = WT_REQUIRED;
-    if (number % 128 == 1)
+    if (number % 16 == 1)
         must(wtv_create_buffer(a, &info, &request, &h->buffer, &h->allocation, NULL) == VK_SUCCESS, "no buffer");
     else
         must(wtv_allocate(a, &needs, &request, &h->allocation, NULL) == VK_SUCCESS, "no block");
@@ -46,10 +49,15 @@ static void exchange(wtv_allocator *a, held *h, uint64_t number)
         must(wtv_map(a, h->allocation, &bytes) == VK_SUCCESS, "a block is not mapped");
 }
 
-static void exchange_many(wtv_allocator *a, held *live, uint64_t times)
+/* Each round ends with nothing live. */
+static void exchange_all(wtv_allocator *a, held *live)
 {
-    for (uint64_t i = 0; i < times; i++)
+    for (uint64_t i = 0; i < ROUND; i++)
         exchange(a, &live[mixed(i) % LIVE], i);
+    for (size_t i = 0; i < LIVE; i++) {
+        must(wtv_destroy_buffer(a, live[i].buffer, live[i].allocation) == VK_SUCCESS, "a block is not taken back");
+        live[i] = (held){0};
+    }
 }
 
 int main(void)
@@ -60,19 +68,18 @@ int main(void)
     wtv_create_info info = stub_info(driver);
     wtv_allocator *a;
     must(wtv_create(&info, &a) == VK_SUCCESS, "no allocator is created");
-    exchange_many(a, live, FEW);
+    exchange_all(a, live);
     long few = peak_kibibytes();
-    exchange_many(a, live, MANY);
+    for (int i = 1; i < ROUNDS; i++)
+        exchange_all(a, live);
     long many = peak_kibibytes();
-    for (size_t i = 0; i < LIVE; i++)
-        must(wtv_destroy_buffer(a, live[i].buffer, live[i].allocation) == VK_SUCCESS, "a block is not taken back");
     must(wtv_destroy(a, NULL, 0, NULL) == VK_SUCCESS, "an allocator is not destroyed");
     must(stub_close(driver) == 0, "the stub found failures");
     if (few < 0) {
         printf("size: left out, since /proc/self/status does not say it here\n");
         return 0;
     }
+    printf("size: %ld KiB after %d allocations and returns, %ld KiB after %d\n", few, ROUND, many, ROUND * ROUNDS);
     must(many - few <= MOST_KIBIBYTES, "the process grows");
-    printf("size: %ld KiB after %d allocations and returns, %ld KiB after %d\n", few, FEW, many, FEW + MANY);
     return 0;
 }

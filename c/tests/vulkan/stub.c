@@ -4,7 +4,7 @@
 #include <string.h>
 
 enum {
-    MOST_HANDLES = 1 << 15, /* of one kind at once */
+    MOST_HANDLES = 1 << 12, /* of one kind at once */
     MOST_PRINTED = 20,      /* failures */
     NEVER_WRITTEN = 0xcd,   /* what the host sees where it neither wrote nor invalidated */
 };
@@ -119,7 +119,8 @@ struct stub {
     stub_plan plan;
     pthread_mutex_t lock; /* over the tables, what is bound, and what is held and told */
     table objects, buffers, images;
-    VkDeviceSize used[STUB_HEAPS], limits[STUB_HEAPS], budgets[STUB_HEAPS], beside[STUB_HEAPS];
+    VkDeviceSize used[STUB_HEAPS], used_by_program[STUB_HEAPS]; /* by the allocator's objects, and the program's own */
+    VkDeviceSize limits[STUB_HEAPS], budgets[STUB_HEAPS], beside[STUB_HEAPS];
     bool is_budget_told;
     uint64_t budgets_below;
     bool is_hidden[STUB_FUNCTIONS];
@@ -136,7 +137,7 @@ struct stub {
 };
 
 static __thread uint64_t calls_of_thread[STUB_FUNCTIONS];
-static __thread unsigned work_depth;
+static __thread volatile unsigned work_depth; /* volatile: to the compiler, a calloc does not read it */
 
 static uint64_t counted(uint64_t *counter, uint64_t more)
 {
@@ -490,7 +491,7 @@ static void fill_budget(stub *s, VkPhysicalDeviceMemoryBudgetPropertiesEXT *budg
         if (s->plan.draws_budgets)
             draw_budget(s, i);
         budget->heapBudget[i] = s->budgets[i];
-        budget->heapUsage[i] = s->used[i] + s->beside[i];
+        budget->heapUsage[i] = s->used[i] + s->used_by_program[i] + s->beside[i];
         s->budgets_below += budget->heapBudget[i] < budget->heapUsage[i];
     }
     leave(s);
@@ -633,8 +634,8 @@ static VKAPI_ATTR void VKAPI_CALL free_memory(VkDevice device, VkDeviceMemory me
     holds(s, freed->bound == NULL, name, "a resource is bound to the object");
     for (resource *bound = freed->bound; bound != NULL; bound = bound->next)
         bound->memory = NULL;
-    if (!freed->is_programs)
-        s->used[stub_types[freed->type].heapIndex] -= freed->size;
+    VkDeviceSize *used = freed->is_programs ? s->used_by_program : s->used;
+    used[stub_types[freed->type].heapIndex] -= freed->size;
     leave(s);
     freed->is_mapped = false;
     free(freed->bytes);
@@ -1162,6 +1163,8 @@ VkDeviceMemory stub_make_object(stub *s, uint32_t memory_type, VkDeviceSize size
 {
     enter(s);
     bool has_room = s->objects.live < s->plan.max_objects;
+    if (has_room)
+        s->used_by_program[stub_types[memory_type].heapIndex] += size;
     leave(s);
     if (!has_room)
         return VK_NULL_HANDLE;
