@@ -45,10 +45,10 @@ static slot *slot_of(const table *t, uint64_t key)
     return &t->slots[i];
 }
 
-/* The value of a key, or null where it has none. */
+/* The value of a key, or null where it has none. 0 never has one. */
 static uintptr_t *value_of(const table *t, uint64_t key)
 {
-    slot *found = t->count == 0 ? NULL : slot_of(t, key);
+    slot *found = t->count == 0 || key == 0 ? NULL : slot_of(t, key);
     return found != NULL && found->key == key ? &found->value : NULL;
 }
 
@@ -278,11 +278,15 @@ static uint32_t answer(wtv_allocator *a, work *w, const wt_question *question)
     return answer_of(w->result);
 }
 
-/* A refusal that the driver caused is the driver's. */
+/* A refusal that the driver caused is the driver's. Where it lacked device memory, the core may still end the request
+   for another reason. */
 static VkResult ended(const work *w, uint32_t status)
 {
-    bool is_of_driver = status == WT_OUT_OF_DEVICE_MEMORY || status == WT_OUT_OF_HOST_MEMORY || status == WT_MAP_FAILED;
-    return is_of_driver && w->result != VK_SUCCESS ? w->result : result_of(status);
+    uint32_t answered = answer_of(w->result);
+    bool lacked_device_memory = answered == WT_NO_DEVICE_MEMORY && status == WT_OUT_OF_DEVICE_MEMORY;
+    bool was_ended = (answered == WT_NO_HOST_MEMORY || answered == WT_DEVICE_MAP_FAILED)
+                     && status == WT_OUT_OF_HOST_MEMORY;
+    return lacked_device_memory || was_ended ? w->result : result_of(status);
 }
 
 /* Serves a request, under the lock. */
@@ -462,8 +466,10 @@ VkResult wtv_create_image(wtv_allocator *a, const VkImageCreateInfo *info, const
     VkImage created;
     if ((info->flags & refused) != 0)
         return VK_ERROR_FEATURE_NOT_PRESENT;
+    if (wish.flags != 0)
+        return VK_ERROR_VALIDATION_FAILED_EXT;
     if (info->tiling != VK_IMAGE_TILING_LINEAR)
-        wish.flags |= WT_OPTIMAL;
+        wish.flags = WT_OPTIMAL;
     VkResult result = a->call.create_image(a->device, info, a->callbacks, &created);
     if (result != VK_SUCCESS)
         return result;
@@ -734,9 +740,9 @@ static VkResult add_range(wtv_allocator *a, const wtv_range *range, VkMappedMemo
     VkDeviceSize size = range->size;
     if (size == VK_WHOLE_SIZE && range->offset <= block.size)
         size = block.size - range->offset;
+    if (held->host == NULL)
+        return VK_ERROR_VALIDATION_FAILED_EXT;
     result = result_of(wt_range_of(&a->core, range->allocation, range->offset, size, &whole));
-    if (result == VK_SUCCESS && held->host == NULL)
-        result = VK_ERROR_VALIDATION_FAILED_EXT;
     if (result == VK_SUCCESS && whole.size > 0)
         ranges[(*count)++] = (VkMappedMemoryRange){
             .sType = VK_STRUCTURE_TYPE_MAPPED_MEMORY_RANGE,
@@ -1205,10 +1211,19 @@ static VkResult open_all(wtv_allocator *a, const wtv_create_info *info)
     return result;
 }
 
+/* Whether the fields may stand so. The upper three bits of a version are its variant, which Vulkan has as 0. */
+static bool is_info(const wtv_create_info *info)
+{
+    uint32_t version = info->api_version;
+    bool has_handles =
+        info->instance != VK_NULL_HANDLE && info->physical_device != VK_NULL_HANDLE && info->device != VK_NULL_HANDLE;
+    bool is_version = version == 0 || (version >= VK_API_VERSION_1_0 && version >> 29 == 0);
+    return has_handles && is_version && (info->flags & ~(uint32_t)KNOWN_FLAGS) == 0;
+}
+
 VkResult wtv_create(const wtv_create_info *info, wtv_allocator **allocator)
 {
-    bool has_handles = info->physical_device != VK_NULL_HANDLE && info->device != VK_NULL_HANDLE;
-    if (!has_handles || (info->flags & ~(uint32_t)KNOWN_FLAGS) != 0)
+    if (!is_info(info))
         return VK_ERROR_INITIALIZATION_FAILED;
     wtv_allocator *a = calloc(1, sizeof *a);
     if (a == NULL)

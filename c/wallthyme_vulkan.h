@@ -110,7 +110,8 @@ typedef struct wtv_request {
     uint32_t memory_types; /* bit i permits memory type i; 0 permits all. Those of the resource's requirements that the
                               library knows remain of it */
     uint32_t dedicated;    /* WT_SHARED, WT_PREFERRED or WT_REQUIRED; raised to what the driver asks for */
-    uint32_t flags;        /* for wtv_allocate: WT_OPTIMAL for an image whose tiling is not linear. Else 0 */
+    uint32_t flags;        /* for wtv_allocate and wtv_allocate_for_image: WT_OPTIMAL for an image whose tiling is not
+                              linear. Else 0 */
     uint64_t user;         /* a value of the program's, which stands with the block */
     const void *next;      /* chained to VkMemoryAllocateInfo exactly where the object holds this block alone: a
                               priority, an export. It stays the program's. A structure that has to be chained wants
@@ -164,7 +165,8 @@ void wtv_default_config(const VkPhysicalDeviceMemoryProperties *memory, wt_confi
 /* Creates a buffer, allocates memory for it and binds it. *block is what wtv_block_of tells; block may be null.
    Not for sparse buffers (VK_ERROR_FEATURE_NOT_PRESENT).
    Where the driver refuses an object with VK_ERROR_OUT_OF_DEVICE_MEMORY or VK_ERROR_TOO_MANY_OBJECTS, the next memory
-   type is tried. Any other error ends the request. Whatever was made is destroyed then. */
+   type is tried. Any other error ends the request. Whatever was made is destroyed then. Where the bind is refused, the
+   block is freed as by wtv_free: a free chunk of transient blocks may stay. */
 VkResult wtv_create_buffer(wtv_allocator *a, const VkBufferCreateInfo *info, const wtv_request *request,
                            VkBuffer *buffer, wtv_allocation *allocation, wtv_block *block);
 

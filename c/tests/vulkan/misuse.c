@@ -1,0 +1,1404 @@
+/* Each error that wallthyme_vulkan.h names, one at a time, over an allocator with some blocks: the result is the one
+ * that stands there, and nothing is changed. Then each call of the driver is refused in turn with each of its errors,
+ * and each request for memory of this side's. */
+#include "stub.h"
+
+#include <pthread.h>
+#include <string.h>
+
+/* ---- What the linker puts in place of the functions for memory, of the lock's and of wt_version. ---- */
+
+void *__real_malloc(size_t size);
+void *__real_calloc(size_t count, size_t size);
+void *__real_realloc(void *old, size_t size);
+void __real_free(void *memory);
+int __real_pthread_mutex_init(pthread_mutex_t *lock, const pthread_mutexattr_t *attributes);
+uint32_t __real_wt_version(void);
+void *__wrap_malloc(size_t size);
+void *__wrap_calloc(size_t count, size_t size);
+void *__wrap_realloc(void *old, size_t size);
+void __wrap_free(void *memory);
+int __wrap_pthread_mutex_init(pthread_mutex_t *lock, const pthread_mutexattr_t *attributes);
+uint32_t __wrap_wt_version(void);
+
+static long served_before = -1; /* how many requests are served before one is refused; below 0: each is served */
+static bool is_all_refused, is_lock_refused;
+static unsigned refusals;
+static long live_memory; /* pieces */
+static uint32_t other_version;
+
+static void *counted(void *memory)
+{
+    live_memory += memory != NULL;
+    return memory;
+}
+
+/* The driver's own memory never lacks. */
+static bool is_refused(void)
+{
+    if (stub_is_at_work())
+        return false;
+    bool refused = is_all_refused || served_before == 0;
+    if (served_before >= 0)
+        served_before--;
+    refusals += refused;
+    return refused;
+}
+
+void *__wrap_malloc(size_t size)
+{
+    return is_refused() ? NULL : counted(__real_malloc(size));
+}
+
+void *__wrap_calloc(size_t count, size_t size)
+{
+    return is_refused() ? NULL : counted(__real_calloc(count, size));
+}
+
+void *__wrap_realloc(void *old, size_t size)
+{
+    if (is_refused())
+        return NULL;
+    void *larger = __real_realloc(old, size);
+    live_memory += old == NULL && larger != NULL;
+    return larger;
+}
+
+void __wrap_free(void *memory)
+{
+    live_memory -= memory != NULL;
+    __real_free(memory);
+}
+
+int __wrap_pthread_mutex_init(pthread_mutex_t *lock, const pthread_mutexattr_t *attributes)
+{
+    return is_lock_refused ? 1 : __real_pthread_mutex_init(lock, attributes);
+}
+
+uint32_t __wrap_wt_version(void)
+{
+    return other_version != 0 ? other_version : __real_wt_version();
+}
+
+/* ---- The world of a row. ---- */
+
+enum which {
+    SHARED,   /* coherent */
+    CACHED,   /* of a shared object, and not coherent */
+    OWN,      /* an object of its own, not coherent and not mapped */
+    LOCAL,    /* the host does not see it */
+    IMPORTED, /* not coherent */
+    BUFFER,   /* of world.buffer */
+    IMAGE,    /* of world.image */
+    BLOCKS,
+    ZERO = BLOCKS,
+    FREED,
+    UNKNOWN, /* of no allocator */
+    WHICH
+};
+
+enum { BLOCK_SIZE = 4096, OBJECT_SIZE = 64 << 10, SMALL = 1000, SIDE = 20, MANY_RANGES = 40, MOST_OBJECTS = 64 };
+
+typedef struct world {
+    stub *driver;
+    wtv_allocator *allocator;
+    wtv_allocation at[WHICH];
+    VkBuffer buffer, loose_buffer; /* a loose one is bound to nothing */
+    VkImage image, loose_image;
+    VkDeviceMemory loose_memory;
+    wtv_allocation made; /* by the last deed that was done, with its resource */
+    VkBuffer made_buffer;
+    VkImage made_image;
+} world;
+
+static const char *current = "";
+
+static void expect(bool is_so, const char *what)
+{
+    if (!is_so) {
+        fprintf(stderr, "FAILED: %s: %s\n", current, what);
+        exit(1);
+    }
+}
+
+/* A block that each of the small resources fits. The one that the host does not see is for an image. */
+static wtv_allocation allocated(world *w, uint32_t type, uint32_t dedicated)
+{
+    const VkMemoryRequirements needs = {BLOCK_SIZE, BLOCK_SIZE, 1u << type};
+    const wtv_request request = {.dedicated = dedicated, .flags = type == STUB_LOCAL ? WT_OPTIMAL : 0};
+    wtv_allocation allocation = 0;
+    expect(wtv_allocate(w->allocator, &needs, &request, &allocation, NULL) == VK_SUCCESS, "no block is allocated");
+    return allocation;
+}
+
+static VkBuffer made_buffer(world *w)
+{
+    const VkBufferCreateInfo info = stub_buffer_info(SMALL);
+    VkBuffer made = VK_NULL_HANDLE;
+    expect(stub_table.create_buffer(stub_info(w->driver).device, &info, NULL, &made) == VK_SUCCESS, "no buffer");
+    return made;
+}
+
+static VkImage made_image(world *w)
+{
+    const VkImageCreateInfo info = stub_image_info(SIDE, SIDE, true);
+    VkImage made = VK_NULL_HANDLE;
+    expect(stub_table.create_image(stub_info(w->driver).device, &info, NULL, &made) == VK_SUCCESS, "no image");
+    return made;
+}
+
+static void fill(world *w)
+{
+    const VkBufferCreateInfo buffer = stub_buffer_info(SMALL);
+    const VkImageCreateInfo image = stub_image_info(SIDE, SIDE, true);
+    const wtv_request upload = {.usage = WT_USAGE_UPLOAD};
+    w->at[FREED] = allocated(w, STUB_COHERENT, WT_SHARED);
+    w->at[SHARED] = allocated(w, STUB_COHERENT, WT_SHARED);
+    w->at[CACHED] = allocated(w, STUB_CACHED, WT_SHARED);
+    w->at[OWN] = allocated(w, STUB_CACHED, WT_REQUIRED);
+    w->at[LOCAL] = allocated(w, STUB_LOCAL, WT_SHARED);
+    w->at[UNKNOWN] = UINT64_C(0xffffffff00000001);
+    VkDeviceMemory memory = stub_make_object(w->driver, STUB_CACHED, OBJECT_SIZE);
+    expect(wtv_import(w->allocator, memory, STUB_CACHED, OBJECT_SIZE, 0, OBJECT_SIZE, &w->at[IMPORTED], NULL)
+               == VK_SUCCESS, "nothing is imported");
+    expect(wtv_create_buffer(w->allocator, &buffer, &upload, &w->buffer, &w->at[BUFFER], NULL) == VK_SUCCESS,
+           "no buffer is created");
+    expect(wtv_create_image(w->allocator, &image, NULL, &w->image, &w->at[IMAGE], NULL) == VK_SUCCESS,
+           "no image is created");
+    expect(wtv_free(w->allocator, w->at[FREED]) == VK_SUCCESS, "a block is not taken back");
+    w->loose_buffer = made_buffer(w);
+    w->loose_image = made_image(w);
+    w->loose_memory = stub_make_object(w->driver, STUB_CACHED, OBJECT_SIZE);
+}
+
+static world begun(const char *name)
+{
+    stub_plan plan = stub_usual_plan();
+    plan.max_objects = MOST_OBJECTS;
+    world w = {.driver = stub_open(&plan)};
+    wtv_create_info info = stub_info(w.driver);
+    current = name;
+    info.other_objects = 1;
+    expect(wtv_create(&info, &w.allocator) == VK_SUCCESS, "no allocator is created");
+    fill(&w);
+    return w;
+}
+
+static void ended(world *w)
+{
+    VkDevice device = stub_info(w->driver).device;
+    stub_refuse(w->driver, STUB_FUNCTIONS, VK_SUCCESS, 0, false);
+    stub_table.destroy_buffer(device, w->loose_buffer, NULL);
+    stub_table.destroy_image(device, w->loose_image, NULL);
+    stub_table.free_memory(device, w->loose_memory, NULL);
+    for (int i = 0; i < BUFFER; i++)
+        expect(wtv_free(w->allocator, w->at[i]) == VK_SUCCESS, "a block is not taken back");
+    expect(wtv_destroy_buffer(w->allocator, w->buffer, w->at[BUFFER]) == VK_SUCCESS, "a buffer is not destroyed");
+    expect(wtv_destroy_image(w->allocator, w->image, w->at[IMAGE]) == VK_SUCCESS, "an image is not destroyed");
+    expect(wtv_destroy(w->allocator, NULL, 0, NULL) == VK_SUCCESS, "an allocator is not destroyed");
+    expect(stub_close(w->driver) == 0, "the stub found failures");
+}
+
+/* All that can be seen of a world, but for free chunks. */
+typedef struct picture {
+    char *texts[2];
+    wt_counts counts;
+    stub_held held;
+    wtv_block blocks[MOST_OBJECTS + BLOCKS];
+    size_t blocks_len;
+} picture;
+
+static picture taken(world *w)
+{
+    picture seen;
+    memset(&seen, 0, sizeof seen);
+    expect(wtv_cleanup(w->allocator) == VK_SUCCESS, "a cleanup fails");
+    expect(wtv_report_text(w->allocator, &seen.texts[0]) == VK_SUCCESS, "no report");
+    expect(wtv_statistics_text(w->allocator, &seen.texts[1]) == VK_SUCCESS, "no statistics");
+    expect(wtv_count(w->allocator, &seen.counts) == VK_SUCCESS, "nothing is counted");
+    expect(wtv_blocks(w->allocator, 0, seen.blocks, LENGTH(seen.blocks), &seen.blocks_len) == VK_SUCCESS, "no walk");
+    seen.held = stub_held_now(w->driver);
+    return seen;
+}
+
+static void compare(picture before, picture after)
+{
+    expect(strcmp(before.texts[0], after.texts[0]) == 0, "a report is another one");
+    expect(strcmp(before.texts[1], after.texts[1]) == 0, "statistics are other ones");
+    expect(memcmp(&before.counts, &after.counts, sizeof before.counts) == 0, "other things are counted");
+    expect(memcmp(&before.held, &after.held, sizeof before.held) == 0, "the driver holds other things");
+    expect(before.blocks_len == after.blocks_len, "other blocks are live");
+    for (size_t i = 0; i < before.blocks_len; i++)
+        expect(before.blocks[i].allocation == after.blocks[i].allocation
+                   && before.blocks[i].mapped == after.blocks[i].mapped
+                   && before.blocks[i].user == after.blocks[i].user, "a block was changed");
+    for (size_t i = 0; i < LENGTH(before.texts); i++) {
+        wtv_free_text(before.texts[i]);
+        wtv_free_text(after.texts[i]);
+    }
+}
+
+/* ---- Rows. ---- */
+
+typedef struct row {
+    const char *name;
+    VkResult wanted;
+    VkResult (*call)(world *, const struct row *);
+    enum which which;
+    uint64_t offset, size;
+    wtv_request request;
+    uint32_t flags;  /* of a resource, or bits of memory types */
+    uint32_t number; /* of a memory type, a heap, an alignment or a usage */
+    void (*prepare)(world *, const struct row *);
+} row;
+
+static const char bytes_of_program[BLOCK_SIZE];
+
+static VkResult call_block_of(world *w, const row *r)
+{
+    wtv_block block;
+    return wtv_block_of(w->allocator, w->at[r->which], &block);
+}
+
+static VkResult call_set_user(world *w, const row *r)
+{
+    return wtv_set_user(w->allocator, w->at[r->which], 7);
+}
+
+static VkResult call_free(world *w, const row *r)
+{
+    return wtv_free(w->allocator, w->at[r->which]);
+}
+
+static VkResult call_map(world *w, const row *r)
+{
+    void *bytes = w;
+    VkResult result = wtv_map(w->allocator, w->at[r->which], &bytes);
+    expect(result == VK_SUCCESS || bytes == w, "an error writes a pointer");
+    return result;
+}
+
+static VkResult call_unmap(world *w, const row *r)
+{
+    return wtv_unmap(w->allocator, w->at[r->which]);
+}
+
+static VkResult call_write(world *w, const row *r)
+{
+    return wtv_write(w->allocator, w->at[r->which], r->offset, bytes_of_program, (size_t)r->size);
+}
+
+static VkResult call_read(world *w, const row *r)
+{
+    char bytes[BLOCK_SIZE];
+    return wtv_read(w->allocator, w->at[r->which], r->offset, bytes, (size_t)r->size);
+}
+
+/* The ranges of a row: r->number good ones before the one that it names. */
+static size_t ranges_of(const world *w, const row *r, wtv_range *ranges)
+{
+    for (uint32_t i = 0; i < r->number; i++)
+        ranges[i] = (wtv_range){w->at[CACHED], i, 1};
+    ranges[r->number] = (wtv_range){w->at[r->which], r->offset, r->size};
+    return (size_t)r->number + 1;
+}
+
+static VkResult call_flush(world *w, const row *r)
+{
+    wtv_range ranges[MANY_RANGES + 1];
+    return wtv_flush(w->allocator, ranges, ranges_of(w, r, ranges));
+}
+
+static VkResult call_invalidate(world *w, const row *r)
+{
+    wtv_range ranges[MANY_RANGES + 1];
+    return wtv_invalidate(w->allocator, ranges, ranges_of(w, r, ranges));
+}
+
+static VkResult call_flush_too_many(world *w, const row *r)
+{
+    const wtv_range range = {w->at[r->which], 0, 1};
+    return wtv_flush(w->allocator, &range, (size_t)UINT32_MAX + 1);
+}
+
+static VkResult call_bind_buffer(world *w, const row *r)
+{
+    return wtv_bind_buffer(w->allocator, w->at[r->which], r->offset, w->loose_buffer);
+}
+
+static VkResult call_bind_image(world *w, const row *r)
+{
+    return wtv_bind_image(w->allocator, w->at[r->which], r->offset, w->loose_image);
+}
+
+static VkResult call_bind_no_buffer(world *w, const row *r)
+{
+    return wtv_bind_buffer(w->allocator, w->at[r->which], r->offset, VK_NULL_HANDLE);
+}
+
+static VkResult call_bind_no_image(world *w, const row *r)
+{
+    return wtv_bind_image(w->allocator, w->at[r->which], r->offset, VK_NULL_HANDLE);
+}
+
+static VkResult call_destroy_buffer(world *w, const row *r)
+{
+    return wtv_destroy_buffer(w->allocator, w->loose_buffer, w->at[r->which]);
+}
+
+static VkResult call_destroy_image(world *w, const row *r)
+{
+    return wtv_destroy_image(w->allocator, w->loose_image, w->at[r->which]);
+}
+
+static VkResult call_destroy_no_buffer(world *w, const row *r)
+{
+    return wtv_destroy_buffer(w->allocator, VK_NULL_HANDLE, w->at[r->which]);
+}
+
+static VkResult call_destroy_no_image(world *w, const row *r)
+{
+    return wtv_destroy_image(w->allocator, VK_NULL_HANDLE, w->at[r->which]);
+}
+
+static VkResult call_import(world *w, const row *r)
+{
+    wtv_allocation allocation = 7;
+    VkResult result = wtv_import(w->allocator, w->loose_memory, r->number, OBJECT_SIZE, r->offset, r->size, &allocation,
+                                 NULL);
+    expect(result == VK_SUCCESS || allocation == 7, "an error writes an allocation");
+    return result;
+}
+
+static VkResult call_candidates(world *w, const row *r)
+{
+    uint32_t types[32], count = 7;
+    VkResult result = wtv_candidates(w->allocator, r->number, STUB_ALL_TYPES, types, &count);
+    expect(result == VK_SUCCESS || count == 7, "an error writes a count");
+    return result;
+}
+
+static VkResult call_set_heap_limit(world *w, const row *r)
+{
+    return wtv_set_heap_limit(w->allocator, r->number, 1000);
+}
+
+static VkResult call_heap(world *w, const row *r)
+{
+    wt_heap_counts counts;
+    return wtv_heap(w->allocator, r->number, &counts);
+}
+
+static VkResult call_statistics(world *w, const row *r)
+{
+    wt_type_statistics statistics;
+    return wtv_statistics(w->allocator, r->number, &statistics);
+}
+
+static VkResult call_update_budget(world *w, const row *r)
+{
+    (void)r;
+    return wtv_update_budget(w->allocator);
+}
+
+static VkResult call_destroy(world *w, const row *r)
+{
+    wtv_block live[2];
+    size_t count = 0;
+    VkResult result = wtv_destroy(w->allocator, live, (size_t)r->number, &count);
+    expect(count == BLOCKS, "other blocks are live");
+    return result;
+}
+
+static VkResult call_allocate(world *w, const row *r)
+{
+    const VkMemoryRequirements needs = {r->size, r->number, r->flags};
+    wtv_allocation allocation = 7;
+    VkResult result = wtv_allocate(w->allocator, &needs, &r->request, &allocation, NULL);
+    expect(result == VK_SUCCESS || allocation == 7, "an error writes an allocation");
+    return result;
+}
+
+static VkResult call_allocate_for_buffer(world *w, const row *r)
+{
+    wtv_allocation allocation = 7;
+    VkResult result = wtv_allocate_for_buffer(w->allocator, w->loose_buffer, &r->request, &allocation, NULL);
+    expect(result == VK_SUCCESS || allocation == 7, "an error writes an allocation");
+    return result;
+}
+
+static VkResult call_allocate_for_image(world *w, const row *r)
+{
+    wtv_allocation allocation = 7;
+    VkResult result = wtv_allocate_for_image(w->allocator, w->loose_image, &r->request, &allocation, NULL);
+    expect(result == VK_SUCCESS || allocation == 7, "an error writes an allocation");
+    return result;
+}
+
+static VkResult call_allocate_for_no_buffer(world *w, const row *r)
+{
+    wtv_allocation allocation;
+    return wtv_allocate_for_buffer(w->allocator, VK_NULL_HANDLE, &r->request, &allocation, NULL);
+}
+
+static VkResult call_allocate_for_no_image(world *w, const row *r)
+{
+    wtv_allocation allocation;
+    return wtv_allocate_for_image(w->allocator, VK_NULL_HANDLE, &r->request, &allocation, NULL);
+}
+
+static VkResult call_create_buffer(world *w, const row *r)
+{
+    VkBufferCreateInfo info = stub_buffer_info(r->size);
+    VkBuffer buffer = w->loose_buffer;
+    wtv_allocation allocation = 7;
+    info.flags = r->flags;
+    VkResult result = wtv_create_buffer(w->allocator, &info, &r->request, &buffer, &allocation, NULL);
+    expect(result == VK_SUCCESS || (allocation == 7 && buffer == w->loose_buffer), "an error writes something");
+    return result;
+}
+
+static VkResult call_create_image(world *w, const row *r)
+{
+    VkImageCreateInfo info = stub_image_info((uint32_t)r->size, (uint32_t)r->size, r->number == 0);
+    VkImage image = w->loose_image;
+    wtv_allocation allocation = 7;
+    info.flags = r->flags;
+    VkResult result = wtv_create_image(w->allocator, &info, &r->request, &image, &allocation, NULL);
+    expect(result == VK_SUCCESS || (allocation == 7 && image == w->loose_image), "an error writes something");
+    return result;
+}
+
+static void map_cached(world *w, const row *r)
+{
+    void *bytes;
+    (void)r;
+    expect(wtv_map(w->allocator, w->at[CACHED], &bytes) == VK_SUCCESS, "a block is not mapped");
+}
+
+static void map_and_unmap(world *w, const row *r)
+{
+    void *bytes;
+    expect(wtv_map(w->allocator, w->at[r->which], &bytes) == VK_SUCCESS, "a block is not mapped");
+    expect(wtv_map(w->allocator, w->at[r->which], &bytes) == VK_SUCCESS, "a block is not mapped again");
+    expect(wtv_unmap(w->allocator, w->at[r->which]) == VK_SUCCESS, "a block is not unmapped");
+    expect(wtv_unmap(w->allocator, w->at[r->which]) == VK_SUCCESS, "a block is not unmapped");
+}
+
+static void limit_all_heaps(world *w, const row *r)
+{
+    (void)r;
+    for (uint32_t i = 0; i < STUB_HEAPS; i++) {
+        expect(wtv_set_heap_limit(w->allocator, i, 0) == VK_SUCCESS, "no limit is set");
+        stub_set_limit(w->driver, i, 0);
+    }
+}
+
+/* What holds the objects that the device allows. */
+static wtv_allocation fillers[MOST_OBJECTS];
+static size_t fillers_len;
+
+static void hold_all_objects(world *w, const row *r)
+{
+    const VkMemoryRequirements needs = {16, 1, STUB_ALL_TYPES};
+    const wtv_request request = {.dedicated = WT_REQUIRED};
+    (void)r;
+    fillers_len = 0;
+    while (wtv_allocate(w->allocator, &needs, &request, &fillers[fillers_len], NULL) == VK_SUCCESS)
+        expect(++fillers_len < LENGTH(fillers), "more objects are held than the device allows");
+    expect(stub_refusals(w->driver, STUB_ALLOCATE) == 0, "the stub refused");
+}
+
+static const VkMemoryDedicatedAllocateInfo owner = {
+    .sType = VK_STRUCTURE_TYPE_MEMORY_DEDICATED_ALLOCATE_INFO,
+};
+static const VkMemoryAllocateFlagsInfo address = {
+    .sType = VK_STRUCTURE_TYPE_MEMORY_ALLOCATE_FLAGS_INFO,
+};
+static const VkMemoryPriorityAllocateInfoEXT before_owner = {
+    .sType = VK_STRUCTURE_TYPE_MEMORY_PRIORITY_ALLOCATE_INFO_EXT,
+    .pNext = &owner,
+};
+static const VkMemoryPriorityAllocateInfoEXT before_address = {
+    .sType = VK_STRUCTURE_TYPE_MEMORY_PRIORITY_ALLOCATE_INFO_EXT,
+    .pNext = &address,
+};
+
+#define INVALID VK_ERROR_VALIDATION_FAILED_EXT
+#define ABSENT VK_ERROR_FEATURE_NOT_PRESENT
+#define LACKING VK_ERROR_OUT_OF_DEVICE_MEMORY
+#define UNMAPPABLE VK_ERROR_MEMORY_MAP_FAILED
+#define ALLOCATE .call = call_allocate, .size = 100, .number = 16, .flags = STUB_ALL_TYPES
+
+static const row rows[] = {
+    {"map what the host does not see", UNMAPPABLE, call_map, .which = LOCAL},
+    {"write what the host does not see", UNMAPPABLE, call_write, .which = LOCAL, .size = 1},
+    {"read what the host does not see", UNMAPPABLE, call_read, .which = LOCAL, .size = 1},
+    {"unmap a shared block that is not mapped", INVALID, call_unmap, .which = SHARED},
+    {"unmap an own block that is not mapped", INVALID, call_unmap, .which = OWN},
+    {"unmap what the host does not see", INVALID, call_unmap, .which = LOCAL},
+    {"unmap once too often", INVALID, call_unmap, .which = OWN, .prepare = map_and_unmap},
+    {"unmap a shared block once too often", INVALID, call_unmap, .which = CACHED, .prepare = map_and_unmap},
+    {"unmap 0 beside a mapped block", INVALID, call_unmap, .which = ZERO, .prepare = map_cached},
+
+    {"write past the end", INVALID, call_write, .which = OWN, .offset = BLOCK_SIZE - 1, .size = 2},
+    {"write behind the end", INVALID, call_write, .which = OWN, .offset = BLOCK_SIZE + 1},
+    {"write from far behind", INVALID, call_write, .which = OWN, .offset = UINT64_MAX, .size = 2},
+    {"write too much", INVALID, call_write, .which = OWN, .offset = 1, .size = SIZE_MAX},
+    {"read past the end", INVALID, call_read, .which = OWN, .offset = BLOCK_SIZE - 1, .size = 2},
+    {"read behind the end", INVALID, call_read, .which = OWN, .offset = BLOCK_SIZE + 1},
+    {"read from far behind", INVALID, call_read, .which = OWN, .offset = UINT64_MAX, .size = 2},
+    {"read too much", INVALID, call_read, .which = OWN, .offset = 1, .size = SIZE_MAX},
+
+    {"flush what is not mapped", INVALID, call_flush, .which = OWN, .size = 1},
+    {"flush all of what is not mapped", INVALID, call_flush, .which = OWN, .size = VK_WHOLE_SIZE},
+    {"flush nothing of what is not mapped", INVALID, call_flush, .which = OWN},
+    {"flush what was mapped", INVALID, call_flush, .which = OWN, .size = 1, .prepare = map_and_unmap},
+    {"flush what the host does not see", INVALID, call_flush, .which = LOCAL, .size = 1},
+    {"flush past the end", INVALID, call_flush, .which = IMPORTED, .offset = OBJECT_SIZE, .size = 1},
+    {"flush past a shared block's end", INVALID, call_flush, .which = CACHED, .size = OBJECT_SIZE},
+    {"flush from behind the end", INVALID, call_flush, .which = CACHED, .offset = OBJECT_SIZE, .size = VK_WHOLE_SIZE},
+    {"flush an unknown block behind a good one", INVALID, call_flush, .which = FREED, .size = 1, .number = 1},
+    {"flush an unknown block behind many", INVALID, call_flush, .which = UNKNOWN, .size = 1, .number = MANY_RANGES},
+    {"flush more than a driver takes", INVALID, call_flush_too_many, .which = CACHED},
+    {"invalidate what is not mapped", INVALID, call_invalidate, .which = OWN, .size = 1},
+    {"invalidate what the host does not see", INVALID, call_invalidate, .which = LOCAL, .size = 1},
+    {"invalidate past the end", INVALID, call_invalidate, .which = CACHED, .size = OBJECT_SIZE},
+    {"invalidate from behind the end", INVALID, call_invalidate, .which = CACHED, .offset = OBJECT_SIZE,
+     .size = VK_WHOLE_SIZE},
+    {"invalidate an unknown block behind many", INVALID, call_invalidate, .which = FREED, .size = 1,
+     .number = MANY_RANGES},
+
+    {"bind a buffer behind the end", INVALID, call_bind_buffer, .which = SHARED, .offset = BLOCK_SIZE},
+    {"bind a buffer far behind", INVALID, call_bind_buffer, .which = SHARED, .offset = UINT64_MAX},
+    {"bind an image behind the end", INVALID, call_bind_image, .which = LOCAL, .offset = BLOCK_SIZE},
+    {"bind no buffer", INVALID, call_bind_no_buffer, .which = SHARED},
+    {"bind no image", INVALID, call_bind_no_image, .which = LOCAL},
+    {"destroy no buffer with an unknown block", INVALID, call_destroy_no_buffer, .which = UNKNOWN},
+    {"destroy no image with a freed block", INVALID, call_destroy_no_image, .which = FREED},
+
+    {"import of no type", INVALID, call_import, .size = OBJECT_SIZE, .number = STUB_TYPES},
+    {"import nothing", INVALID, call_import, .number = STUB_CACHED},
+    {"import past the end", INVALID, call_import, .offset = 1, .size = OBJECT_SIZE, .number = STUB_CACHED},
+    {"import from far behind", INVALID, call_import, .offset = UINT64_MAX, .size = 2, .number = STUB_CACHED},
+    {"import up to the middle of an atom", INVALID, call_import, .size = 100, .number = STUB_CACHED},
+    {"import with all objects held", VK_ERROR_TOO_MANY_OBJECTS, call_import, .size = OBJECT_SIZE,
+     .number = STUB_CACHED, .prepare = hold_all_objects},
+    {"candidates for no usage", INVALID, call_candidates, .number = 0x40},
+    {"candidates for addresses", INVALID, call_candidates, .number = WT_USAGE_DEVICE_ADDRESS},
+    {"limit no heap", INVALID, call_set_heap_limit, .number = STUB_HEAPS},
+    {"count no heap", INVALID, call_heap, .number = STUB_HEAPS},
+    {"statistics of no type", INVALID, call_statistics, .number = STUB_TYPES},
+    {"budgets without the extension", VK_ERROR_EXTENSION_NOT_PRESENT, call_update_budget, .which = ZERO},
+    {"destroy with live blocks", INVALID, call_destroy, .number = 2},
+    {"destroy with live blocks and no room", INVALID, call_destroy, .number = 0},
+
+    {"allocate nothing", INVALID, call_allocate, .number = 16, .flags = STUB_ALL_TYPES},
+    {"allocate with no alignment", INVALID, call_allocate, .size = 100, .flags = STUB_ALL_TYPES},
+    {"allocate with alignment 3", INVALID, call_allocate, .size = 100, .number = 3, .flags = STUB_ALL_TYPES},
+    {"allocate for no usage", INVALID, ALLOCATE, .request.usage = 0x40},
+    {"allocate for addresses", INVALID, ALLOCATE, .request.usage = WT_USAGE_DEVICE_ADDRESS},
+    {"allocate with no such wish", INVALID, ALLOCATE, .request.dedicated = 3},
+    {"allocate with no such flag", INVALID, ALLOCATE, .request.flags = 2},
+    {"allocate with an owner chained", INVALID, ALLOCATE, .request.next = &owner},
+    {"allocate with an address chained", INVALID, ALLOCATE, .request.next = &address},
+    {"allocate with an owner chained behind", INVALID, ALLOCATE, .request.next = &before_owner},
+    {"allocate with an address chained behind", INVALID, ALLOCATE, .request.next = &before_address},
+    {"allocate of no type", ABSENT, call_allocate, .size = 100, .number = 16},
+    {"allocate of types that never serve", ABSENT, call_allocate, .size = 100, .number = 16,
+     .flags = (uint32_t)STUB_ALL_TYPES & ~0u << STUB_SERVING},
+    {"allocate of none of the program's types", ABSENT, call_allocate, .size = 100, .number = 16,
+     .flags = 1u << STUB_LOCAL, .request.memory_types = 1u << STUB_CACHED},
+    {"allocate for the host where it sees nothing", ABSENT, call_allocate, .size = 100, .number = 16,
+     .flags = 1u << STUB_LOCAL, .request.usage = WT_USAGE_HOST_ACCESS},
+    {"allocate more than the device allows", LACKING, call_allocate, .size = (4 << 20) + 1, .number = 16,
+     .flags = STUB_ALL_TYPES},
+    {"allocate over all limits", LACKING, ALLOCATE, .request.dedicated = WT_REQUIRED, .prepare = limit_all_heaps},
+    {"allocate with all objects held", VK_ERROR_TOO_MANY_OBJECTS, ALLOCATE, .request.dedicated = WT_REQUIRED,
+     .prepare = hold_all_objects},
+
+    {"allocate for no buffer", INVALID, call_allocate_for_no_buffer, .which = ZERO},
+    {"allocate for no image", INVALID, call_allocate_for_no_image, .which = ZERO},
+    {"allocate for a buffer with a flag", INVALID, call_allocate_for_buffer, .request.flags = WT_OPTIMAL},
+    {"allocate for a buffer with a wrong flag", INVALID, call_allocate_for_buffer, .request.flags = 2},
+    {"allocate for an image with a wrong flag", INVALID, call_allocate_for_image, .request.flags = 2},
+    {"allocate for a buffer with a wrong chain", INVALID, call_allocate_for_buffer, .request.next = &before_owner},
+    {"allocate for an image with a wrong chain", INVALID, call_allocate_for_image, .request.next = &address},
+
+    {"a sparse buffer", ABSENT, call_create_buffer, .size = 100, .flags = VK_BUFFER_CREATE_SPARSE_BINDING_BIT},
+    {"a buffer of sparse residency", ABSENT, call_create_buffer, .size = 100,
+     .flags = VK_BUFFER_CREATE_SPARSE_RESIDENCY_BIT},
+    {"a sparse aliased buffer", ABSENT, call_create_buffer, .size = 100, .flags = VK_BUFFER_CREATE_SPARSE_ALIASED_BIT},
+    {"a buffer with a flag", INVALID, call_create_buffer, .size = 100, .request.flags = WT_OPTIMAL},
+    {"a buffer with a wrong usage", INVALID, call_create_buffer, .size = 100, .request.usage = 0x80},
+    {"a buffer with a wrong wish", INVALID, call_create_buffer, .size = 100, .request.dedicated = 4},
+    {"a buffer with a wrong chain", INVALID, call_create_buffer, .size = 100, .request.next = &owner},
+    {"a buffer of no permitted type", ABSENT, call_create_buffer, .size = 100,
+     .request.memory_types = 1u << STUB_LAZY},
+    {"a buffer that is too large", LACKING, call_create_buffer, .size = 5 << 20},
+    {"a sparse image", ABSENT, call_create_image, .size = 10, .flags = VK_IMAGE_CREATE_SPARSE_BINDING_BIT},
+    {"an image of sparse residency", ABSENT, call_create_image, .size = 10,
+     .flags = VK_IMAGE_CREATE_SPARSE_RESIDENCY_BIT},
+    {"a sparse aliased image", ABSENT, call_create_image, .size = 10, .flags = VK_IMAGE_CREATE_SPARSE_ALIASED_BIT},
+    {"a disjoint image", ABSENT, call_create_image, .size = 10, .flags = VK_IMAGE_CREATE_DISJOINT_BIT},
+    {"an image with a flag", INVALID, call_create_image, .size = 10, .request.flags = WT_OPTIMAL},
+    {"a linear image with a flag", INVALID, call_create_image, .size = 10, .number = 1, .request.flags = WT_OPTIMAL},
+    {"an image with a wrong chain", INVALID, call_create_image, .size = 10, .request.next = &before_address},
+    {"an image that is too large", LACKING, call_create_image, .size = 1500},
+};
+
+static void undo_preparation(world *w)
+{
+    while (fillers_len > 0)
+        expect(wtv_free(w->allocator, fillers[--fillers_len]) == VK_SUCCESS, "a block is not taken back");
+}
+
+static void run_row(const row *r)
+{
+    world w = begun(r->name);
+    if (r->prepare != NULL)
+        r->prepare(&w, r);
+    uint64_t flushes = stub_calls(w.driver, STUB_FLUSH) + stub_calls(w.driver, STUB_INVALIDATE);
+    picture before = taken(&w);
+    VkResult result = r->call(&w, r);
+    if (result != r->wanted)
+        fprintf(stderr, "the result is %d, and not %d\n", result, r->wanted);
+    expect(result == r->wanted, "another result than the header says");
+    expect(stub_calls(w.driver, STUB_FLUSH) + stub_calls(w.driver, STUB_INVALIDATE) == flushes, "the driver flushes");
+    compare(before, taken(&w));
+    undo_preparation(&w);
+    ended(&w);
+}
+
+/* Each call that takes an allocation refuses 0, a freed one and one that never was, also while another is mapped. */
+static void run_unknown(void)
+{
+    static const row calls[] = {
+        {"wtv_block_of", INVALID, call_block_of, .which = ZERO},
+        {"wtv_set_user", INVALID, call_set_user, .which = ZERO},
+        {"wtv_free", INVALID, call_free, .which = ZERO},
+        {"wtv_map", INVALID, call_map, .which = ZERO},
+        {"wtv_unmap", INVALID, call_unmap, .which = ZERO},
+        {"wtv_write", INVALID, call_write, .size = 1},
+        {"wtv_write of nothing", INVALID, call_write, .which = ZERO},
+        {"wtv_read", INVALID, call_read, .size = 1},
+        {"wtv_flush", INVALID, call_flush, .size = 1},
+        {"wtv_flush of all", INVALID, call_flush, .size = VK_WHOLE_SIZE},
+        {"wtv_invalidate", INVALID, call_invalidate, .size = 1},
+        {"wtv_bind_buffer", INVALID, call_bind_buffer, .which = ZERO},
+        {"wtv_bind_image", INVALID, call_bind_image, .which = ZERO},
+        {"wtv_destroy_buffer", INVALID, call_destroy_buffer, .which = ZERO},
+        {"wtv_destroy_image", INVALID, call_destroy_image, .which = ZERO},
+    };
+    static void (*const preparations[])(world *, const row *) = {NULL, map_cached};
+    for (size_t i = 0; i < LENGTH(calls); i++)
+        for (int which = ZERO; which <= UNKNOWN; which++)
+            for (size_t j = 0; j < LENGTH(preparations); j++) {
+                row unknown = calls[i];
+                unknown.which = (enum which)which;
+                unknown.prepare = preparations[j];
+                if (which == ZERO && unknown.call == call_free)
+                    unknown.wanted = VK_SUCCESS;
+                run_row(&unknown);
+            }
+}
+
+/* ---- Created over what does not serve. ---- */
+
+typedef struct creation {
+    const char *name;
+    VkResult wanted;
+    void (*spoil)(stub *, wtv_create_info *);
+    uint32_t flags, api_version; /* of the plan; a version of 0 is 1.1 */
+    VkDeviceSize atom, page;     /* of the plan, where they are not 0 */
+} creation;
+
+static void take_instance(stub *s, wtv_create_info *info)
+{
+    (void)s;
+    info->instance = VK_NULL_HANDLE;
+}
+
+static void take_physical_device(stub *s, wtv_create_info *info)
+{
+    (void)s;
+    info->physical_device = VK_NULL_HANDLE;
+}
+
+static void take_device(stub *s, wtv_create_info *info)
+{
+    (void)s;
+    info->device = VK_NULL_HANDLE;
+}
+
+static void take_functions(stub *s, wtv_create_info *info)
+{
+    (void)s;
+    info->get_instance_proc_addr = NULL;
+}
+
+static void add_flag(stub *s, wtv_create_info *info)
+{
+    (void)s;
+    info->flags |= 0x20;
+}
+
+static void ask_for_budgets(stub *s, wtv_create_info *info)
+{
+    (void)s;
+    info->flags |= WTV_CREATE_MEMORY_BUDGET;
+}
+
+static void say_a_variant(stub *s, wtv_create_info *info)
+{
+    (void)s;
+    info->api_version |= 1u << 29;
+}
+
+static void say_no_version(stub *s, wtv_create_info *info)
+{
+    (void)s;
+    info->api_version = 1;
+}
+
+static void refuse_lock(stub *s, wtv_create_info *info)
+{
+    (void)s, (void)info;
+    is_lock_refused = true;
+}
+
+static void change_version(stub *s, wtv_create_info *info)
+{
+    (void)s, (void)info;
+    other_version = WT_VERSION + 0x100;
+}
+
+static void change_last_number(stub *s, wtv_create_info *info)
+{
+    (void)s, (void)info;
+    other_version = WT_VERSION + 1;
+}
+
+#define UNFIT VK_ERROR_INITIALIZATION_FAILED
+
+static const creation creations[] = {
+    {"no instance", UNFIT, .spoil = take_instance},
+    {"no physical device", UNFIT, .spoil = take_physical_device},
+    {"no device", UNFIT, .spoil = take_device},
+    {"no functions", UNFIT, .spoil = take_functions},
+    {"no such flag", UNFIT, .spoil = add_flag},
+    {"budgets without properties2", UNFIT, .spoil = ask_for_budgets, .api_version = VK_API_VERSION_1_0},
+    {"a version of another variant", UNFIT, .spoil = say_a_variant},
+    {"a version below 1.0", UNFIT, .spoil = say_no_version},
+    {"an atom of 3 bytes", UNFIT, .atom = 3},
+    {"pages of 3 bytes", UNFIT, .page = 3},
+    {"no lock", VK_ERROR_OUT_OF_HOST_MEMORY, .spoil = refuse_lock},
+    {"another version of the library", UNFIT, .spoil = change_version},
+    {"a version that differs in its last number", VK_SUCCESS, .spoil = change_last_number},
+    {"1.0", VK_SUCCESS, .api_version = VK_API_VERSION_1_0},
+    {"1.0 with extensions", VK_SUCCESS, .api_version = VK_API_VERSION_1_0,
+     .flags = WTV_CREATE_PROPERTIES2 | WTV_CREATE_DEDICATED_ALLOCATION | WTV_CREATE_MEMORY_BUDGET},
+    {"1.3", VK_SUCCESS, .api_version = VK_API_VERSION_1_3, .flags = WTV_CREATE_MEMORY_BUDGET},
+};
+
+static stub *opened_for(const creation *c)
+{
+    stub_plan plan = stub_usual_plan();
+    plan.flags = c->flags;
+    plan.api_version = c->api_version != 0 ? c->api_version : VK_API_VERSION_1_1;
+    if (c->atom != 0)
+        plan.atom = c->atom;
+    if (c->page != 0)
+        plan.page = c->page;
+    return stub_open(&plan);
+}
+
+static void create_and_destroy(stub *s, const wtv_create_info *info, VkResult wanted)
+{
+    wtv_allocator *a = NULL;
+    VkResult result = wtv_create(info, &a);
+    expect(result == wanted, "another result of wtv_create than the header says");
+    expect((a != NULL) == (result == VK_SUCCESS), "an error writes an allocator");
+    expect(wtv_destroy(a, NULL, 0, NULL) == VK_SUCCESS, "an allocator is not destroyed");
+    expect(stub_close(s) == 0, "the stub found failures");
+}
+
+static void run_creation(const creation *c)
+{
+    stub *s = opened_for(c);
+    wtv_create_info info = stub_info(s);
+    current = c->name;
+    if (c->spoil != NULL)
+        c->spoil(s, &info);
+    create_and_destroy(s, &info, c->wanted);
+    is_lock_refused = false;
+    other_version = 0;
+}
+
+/* Each function that is wanted is missing in turn: where it is loaded, and in the table. */
+static void run_missing(const creation *c, bool has_properties2, bool has_requirements2)
+{
+    for (int i = 0; i < STUB_FUNCTIONS; i++) {
+        bool is_properties2 = i == STUB_PROPERTIES2 || i == STUB_MEMORY_PROPERTIES2;
+        bool is_requirements2 = i == STUB_BUFFER_NEEDS2 || i == STUB_IMAGE_NEEDS2;
+        bool is_wanted = is_properties2 ? has_properties2 : is_requirements2 ? has_requirements2 : true;
+        VkResult wanted = is_wanted ? UNFIT : VK_SUCCESS;
+        wtv_functions table = stub_table;
+        stub *s = opened_for(c);
+        wtv_create_info info = stub_info(s);
+        stub_hide(s, (stub_function)i);
+        create_and_destroy(s, &info, wanted);
+        s = opened_for(c);
+        info = stub_info(s);
+        info.functions = &table;
+        info.get_instance_proc_addr = NULL;
+        memset((char *)&table + (size_t)i * sizeof(PFN_vkVoidFunction), 0, sizeof(PFN_vkVoidFunction));
+        create_and_destroy(s, &info, wanted);
+        s = opened_for(c);
+        info = stub_info(s);
+        info.functions = &table; /* the one that is missing is loaded */
+        create_and_destroy(s, &info, VK_SUCCESS);
+    }
+}
+
+static void run_creations(void)
+{
+    static const creation plain = {.api_version = VK_API_VERSION_1_0};
+    static const creation extended = {.api_version = VK_API_VERSION_1_0, .flags = WTV_CREATE_PROPERTIES2};
+    static const creation core = {.api_version = VK_API_VERSION_1_1};
+    for (size_t i = 0; i < LENGTH(creations); i++)
+        run_creation(&creations[i]);
+    current = "a missing function of 1.0";
+    run_missing(&plain, false, false);
+    current = "a missing function of 1.0 with properties2";
+    run_missing(&extended, true, false);
+    current = "a missing function of 1.1";
+    run_missing(&core, true, true);
+}
+
+/* ---- Deeds, whose calls of the driver are refused. ---- */
+
+/* A call that succeeds, and what undoes it. */
+typedef struct deed {
+    const char *name;
+    VkResult (*call)(world *);
+    void (*undo)(world *);
+    bool has_next; /* another memory type serves too */
+} deed;
+
+static const wtv_request shared_wish = {.usage = WT_USAGE_UPLOAD | WT_USAGE_TRANSIENT};
+static const wtv_request own_wish = {.usage = WT_USAGE_UPLOAD, .dedicated = WT_REQUIRED};
+static const wtv_request image_wish = {.usage = WT_USAGE_FAST_DEVICE_ACCESS | WT_USAGE_TRANSIENT};
+static const wtv_request own_image_wish = {.dedicated = WT_REQUIRED};
+
+static VkResult create_shared_buffer(world *w)
+{
+    const VkBufferCreateInfo info = stub_buffer_info(SMALL);
+    return wtv_create_buffer(w->allocator, &info, &shared_wish, &w->made_buffer, &w->made, NULL);
+}
+
+static VkResult create_own_buffer(world *w)
+{
+    const VkBufferCreateInfo info = stub_buffer_info(SMALL);
+    return wtv_create_buffer(w->allocator, &info, &own_wish, &w->made_buffer, &w->made, NULL);
+}
+
+static VkResult create_shared_image(world *w)
+{
+    const VkImageCreateInfo info = stub_image_info(SIDE, SIDE, true);
+    return wtv_create_image(w->allocator, &info, &image_wish, &w->made_image, &w->made, NULL);
+}
+
+static VkResult create_own_image(world *w)
+{
+    const VkImageCreateInfo info = stub_image_info(SIDE, SIDE, false);
+    return wtv_create_image(w->allocator, &info, &own_image_wish, &w->made_image, &w->made, NULL);
+}
+
+static VkResult allocate_for_buffer(world *w)
+{
+    return wtv_allocate_for_buffer(w->allocator, w->loose_buffer, &shared_wish, &w->made, NULL);
+}
+
+static VkResult allocate_for_image(world *w)
+{
+    wtv_request optimal = image_wish;
+    optimal.flags = WT_OPTIMAL;
+    return wtv_allocate_for_image(w->allocator, w->loose_image, &optimal, &w->made, NULL);
+}
+
+static VkResult allocate_shared(world *w)
+{
+    const VkMemoryRequirements needs = {SMALL, 16, STUB_ALL_TYPES};
+    return wtv_allocate(w->allocator, &needs, &shared_wish, &w->made, NULL);
+}
+
+static VkResult allocate_own(world *w)
+{
+    const VkMemoryRequirements needs = {SMALL, 16, STUB_ALL_TYPES};
+    return wtv_allocate(w->allocator, &needs, &own_wish, &w->made, NULL);
+}
+
+static VkResult bind_loose_buffer(world *w)
+{
+    return wtv_bind_buffer(w->allocator, w->at[SHARED], 0, w->loose_buffer);
+}
+
+static VkResult bind_loose_image(world *w)
+{
+    return wtv_bind_image(w->allocator, w->at[LOCAL], 0, w->loose_image);
+}
+
+static VkResult map_own(world *w)
+{
+    void *bytes;
+    return wtv_map(w->allocator, w->at[OWN], &bytes);
+}
+
+static VkResult write_own(world *w)
+{
+    return wtv_write(w->allocator, w->at[OWN], 5, bytes_of_program, 100);
+}
+
+static VkResult read_own(world *w)
+{
+    char bytes[100];
+    return wtv_read(w->allocator, w->at[OWN], 5, bytes, sizeof bytes);
+}
+
+static VkResult flush_cached(world *w)
+{
+    const row all = {.which = CACHED, .size = VK_WHOLE_SIZE, .number = MANY_RANGES};
+    return call_flush(w, &all);
+}
+
+static VkResult invalidate_cached(world *w)
+{
+    const row all = {.which = CACHED, .size = VK_WHOLE_SIZE, .number = 1};
+    return call_invalidate(w, &all);
+}
+
+static void destroy_made(world *w)
+{
+    VkResult result = w->made_image != VK_NULL_HANDLE ? wtv_destroy_image(w->allocator, w->made_image, w->made)
+                                                      : wtv_destroy_buffer(w->allocator, w->made_buffer, w->made);
+    expect(result == VK_SUCCESS, "a resource is not destroyed");
+    w->made_buffer = VK_NULL_HANDLE;
+    w->made_image = VK_NULL_HANDLE;
+}
+
+/* A resource that was bound is bound for ever: another one takes its place. */
+static void replace_loose(world *w)
+{
+    stub_table.destroy_buffer(stub_info(w->driver).device, w->loose_buffer, NULL);
+    stub_table.destroy_image(stub_info(w->driver).device, w->loose_image, NULL);
+    w->loose_buffer = made_buffer(w);
+    w->loose_image = made_image(w);
+}
+
+static void free_made(world *w)
+{
+    expect(wtv_free(w->allocator, w->made) == VK_SUCCESS, "a block is not taken back");
+}
+
+static void replace_and_free(world *w)
+{
+    replace_loose(w);
+    free_made(w);
+}
+
+static void unmap_own(world *w)
+{
+    expect(wtv_unmap(w->allocator, w->at[OWN]) == VK_SUCCESS, "a block is not unmapped");
+}
+
+static void undo_nothing(world *w)
+{
+    (void)w;
+}
+
+static const deed deeds[] = {
+    {"a shared buffer", create_shared_buffer, destroy_made, true},
+    {"a buffer with an own object", create_own_buffer, destroy_made, true},
+    {"a shared image", create_shared_image, destroy_made, true},
+    {"an image with an own object", create_own_image, destroy_made, true},
+    {"allocate for a buffer", allocate_for_buffer, replace_and_free, true},
+    {"allocate for an image", allocate_for_image, replace_and_free, true},
+    {"allocate in a shared object", allocate_shared, free_made, true},
+    {"allocate an own object", allocate_own, free_made, true},
+    {"bind a buffer", bind_loose_buffer, replace_loose, false},
+    {"bind an image", bind_loose_image, replace_loose, false},
+    {"map", map_own, unmap_own, false},
+    {"write", write_own, undo_nothing, false},
+    {"read", read_own, undo_nothing, false},
+    {"flush", flush_cached, undo_nothing, false},
+    {"invalidate", invalidate_cached, undo_nothing, false},
+};
+
+/* Does a deed of which calls may be refused, and undoes it: then all is as before. */
+static VkResult done_and_undone(world *w, const deed *d)
+{
+    picture before = taken(w);
+    VkResult result = d->call(w);
+    bool has_made = w->made_buffer != VK_NULL_HANDLE || w->made_image != VK_NULL_HANDLE;
+    stub_refuse(w->driver, STUB_FUNCTIONS, VK_SUCCESS, 0, false);
+    expect(result == VK_SUCCESS || !has_made, "an error writes a resource");
+    if (result == VK_SUCCESS)
+        d->undo(w);
+    compare(before, taken(w));
+    return result;
+}
+
+/* Without an error that lets the next memory type be tried, the deed ends with the driver's own. */
+static bool is_as_said(const deed *d, stub_function refused, VkResult error, bool is_each, VkResult result)
+{
+    bool is_for_objects = refused == STUB_ALLOCATE || refused == STUB_MAP;
+    bool is_lack = error == VK_ERROR_OUT_OF_DEVICE_MEMORY || error == VK_ERROR_TOO_MANY_OBJECTS;
+    bool goes_on = is_for_objects && is_lack && d->has_next && !is_each;
+    return result == (goes_on ? VK_SUCCESS : error);
+}
+
+/* Refuses one call of a function, or each from there on, until the deed makes no call more of it. */
+static unsigned refuse_in_turn(const deed *d, stub_function refused, VkResult error, bool is_each)
+{
+    for (unsigned skip = 0;; skip++) {
+        world w = begun(d->name);
+        uint64_t before = stub_refusals(w.driver, refused);
+        stub_refuse(w.driver, refused, error, skip, is_each);
+        VkResult result = done_and_undone(&w, d);
+        bool is_reached = stub_refusals(w.driver, refused) > before;
+        expect(is_reached ? is_as_said(d, refused, error, is_each, result) : result == VK_SUCCESS,
+               "a call of the driver's is refused, and the result is another one");
+        ended(&w);
+        if (!is_reached)
+            return skip;
+    }
+}
+
+static unsigned lose_device_in_turn(const deed *d)
+{
+    for (unsigned skip = 0;; skip++) {
+        world w = begun(d->name);
+        stub_lose_device(w.driver, skip);
+        picture before = taken(&w);
+        VkResult result = d->call(&w);
+        expect(result == VK_SUCCESS || result == VK_ERROR_DEVICE_LOST, "a lost device ends a request otherwise");
+        stub_refuse(w.driver, STUB_FUNCTIONS, VK_SUCCESS, 0, false);
+        if (result == VK_SUCCESS)
+            d->undo(&w);
+        compare(before, taken(&w));
+        ended(&w);
+        if (result == VK_SUCCESS)
+            return skip;
+    }
+}
+
+static void run_refusals(void)
+{
+    unsigned refused = 0, lost = 0;
+    for (size_t i = 0; i < LENGTH(deeds); i++) {
+        for (int j = 0; j < STUB_FUNCTIONS; j++) {
+            const VkResult *errors = stub_errors_of((stub_function)j);
+            for (size_t k = 0; errors[k] != VK_SUCCESS; k++) {
+                refused += refuse_in_turn(&deeds[i], (stub_function)j, errors[k], false);
+                refused += refuse_in_turn(&deeds[i], (stub_function)j, errors[k], true);
+            }
+        }
+        unsigned calls = lose_device_in_turn(&deeds[i]);
+        expect(calls > 0, "a deed makes no call that can fail");
+        lost += calls;
+    }
+    printf("misuse: %u refusals of the driver's, and %u times a device was lost\n", refused, lost);
+}
+
+/* ---- This side's memory, of which each piece is refused in turn. ---- */
+
+enum { OWN_BLOCKS = 20 };
+
+typedef struct scarcity {
+    stub *driver;
+    wtv_allocator *allocator;
+    wtv_allocation blocks[OWN_BLOCKS + 4];
+    size_t blocks_len;
+    VkDeviceMemory memory; /* to be imported */
+} scarcity;
+
+static VkResult take_one(scarcity *s, uint32_t usage, uint32_t dedicated)
+{
+    const VkMemoryRequirements needs = {SMALL, 16, 1u << STUB_CACHED};
+    const wtv_request request = {.usage = usage, .dedicated = dedicated};
+    VkResult result = wtv_allocate(s->allocator, &needs, &request, &s->blocks[s->blocks_len], NULL);
+    s->blocks_len += result == VK_SUCCESS;
+    return result;
+}
+
+static VkResult create_scarcely(scarcity *s)
+{
+    const wtv_create_info info = stub_info(s->driver);
+    return wtv_create(&info, &s->allocator);
+}
+
+static VkResult take_own(scarcity *s)
+{
+    return take_one(s, WT_USAGE_HOST_ACCESS, WT_REQUIRED);
+}
+
+static VkResult take_shared(scarcity *s)
+{
+    return take_one(s, WT_USAGE_HOST_ACCESS, WT_SHARED);
+}
+
+static VkResult take_transient(scarcity *s)
+{
+    return take_one(s, WT_USAGE_HOST_ACCESS | WT_USAGE_TRANSIENT, WT_SHARED);
+}
+
+static VkResult import_scarcely(scarcity *s)
+{
+    VkResult result = wtv_import(s->allocator, s->memory, STUB_CACHED, OBJECT_SIZE, 0, OBJECT_SIZE,
+                                 &s->blocks[s->blocks_len], NULL);
+    s->blocks_len += result == VK_SUCCESS;
+    return result;
+}
+
+static VkResult map_last(scarcity *s)
+{
+    void *bytes;
+    return wtv_map(s->allocator, s->blocks[s->blocks_len - 1], &bytes);
+}
+
+static VkResult flush_many(scarcity *s)
+{
+    wtv_range ranges[MANY_RANGES];
+    for (size_t i = 0; i < LENGTH(ranges); i++)
+        ranges[i] = (wtv_range){s->blocks[0], i, 1};
+    return wtv_flush(s->allocator, ranges, LENGTH(ranges));
+}
+
+static VkResult ask_candidates(scarcity *s)
+{
+    uint32_t types[32], count;
+    return wtv_candidates(s->allocator, WT_USAGE_UPLOAD, STUB_ALL_TYPES, types, &count);
+}
+
+static VkResult ask_statistics(scarcity *s)
+{
+    wt_type_statistics statistics;
+    return wtv_statistics(s->allocator, STUB_CACHED, &statistics);
+}
+
+static VkResult write_statistics(scarcity *s)
+{
+    char *text = NULL;
+    VkResult result = wtv_statistics_text(s->allocator, &text);
+    expect((text != NULL) == (result == VK_SUCCESS), "an error writes a text");
+    wtv_free_text(text);
+    return result;
+}
+
+static VkResult write_report(scarcity *s)
+{
+    char *text = NULL;
+    VkResult result = wtv_report_text(s->allocator, &text);
+    expect((text != NULL) == (result == VK_SUCCESS), "an error writes a text");
+    wtv_free_text(text);
+    return result;
+}
+
+static unsigned call_scarcely(scarcity *s, VkResult (*call)(scarcity *))
+{
+    wt_counts before = {0}, after = {0};
+    unsigned refused_before = refusals;
+    if (s->allocator != NULL)
+        expect(wtv_count(s->allocator, &before) == VK_SUCCESS, "nothing is counted");
+    stub_held held = stub_held_now(s->driver);
+    VkResult result = call(s);
+    if (refusals == refused_before) {
+        expect(result == VK_SUCCESS, "a call fails for another cause than memory");
+        return 0;
+    }
+    expect(result == VK_ERROR_OUT_OF_HOST_MEMORY, "a call without memory says something else");
+    if (s->allocator != NULL)
+        expect(wtv_count(s->allocator, &after) == VK_SUCCESS, "nothing is counted");
+    stub_held held_after = stub_held_now(s->driver);
+    expect(memcmp(&before, &after, sizeof before) == 0, "a call without memory changes something");
+    expect(memcmp(&held, &held_after, sizeof held) == 0, "a call without memory changes what the driver holds");
+    expect(call(s) == VK_SUCCESS, "a call fails though there is memory again");
+    return 1;
+}
+
+/* What only looks, or gives back, takes no memory. */
+static void end_without_memory(scarcity *s)
+{
+    wtv_block blocks[OWN_BLOCKS + 4];
+    wtv_range ranges[2] = {{s->blocks[0], 0, 1}, {s->blocks[1], 0, VK_WHOLE_SIZE}};
+    wt_heap_counts heap;
+    size_t count;
+    is_all_refused = true;
+    expect(wtv_block_of(s->allocator, s->blocks[0], &blocks[0]) == VK_SUCCESS, "looking at a block takes memory");
+    expect(wtv_set_user(s->allocator, s->blocks[0], 1) == VK_SUCCESS, "setting a value takes memory");
+    expect(wtv_blocks(s->allocator, 0, blocks, LENGTH(blocks), &count) == VK_SUCCESS && count == s->blocks_len,
+           "a walk takes memory");
+    expect(wtv_flush(s->allocator, ranges, LENGTH(ranges)) == VK_SUCCESS, "a flush takes memory");
+    expect(wtv_invalidate(s->allocator, ranges, LENGTH(ranges)) == VK_SUCCESS, "an invalidation takes memory");
+    expect(wtv_update_budget(s->allocator) == VK_SUCCESS, "a budget takes memory");
+    expect(wtv_set_heap_limit(s->allocator, STUB_HOST_HEAP, 0) == VK_SUCCESS, "a limit takes memory");
+    expect(wtv_heap(s->allocator, STUB_HOST_HEAP, &heap) == VK_SUCCESS, "counting takes memory");
+    expect(wtv_destroy(s->allocator, blocks, LENGTH(blocks), &count) == INVALID && count == s->blocks_len,
+           "a list of live blocks takes memory");
+    expect(wtv_unmap(s->allocator, s->blocks[0]) == VK_SUCCESS, "an unmapping takes memory");
+    while (s->blocks_len > 0)
+        expect(wtv_free(s->allocator, s->blocks[--s->blocks_len]) == VK_SUCCESS, "a return takes memory");
+    expect(wtv_cleanup(s->allocator) == VK_SUCCESS, "a cleanup takes memory");
+    expect(wtv_destroy(s->allocator, NULL, 0, NULL) == VK_SUCCESS, "destroying takes memory");
+    is_all_refused = false;
+    expect(stub_close(s->driver) == 0, "the stub found failures");
+}
+
+/* All calls that take memory, with one of its pieces refused. Returns how many calls failed. */
+static unsigned run_scarcely(long served)
+{
+    static VkResult (*const calls[])(scarcity *) = {take_shared,    import_scarcely, map_last,         take_transient,
+                                                    ask_candidates, ask_statistics,  write_statistics, write_report};
+    stub_plan plan = stub_usual_plan();
+    plan.flags = WTV_CREATE_MEMORY_BUDGET;
+    scarcity s = {.driver = stub_open(&plan)};
+    s.memory = stub_make_object(s.driver, STUB_CACHED, OBJECT_SIZE);
+    served_before = served;
+    unsigned failed = call_scarcely(&s, create_scarcely);
+    for (int i = 0; i < OWN_BLOCKS; i++) {
+        failed += call_scarcely(&s, take_own);
+        failed += call_scarcely(&s, map_last);
+    }
+    for (size_t i = 0; i < LENGTH(calls); i++)
+        failed += call_scarcely(&s, calls[i]);
+    failed += call_scarcely(&s, flush_many);
+    served_before = -1;
+    end_without_memory(&s);
+    return failed;
+}
+
+static void run_scarcity(void)
+{
+    long served = 0;
+    current = "scarce memory";
+    while (run_scarcely(served) > 0)
+        served++;
+    expect(served > OWN_BLOCKS, "less memory is taken than for one piece a block");
+    printf("misuse: each of %ld requests for memory refused in turn\n", served);
+}
+
+/* ---- What zeros mean, budgets, and the usual configuration. ---- */
+
+static void run_zeros(void)
+{
+    world w = begun("zeros");
+    wtv_block block;
+    size_t count = 7;
+    picture before = taken(&w);
+    expect(wtv_free(w.allocator, 0) == VK_SUCCESS, "no block is not freed");
+    expect(wtv_destroy_buffer(w.allocator, VK_NULL_HANDLE, 0) == VK_SUCCESS, "no buffer is not destroyed");
+    expect(wtv_destroy_image(w.allocator, VK_NULL_HANDLE, 0) == VK_SUCCESS, "no image is not destroyed");
+    expect(wtv_destroy(NULL, NULL, 0, NULL) == VK_SUCCESS, "no allocator is not destroyed");
+    expect(wtv_flush(w.allocator, NULL, 0) == VK_SUCCESS, "no range is not flushed");
+    expect(wtv_invalidate(w.allocator, NULL, 0) == VK_SUCCESS, "no range is not invalidated");
+    expect(wtv_blocks(w.allocator, 0, NULL, 0, &count) == VK_SUCCESS && count == 0, "no room for blocks");
+    expect(wtv_write(w.allocator, w.at[OWN], BLOCK_SIZE, NULL, 0) == VK_SUCCESS, "nothing is not written");
+    expect(wtv_read(w.allocator, w.at[OWN], BLOCK_SIZE, NULL, 0) == VK_SUCCESS, "nothing is not read");
+    wtv_free_text(NULL);
+    compare(before, taken(&w));
+    const VkMemoryRequirements needs = {SMALL, 1, STUB_ALL_TYPES};
+    expect(wtv_allocate(w.allocator, &needs, NULL, &w.made, &block) == VK_SUCCESS, "no request is no default");
+    expect(block.user == 0 && block.flags == 0 && block.memory_type == STUB_LOCAL, "a default is another one");
+    free_made(&w);
+    ended(&w);
+}
+
+/* The limit of a heap, its size being a stub's, after a budget was read with that much held of it. */
+static void check_budget(VkDeviceSize budget, VkDeviceSize beside, VkDeviceSize wanted)
+{
+    stub_plan plan = stub_usual_plan();
+    const VkMemoryRequirements needs = {100000, 1, 1u << STUB_LOCAL};
+    const wtv_request own = {.dedicated = WT_REQUIRED};
+    wtv_allocator *a = NULL;
+    wtv_allocation held, more;
+    wt_heap_counts counts;
+    plan.flags = WTV_CREATE_MEMORY_BUDGET;
+    stub *s = stub_open(&plan);
+    wtv_create_info info = stub_info(s);
+    expect(wtv_create(&info, &a) == VK_SUCCESS, "no allocator is created");
+    expect(wtv_allocate(a, &needs, &own, &held, NULL) == VK_SUCCESS, "no block is allocated");
+    stub_set_budget(s, STUB_LOCAL_HEAP, budget, beside);
+    expect(wtv_update_budget(a) == VK_SUCCESS, "a budget is not followed");
+    expect(wtv_heap(a, STUB_LOCAL_HEAP, &counts) == VK_SUCCESS && counts.limit == wanted, "a limit is another one");
+    VkResult result = wtv_allocate(a, &needs, &own, &more, NULL);
+    expect(result == (wanted >= 200000 ? VK_SUCCESS : VK_ERROR_OUT_OF_DEVICE_MEMORY), "a limit does not count");
+    if (result == VK_SUCCESS)
+        expect(wtv_free(a, more) == VK_SUCCESS, "a block is not taken back");
+    expect(wtv_free(a, held) == VK_SUCCESS, "a block is not taken back");
+    expect(wtv_destroy(a, NULL, 0, NULL) == VK_SUCCESS, "an allocator is not destroyed");
+    expect(stub_close(s) == 0, "the stub found failures");
+}
+
+static void run_budgets(void)
+{
+    current = "budgets";
+    check_budget(6 << 20, 0, 6 << 20);
+    check_budget(64 << 20, 0, 6 << 20);
+    check_budget(1000000, 0, 1000000);
+    check_budget(1000000, 300000, 700000);
+    check_budget(1000000, 800001, 199999);
+    check_budget(1000000, 800000, 200000);
+    check_budget(1000000, 1000000, 0);
+    check_budget(1000000, 2000000, 0);
+    check_budget(50000, 0, 50000);
+    check_budget(0, 0, 0);
+}
+
+/* The unit that the usual configuration is counted in, over heaps of which the last one alone is device-local. */
+static void check_config(VkDeviceSize local, VkDeviceSize other, uint64_t unit)
+{
+    VkPhysicalDeviceMemoryProperties memory = {.memoryHeapCount = local > 0 ? 2 : 1};
+    memory.memoryHeaps[0].size = other;
+    memory.memoryHeaps[1] = (VkMemoryHeap){local, VK_MEMORY_HEAP_DEVICE_LOCAL_BIT};
+    wt_config config;
+    const wt_config wanted = {4 * unit, unit / 8, 16 * unit, unit, 16 * unit, 1024, unit};
+    wtv_default_config(&memory, &config);
+    expect(memcmp(&config, &wanted, sizeof config) == 0, "a configuration is another one");
+}
+
+static void run_configs(void)
+{
+    const VkDeviceSize mebibyte = 1 << 20, gibibyte = 1 << 30;
+    const wt_config prototyping = WT_CONFIG_PROTOTYPING;
+    VkPhysicalDeviceMemoryProperties memory = {.memoryHeapCount = 1, .memoryHeaps[0].size = 8 * gibibyte};
+    wt_config config;
+    current = "configurations";
+    check_config(mebibyte, 64 * gibibyte, 64 << 10);
+    check_config(128 * mebibyte - 1, 64 * gibibyte, 64 << 10);
+    check_config(128 * mebibyte, 0, 128 << 10);
+    check_config(gibibyte, 64 * gibibyte, mebibyte);
+    check_config(8 * gibibyte - 1, 0, 4 * mebibyte);
+    check_config(8 * gibibyte, 0, 8 * mebibyte);
+    check_config(80 * gibibyte, 0, 8 * mebibyte);
+    check_config(0, 2 * gibibyte, 2 * mebibyte);
+    wtv_default_config(&memory, &config);
+    expect(memcmp(&config, &prototyping, sizeof config) == 0, "8 GiB do not get WT_CONFIG_PROTOTYPING");
+}
+
+int main(void)
+{
+    for (size_t i = 0; i < LENGTH(rows); i++)
+        run_row(&rows[i]);
+    run_unknown();
+    run_creations();
+    printf("misuse: %zu rows, the unknown allocations, %zu creations and the missing functions\n", LENGTH(rows),
+           LENGTH(creations));
+    run_zeros();
+    run_budgets();
+    run_configs();
+    run_refusals();
+    run_scarcity();
+    expect(live_memory == 0, "memory is not given back");
+    return 0;
+}
