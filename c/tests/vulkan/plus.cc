@@ -595,6 +595,24 @@ void test_growth() {
 }
 
 #ifndef WALLTHYME_NO_EXCEPTIONS
+// From a device to a bound and filled buffer: four statements.
+void first_use(VkInstance instance, VkPhysicalDevice physical_device, VkDevice device, stub *driver) {
+    const Allocator memory = Allocator::create(
+        create_info(instance, physical_device, device, stub_get_instance_proc_addr, VK_API_VERSION_1_1));
+    const VkBufferCreateInfo info = {VK_STRUCTURE_TYPE_BUFFER_CREATE_INFO, nullptr, 0, 12,
+                                     VK_BUFFER_USAGE_TRANSFER_SRC_BIT, VK_SHARING_MODE_EXCLUSIVE, 0, nullptr};
+    const Buffer buffer = memory.create_buffer(info, request(WT_USAGE_UPLOAD));
+    buffer.write(0, "hello block", 12);
+
+    must(memcmp(stub_buffer_bytes(driver, buffer.get()), "hello block", 12) == 0, "the buffer is not filled");
+}
+
+void test_first_use() {
+    const Driver driver;
+    const wtv_create_info offered = stub_info(driver.get());
+    first_use(offered.instance, offered.physical_device, offered.device, driver.get());
+}
+
 struct Odd {};
 
 // What the program throws ends the members that were made.
@@ -703,6 +721,7 @@ void *operator new(std::size_t size, const std::nothrow_t &) noexcept {
 
 int main() {
     test_all();
+    test_first_use();
     test_throwing();
     test_with_results();
     return 0;
