@@ -231,7 +231,7 @@ impl<M> GpuAllocator<M> {
     /// * `device` is the same in all calls of this allocator and its blocks.
     #[track_caller]
     pub unsafe fn dealloc(&mut self, device: &impl MemoryDevice<M>, block: MemoryBlock<M>) {
-        assert!(block.allocator() == self.number, "a block has to go back to the allocator that it came from");
+        self.assert_own(&block);
         let (key, memory) = block.into_parts();
         let own = match memory {
             Memory::Own(memory) => Some(memory),
@@ -305,6 +305,34 @@ impl<M> GpuAllocator<M> {
             Err(ffi::BAD_HEAP) => panic!("{NO_HEAP}"),
             Err(status) => unexpected("wt_set_heap_limit", status),
         }
+    }
+
+    /// How many bytes the held objects of a heap count: 2^64 - 1 where imports make it more than fits.
+    pub(crate) fn heap_used(&mut self, heap: u32) -> u64 {
+        assert!((heap as usize) < self.heap_sizes.len(), "{NO_HEAP}");
+        let counts = self.library.heap_counts(heap);
+        if counts.used_high == 0 {
+            counts.used
+        } else {
+            u64::MAX
+        }
+    }
+
+    /// Panics where a block is another allocator's.
+    #[track_caller]
+    pub(crate) fn assert_own(&self, block: &MemoryBlock<M>) {
+        assert!(block.allocator() == self.number, "a block has to go back to the allocator that it came from");
+    }
+
+    /// A report of all that is held, as JSON: heaps, memory types, sums by type and kind, and each object with its live
+    /// blocks and free ranges. `scripts/picture` of Wallthyme's repository draws it.
+    ///
+    /// # Errors
+    ///
+    /// [`OutOfMemory::OutOfHostMemory`]: the host has too little memory for it. Nothing is changed.
+    pub fn report(&mut self) -> Result<String, OutOfMemory> {
+        let text = self.library.report().ok_or(OutOfMemory::OutOfHostMemory)?;
+        Ok(String::from_utf8(text).expect("a report has to be text"))
     }
 
     /// Gives each memory object back to the device that no block needs. Where all blocks were given back none is held

@@ -110,6 +110,11 @@ impl<M> MemoryBlock<M> {
         self.place.allocator
     }
 
+    /// Whether the block is mapped.
+    pub(crate) fn is_mapped(&self) -> bool {
+        self.mapped
+    }
+
     /// Ends the block, for its allocator to take it back.
     pub(crate) fn into_parts(self) -> (u64, Memory<M>) {
         std::mem::forget(self.unreturned);
@@ -248,7 +253,7 @@ impl<M> MemoryBlock<M> {
         // SAFETY: as many bytes as `data` has were mapped, for writes too. `data` cannot overlap them: it is
         // borrowed, and they are reached through a mapping alone, which the block did not have before.
         unsafe { copy_nonoverlapping(data.as_ptr(), start.as_ptr(), data.len()) };
-        let range = self.to_flush(offset, data.len());
+        let range = self.to_flush(offset, data.len() as u64);
         // SAFETY: the range is of whole atoms or ends with the block, and is mapped.
         let flushed = range.map_or(Ok(()), |range| unsafe { device.flush_memory_ranges(&[range]) });
         // SAFETY: the device is the block's, as the caller says.
@@ -284,7 +289,7 @@ impl<M> MemoryBlock<M> {
         }
         // SAFETY: the device is the block's, as the caller says; the address is used for `data`'s length below alone.
         let start = unsafe { self.map(device, offset, data.len()) }?;
-        let range = self.to_flush(offset, data.len());
+        let range = self.to_flush(offset, data.len() as u64);
         // SAFETY: the range is of whole atoms or ends with the block, and is mapped.
         let seen = range.map_or(Ok(()), |range| unsafe { device.invalidate_memory_ranges(&[range]) });
         if seen.is_ok() {
@@ -314,11 +319,11 @@ impl<M> MemoryBlock<M> {
     }
 
     /// The range to flush or to invalidate for these bytes of the block; none where the memory is host-coherent.
-    fn to_flush(&self, offset: u64, size: usize) -> Option<MappedMemoryRange<'_, M>> {
+    pub(crate) fn to_flush(&self, offset: u64, size: u64) -> Option<MappedMemoryRange<'_, M>> {
         if self.props.contains(MemoryPropertyFlags::HOST_COHERENT) {
             return None;
         }
-        let range = self.whole_atoms(offset, size as u64);
+        let range = self.whole_atoms(offset, size);
         Some(MappedMemoryRange { memory: self.memory(), offset: range.start, size: range.end - range.start })
     }
 

@@ -148,8 +148,8 @@ structs! {
         remaining: u32,
     }
 
-    /// What is held of a heap, which only tests ask for.
-    #[cfg(test)]
+    /// Its last two fields tests alone read.
+    #[allow(dead_code)]
     #[derive(Default)]
     struct wt_heap_counts HeapCounts {
         used: u64,
@@ -207,7 +207,7 @@ extern "C" {
     pub(crate) fn wt_count(a: *mut Allocator, counts: *mut Counts) -> u32;
     pub(crate) fn wt_set_remaining(a: *mut Allocator, remaining: u32) -> u32;
     pub(crate) fn wt_set_heap_limit(a: *mut Allocator, heap: u32, limit: u64) -> u32;
-    #[cfg(test)]
+    pub(crate) fn wt_report(a: *mut Allocator, text: *mut u8, room: usize, length: *mut usize) -> u32;
     pub(crate) fn wt_heap(a: *mut Allocator, heap: u32, counts: *mut HeapCounts) -> u32;
     #[cfg(test)]
     pub(crate) fn wt_range_of(a: *mut Allocator, key: u64, offset: u64, size: u64, range: *mut Range) -> u32;

@@ -22,6 +22,7 @@ mod report;
 mod request;
 mod types;
 mod usage;
+pub mod vulkan;
 
 pub use allocator::GpuAllocator;
 pub use block::MemoryBlock;

@@ -158,12 +158,35 @@ impl Library {
         }
     }
 
-    #[cfg(test)]
+    /// What is held of a heap, which has to be one of the device's.
     pub(crate) fn heap_counts(&mut self, heap: u32) -> ffi::HeapCounts {
         let mut counts = ffi::HeapCounts::default();
         // SAFETY: the handle is open, and `counts` lives until the call ends.
         expect("wt_heap", unsafe { ffi::wt_heap(&mut self.state.handle, heap, &mut counts) });
         counts
+    }
+
+    /// A report of all that is held; `None` where the host has too little memory for it.
+    pub(crate) fn report(&mut self) -> Option<Vec<u8>> {
+        let length = self.report_into(&mut [])?;
+        let mut text = Vec::new();
+        text.try_reserve_exact(length).ok()?;
+        text.resize(length, 0);
+        self.report_into(&mut text)?;
+        Some(text)
+    }
+
+    /// Writes as much of a report as fits, and returns the length of all of it; `None` where the host has too little
+    /// memory.
+    fn report_into(&mut self, text: &mut [u8]) -> Option<usize> {
+        let mut length = 0;
+        // SAFETY: the handle is open, `text` has that much room, and both pointers are good until the call ends.
+        let status = unsafe { ffi::wt_report(&mut self.state.handle, text.as_mut_ptr(), text.len(), &mut length) };
+        match status {
+            ffi::OK => Some(length),
+            ffi::OUT_OF_HOST_MEMORY => None,
+            status => unexpected("wt_report", status),
+        }
     }
 
     /// Gives the library's memory back, once no object is held and all names were read. Else it stays where it is: the

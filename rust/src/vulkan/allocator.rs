@@ -1,0 +1,370 @@
+//! Buffers and images with their memory.
+
+use super::calls::Resource;
+use super::device::{Device, Requirements};
+use super::device_for::DeviceFor;
+use super::error::Error;
+use super::info::{Enabled, MemoryRequest};
+use super::raw::{self, BufferCreateInfo, ImageCreateInfo, Memory, Tiling};
+use crate::{AllocationError, Config, Dedicated, GpuAllocator, MemoryBlock, Request, UsageFlags};
+use std::mem::forget;
+
+/// A buffer and its memory, to be destroyed by [`Allocator::destroy_buffer`]. One that is dropped is reported on
+/// standard error, as its block is; buffer and memory stay.
+#[derive(Debug)]
+#[must_use]
+pub struct Buffer {
+    /// The buffer, bound to the block's first byte.
+    pub handle: raw::Buffer,
+    /// Its memory.
+    pub block: MemoryBlock<Memory>,
+}
+
+/// An image and its memory, to be destroyed by [`Allocator::destroy_image`]. One that is dropped is reported on
+/// standard error, as its block is; image and memory stay.
+#[derive(Debug)]
+#[must_use]
+pub struct Image {
+    /// The image, bound to the block's first byte.
+    pub handle: raw::Image,
+    /// Its memory.
+    pub block: MemoryBlock<Memory>,
+}
+
+/// A resource that was created, and has no memory yet. However the request ends, it is destroyed unless it is kept.
+struct Created<'a> {
+    device: &'a Device,
+    resource: Resource,
+}
+
+impl Created<'_> {
+    fn keep(self) {
+        forget(self);
+    }
+}
+
+impl Drop for Created<'_> {
+    fn drop(&mut self) {
+        // SAFETY: it was created here and went to nobody.
+        unsafe { self.device.destroy(self.resource) }
+    }
+}
+
+/// An allocator of buffers and images with their memory, over a [`Device`].
+///
+/// One that is dropped frees each memory object that no block needs. Where blocks are live, their objects stay, and it
+/// is reported on standard error, as for a [`GpuAllocator`]. Drop it before the `VkDevice` is destroyed.
+#[derive(Debug)]
+pub struct Allocator {
+    pub(super) device: Device,
+    pub(super) core: GpuAllocator<Memory>,
+}
+
+impl Allocator {
+    /// Makes an allocator with the sizes of [`Device::default_config`].
+    ///
+    /// # Errors
+    ///
+    /// [`Error::New`].
+    pub fn new(device: Device) -> Result<Self, Error> {
+        let config = device.default_config();
+        Allocator::with_config(device, config)
+    }
+
+    /// Makes an allocator with these sizes.
+    ///
+    /// # Errors
+    ///
+    /// [`Error::New`].
+    pub fn with_config(device: Device, config: Config) -> Result<Self, Error> {
+        let granularity = device.buffer_image_granularity();
+        let core = GpuAllocator::with_granularity(config, device.device_properties(), granularity)?;
+        Ok(Allocator { device, core })
+    }
+
+    /// Its device, whose clones serve other threads.
+    pub fn device(&self) -> &Device {
+        &self.device
+    }
+
+    /// Creates a buffer, allocates memory for it and binds it.
+    ///
+    /// # Errors
+    ///
+    /// [`Error::SparseBuffer`], [`Error::NoDeviceAddress`], [`Error::Chained`], [`Error::Driver`],
+    /// [`Error::Allocation`]. Whatever was made is destroyed then.
+    ///
+    /// Where the driver refuses a memory object with `VK_ERROR_OUT_OF_DEVICE_MEMORY` or `VK_ERROR_TOO_MANY_OBJECTS`,
+    /// the next memory type is tried. Any other error ends the request.
+    ///
+    /// # Panics
+    ///
+    /// Where a bit of `request.usage` has no name. Nothing is changed.
+    ///
+    /// # Safety
+    ///
+    /// * Vulkan allows `info` for a buffer of the device. What it points to lives until the call ends.
+    /// * `request.next` is null, or such a chain as [`DeviceFor::with_next`] asks for.
+    pub unsafe fn create_buffer(
+        &mut self,
+        info: &BufferCreateInfo,
+        request: impl Into<MemoryRequest>,
+    ) -> Result<Buffer, Error> {
+        let mut request = request.into();
+        if info.flags & raw::CREATE_SPARSE != 0 {
+            return Err(Error::SparseBuffer);
+        }
+        if info.usage & raw::USAGE_SHADER_DEVICE_ADDRESS != 0 {
+            request.usage |= match request.usage.is_empty() {
+                true => UsageFlags::FAST_DEVICE_ACCESS | UsageFlags::DEVICE_ADDRESS,
+                false => UsageFlags::DEVICE_ADDRESS,
+            };
+        }
+        // SAFETY: as the caller says.
+        let handle = unsafe { self.device.create_buffer(info) }?;
+        let created = Created { device: &self.device, resource: Resource::Buffer(handle) };
+        // SAFETY: the buffer was created here, and `next` is as the caller says.
+        let block = unsafe { allocate_and_bind(&mut self.core, &self.device, created.resource, false, &request) }?;
+        created.keep();
+        Ok(Buffer { handle, block })
+    }
+
+    /// Creates an image, allocates memory for it and binds it. See [`create_buffer`](Allocator::create_buffer) for how
+    /// the driver's errors go on.
+    ///
+    /// # Errors
+    ///
+    /// [`Error::SparseImage`], [`Error::DisjointImage`], [`Error::NoDeviceAddress`], [`Error::Chained`],
+    /// [`Error::Driver`], [`Error::Allocation`]. Whatever was made is destroyed then.
+    ///
+    /// # Panics
+    ///
+    /// Where a bit of `request.usage` has no name. Nothing is changed.
+    ///
+    /// # Safety
+    ///
+    /// * Vulkan allows `info` for an image of the device. What it points to lives until the call ends.
+    /// * `request.next` is null, or such a chain as [`DeviceFor::with_next`] asks for.
+    pub unsafe fn create_image(
+        &mut self,
+        info: &ImageCreateInfo,
+        request: impl Into<MemoryRequest>,
+    ) -> Result<Image, Error> {
+        if info.flags & raw::CREATE_SPARSE != 0 {
+            return Err(Error::SparseImage);
+        }
+        if info.flags & raw::CREATE_DISJOINT != 0 {
+            return Err(Error::DisjointImage);
+        }
+        let optimal = info.tiling != Tiling::LINEAR;
+        // SAFETY: as the caller says.
+        let handle = unsafe { self.device.create_image(info) }?;
+        let created = Created { device: &self.device, resource: Resource::Image(handle) };
+        let request = request.into();
+        // SAFETY: the image was created here, and `next` is as the caller says.
+        let block = unsafe { allocate_and_bind(&mut self.core, &self.device, created.resource, optimal, &request) }?;
+        created.keep();
+        Ok(Image { handle, block })
+    }
+
+    /// Destroys a buffer, and frees its block, mapped or not.
+    ///
+    /// # Panics
+    ///
+    /// Where the block is another allocator's. Nothing is changed, but the block is dropped.
+    ///
+    /// # Safety
+    ///
+    /// The buffer is of this allocator, and has this block. The device is done with both.
+    #[track_caller]
+    pub unsafe fn destroy_buffer(&mut self, buffer: Buffer) {
+        // SAFETY: as the caller says.
+        unsafe { self.destroy(Resource::Buffer(buffer.handle), buffer.block) }
+    }
+
+    /// Destroys an image, and frees its block, mapped or not.
+    ///
+    /// # Panics
+    ///
+    /// Where the block is another allocator's. Nothing is changed, but the block is dropped.
+    ///
+    /// # Safety
+    ///
+    /// The image is of this allocator, and has this block. The device is done with both.
+    #[track_caller]
+    pub unsafe fn destroy_image(&mut self, image: Image) {
+        // SAFETY: as the caller says.
+        unsafe { self.destroy(Resource::Image(image.handle), image.block) }
+    }
+
+    /// Allocates a block for a buffer that the program created, and binds it. A buffer whose address is used wants
+    /// [`UsageFlags::DEVICE_ADDRESS`].
+    ///
+    /// # Errors
+    ///
+    /// [`Error::NoDeviceAddress`], [`Error::Chained`], [`Error::Driver`], [`Error::Allocation`]. The buffer stays, and
+    /// has no memory.
+    ///
+    /// # Panics
+    ///
+    /// Where a bit of `request.usage` has no name. Nothing is changed.
+    ///
+    /// # Safety
+    ///
+    /// * The buffer is a live one of the device, not sparse, has no memory, and no other thread uses it.
+    /// * `request.next` is null, or such a chain as [`DeviceFor::with_next`] asks for.
+    pub unsafe fn allocate_for_buffer(
+        &mut self,
+        buffer: raw::Buffer,
+        request: impl Into<MemoryRequest>,
+    ) -> Result<MemoryBlock<Memory>, Error> {
+        let resource = Resource::Buffer(buffer);
+        // SAFETY: as the caller says.
+        unsafe { allocate_and_bind(&mut self.core, &self.device, resource, false, &request.into()) }
+    }
+
+    /// Allocates a block for an image that the program created with this tiling, and binds it.
+    ///
+    /// # Errors
+    ///
+    /// [`Error::NoDeviceAddress`], [`Error::Chained`], [`Error::Driver`], [`Error::Allocation`]. The image stays, and
+    /// has no memory.
+    ///
+    /// # Panics
+    ///
+    /// Where a bit of `request.usage` has no name. Nothing is changed.
+    ///
+    /// # Safety
+    ///
+    /// * The image is a live one of the device, neither sparse nor disjoint, has that tiling and no memory, and no
+    ///   other thread uses it.
+    /// * `request.next` is null, or such a chain as [`DeviceFor::with_next`] asks for.
+    pub unsafe fn allocate_for_image(
+        &mut self,
+        image: raw::Image,
+        tiling: Tiling,
+        request: impl Into<MemoryRequest>,
+    ) -> Result<MemoryBlock<Memory>, Error> {
+        let (resource, optimal) = (Resource::Image(image), tiling != Tiling::LINEAR);
+        // SAFETY: as the caller says.
+        unsafe { allocate_and_bind(&mut self.core, &self.device, resource, optimal, &request.into()) }
+    }
+
+    /// Allocates a block for given requirements; nothing is bound to it.
+    ///
+    /// # Errors
+    ///
+    /// [`Error::NoDeviceAddress`], [`Error::Chained`], [`Error::Driver`], [`Error::Allocation`].
+    ///
+    /// # Panics
+    ///
+    /// Where a bit of `request.usage` has no name, or the alignment is not a power of two. Nothing is changed.
+    ///
+    /// # Safety
+    ///
+    /// `request.next` is null, or such a chain as [`DeviceFor::with_next`] asks for.
+    pub unsafe fn allocate(
+        &mut self,
+        requirements: &Requirements,
+        request: impl Into<MemoryRequest>,
+    ) -> Result<MemoryBlock<Memory>, Error> {
+        let asked = DeviceFor::none(&self.device);
+        // SAFETY: the device is the allocator's, and `next` is as the caller says.
+        unsafe { allocate(&mut self.core, &self.device, asked, requirements, &request.into()) }
+    }
+}
+
+impl Allocator {
+    /// # Safety
+    ///
+    /// As for `destroy_buffer` and `destroy_image`.
+    #[track_caller]
+    unsafe fn destroy(&mut self, resource: Resource, block: MemoryBlock<Memory>) {
+        self.core.assert_own(&block);
+        // SAFETY: as the caller says. What is bound to the block goes before the block's memory may.
+        unsafe {
+            self.device.destroy(resource);
+            self.core.dealloc(&self.device, block);
+        }
+    }
+}
+
+impl Drop for Allocator {
+    fn drop(&mut self) {
+        // SAFETY: the device outlives this, as the caller of `load` said, and is the allocator's. What is live stays.
+        unsafe { self.core.cleanup(&self.device) };
+    }
+}
+
+/// Allocates for a resource, and binds it.
+///
+/// # Safety
+///
+/// * The device is the allocator's.
+/// * The resource is a live one of it that is optimal or not, has no memory, is neither sparse nor disjoint, and no
+///   other thread uses it. `request.next` is as `DeviceFor::with_next` asks.
+unsafe fn allocate_and_bind(
+    core: &mut GpuAllocator<Memory>,
+    device: &Device,
+    resource: Resource,
+    optimal: bool,
+    request: &MemoryRequest,
+) -> Result<MemoryBlock<Memory>, Error> {
+    // SAFETY: as the caller says.
+    let requirements = unsafe { device.requirements(resource, optimal) };
+    let asked = DeviceFor::new(device, resource);
+    // SAFETY: as the caller says.
+    let block = unsafe { allocate(core, device, asked, &requirements, request) }?;
+    // SAFETY: the block was allocated for the resource's requirements.
+    match unsafe { device.bind(resource, &block, 0) } {
+        Ok(()) => Ok(block),
+        Err(error) => {
+            // SAFETY: the block is of that allocator and device, and nothing was bound to it.
+            unsafe { core.dealloc(device, block) };
+            Err(error)
+        }
+    }
+}
+
+/// # Safety
+///
+/// * `asked` is the device, which is the allocator's.
+/// * `request.next` is as `DeviceFor::with_next` asks.
+unsafe fn allocate(
+    core: &mut GpuAllocator<Memory>,
+    device: &Device,
+    asked: DeviceFor<'_>,
+    requirements: &Requirements,
+    request: &MemoryRequest,
+) -> Result<MemoryBlock<Memory>, Error> {
+    if request.usage.contains(UsageFlags::DEVICE_ADDRESS) && !device.enabled().contains(Enabled::DEVICE_ADDRESS) {
+        return Err(Error::NoDeviceAddress);
+    }
+    // SAFETY: as the caller says.
+    let asked = unsafe { asked.with_next(request.next) }?;
+    let permitted = if request.memory_types == 0 { !0 } else { request.memory_types };
+    let wanted = Request {
+        size: requirements.size,
+        align_mask: requirements.alignment.wrapping_sub(1),
+        usage: request.usage,
+        memory_types: requirements.memory_types & device.known_types() & permitted,
+    };
+    let dedicated = match (request.dedicated, requirements.dedicated) {
+        (Some(Dedicated::Required), _) | (_, Some(Dedicated::Required)) => Some(Dedicated::Required),
+        (wish, need) => wish.or(need),
+    };
+    // SAFETY: the device is the allocator's, as the caller says, and the only one of its calls.
+    let granted = unsafe {
+        match dedicated {
+            _ if requirements.optimal => core.alloc_optimal(&asked, wanted, dedicated),
+            Some(dedicated) => core.alloc_with_dedicated(&asked, wanted, dedicated),
+            None => core.alloc(&asked, wanted),
+        }
+    };
+    granted.map_err(|error| match error {
+        AllocationError::OutOfDeviceMemory | AllocationError::OutOfHostMemory => {
+            asked.failure().unwrap_or(Error::Allocation(error))
+        }
+        error => Error::Allocation(error),
+    })
+}

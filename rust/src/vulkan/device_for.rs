@@ -1,0 +1,162 @@
+//! A device as it is asked for a resource, and as a `MemoryDevice`.
+
+use super::calls::Resource;
+use super::device::Device;
+use super::error::{Error, VkResult};
+use super::raw::{Memory, MemoryAllocateFlagsInfo, MemoryDedicatedAllocateInfo};
+use crate::types::{AllocationFlags, DeviceMapError, MappedMemoryRange, MemoryDevice, OutOfMemory};
+use std::cell::Cell;
+use std::ffi::c_void;
+use std::ptr::{null, NonNull};
+
+/// A [`Device`] as it is asked for one buffer or image, or for a block of none. It chains to a memory object what
+/// belongs to that resource, exactly where the object will hold its block alone
+/// ([`OWN`](AllocationFlags::OWN)), and keeps what the driver returned last.
+///
+/// It is the same device to an allocator: a block that was allocated by one may be used by the other.
+#[derive(Debug)]
+pub struct DeviceFor<'a> {
+    device: &'a Device,
+    resource: Option<Resource>,
+    next: *const c_void,
+    failed: Cell<Option<Error>>,
+}
+
+impl<'a> DeviceFor<'a> {
+    pub(crate) fn new(device: &'a Device, resource: Resource) -> Self {
+        DeviceFor { resource: Some(resource), ..DeviceFor::none(device) }
+    }
+
+    /// For a block that no resource is known of.
+    pub(crate) fn none(device: &'a Device) -> Self {
+        DeviceFor { device, resource: None, next: null(), failed: Cell::new(None) }
+    }
+
+    /// Chains these structs too ([`MemoryRequest::next`](super::MemoryRequest::next)).
+    ///
+    /// # Errors
+    ///
+    /// [`Error::Chained`]: one of them is chained by itself.
+    ///
+    /// # Safety
+    ///
+    /// `next` is null or the first of a chain of structs that may follow `VkMemoryAllocateInfo`, and they live as long
+    /// as the value is used.
+    pub unsafe fn with_next(self, next: *const c_void) -> Result<Self, Error> {
+        let mut rest = next.cast::<Link>();
+        // SAFETY: each of a chain begins by its type and its next, as the caller says, and a null ends it.
+        while let Some(link) = unsafe { rest.as_ref() } {
+            match link.s_type {
+                MemoryDedicatedAllocateInfo::TYPE => return Err(Error::Chained("VkMemoryDedicatedAllocateInfo")),
+                MemoryAllocateFlagsInfo::TYPE => return Err(Error::Chained("VkMemoryAllocateFlagsInfo")),
+                _ => rest = link.p_next,
+            }
+        }
+        Ok(DeviceFor { next, ..self })
+    }
+
+    /// What the driver returned to the last call that it may refuse, where that was an error:
+    /// [`Error::Driver`].
+    pub fn failure(&self) -> Option<Error> {
+        self.failed.get()
+    }
+
+    /// Keeps an answer's error, and gives its result.
+    fn keep<T>(&self, answer: Result<T, Error>) -> Result<T, VkResult> {
+        self.failed.set(answer.as_ref().err().copied());
+        answer.map_err(Error::result)
+    }
+}
+
+/// How each struct of a chain begins: `VkBaseInStructure`.
+#[repr(C)]
+struct Link {
+    s_type: i32,
+    p_next: *const Link,
+}
+
+/// `VK_ERROR_TOO_MANY_OBJECTS` too lets an allocation go on with its next memory type.
+fn out_of_memory(result: VkResult) -> OutOfMemory {
+    match result {
+        VkResult::ERROR_OUT_OF_DEVICE_MEMORY | VkResult::ERROR_TOO_MANY_OBJECTS => OutOfMemory::OutOfDeviceMemory,
+        _ => OutOfMemory::OutOfHostMemory,
+    }
+}
+
+fn map_error(result: VkResult) -> DeviceMapError {
+    match result {
+        VkResult::ERROR_MEMORY_MAP_FAILED => DeviceMapError::MapFailed,
+        result => match out_of_memory(result) {
+            OutOfMemory::OutOfDeviceMemory => DeviceMapError::OutOfDeviceMemory,
+            OutOfMemory::OutOfHostMemory => DeviceMapError::OutOfHostMemory,
+        },
+    }
+}
+
+// What these functions ask of their callers is what those of the device ask. That the resource is live and the chain is
+// one that Vulkan allows is for who made the value.
+impl MemoryDevice<Memory> for DeviceFor<'_> {
+    unsafe fn allocate_memory(&self, size: u64, of: u32, flags: AllocationFlags) -> Result<Memory, OutOfMemory> {
+        // SAFETY: as the caller says.
+        let answer = unsafe { self.device.allocate(size, of, flags, self.resource, self.next) };
+        self.keep(answer).map_err(out_of_memory)
+    }
+
+    unsafe fn deallocate_memory(&self, memory: Memory) {
+        // SAFETY: as the caller says.
+        unsafe { self.device.free(memory) }
+    }
+
+    unsafe fn map_memory(&self, memory: &mut Memory, offset: u64, size: u64) -> Result<NonNull<u8>, DeviceMapError> {
+        // SAFETY: as the caller says.
+        self.keep(unsafe { self.device.map(*memory, offset, size) }).map_err(map_error)
+    }
+
+    unsafe fn unmap_memory(&self, memory: &mut Memory) {
+        // SAFETY: as the caller says.
+        unsafe { self.device.unmap(*memory) }
+    }
+
+    unsafe fn invalidate_memory_ranges(&self, ranges: &[MappedMemoryRange<'_, Memory>]) -> Result<(), OutOfMemory> {
+        // SAFETY: as the caller says.
+        self.keep(unsafe { self.device.invalidate_all(ranges) }).map_err(out_of_memory)
+    }
+
+    unsafe fn flush_memory_ranges(&self, ranges: &[MappedMemoryRange<'_, Memory>]) -> Result<(), OutOfMemory> {
+        // SAFETY: as the caller says.
+        self.keep(unsafe { self.device.flush_all(ranges) }).map_err(out_of_memory)
+    }
+}
+
+// What these functions ask of their callers is what those above ask.
+impl MemoryDevice<Memory> for Device {
+    unsafe fn allocate_memory(&self, size: u64, of: u32, flags: AllocationFlags) -> Result<Memory, OutOfMemory> {
+        // SAFETY: as the caller says.
+        unsafe { DeviceFor::none(self).allocate_memory(size, of, flags) }
+    }
+
+    unsafe fn deallocate_memory(&self, memory: Memory) {
+        // SAFETY: as the caller says.
+        unsafe { self.free(memory) }
+    }
+
+    unsafe fn map_memory(&self, memory: &mut Memory, offset: u64, size: u64) -> Result<NonNull<u8>, DeviceMapError> {
+        // SAFETY: as the caller says.
+        unsafe { DeviceFor::none(self).map_memory(memory, offset, size) }
+    }
+
+    unsafe fn unmap_memory(&self, memory: &mut Memory) {
+        // SAFETY: as the caller says.
+        unsafe { self.unmap(*memory) }
+    }
+
+    unsafe fn invalidate_memory_ranges(&self, ranges: &[MappedMemoryRange<'_, Memory>]) -> Result<(), OutOfMemory> {
+        // SAFETY: as the caller says.
+        unsafe { DeviceFor::none(self).invalidate_memory_ranges(ranges) }
+    }
+
+    unsafe fn flush_memory_ranges(&self, ranges: &[MappedMemoryRange<'_, Memory>]) -> Result<(), OutOfMemory> {
+        // SAFETY: as the caller says.
+        unsafe { DeviceFor::none(self).flush_memory_ranges(ranges) }
+    }
+}

@@ -1,0 +1,169 @@
+//! What is refused over Vulkan, and why.
+
+use crate::error::{AllocationError, MapError, NewError};
+use std::fmt::{Debug, Display, Formatter};
+
+/// A `VkResult`, as the driver returned it.
+#[derive(Clone, Copy, PartialEq, Eq, Hash)]
+#[repr(transparent)]
+pub struct VkResult(pub i32);
+
+/// Declares results by their names in C.
+macro_rules! results {
+    ($( $NAME:ident = $value:literal; )*) => {
+        impl VkResult {
+            $(
+                #[doc = concat!("`VK_", stringify!($NAME), "`.")]
+                pub const $NAME: VkResult = VkResult($value);
+            )*
+
+            const NAMED: &'static [(VkResult, &'static str)] =
+                &[$( (VkResult::$NAME, concat!("VK_", stringify!($NAME))) ),*];
+        }
+    };
+}
+
+results! {
+    SUCCESS = 0;
+    ERROR_OUT_OF_HOST_MEMORY = -1;
+    ERROR_OUT_OF_DEVICE_MEMORY = -2;
+    ERROR_INITIALIZATION_FAILED = -3;
+    ERROR_DEVICE_LOST = -4;
+    ERROR_MEMORY_MAP_FAILED = -5;
+    ERROR_EXTENSION_NOT_PRESENT = -7;
+    ERROR_FEATURE_NOT_PRESENT = -8;
+    ERROR_TOO_MANY_OBJECTS = -10;
+    ERROR_UNKNOWN = -13;
+    ERROR_VALIDATION_FAILED_EXT = -1_000_011_001;
+    ERROR_INVALID_EXTERNAL_HANDLE = -1_000_072_003;
+    ERROR_INVALID_OPAQUE_CAPTURE_ADDRESS = -1_000_257_000;
+}
+
+impl Display for VkResult {
+    fn fmt(&self, formatter: &mut Formatter<'_>) -> std::fmt::Result {
+        match VkResult::NAMED.iter().find(|named| named.0 == *self) {
+            Some((_, name)) => formatter.write_str(name),
+            None => write!(formatter, "VkResult {}", self.0),
+        }
+    }
+}
+
+impl Debug for VkResult {
+    fn fmt(&self, formatter: &mut Formatter<'_>) -> std::fmt::Result {
+        Display::fmt(self, formatter)
+    }
+}
+
+/// Why a call over Vulkan was refused. Unless the call says otherwise, nothing has changed.
+#[derive(Clone, Copy, Debug, PartialEq, Eq, Hash)]
+#[non_exhaustive]
+pub enum Error {
+    /// The driver refused.
+    Driver {
+        /// The function that it refused, as `vkAllocateMemory`.
+        call: &'static str,
+        /// What it returned.
+        result: VkResult,
+    },
+
+    /// The allocator refused a block, and not for what the driver returned.
+    Allocation(AllocationError),
+
+    /// The block was not mapped, and not for what the driver returned.
+    Map(MapError),
+
+    /// The allocator could not be made.
+    New(NewError),
+
+    /// This function could not be loaded, or this handle is null.
+    Missing(&'static str),
+
+    /// The buffer is sparse: memory is bound to parts of it, which is the program's to do.
+    SparseBuffer,
+
+    /// The image is sparse: memory is bound to parts of it, which is the program's to do.
+    SparseImage,
+
+    /// The image is disjoint: each of its planes wants memory of its own, which is the program's to bind.
+    DisjointImage,
+
+    /// [`MemoryRequest::next`](super::MemoryRequest::next) has this struct, which is chained by itself.
+    Chained(&'static str),
+
+    /// A device address is asked for without [`Enabled::DEVICE_ADDRESS`](super::Enabled::DEVICE_ADDRESS).
+    NoDeviceAddress,
+
+    /// A block that is to be flushed or invalidated is not mapped.
+    NotMapped,
+
+    /// Budgets are asked for without [`Enabled::MEMORY_BUDGET`](super::Enabled::MEMORY_BUDGET).
+    NoBudget,
+}
+
+impl Error {
+    /// The result that says the same in Vulkan: the driver's own where it refused, and else the one that
+    /// `wallthyme_vulkan.h` returns.
+    pub fn result(self) -> VkResult {
+        match self {
+            Error::Driver { result, .. } => result,
+            Error::Allocation(AllocationError::OutOfDeviceMemory) | Error::Map(MapError::OutOfDeviceMemory) => {
+                VkResult::ERROR_OUT_OF_DEVICE_MEMORY
+            }
+            Error::Allocation(AllocationError::OutOfHostMemory)
+            | Error::Map(MapError::OutOfHostMemory)
+            | Error::New(NewError::OutOfHostMemory) => VkResult::ERROR_OUT_OF_HOST_MEMORY,
+            Error::Allocation(AllocationError::TooManyObjects) => VkResult::ERROR_TOO_MANY_OBJECTS,
+            Error::Allocation(AllocationError::NoCompatibleMemoryTypes)
+            | Error::SparseBuffer
+            | Error::SparseImage
+            | Error::DisjointImage => VkResult::ERROR_FEATURE_NOT_PRESENT,
+            Error::Map(MapError::NonHostVisible | MapError::MapFailed) => VkResult::ERROR_MEMORY_MAP_FAILED,
+            Error::New(NewError::BadProperties | NewError::OtherVersion) | Error::Missing(_) => {
+                VkResult::ERROR_INITIALIZATION_FAILED
+            }
+            Error::Map(MapError::AlreadyMapped) | Error::Chained(_) | Error::NoDeviceAddress | Error::NotMapped => {
+                VkResult::ERROR_VALIDATION_FAILED_EXT
+            }
+            Error::NoBudget => VkResult::ERROR_EXTENSION_NOT_PRESENT,
+        }
+    }
+}
+
+impl Display for Error {
+    fn fmt(&self, formatter: &mut Formatter<'_>) -> std::fmt::Result {
+        match self {
+            Error::Driver { call, result } => write!(formatter, "{call} returned {result}"),
+            Error::Allocation(error) => Display::fmt(error, formatter),
+            Error::Map(error) => Display::fmt(error, formatter),
+            Error::New(error) => Display::fmt(error, formatter),
+            Error::Missing(what) => write!(formatter, "{what} is missing"),
+            Error::SparseBuffer => formatter.write_str("Sparse buffers get no memory here"),
+            Error::SparseImage => formatter.write_str("Sparse images get no memory here"),
+            Error::DisjointImage => formatter.write_str("Disjoint images get no memory here"),
+            Error::Chained(name) => write!(formatter, "{name} is in `next`, and is chained by itself"),
+            Error::NoDeviceAddress => formatter.write_str("The feature bufferDeviceAddress is not enabled"),
+            Error::NotMapped => formatter.write_str("Block is not mapped"),
+            Error::NoBudget => formatter.write_str("The extension VK_EXT_memory_budget is not enabled"),
+        }
+    }
+}
+
+impl std::error::Error for Error {}
+
+impl From<AllocationError> for Error {
+    fn from(error: AllocationError) -> Self {
+        Error::Allocation(error)
+    }
+}
+
+impl From<MapError> for Error {
+    fn from(error: MapError) -> Self {
+        Error::Map(error)
+    }
+}
+
+impl From<NewError> for Error {
+    fn from(error: NewError) -> Self {
+        Error::New(error)
+    }
+}

@@ -1,0 +1,118 @@
+//! What a program hands in: its device, and what memory a resource is to get.
+
+use super::raw::{AllocationCallbacks, Device, GetInstanceProcAddr, Instance, PhysicalDevice, API_VERSION_1_1};
+use crate::flags::flags;
+use crate::{Dedicated, UsageFlags};
+use std::ffi::c_void;
+use std::ptr::null;
+
+flags! {
+    /// What a program enabled of its instance and device. Version 1.1 has the first two without a flag.
+    pub struct Enabled {
+        /// `VK_KHR_get_physical_device_properties2` of the instance, and `VK_KHR_maintenance3`.
+        const PROPERTIES2 = 0x01;
+
+        /// `VK_KHR_get_memory_requirements2` and `VK_KHR_dedicated_allocation`.
+        const DEDICATED_ALLOCATION = 0x02;
+
+        /// `VK_EXT_memory_budget`. Needs [`PROPERTIES2`](Enabled::PROPERTIES2).
+        const MEMORY_BUDGET = 0x04;
+
+        /// The feature `bufferDeviceAddress`. Each memory object is then made for it.
+        const DEVICE_ADDRESS = 0x08;
+    }
+}
+
+/// A device of a program's, as it opened it. Zeros are defaults, but for the three handles and the function.
+#[derive(Clone, Copy, Debug)]
+pub struct DeviceInfo {
+    /// The instance.
+    pub instance: Instance,
+
+    /// The physical device.
+    pub physical_device: PhysicalDevice,
+
+    /// The device.
+    pub device: Device,
+
+    /// Loads the functions: `vkGetInstanceProcAddr`.
+    pub get_instance_proc_addr: Option<GetInstanceProcAddr>,
+
+    /// The lesser of the version that the instance was created for and the one that the device offers. 0 means 1.0.
+    pub api_version: u32,
+
+    /// What was enabled beside that version.
+    pub enabled: Enabled,
+
+    /// Go to each call of Vulkan that takes them.
+    pub callbacks: Option<AllocationCallbacks>,
+
+    /// How many memory objects the program makes itself, at most, beside the allocator's.
+    pub other_objects: u32,
+}
+
+impl Default for DeviceInfo {
+    fn default() -> Self {
+        DeviceInfo {
+            instance: Instance(0),
+            physical_device: PhysicalDevice(0),
+            device: Device(0),
+            get_instance_proc_addr: None,
+            api_version: 0,
+            enabled: Enabled::empty(),
+            callbacks: None,
+            other_objects: 0,
+        }
+    }
+}
+
+impl DeviceInfo {
+    /// Whether all of that may be used. Version 1.1 has the first two.
+    pub(crate) fn has(&self, feature: Enabled) -> bool {
+        let of_version = match self.api_version {
+            API_VERSION_1_1.. => Enabled::PROPERTIES2 | Enabled::DEDICATED_ALLOCATION,
+            _ => Enabled::empty(),
+        };
+        (self.enabled | of_version).contains(feature)
+    }
+}
+
+/// What memory a resource gets. Zeros are defaults. A [`UsageFlags`] becomes one by itself.
+#[derive(Clone, Copy, Debug)]
+pub struct MemoryRequest {
+    /// What it is used for. No flag means [`UsageFlags::FAST_DEVICE_ACCESS`]. A buffer whose own usage has the shader's
+    /// device address gets [`UsageFlags::DEVICE_ADDRESS`] by itself.
+    pub usage: UsageFlags,
+
+    /// The permitted memory types: bit i for the type of index i. 0 permits all. Those of the resource's requirements
+    /// that [`Device::known_types`](super::Device::known_types) has remain of it.
+    pub memory_types: u32,
+
+    /// Whether it has to be a memory object of its own. Raised to what the driver asks for.
+    pub dedicated: Option<Dedicated>,
+
+    /// Structs that are chained to `VkMemoryAllocateInfo` exactly where the memory object will hold this block alone: a
+    /// priority, an export. Or null. One that has to be chained wants [`Dedicated::Required`].
+    /// `VkMemoryDedicatedAllocateInfo` and `VkMemoryAllocateFlagsInfo` are refused here: they are chained by
+    /// themselves.
+    pub next: *const c_void,
+}
+
+impl MemoryRequest {
+    /// A request of this usage, for any memory type.
+    pub const fn new(usage: UsageFlags) -> Self {
+        MemoryRequest { usage, memory_types: 0, dedicated: None, next: null() }
+    }
+}
+
+impl Default for MemoryRequest {
+    fn default() -> Self {
+        MemoryRequest::new(UsageFlags::empty())
+    }
+}
+
+impl From<UsageFlags> for MemoryRequest {
+    fn from(usage: UsageFlags) -> Self {
+        MemoryRequest::new(usage)
+    }
+}

@@ -1,0 +1,237 @@
+//! Each call of the driver that may fail does so: its result comes back, and nothing is lost.
+
+use super::*;
+use crate::{AllocationError, Config, MapError, NewError};
+use std::error::Error as _;
+
+const RESULTS: [VkResult; 7] = [
+    VkResult::ERROR_OUT_OF_HOST_MEMORY,
+    VkResult::ERROR_OUT_OF_DEVICE_MEMORY,
+    VkResult::ERROR_DEVICE_LOST,
+    VkResult::ERROR_MEMORY_MAP_FAILED,
+    VkResult::ERROR_TOO_MANY_OBJECTS,
+    VkResult::ERROR_UNKNOWN,
+    VkResult(-1_000_161_000),
+];
+
+/// A run of all that may be refused. What was made by then is kept.
+fn steps(allocator: &mut Allocator, kept: &mut (Vec<Buffer>, Vec<Image>)) -> Result<(), Error> {
+    let permitted = |usage: UsageFlags, memory_types| MemoryRequest { memory_types, ..usage.into() };
+    let own = MemoryRequest { dedicated: Some(Dedicated::Required), ..permitted(DOWNLOAD, 0b0100) };
+    // SAFETY: the stub allows it, and no device uses the blocks. What is flushed is mapped.
+    unsafe {
+        kept.1.push(allocator.create_image(&image_info(10), permitted(LOCAL, 1))?);
+        kept.0.push(allocator.create_buffer(&buffer_info(100), permitted(UPLOAD, 2))?);
+        kept.0.push(allocator.create_buffer(&buffer_info(100), own)?);
+        let block = &mut kept.0[1].block;
+        allocator.write(block, 0, &[1; 100])?;
+        allocator.read(block, 0, &mut [0; 100])?;
+        allocator.map(block)?;
+        allocator.flush(&[(block, 0..1)])?;
+        allocator.invalidate(&[(block, 0..1)])
+    }
+}
+
+#[test]
+fn each_call_is_refused() {
+    let calls = {
+        let stub = Stub::new();
+        let mut allocator = allocator(&stub);
+        let mut kept = (vec![], vec![]);
+        steps(&mut allocator, &mut kept).expect("nothing is refused");
+        let calls = stub.state().calls.clone();
+        end(stub, allocator, kept.0, kept.1);
+        calls.into_iter().filter(|call| !call.starts_with("vkGet") && *call != "vkUnmapMemory").collect::<Vec<_>>()
+    };
+    let mut seen: Vec<_> = calls.clone();
+    seen.sort_unstable();
+    seen.dedup();
+    assert_eq!(
+        seen,
+        [
+            "vkAllocateMemory",
+            "vkBindBufferMemory",
+            "vkBindImageMemory",
+            "vkCreateBuffer",
+            "vkCreateImage",
+            "vkFlushMappedMemoryRanges",
+            "vkInvalidateMappedMemoryRanges",
+            "vkMapMemory",
+        ]
+    );
+    for result in RESULTS {
+        for (number, call) in (1..).zip(&calls) {
+            let stub = Stub::new();
+            let mut allocator = allocator(&stub);
+            let mut kept = (vec![], vec![]);
+            stub.refuse(number, result);
+            let error = steps(&mut allocator, &mut kept).expect_err("a call is refused");
+            assert_eq!(error, Error::Driver { call, result }, "{number}");
+            assert_eq!(error.result(), result);
+            // What was granted before is all that there is.
+            let (objects, buffers, images) = stub.held();
+            assert_eq!((buffers, images), (kept.0.len(), kept.1.len()), "{number} {call} {result}");
+            assert_eq!(allocator.remaining_allocations() as usize, 100 - objects);
+            assert_eq!(objects, buffers + images);
+            end(stub, allocator, kept.0, kept.1);
+        }
+    }
+}
+
+/// Lack of device memory, and too many objects, go on to the next memory type; other errors end the request.
+#[test]
+fn the_next_memory_type() {
+    for result in RESULTS {
+        let goes_on = [VkResult::ERROR_OUT_OF_DEVICE_MEMORY, VkResult::ERROR_TOO_MANY_OBJECTS].contains(&result);
+        let stub = Stub::new();
+        let mut allocator = allocator(&stub);
+        stub.refuse(2, result);
+        // SAFETY: the stub allows it.
+        let granted = unsafe { allocator.create_buffer(&buffer_info(100), dedicated(LOCAL, Dedicated::Required)) };
+        let made = match granted {
+            Ok(made) => {
+                assert!(goes_on && made.block.memory_type() != 0, "{result}");
+                vec![made]
+            }
+            Err(error) => {
+                assert_eq!((error, goes_on), (Error::Driver { call: "vkAllocateMemory", result }, false));
+                vec![]
+            }
+        };
+        end(stub, allocator, made, vec![]);
+    }
+}
+
+/// Where another reason than the driver's ends a request, an earlier result of the driver is not returned.
+#[test]
+fn reasons_that_are_not_the_drivers() {
+    let stub = Stub::new();
+    let mut allocator = allocator(&stub);
+    let request = MemoryRequest { memory_types: 1, ..LOCAL.into() };
+    // SAFETY: the stub allows it.
+    let refused = unsafe { allocator.create_buffer(&buffer_info(stub::LARGEST + 1), request) }.err();
+    assert_eq!(refused, Some(Error::Allocation(AllocationError::OutOfDeviceMemory)));
+    assert_eq!(refused.map(Error::result), Some(VkResult::ERROR_OUT_OF_DEVICE_MEMORY));
+    // SAFETY: the stub allows it.
+    let refused = unsafe { allocator.create_buffer(&buffer_info(1), MemoryRequest { usage: UPLOAD, ..request }) }.err();
+    assert_eq!(refused, Some(Error::Allocation(AllocationError::NoCompatibleMemoryTypes)));
+    assert_eq!(stub.held(), (0, 0, 0));
+    end(stub, allocator, vec![], vec![]);
+}
+
+#[test]
+fn as_many_objects_as_the_device_allows() {
+    let stub = Stub::new();
+    let device = stub.device_of(&DeviceInfo { other_objects: 99, ..stub.info() });
+    let mut allocator = Allocator::with_config(device, Config::i_am_potato()).unwrap();
+    let first = buffer(&mut allocator, 100, dedicated(LOCAL, Dedicated::Required));
+    // SAFETY: the stub allows it.
+    let refused = unsafe { allocator.create_buffer(&buffer_info(100), UPLOAD) }.err();
+    assert_eq!(refused, Some(Error::Allocation(AllocationError::TooManyObjects)));
+    end(stub, allocator, vec![first], vec![]);
+}
+
+/// A panic in the middle destroys what was created.
+#[test]
+fn a_usage_without_a_name() {
+    let stub = Stub::new();
+    let mut allocator = allocator(&stub);
+    let usage = UsageFlags::from_bits_retain(0x40);
+    // SAFETY: it is refused.
+    let misused = std::panic::AssertUnwindSafe(|| unsafe { allocator.create_buffer(&buffer_info(1), usage) });
+    assert!(std::panic::catch_unwind(misused).is_err());
+    assert_eq!(stub.held(), (0, 0, 0));
+    let made = buffer(&mut allocator, 1, LOCAL);
+    end(stub, allocator, vec![made], vec![]);
+}
+
+/// The program's buffer and image stay where they get no memory.
+#[test]
+fn the_programs_own_resources_stay() {
+    let stub = Stub::new();
+    let mut allocator = allocator(&stub);
+    let device = allocator.device().clone();
+    for number in [1, 2] {
+        // SAFETY: the resources are the stub's, and nobody uses them.
+        unsafe {
+            let buffer = device.create_buffer(&buffer_info(100)).unwrap();
+            let image = device.create_image(&image_info(10)).unwrap();
+            stub.refuse(number, VkResult::ERROR_DEVICE_LOST);
+            let refused = allocator.allocate_for_buffer(buffer, LOCAL).err();
+            assert_eq!(refused.map(Error::result), Some(VkResult::ERROR_DEVICE_LOST));
+            stub.refuse(number, VkResult::ERROR_DEVICE_LOST);
+            let refused = allocator.allocate_for_image(image, Tiling::OPTIMAL, LOCAL).err();
+            assert_eq!(refused.map(Error::result), Some(VkResult::ERROR_DEVICE_LOST));
+            assert_eq!(stub.held(), (0, 1, 1));
+            let blocks = [
+                allocator.allocate_for_buffer(buffer, LOCAL).unwrap(),
+                allocator.allocate_for_image(image, Tiling::OPTIMAL, LOCAL).unwrap(),
+            ];
+            assert!(stub.state().buffers[&buffer.0].at.is_some() && stub.state().images[&image.0].at.is_some());
+            device.destroy(calls::Resource::Buffer(buffer));
+            device.destroy(calls::Resource::Image(image));
+            blocks.into_iter().for_each(|block| allocator.free(block));
+        }
+    }
+    end(stub, allocator, vec![], vec![]);
+}
+
+/// The program's callbacks go to each call that takes them.
+#[test]
+fn callbacks_are_passed_on() {
+    let mut value = 0;
+    let user_data = std::ptr::from_mut(&mut value);
+    for callbacks in [None, Some(AllocationCallbacks { p_user_data: user_data.cast(), ..Default::default() })] {
+        let stub = Stub::new();
+        let mut allocator = Allocator::new(stub.device_of(&DeviceInfo { callbacks, ..stub.info() })).unwrap();
+        let made = buffer(&mut allocator, 100, LOCAL);
+        let other = image(&mut allocator, 10, dedicated(LOCAL, Dedicated::Required));
+        // SAFETY: they are this allocator's, and no device uses them.
+        unsafe {
+            allocator.destroy_buffer(made);
+            allocator.destroy_image(other);
+        }
+        drop(allocator);
+        // A buffer, an image, and two objects: made and gone.
+        assert_eq!(stub.state().callbacks, [callbacks.map_or(0, |_| user_data as usize); 8]);
+        stub.end();
+    }
+}
+
+#[test]
+fn texts_and_results() {
+    let driver = Error::Driver { call: "vkMapMemory", result: VkResult::ERROR_MEMORY_MAP_FAILED };
+    for (error, text, result) in [
+        (driver, "vkMapMemory returned VK_ERROR_MEMORY_MAP_FAILED", VkResult::ERROR_MEMORY_MAP_FAILED),
+        (
+            Error::Driver { call: "vkCreateImage", result: VkResult(-77) },
+            "vkCreateImage returned VkResult -77",
+            VkResult(-77),
+        ),
+        (AllocationError::OutOfHostMemory.into(), "Host memory exhausted", VkResult::ERROR_OUT_OF_HOST_MEMORY),
+        (
+            AllocationError::TooManyObjects.into(),
+            "Reached limit on allocated memory objects count",
+            VkResult::ERROR_TOO_MANY_OBJECTS,
+        ),
+        (MapError::OutOfDeviceMemory.into(), "Device memory exhausted", VkResult::ERROR_OUT_OF_DEVICE_MEMORY),
+        (MapError::AlreadyMapped.into(), "Block is already mapped", VkResult::ERROR_VALIDATION_FAILED_EXT),
+        (
+            NewError::OtherVersion.into(),
+            "libwallthyme.a is of another version than the crate wallthyme",
+            VkResult::ERROR_INITIALIZATION_FAILED,
+        ),
+        (NewError::OutOfHostMemory.into(), "Host memory exhausted", VkResult::ERROR_OUT_OF_HOST_MEMORY),
+        (Error::Missing("vkFreeMemory"), "vkFreeMemory is missing", VkResult::ERROR_INITIALIZATION_FAILED),
+        (Error::SparseBuffer, "Sparse buffers get no memory here", VkResult::ERROR_FEATURE_NOT_PRESENT),
+        (Error::NotMapped, "Block is not mapped", VkResult::ERROR_VALIDATION_FAILED_EXT),
+        (
+            Error::NoDeviceAddress,
+            "The feature bufferDeviceAddress is not enabled",
+            VkResult::ERROR_VALIDATION_FAILED_EXT,
+        ),
+    ] {
+        assert_eq!((error.to_string().as_str(), error.result()), (text, result));
+        assert!(error.source().is_none());
+    }
+}

@@ -1,0 +1,297 @@
+//! Buffers and images with their memory, what is chained to it, and what is dropped.
+
+use super::*;
+use crate::{AllocationError, Config};
+use std::ptr::{from_ref, null};
+use stub::Chained;
+
+/// How a struct of a chain begins, and an `sType` that nobody has.
+const PRIORITY: raw::MemoryAllocateFlagsInfo =
+    raw::MemoryAllocateFlagsInfo { s_type: 1_000_238_001, p_next: null(), flags: 0, device_mask: 0 };
+
+/// What belongs to one resource is chained exactly where the object holds one block, and the address where enabled.
+#[test]
+fn chained_where_an_object_is_for_one_block() {
+    for (enabled, wishes_known) in [
+        (Enabled::empty(), true),
+        (Enabled::DEVICE_ADDRESS, true),
+        (Enabled::empty(), false),
+        (Enabled::DEVICE_ADDRESS, false),
+    ] {
+        let stub = Stub::new();
+        let api_version = if wishes_known { API_VERSION_1_1 } else { 0 };
+        let device = stub.device_of(&DeviceInfo { enabled, api_version, ..stub.info() });
+        let mut allocator = Allocator::with_config(device, Config::i_am_potato()).unwrap();
+        let (mut buffers, mut images) = (vec![], vec![]);
+        for (wish, next, own) in [
+            (None, false, false),
+            (None, true, false),
+            (Some(Dedicated::Required), false, true),
+            (Some(Dedicated::Required), true, true),
+            (Some(Dedicated::Preferred), true, true),
+        ] {
+            let next = if next { from_ref(&PRIORITY).cast() } else { null() };
+            let request = MemoryRequest { dedicated: wish, next, ..LOCAL.into() };
+            let expected = |owner| Chained {
+                owner: Some(owner).filter(|_| own && wishes_known),
+                address: enabled.contains(Enabled::DEVICE_ADDRESS),
+                others: if own && !next.is_null() { vec![PRIORITY.s_type] } else { vec![] },
+            };
+            let made = buffer(&mut allocator, 4000, request);
+            assert_eq!(chained(&stub, &made.block), expected((made.handle, raw::Image(0))), "{request:?}");
+            buffers.push(made);
+            let made = image(&mut allocator, 40, request);
+            assert_eq!(chained(&stub, &made.block), expected((raw::Buffer(0), made.handle)), "{request:?}");
+            images.push(made);
+            // A block of no resource has no owner.
+            // SAFETY: the stub allows it, and `next` is a chain or null.
+            unsafe {
+                let requirements =
+                    Requirements { size: 5000, alignment: 1, memory_types: 7, dedicated: None, optimal: false };
+                let block = allocator.allocate(&requirements, request).unwrap();
+                assert_eq!(
+                    chained(&stub, &block),
+                    Chained { owner: None, ..expected((raw::Buffer(0), raw::Image(0))) }
+                );
+                allocator.free(block);
+            }
+        }
+        end(stub, allocator, buffers, images);
+    }
+}
+
+/// What the driver asks for raises what the program asked for, and lowers nothing.
+#[test]
+fn the_driver_wants_an_object_of_its_own() {
+    for (own, wish, size, is_own) in [
+        ((0, 0), None, 40_000, false),
+        ((1, 0), None, 40_000, true),
+        ((1, 0), None, 100, false),
+        ((1, 0), Some(Dedicated::Required), 100, true),
+        ((0, 1), None, 100, true),
+        ((1, 1), Some(Dedicated::Preferred), 100, true),
+        ((0, 0), Some(Dedicated::Preferred), 40_000, true),
+    ] {
+        let stub = Stub::new();
+        stub.state().own = own;
+        let mut allocator = allocator(&stub);
+        let made = buffer(&mut allocator, size, MemoryRequest { dedicated: wish, ..LOCAL.into() });
+        assert_eq!(chained(&stub, &made.block).owner.is_some(), is_own, "{own:?} {wish:?} {size}");
+        assert_eq!(stub.state().objects[&made.block.memory().0].size == size, is_own);
+        end(stub, allocator, vec![made], vec![]);
+    }
+}
+
+#[test]
+fn bound_to_the_block() {
+    let stub = Stub::new();
+    let mut allocator = allocator(&stub);
+    let (mut buffers, mut images) = (vec![], vec![]);
+    for turn in 0..20 {
+        buffers.push(buffer(&mut allocator, 100 + turn, [LOCAL, UPLOAD, DOWNLOAD][turn as usize % 3]));
+        images.push(image(&mut allocator, 10 + turn as u32, LOCAL));
+    }
+    for made in &buffers {
+        assert_eq!(stub.state().buffers[&made.handle.0].at, Some((made.block.memory().0, made.block.offset())));
+    }
+    for made in &images {
+        assert_eq!(stub.state().images[&made.handle.0].at, Some((made.block.memory().0, made.block.offset())));
+    }
+    let shared = buffers.iter().filter(|one| images.iter().any(|other| one.block.memory() == other.block.memory()));
+    assert!(shared.count() > 1, "no buffer is beside an image");
+    // Images and buffers of one object are a page apart.
+    for (one, other) in buffers.iter().flat_map(|one| images.iter().map(move |other| (&one.block, &other.block))) {
+        let pages = [one, other].map(|of| of.offset() / stub::PAGE);
+        assert!(one.memory() != other.memory() || pages[0] != pages[1], "{one:?} {other:?}");
+    }
+    end(stub, allocator, buffers, images);
+}
+
+/// A linear image lies beside buffers.
+#[test]
+fn a_linear_image_is_no_optimal_block() {
+    let stub = Stub::new();
+    let mut allocator = allocator(&stub);
+    let first = buffer(&mut allocator, 100, LOCAL);
+    let info = ImageCreateInfo { tiling: Tiling::LINEAR, ..image_info(5) };
+    // SAFETY: the stub allows it.
+    let linear = unsafe { allocator.create_image(&info, LOCAL) }.unwrap();
+    let optimal = image(&mut allocator, 5, LOCAL);
+    assert_eq!((first.block.size(), linear.block.size()), (1024, 1024));
+    assert_eq!(optimal.block.offset() % stub::PAGE, 0);
+    // SAFETY: as above.
+    unsafe {
+        let made = allocator.device().create_image(&info).unwrap();
+        let block = allocator.allocate_for_image(made, Tiling::LINEAR, LOCAL).unwrap();
+        assert_eq!(stub.state().images[&made.0].at, Some((block.memory().0, block.offset())));
+        allocator.device().destroy(calls::Resource::Image(made));
+        allocator.free(block);
+    }
+    end(stub, allocator, vec![first], vec![linear, optimal]);
+}
+
+#[test]
+fn sparse_and_disjoint_are_refused_by_name() {
+    let stub = Stub::new();
+    let mut allocator = allocator(&stub);
+    let asked = stub.state().asked;
+    // SAFETY: all is refused.
+    unsafe {
+        for flags in [1, 2, 4, 7] {
+            let refused = allocator.create_buffer(&BufferCreateInfo { flags, ..buffer_info(1) }, LOCAL).err();
+            assert_eq!(refused, Some(Error::SparseBuffer));
+            let refused = allocator.create_image(&ImageCreateInfo { flags, ..image_info(1) }, LOCAL).err();
+            assert_eq!(refused, Some(Error::SparseImage));
+        }
+        let refused = allocator.create_image(&ImageCreateInfo { flags: 0x200, ..image_info(1) }, LOCAL).err();
+        assert_eq!(refused, Some(Error::DisjointImage));
+    }
+    for error in [Error::SparseBuffer, Error::SparseImage, Error::DisjointImage] {
+        assert_eq!(error.result(), VkResult::ERROR_FEATURE_NOT_PRESENT);
+    }
+    assert_eq!(stub.state().asked, asked);
+    end(stub, allocator, vec![], vec![]);
+}
+
+/// Types with a property that has no name here serve nothing.
+#[test]
+fn unknown_types_are_left_out() {
+    let stub = Stub::new();
+    stub.state().memory_types = 0b1000;
+    let mut allocator = allocator(&stub);
+    // SAFETY: the stub allows it.
+    let refused = unsafe { allocator.create_buffer(&buffer_info(100), UPLOAD) }.err();
+    assert_eq!(refused, Some(Error::Allocation(AllocationError::NoCompatibleMemoryTypes)));
+    stub.state().memory_types = 0b1110;
+    let made = buffer(&mut allocator, 100, UPLOAD);
+    assert_eq!(made.block.memory_type(), 1);
+    let cached = buffer(&mut allocator, 100, MemoryRequest { memory_types: 0b1100, ..UPLOAD.into() });
+    assert_eq!(cached.block.memory_type(), 2);
+    end(stub, allocator, vec![made, cached], vec![]);
+}
+
+/// A buffer whose own usage says so gets an address by itself.
+#[test]
+fn device_addresses() {
+    let stub = Stub::new();
+    let info = BufferCreateInfo { usage: 0x20000, ..buffer_info(100) };
+    let mut without = allocator(&stub);
+    // SAFETY: the stub allows it.
+    unsafe {
+        for request in [LOCAL, UsageFlags::DEVICE_ADDRESS] {
+            let refused = without.create_buffer(&info, request).err();
+            assert_eq!(refused, Some(Error::NoDeviceAddress));
+        }
+        assert_eq!(
+            without.create_image(&image_info(1), UsageFlags::DEVICE_ADDRESS).err(),
+            Some(Error::NoDeviceAddress)
+        );
+    }
+    drop(without);
+    assert_eq!(stub.held(), (0, 0, 0));
+    let device = stub.device_of(&DeviceInfo { enabled: Enabled::DEVICE_ADDRESS, ..stub.info() });
+    let mut with = Allocator::new(device).unwrap();
+    // SAFETY: the stub allows it.
+    let made = unsafe { with.create_buffer(&info, UsageFlags::empty()) }.unwrap();
+    assert_eq!((made.block.memory_type(), chained(&stub, &made.block).address), (0, true));
+    end(stub, with, vec![made], vec![]);
+}
+
+/// What is chained by itself may not be in `next`.
+#[test]
+fn chains_that_are_refused() {
+    let stub = Stub::new();
+    let mut allocator = allocator(&stub);
+    let owner = raw::MemoryDedicatedAllocateInfo::default();
+    let behind = raw::MemoryAllocateFlagsInfo { p_next: from_ref(&owner).cast(), ..PRIORITY };
+    let flags = raw::MemoryAllocateFlagsInfo::default();
+    for (next, name) in [
+        (from_ref(&owner).cast(), "VkMemoryDedicatedAllocateInfo"),
+        (from_ref(&behind).cast(), "VkMemoryDedicatedAllocateInfo"),
+        (from_ref(&flags).cast(), "VkMemoryAllocateFlagsInfo"),
+    ] {
+        // SAFETY: it is refused.
+        let refused = unsafe { allocator.create_buffer(&buffer_info(1), MemoryRequest { next, ..LOCAL.into() }) }.err();
+        assert_eq!(refused, Some(Error::Chained(name)));
+    }
+    end(stub, allocator, vec![], vec![]);
+}
+
+#[test]
+fn a_drop_frees_what_no_block_needs() {
+    let stub = Stub::new();
+    let mut first = allocator(&stub);
+    let made = buffer(&mut first, 100, UPLOAD | UsageFlags::TRANSIENT);
+    let other = buffer(&mut first, 100, LOCAL);
+    // SAFETY: it is this allocator's. Its object waits for `cleanup`, or a drop.
+    unsafe { first.destroy_buffer(made) };
+    assert_eq!(stub.held(), (2, 1, 0));
+    drop(first);
+    // What is live stays, as its block may be used.
+    assert_eq!(stub.held(), (1, 1, 0));
+    // SAFETY: the stub has it, and nobody uses it.
+    unsafe {
+        stub.device().destroy(calls::Resource::Buffer(other.handle));
+        stub.device().free(*other.block.memory());
+    }
+    std::mem::forget(other);
+    stub.end();
+}
+
+#[test]
+fn cleanup_frees_what_no_block_needs() {
+    let stub = Stub::new();
+    let mut allocator = allocator(&stub);
+    let made = buffer(&mut allocator, 100, UPLOAD | UsageFlags::TRANSIENT);
+    assert_eq!(allocator.remaining_allocations(), 99);
+    // SAFETY: it is this allocator's.
+    unsafe { allocator.destroy_buffer(made) };
+    assert_eq!((stub.held(), allocator.remaining_allocations()), ((1, 0, 0), 99));
+    allocator.cleanup();
+    assert_eq!((stub.held(), allocator.remaining_allocations()), ((0, 0, 0), 100));
+    end(stub, allocator, vec![], vec![]);
+}
+
+/// Another allocator's buffer is refused before it is destroyed.
+#[test]
+fn anothers_buffer() {
+    let stub = Stub::new();
+    let (mut one, mut other) = (allocator(&stub), allocator(&stub));
+    let made = buffer(&mut one, 100, LOCAL);
+    let (handle, memory) = (made.handle, *made.block.memory());
+    // SAFETY: it is refused.
+    let misused = std::panic::AssertUnwindSafe(|| unsafe { other.destroy_buffer(made) });
+    assert!(std::panic::catch_unwind(misused).is_err());
+    assert_eq!(stub.held(), (1, 1, 0));
+    drop((one, other));
+    // SAFETY: the stub has them, and nobody uses them.
+    unsafe {
+        stub.device().destroy(calls::Resource::Buffer(handle));
+        stub.device().free(memory);
+    }
+    stub.end();
+}
+
+/// An allocator goes to another thread, and a clone of its device serves a third one.
+#[test]
+fn from_thread_to_thread() {
+    let stub = Stub::new();
+    let mut allocator = allocator(&stub);
+    let mut made = buffer(&mut allocator, 100, UPLOAD);
+    let device = allocator.device().clone();
+    std::thread::scope(|scope| {
+        let block = &mut made.block;
+        // SAFETY: no device uses the block.
+        scope.spawn(move || unsafe { block.write_bytes(&device, 0, &[7; 100]) }.unwrap());
+        scope.spawn(|| {
+            let image = image(&mut allocator, 10, LOCAL);
+            // SAFETY: it is this allocator's.
+            unsafe { allocator.destroy_image(image) };
+        });
+    });
+    let mut read = [0; 100];
+    // SAFETY: no device uses the block.
+    unsafe { allocator.read(&mut made.block, 0, &mut read) }.unwrap();
+    assert_eq!(read, [7; 100]);
+    end(stub, allocator, vec![made], vec![]);
+}
