@@ -278,11 +278,15 @@ static uint32_t answer(wtv_allocator *a, work *w, const wt_question *question)
     return answer_of(w->result);
 }
 
-/* A refusal that the driver caused is the driver's. */
+/* A refusal that the driver caused is the driver's. Where it lacked device memory, the core may still end the request
+   for another reason. */
 static VkResult ended(const work *w, uint32_t status)
 {
-    bool is_of_driver = status == WT_OUT_OF_DEVICE_MEMORY || status == WT_OUT_OF_HOST_MEMORY || status == WT_MAP_FAILED;
-    return is_of_driver && w->result != VK_SUCCESS ? w->result : result_of(status);
+    uint32_t answered = answer_of(w->result);
+    bool lacked_device_memory = answered == WT_NO_DEVICE_MEMORY && status == WT_OUT_OF_DEVICE_MEMORY;
+    bool was_ended = (answered == WT_NO_HOST_MEMORY || answered == WT_DEVICE_MAP_FAILED)
+                     && status == WT_OUT_OF_HOST_MEMORY;
+    return lacked_device_memory || was_ended ? w->result : result_of(status);
 }
 
 /* Serves a request, under the lock. */

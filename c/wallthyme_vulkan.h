@@ -165,7 +165,8 @@ void wtv_default_config(const VkPhysicalDeviceMemoryProperties *memory, wt_confi
 /* Creates a buffer, allocates memory for it and binds it. *block is what wtv_block_of tells; block may be null.
    Not for sparse buffers (VK_ERROR_FEATURE_NOT_PRESENT).
    Where the driver refuses an object with VK_ERROR_OUT_OF_DEVICE_MEMORY or VK_ERROR_TOO_MANY_OBJECTS, the next memory
-   type is tried. Any other error ends the request. Whatever was made is destroyed then. */
+   type is tried. Any other error ends the request. Whatever was made is destroyed then. Where the bind is refused, the
+   block is freed as by wtv_free: a free chunk of transient blocks may stay. */
 VkResult wtv_create_buffer(wtv_allocator *a, const VkBufferCreateInfo *info, const wtv_request *request,
                            VkBuffer *buffer, wtv_allocation *allocation, wtv_block *block);
 

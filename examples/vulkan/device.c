@@ -5,25 +5,25 @@
 #include <string.h>
 
 #define LAYER "VK_LAYER_KHRONOS_validation"
+#define API_VERSION VK_API_VERSION_1_2
 enum { SHOWN_MESSAGES = 5, MOST_LISTED = 64, MOST_EXTENSIONS = 1024 };
 
+/* Other threads may be at work, so nothing is cleaned up. */
 void must(bool holds, const char *what)
 {
     if (!holds) {
         fprintf(stderr, "vulkan: failed: %s\n", what);
-        exit(1);
+        _Exit(1);
     }
 }
 
-static VKAPI_ATTR VkBool32 VKAPI_CALL message_came(VkDebugUtilsMessageSeverityFlagBitsEXT severity,
-                                                   VkDebugUtilsMessageTypeFlagsEXT types,
-                                                   const VkDebugUtilsMessengerCallbackDataEXT *data, void *user)
+static VKAPI_ATTR VkBool32 VKAPI_CALL count_message(VkDebugUtilsMessageSeverityFlagBitsEXT severity,
+                                                    VkDebugUtilsMessageTypeFlagsEXT types,
+                                                    const VkDebugUtilsMessengerCallbackDataEXT *data, void *messages)
 {
-    uint64_t *messages = user;
     (void)severity;
     (void)types;
-    *messages += 1;
-    if (*messages <= SHOWN_MESSAGES)
+    if (__atomic_add_fetch((uint64_t *)messages, 1, __ATOMIC_RELAXED) <= SHOWN_MESSAGES)
         fprintf(stderr, "message: %s\n", data->pMessage);
     return VK_FALSE;
 }
@@ -36,12 +36,12 @@ static VkDebugUtilsMessengerCreateInfoEXT messenger_of(device *d)
             VK_DEBUG_UTILS_MESSAGE_SEVERITY_WARNING_BIT_EXT | VK_DEBUG_UTILS_MESSAGE_SEVERITY_ERROR_BIT_EXT,
         .messageType =
             VK_DEBUG_UTILS_MESSAGE_TYPE_VALIDATION_BIT_EXT | VK_DEBUG_UTILS_MESSAGE_TYPE_PERFORMANCE_BIT_EXT,
-        .pfnUserCallback = message_came,
+        .pfnUserCallback = count_message,
         .pUserData = &d->messages,
     };
 }
 
-static bool layer_is_there(void)
+static bool has_layer(void)
 {
     VkLayerProperties layers[MOST_LISTED];
     uint32_t count = MOST_LISTED;
@@ -53,7 +53,7 @@ static bool layer_is_there(void)
     return false;
 }
 
-/* With the layer it checks what commands wait for, too. */
+/* The layer also checks what commands wait for. */
 static void open_instance(device *d)
 {
     static const char *const layers[] = {LAYER};
@@ -74,13 +74,13 @@ static void open_instance(device *d)
     VkApplicationInfo program = {
         .sType = VK_STRUCTURE_TYPE_APPLICATION_INFO,
         .pApplicationName = "wallthyme over Vulkan",
-        .apiVersion = VK_API_VERSION_1_2,
+        .apiVersion = API_VERSION,
     };
     VkInstanceCreateInfo info = {
         .sType = VK_STRUCTURE_TYPE_INSTANCE_CREATE_INFO,
         .pApplicationInfo = &program,
     };
-    d->is_validated = layer_is_there();
+    d->is_validated = has_layer();
     if (d->is_validated) {
         info.pNext = &features;
         info.enabledLayerCount = 1;
@@ -96,7 +96,7 @@ static void open_messenger(device *d)
     VkDebugUtilsMessengerCreateInfoEXT info = messenger_of(d);
     PFN_vkCreateDebugUtilsMessengerEXT create =
         (PFN_vkCreateDebugUtilsMessengerEXT)vkGetInstanceProcAddr(d->instance, "vkCreateDebugUtilsMessengerEXT");
-    must(create != NULL, "vkCreateDebugUtilsMessengerEXT is not there");
+    must(create != NULL, "vkCreateDebugUtilsMessengerEXT is missing");
     must(create(d->instance, &info, NULL, &d->messenger) == VK_SUCCESS, "vkCreateDebugUtilsMessengerEXT");
 }
 
@@ -107,7 +107,7 @@ static void close_messenger(device *d)
     destroy(d->instance, d->messenger, NULL);
 }
 
-static bool extension_is_there(VkPhysicalDevice physical, const char *name)
+static bool has_extension(VkPhysicalDevice physical, const char *name)
 {
     static VkExtensionProperties extensions[MOST_EXTENSIONS];
     uint32_t count = MOST_EXTENSIONS;
@@ -119,32 +119,28 @@ static bool extension_is_there(VkPhysicalDevice physical, const char *name)
     return false;
 }
 
-/* What it offers, before it is opened. */
+/* Takes the first device, and looks at what it offers. */
 static void find_first(device *d)
 {
     VkPhysicalDeviceBufferDeviceAddressFeatures addresses = {
         .sType = VK_STRUCTURE_TYPE_PHYSICAL_DEVICE_BUFFER_DEVICE_ADDRESS_FEATURES,
     };
     VkPhysicalDeviceFeatures2 features = {.sType = VK_STRUCTURE_TYPE_PHYSICAL_DEVICE_FEATURES_2, .pNext = &addresses};
-    VkPhysicalDeviceMaintenance3Properties sizes = {
-        .sType = VK_STRUCTURE_TYPE_PHYSICAL_DEVICE_MAINTENANCE_3_PROPERTIES,
-    };
-    VkPhysicalDeviceProperties2 properties = {.sType = VK_STRUCTURE_TYPE_PHYSICAL_DEVICE_PROPERTIES_2, .pNext = &sizes};
+    VkPhysicalDeviceProperties properties;
     uint32_t count = 1;
     VkResult result = vkEnumeratePhysicalDevices(d->instance, &count, &d->physical);
     must(result >= 0 && count == 1, "there is no Vulkan device");
-    vkGetPhysicalDeviceProperties(d->physical, &d->properties);
-    must(d->properties.apiVersion >= VK_API_VERSION_1_1, "the device has no Vulkan 1.1");
-    vkGetPhysicalDeviceProperties2(d->physical, &properties);
-    vkGetPhysicalDeviceMemoryProperties(d->physical, &d->memory);
-    d->max_allocation_size = sizes.maxMemoryAllocationSize;
-    d->has_budgets = extension_is_there(d->physical, VK_EXT_MEMORY_BUDGET_EXTENSION_NAME);
-    if (d->properties.apiVersion >= VK_API_VERSION_1_2) {
+    vkGetPhysicalDeviceProperties(d->physical, &properties);
+    must(properties.apiVersion >= VK_API_VERSION_1_1, "the device has no Vulkan 1.1");
+    d->api_version = properties.apiVersion < API_VERSION ? properties.apiVersion : API_VERSION;
+    d->has_budgets = has_extension(d->physical, VK_EXT_MEMORY_BUDGET_EXTENSION_NAME);
+    if (d->api_version >= VK_API_VERSION_1_2) {
         vkGetPhysicalDeviceFeatures2(d->physical, &features);
         d->has_addresses = addresses.bufferDeviceAddress == VK_TRUE;
     }
 }
 
+/* A family of queues that copy. */
 static uint32_t copying_family(VkPhysicalDevice physical)
 {
     VkQueueFamilyProperties families[MOST_LISTED];
@@ -159,6 +155,7 @@ static uint32_t copying_family(VkPhysicalDevice physical)
 
 static void open_handle(device *d)
 {
+    static const char *const extensions[] = {VK_EXT_MEMORY_BUDGET_EXTENSION_NAME};
     VkPhysicalDeviceBufferDeviceAddressFeatures addresses = {
         .sType = VK_STRUCTURE_TYPE_PHYSICAL_DEVICE_BUFFER_DEVICE_ADDRESS_FEATURES,
         .bufferDeviceAddress = VK_TRUE,
@@ -175,29 +172,12 @@ static void open_handle(device *d)
         .pNext = d->has_addresses ? &addresses : NULL,
         .queueCreateInfoCount = 1,
         .pQueueCreateInfos = &queue,
+        .enabledExtensionCount = d->has_budgets ? 1 : 0,
+        .ppEnabledExtensionNames = extensions,
     };
     must(vkCreateDevice(d->physical, &info, NULL, &d->handle) == VK_SUCCESS, "vkCreateDevice");
     d->queue_family = queue.queueFamilyIndex;
     vkGetDeviceQueue(d->handle, d->queue_family, 0, &d->queue);
-}
-
-static void open_commands(device *d)
-{
-    VkCommandPoolCreateInfo pool = {
-        .sType = VK_STRUCTURE_TYPE_COMMAND_POOL_CREATE_INFO,
-        .flags = VK_COMMAND_POOL_CREATE_RESET_COMMAND_BUFFER_BIT,
-        .queueFamilyIndex = d->queue_family,
-    };
-    VkCommandBufferAllocateInfo commands = {
-        .sType = VK_STRUCTURE_TYPE_COMMAND_BUFFER_ALLOCATE_INFO,
-        .level = VK_COMMAND_BUFFER_LEVEL_PRIMARY,
-        .commandBufferCount = 1,
-    };
-    VkFenceCreateInfo fence = {.sType = VK_STRUCTURE_TYPE_FENCE_CREATE_INFO};
-    must(vkCreateCommandPool(d->handle, &pool, NULL, &d->pool) == VK_SUCCESS, "vkCreateCommandPool");
-    commands.commandPool = d->pool;
-    must(vkAllocateCommandBuffers(d->handle, &commands, &d->commands) == VK_SUCCESS, "vkAllocateCommandBuffers");
-    must(vkCreateFence(d->handle, &fence, NULL, &d->fence) == VK_SUCCESS, "vkCreateFence");
 }
 
 void device_open(device *d)
@@ -208,50 +188,10 @@ void device_open(device *d)
         open_messenger(d);
     find_first(d);
     open_handle(d);
-    open_commands(d);
-}
-
-VkPhysicalDeviceMemoryBudgetPropertiesEXT device_budgets(const device *d)
-{
-    VkPhysicalDeviceMemoryBudgetPropertiesEXT budgets = {
-        .sType = VK_STRUCTURE_TYPE_PHYSICAL_DEVICE_MEMORY_BUDGET_PROPERTIES_EXT,
-    };
-    VkPhysicalDeviceMemoryProperties2 properties = {
-        .sType = VK_STRUCTURE_TYPE_PHYSICAL_DEVICE_MEMORY_PROPERTIES_2,
-        .pNext = &budgets,
-    };
-    vkGetPhysicalDeviceMemoryProperties2(d->physical, &properties);
-    budgets.pNext = NULL;
-    return budgets;
-}
-
-VkCommandBuffer device_begin(device *d)
-{
-    VkCommandBufferBeginInfo info = {
-        .sType = VK_STRUCTURE_TYPE_COMMAND_BUFFER_BEGIN_INFO,
-        .flags = VK_COMMAND_BUFFER_USAGE_ONE_TIME_SUBMIT_BIT,
-    };
-    must(vkBeginCommandBuffer(d->commands, &info) == VK_SUCCESS, "vkBeginCommandBuffer");
-    return d->commands;
-}
-
-void device_run(device *d)
-{
-    VkSubmitInfo info = {
-        .sType = VK_STRUCTURE_TYPE_SUBMIT_INFO,
-        .commandBufferCount = 1,
-        .pCommandBuffers = &d->commands,
-    };
-    must(vkEndCommandBuffer(d->commands) == VK_SUCCESS, "vkEndCommandBuffer");
-    must(vkQueueSubmit(d->queue, 1, &info, d->fence) == VK_SUCCESS, "vkQueueSubmit");
-    must(vkWaitForFences(d->handle, 1, &d->fence, VK_TRUE, UINT64_MAX) == VK_SUCCESS, "vkWaitForFences");
-    must(vkResetFences(d->handle, 1, &d->fence) == VK_SUCCESS, "vkResetFences");
 }
 
 void device_close(device *d)
 {
-    vkDestroyFence(d->handle, d->fence, NULL);
-    vkDestroyCommandPool(d->handle, d->pool, NULL);
     vkDestroyDevice(d->handle, NULL);
     if (d->is_validated)
         close_messenger(d);

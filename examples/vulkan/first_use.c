@@ -1,48 +1,25 @@
 #include "first_use.h"
 
-#include <string.h>
+#include "wallthyme_vulkan.h"
 
 static const char GREETING[] = "hello block";
 
-static VkBuffer upload_buffer(VkDevice device, VkDeviceSize size)
+void use_first(const device *d)
 {
-    VkBufferCreateInfo info = {
-        .sType = VK_STRUCTURE_TYPE_BUFFER_CREATE_INFO,
-        .size = size,
-        .usage = VK_BUFFER_USAGE_TRANSFER_SRC_BIT,
-    };
+    wtv_allocator *allocator;
+    wtv_allocation allocation;
     VkBuffer buffer;
-    must(vkCreateBuffer(device, &info, NULL, &buffer) == VK_SUCCESS, "vkCreateBuffer");
-    return buffer;
-}
 
-/* Gives a buffer its memory, bytes in it, and takes the memory back. */
-static bool use_buffer(memory *m, VkDevice device, VkBuffer buffer)
-{
-    VkMemoryRequirements needs;
-    wt_block block;
-    vkGetBufferMemoryRequirements(device, buffer, &needs);
-    wt_request request = {.size = needs.size, .align_mask = needs.alignment - 1, .usage = WT_USAGE_UPLOAD,
-                          .memory_types = needs.memoryTypeBits & m->plain_types};
-    if (memory_allocate(m, &request, &block) != WT_OK)
-        return false; /* nothing has changed */
-    must(vkBindBufferMemory(device, buffer, memory_handle(m, &block), block.offset) == VK_SUCCESS, "vkBindBufferMemory");
-    unsigned char *bytes = memory_map(m, &block, 0, sizeof GREETING);
-    must(bytes != NULL, "vkMapMemory");
-    memcpy(bytes, GREETING, sizeof GREETING);
-    memory_flush(m, &block, 0, sizeof GREETING);
-    memory_unmap(m, &block);
-    vkDestroyBuffer(device, buffer, NULL); /* the device is done with it */
-    memory_free(m, &block);
-    return true;
-}
+    wtv_create_info created = {.instance = d->instance, .physical_device = d->physical, .device = d->handle,
+                               .api_version = d->api_version, .get_instance_proc_addr = vkGetInstanceProcAddr};
+    must(wtv_create(&created, &allocator) == VK_SUCCESS, "wtv_create");
 
-bool use_first(memory *m)
-{
-    VkDevice device = m->device->handle;
-    VkBuffer buffer = upload_buffer(device, sizeof GREETING);
-    if (use_buffer(m, device, buffer))
-        return true;
-    vkDestroyBuffer(device, buffer, NULL);
-    return false;
+    VkBufferCreateInfo info = {.sType = VK_STRUCTURE_TYPE_BUFFER_CREATE_INFO, .size = sizeof GREETING,
+                               .usage = VK_BUFFER_USAGE_TRANSFER_SRC_BIT};
+    wtv_request request = {.usage = WT_USAGE_UPLOAD};
+    must(wtv_create_buffer(allocator, &info, &request, &buffer, &allocation, NULL) == VK_SUCCESS, "wtv_create_buffer");
+    must(wtv_write(allocator, allocation, 0, GREETING, sizeof GREETING) == VK_SUCCESS, "wtv_write");
+
+    wtv_destroy_buffer(allocator, buffer, allocation); /* the device is done with it */
+    wtv_destroy(allocator, NULL, 0, NULL);             /* once the last block is freed */
 }

@@ -1,10 +1,9 @@
-/* The first use: a buffer with its memory, bytes in it, and its end. */
+/* The first use: from a VkDevice to a buffer with its memory and bytes in it, and its end. */
 #ifndef FIRST_USE_H
 #define FIRST_USE_H
 
-#include "memory.h"
+#include "device.h"
 
-/* False where the device has no memory for the buffer, and nothing has changed then. */
-bool use_first(memory *m);
+void use_first(const device *d);
 
 #endif

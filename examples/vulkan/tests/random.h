@@ -1,4 +1,4 @@
-/* Drawn numbers, the same for the same seed. */
+/* Drawn numbers: the same seed draws the same ones. */
 #ifndef RANDOM_H
 #define RANDOM_H
 

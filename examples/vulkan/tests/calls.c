@@ -1,0 +1,103 @@
+#include "calls.h"
+
+#include <string.h>
+
+enum { MOST_RETRIES = 10000 };
+
+bool is_refused(worker *w, VkResult result)
+{
+    must(result == w->refuser.met.first, "a call returns another error than the driver's");
+    w->retries = result == VK_SUCCESS ? 0 : w->retries + 1;
+    must(w->retries < MOST_RETRIES, "a call is always refused");
+    return result != VK_SUCCESS;
+}
+
+/* ---- Requests. ---- */
+
+static bool is_alone(const worker *w)
+{
+    return w->run->threads == 1;
+}
+
+static char *report_of(const worker *w)
+{
+    char *text;
+    must(wtv_report_text(w->run->allocator, &text) == VK_SUCCESS, "wtv_report_text");
+    return text;
+}
+
+static wt_counts counts_of(const worker *w)
+{
+    wt_counts counts;
+    must(wtv_count(w->run->allocator, &counts) == VK_SUCCESS, "wtv_count");
+    return counts;
+}
+
+void request_begins(worker *w)
+{
+    refusing_begins();
+    if (!is_alone(w))
+        return;
+    w->report = report_of(w);
+    w->counts = counts_of(w);
+    w->driver = driver_counted();
+}
+
+/* Where a bind is refused, the block was there already, and a free list keeps its object for later requests. */
+static void check_unchanged(worker *w)
+{
+    driver_counts driver = driver_counted();
+    wt_counts counts = counts_of(w);
+    must(driver.buffers == w->driver.buffers && driver.images == w->driver.images,
+         "a refused request left a buffer or an image");
+    must(counts.blocks == w->counts.blocks, "a refused request left a block");
+    if (w->refuser.met.is_unbound) {
+        must(counts.held == w->counts.held || counts.held == w->counts.held + 1, "a refused request left objects");
+        return;
+    }
+    char *after = report_of(w);
+    must(strcmp(after, w->report) == 0, "a refused request changed what is held");
+    wtv_free_text(after);
+    w->tally.unchanged++;
+}
+
+static bool has_no_object_left(const worker *w)
+{
+    return !is_alone(w) || counts_of(w).remaining == 0;
+}
+
+/* An error that the driver did not return has a reason of the allocator's. */
+static void check_own_error(worker *w, VkResult result)
+{
+    const met *met = &w->refuser.met;
+    if (result == VK_ERROR_TOO_MANY_OBJECTS)
+        must(result == met->last || has_no_object_left(w), "objects are left, and none is made");
+    else if (result == VK_ERROR_OUT_OF_DEVICE_MEMORY)
+        w->tally.unasked += met->objects == 0;
+    else
+        must(result == VK_ERROR_FEATURE_NOT_PRESENT && met->objects == 0, "a request has an error of its own");
+}
+
+static void count_error(tally *t, VkResult result)
+{
+    t->refused_device_memory += result == VK_ERROR_OUT_OF_DEVICE_MEMORY;
+    t->refused_host_memory += result == VK_ERROR_OUT_OF_HOST_MEMORY || result == VK_ERROR_MEMORY_MAP_FAILED;
+    t->refused_types += result == VK_ERROR_FEATURE_NOT_PRESENT;
+    t->refused_objects += result == VK_ERROR_TOO_MANY_OBJECTS;
+    t->refused_lost += result == VK_ERROR_DEVICE_LOST;
+}
+
+VkResult request_ends(worker *w, VkResult result)
+{
+    VkResult ending = w->refuser.met.ending;
+    if (ending != VK_SUCCESS)
+        must(result == ending, "a request does not return the error that ended it");
+    else if (result != VK_SUCCESS)
+        check_own_error(w, result);
+    if (result != VK_SUCCESS && is_alone(w))
+        check_unchanged(w);
+    count_error(&w->tally, result);
+    if (is_alone(w))
+        wtv_free_text(w->report);
+    return result;
+}

@@ -1,0 +1,318 @@
+/* Wallthyme over a Vulkan device: buffers and images in drawn order, from several threads over one allocator, with each
+   of their bytes compared.
+
+       vulkan SEED RESOURCES REFUSED_PERCENT THREADS [--incoherent] [--report FILE]
+              [--shift] [--half-page] [--unflushed] [--unlocked]
+
+   The threads try as many resources, a few hundred of them alive at once. The percent of the driver's calls that may
+   fail is refused. Budgets limit the heaps, real ones where the driver reports them.
+   --incoherent reports no memory as coherent, so that there are ranges to flush.
+   --report writes what the allocator holds once all resources are tried, as JSON.
+
+   The others plant a fault, and the run has to find it:
+   --shift binds each resource one byte off, and does nothing else with it: the validation layer has messages.
+   --half-page reports half of bufferImageGranularity: a buffer and an optimal image share a page.
+   --unflushed drops each flush: bytes differ, where the host's writes need one.
+   --unlocked leaves the allocator's lock out: two threads are inside.
+
+   It ends with 0 where all went well without a message, with 1 where not, and with 2 for other arguments. */
+#include "callbacks.h"
+#include "random.h"
+#include "steps.h"
+
+#include <inttypes.h>
+#include <stdio.h>
+#include <stdlib.h>
+#include <string.h>
+
+enum {
+    MOST_THREADS = 16,
+    LEAST_HEAP = 4 << 20,     /* drawn: up to eight times that */
+    LEAST_OBJECTS = 16,       /* drawn: up to eight times that */
+    LEAST_GRANULARITY = 1024, /* taken where the device's is less, so that it matters */
+};
+
+static const wt_config CONFIG = {
+    .dedicated_threshold = 512 << 10,
+    .preferred_dedicated_threshold = 32 << 10,
+    .transient_dedicated_threshold = 512 << 10,
+    .starting_free_list_chunk = 256 << 10,
+    .final_free_list_chunk = 1 << 20,
+    .minimal_buddy_size = 256,
+    .initial_buddy_dedicated_size = 256 << 10,
+};
+
+typedef struct arguments {
+    uint64_t seed;
+    uint32_t resources, refused_percent, threads;
+    bool is_incoherent, is_shifted, is_half, is_unflushed, is_unlocked;
+    const char *report; /* or null */
+} arguments;
+
+/* ---- Arguments. ---- */
+
+static bool number_of(const char *text, uint64_t most, uint64_t *number)
+{
+    char *end;
+    *number = strtoull(text, &end, 10);
+    return *text >= '0' && *text <= '9' && *end == '\0' && *number <= most;
+}
+
+static bool has_numbers(int count, char **texts, arguments *read)
+{
+    uint64_t resources, percent, threads;
+    if (count < 5 || !number_of(texts[1], UINT64_MAX, &read->seed) || !number_of(texts[2], UINT32_MAX, &resources)
+        || !number_of(texts[3], 99, &percent) || !number_of(texts[4], MOST_THREADS, &threads) || threads == 0)
+        return false;
+    read->resources = (uint32_t)resources;
+    read->refused_percent = (uint32_t)percent;
+    read->threads = (uint32_t)threads;
+    return true;
+}
+
+static bool read_arguments(int count, char **texts, arguments *read)
+{
+    const struct {
+        const char *name;
+        bool *is_given;
+    } flags[] = {
+        {"--incoherent", &read->is_incoherent}, {"--shift", &read->is_shifted},       {"--half-page", &read->is_half},
+        {"--unflushed", &read->is_unflushed},   {"--unlocked", &read->is_unlocked},
+    };
+    const size_t flags_count = sizeof flags / sizeof *flags;
+    if (!has_numbers(count, texts, read))
+        return false;
+    for (int i = 5; i < count; i++) {
+        size_t flag = 0;
+        while (flag < flags_count && strcmp(texts[i], flags[flag].name) != 0)
+            flag++;
+        if (flag < flags_count)
+            *flags[flag].is_given = true;
+        else if (strcmp(texts[i], "--report") == 0 && i + 1 < count)
+            read->report = texts[++i];
+        else
+            return false;
+    }
+    return true;
+}
+
+/* ---- The run. ---- */
+
+/* What is reported to the allocator is drawn. */
+static void open_driver(run *r, const arguments *given, uint64_t *random)
+{
+    VkPhysicalDeviceProperties properties;
+    vkGetPhysicalDeviceProperties(r->device->physical, &properties);
+    const uint64_t offered = properties.limits.bufferImageGranularity;
+    const uint64_t granularity = offered > LEAST_GRANULARITY ? offered : LEAST_GRANULARITY;
+    const driver_settings settings = {
+        .device = r->device,
+        .seed = given->seed + 1,
+        .heap_size = (uint64_t)LEAST_HEAP << random_below(random, 4),
+        .granularity = given->is_half ? granularity / 2 : granularity,
+        .max_objects = given->threads + ((uint32_t)LEAST_OBJECTS << random_below(random, 4)),
+        .other_objects = given->threads,
+        .hides_coherence = given->is_incoherent,
+        .is_shifted = given->is_shifted,
+        .drops_flushes = given->is_unflushed,
+        .lingers = given->is_unlocked,
+    };
+    driver_open(&settings);
+    pages_open(&r->pages, granularity);
+}
+
+static void open_allocator(run *r, const arguments *given, const wt_config *config)
+{
+    const device *d = r->device;
+    const wtv_create_info info = {
+        .instance = d->instance,
+        .physical_device = d->physical,
+        .device = d->handle,
+        .flags = WTV_CREATE_MEMORY_BUDGET | (d->has_addresses ? (uint32_t)WTV_CREATE_DEVICE_ADDRESS : 0)
+                 | (given->is_unlocked ? (uint32_t)WTV_CREATE_NO_LOCK : 0),
+        .api_version = d->api_version,
+        .functions = driver_functions(),
+        .callbacks = callbacks_of_program(),
+        .config = config,
+        .other_objects = given->threads,
+    };
+    must(wtv_create(&info, &r->allocator) == VK_SUCCESS, "wtv_create");
+}
+
+static void on_all_threads(run *r, share *shares, void *(*work)(void *))
+{
+    pthread_t threads[MOST_THREADS];
+    for (uint32_t i = 0; i < r->threads; i++)
+        must(pthread_create(&threads[i], NULL, work, &shares[i]) == 0, "pthread_create");
+    for (uint32_t i = 0; i < r->threads; i++)
+        must(pthread_join(threads[i], NULL) == 0, "pthread_join");
+}
+
+static void write_report(wtv_allocator *a, const char *name)
+{
+    char *text;
+    must(wtv_report_text(a, &text) == VK_SUCCESS, "wtv_report_text");
+    FILE *file = fopen(name, "wb");
+    must(file != NULL && fputs(text, file) >= 0 && fclose(file) == 0, "the report is not written");
+    wtv_free_text(text);
+}
+
+/* An allocator with live blocks stays, and says which they are. */
+static void check_destroy_refused(run *r, const share *shares)
+{
+    wtv_block live;
+    size_t count, alive = 0;
+    for (uint32_t i = 0; i < r->threads; i++)
+        alive += shares[i].count + 1;
+    must(wtv_destroy(r->allocator, &live, 1, &count) == VK_ERROR_VALIDATION_FAILED_EXT && count == alive,
+         "an allocator with live blocks is destroyed, or counts others");
+    must(wtv_block_of(r->allocator, live.allocation, &live) == VK_SUCCESS, "a live block is unknown");
+}
+
+static void lift_limits(wtv_allocator *a)
+{
+    for (uint32_t i = 0; i < driver_memory().memoryHeapCount; i++)
+        must(wtv_set_heap_limit(a, i, VK_WHOLE_SIZE) == VK_SUCCESS, "wtv_set_heap_limit");
+    driver_lifted();
+}
+
+static void work(run *r, share *shares, const arguments *given, uint64_t *random)
+{
+    for (uint32_t i = 0; i < r->threads; i++) {
+        uint32_t resources = given->resources / r->threads + (i < given->resources % r->threads ? 1 : 0);
+        *random += 1;
+        share_open(&shares[i], r, i + 1, random_mixed(*random), resources);
+        shares[i].worker.refuser.percent = given->refused_percent;
+    }
+    on_all_threads(r, shares, share_work);
+    driver_compare(r->allocator);
+    check_destroy_refused(r, shares);
+    if (given->report != NULL)
+        write_report(r->allocator, given->report);
+    lift_limits(r->allocator);
+    on_all_threads(r, shares, share_end);
+    must(wtv_cleanup(r->allocator) == VK_SUCCESS, "wtv_cleanup");
+    driver_compare(r->allocator);
+    must(wtv_destroy(r->allocator, NULL, 0, NULL) == VK_SUCCESS, "wtv_destroy");
+}
+
+/* ---- What it came to. ---- */
+
+static void add_tally(tally *sum, const tally *one)
+{
+    uint64_t *sums = (uint64_t *)sum;
+    const uint64_t *ones = (const uint64_t *)one;
+    for (size_t i = 0; i < sizeof *sum / sizeof *sums; i++)
+        sums[i] += ones[i];
+}
+
+static void print_threads(const run *r, const share *shares)
+{
+    uint32_t most_alive = 0;
+    uint64_t tried = 0;
+    for (uint32_t i = 0; i < r->threads; i++) {
+        most_alive += shares[i].most_alive;
+        tried += shares[i].tried;
+    }
+    printf("%" PRIu64 " resources from %" PRIu32 " threads, at most %" PRIu32 " alive\n", tried, r->threads,
+           most_alive);
+}
+
+static void print_tally(const tally *t)
+{
+    printf("created: %" PRIu64 ", %" PRIu64 " of them imports, %" PRIu64 " bound by hand\n", t->created, t->imports,
+           t->bound_by_hand);
+    printf("ended: for device memory %" PRIu64 ", host memory %" PRIu64 ", memory types %" PRIu64 ", objects %" PRIu64
+           ", a lost device %" PRIu64 "; %" PRIu64 " unasked for a heap's limit; after %" PRIu64 " all was as before\n",
+           t->refused_device_memory, t->refused_host_memory, t->refused_types, t->refused_objects, t->refused_lost,
+           t->unasked, t->unchanged);
+}
+
+static void print_refused(void)
+{
+    printf("refused:");
+    for (enum refusable i = 0; i < REFUSABLES; i++)
+        printf("%s %s %" PRIu64 " of %" PRIu64, i == 0 ? "" : ",", refusing_name(i), refusing_refused(i),
+               refusing_calls(i));
+    printf("\n");
+}
+
+static void print_driver(const run *r, const tally *t)
+{
+    const driver_counts counts = driver_counted();
+    printf("limits: %" PRIu64 " set, %" PRIu64 " below what was held, %" PRIu64 " taken off; %" PRIu64
+           " blocks granted over one\n",
+           counts.limits, counts.limits_below, counts.limits_off, t->over_limit);
+    printf("pages of %" PRIu64 " bytes: %" PRIu64 " times a linear and an optimal resource in one object; %" PRIu64
+           " objects made for one resource\n",
+           r->pages.size, r->pages.beside, counts.dedicated);
+    printf("%" PRIu64 " mappings, %" PRIu64 " ranges flushed, %" PRIu64 " invalidated, %" PRIu64
+           " writes of old and new bytes; %" PRIu64 " pieces of host memory by callbacks\n",
+           counts.mapped, counts.flushed, counts.invalidated, t->mixed, callbacks_allocated());
+    printf("%" PRIu64 " objects made, %" PRIu64 " freed, %" PRIu64 " copies, %" PRIu64 " bytes compared, ",
+           counts.objects_made, counts.objects_freed, t->copies, t->compared);
+}
+
+static void print(const run *r, const share *shares)
+{
+    tally sum = {0};
+    for (uint32_t i = 0; i < r->threads; i++)
+        add_tally(&sum, &shares[i].worker.tally);
+    if (!r->device->is_validated)
+        fprintf(stderr, "vulkan: the validation layer is not installed\n");
+    print_threads(r, shares);
+    print_tally(&sum);
+    print_refused();
+    print_driver(r, &sum);
+    printf("%" PRIu64 " messages\n", r->device->messages);
+}
+
+/* Flushes and invalidates are made just where there is memory that is not coherent. */
+static void check_refused(const arguments *given)
+{
+    const VkPhysicalDeviceMemoryProperties memory = driver_memory();
+    VkMemoryPropertyFlags all = VK_MEMORY_PROPERTY_HOST_COHERENT_BIT;
+    for (uint32_t i = 0; i < memory.memoryTypeCount; i++)
+        if (memory.memoryTypes[i].propertyFlags & VK_MEMORY_PROPERTY_HOST_VISIBLE_BIT)
+            all &= memory.memoryTypes[i].propertyFlags;
+    for (enum refusable i = 0; i < REFUSABLES; i++)
+        if (all != 0 && (i == FLUSH_RANGES || i == INVALIDATE_RANGES))
+            must(refusing_calls(i) == 0, "coherent memory is flushed or invalidated");
+        else
+            must(given->refused_percent == 0 || refusing_refused(i) > 0, "a function of the driver is never refused");
+}
+
+static void check_returned(void)
+{
+    const driver_counts counts = driver_counted();
+    must(counts.objects_made == counts.objects_freed, "a memory object is not freed");
+    must(counts.buffers == 0 && counts.images == 0, "a buffer or an image is not destroyed");
+    must(callbacks_held() == 0, "the driver holds host memory");
+}
+
+int main(int count, char **texts)
+{
+    static device d;
+    arguments given = {0};
+    if (!read_arguments(count, texts, &given)) {
+        fprintf(stderr, "usage: vulkan SEED RESOURCES REFUSED_PERCENT THREADS [--incoherent] [--report FILE]"
+                        " [--shift] [--half-page] [--unflushed] [--unlocked]\n");
+        return 2;
+    }
+    uint64_t random = random_mixed(given.seed);
+    device_open(&d);
+    static run r;
+    r = (run){.device = &d, .threads = given.threads, .is_shifted = given.is_shifted};
+    share *shares = calloc(r.threads, sizeof *shares);
+    must(shares != NULL, "there is no memory for the threads");
+    open_driver(&r, &given, &random);
+    open_allocator(&r, &given, random_in_hundred(&random, 50) ? &CONFIG : NULL);
+    work(&r, shares, &given, &random);
+    pages_close(&r.pages);
+    device_close(&d);
+    print(&r, shares);
+    check_returned();
+    check_refused(&given);
+    free(shares);
+    return d.messages == 0 ? 0 : 1;
+}

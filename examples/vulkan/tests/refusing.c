@@ -1,0 +1,89 @@
+#include "refusing.h"
+
+#include "random.h"
+
+enum { MOST_ERRORS = 4 };
+
+#define DEVICE_MEMORY VK_ERROR_OUT_OF_DEVICE_MEMORY
+#define HOST_MEMORY VK_ERROR_OUT_OF_HOST_MEMORY
+
+/* Each function with the errors that it is refused with. The first one is drawn in half of the cases. */
+static const struct refused_function {
+    const char *name;
+    VkResult errors[MOST_ERRORS];
+    uint32_t count;
+} FUNCTIONS[REFUSABLES] = {
+    [ALLOCATE_MEMORY] = {"allocate", {DEVICE_MEMORY, VK_ERROR_TOO_MANY_OBJECTS, HOST_MEMORY, VK_ERROR_DEVICE_LOST}, 4},
+    [MAP_MEMORY] = {"map", {DEVICE_MEMORY, HOST_MEMORY, VK_ERROR_MEMORY_MAP_FAILED}, 3},
+    [FLUSH_RANGES] = {"flush", {DEVICE_MEMORY, HOST_MEMORY}, 2},
+    [INVALIDATE_RANGES] = {"invalidate", {DEVICE_MEMORY, HOST_MEMORY}, 2},
+    [CREATE_BUFFER] = {"create buffer", {DEVICE_MEMORY, HOST_MEMORY}, 2},
+    [CREATE_IMAGE] = {"create image", {DEVICE_MEMORY, HOST_MEMORY}, 2},
+    [BIND_BUFFER] = {"bind buffer", {DEVICE_MEMORY, HOST_MEMORY}, 2},
+    [BIND_IMAGE] = {"bind image", {DEVICE_MEMORY, HOST_MEMORY}, 2},
+};
+
+static uint64_t calls[REFUSABLES], refused[REFUSABLES];
+static __thread refuser *by;
+
+void refusing_by(refuser *r)
+{
+    by = r;
+}
+
+void refusing_begins(void)
+{
+    by->met = (met){.first = VK_SUCCESS, .last = VK_SUCCESS, .ending = VK_SUCCESS};
+}
+
+met *refusing_met(void)
+{
+    return &by->met;
+}
+
+VkResult refusing_draw(enum refusable function)
+{
+    const struct refused_function *drawn = &FUNCTIONS[function];
+    __atomic_add_fetch(&calls[function], 1, __ATOMIC_RELAXED);
+    if (!random_in_hundred(&by->random, by->percent))
+        return VK_SUCCESS;
+    __atomic_add_fetch(&refused[function], 1, __ATOMIC_RELAXED);
+    return drawn->errors[random_in_hundred(&by->random, 50) ? 0 : random_below(&by->random, drawn->count)];
+}
+
+/* Where device memory lacks for an object or for its mapping, the next memory type is tried. */
+static bool has_next(enum refusable function, VkResult result)
+{
+    return (function == ALLOCATE_MEMORY || function == MAP_MEMORY)
+           && (result == VK_ERROR_OUT_OF_DEVICE_MEMORY || result == VK_ERROR_TOO_MANY_OBJECTS);
+}
+
+VkResult refusing_noted(enum refusable function, VkResult result)
+{
+    met *met = &by->met;
+    met->objects += function == ALLOCATE_MEMORY;
+    met->last = result;
+    if (result == VK_SUCCESS)
+        return result;
+    if (met->first == VK_SUCCESS)
+        met->first = result;
+    if (met->ending == VK_SUCCESS && !has_next(function, result))
+        met->ending = result;
+    met->is_unbound = met->is_unbound || function == BIND_BUFFER || function == BIND_IMAGE;
+    return result;
+}
+
+const char *refusing_name(enum refusable function)
+{
+    return FUNCTIONS[function].name;
+}
+
+uint64_t refusing_calls(enum refusable function)
+{
+    return __atomic_load_n(&calls[function], __ATOMIC_RELAXED);
+}
+
+uint64_t refusing_refused(enum refusable function)
+{
+    return __atomic_load_n(&refused[function], __ATOMIC_RELAXED);
+}
