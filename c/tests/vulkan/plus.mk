@@ -36,7 +36,7 @@ DISCARDS = (echo '\#include "wallthyme.hpp"'; echo 'int f(wallthyme::Allocator &
 
 check-plus-programs: $(addprefix $(VULKAN_PROGRAMS)/,plus $(if $(VULKAN_HPP),plus_hpp))
 	@$(VULKAN_PROGRAMS)/plus
-	@test "$$($(DISCARDS))" = 2 || { echo 'FAILED: what is warned of is not what is discarded' >&2; exit 1; }
+	@test "$$( $(DISCARDS) )" = 2 || { echo 'FAILED: what is warned of is not what is discarded' >&2; exit 1; }
 	@$(if $(VULKAN_HPP),$(VULKAN_PROGRAMS)/plus_hpp,$(if $(SANITIZE),:,echo \
 	    'vulkan/plus_hpp: left out, since vulkan.hpp is not installed'))
 
