@@ -8,6 +8,13 @@
 #include <stdlib.h>
 #include <string.h>
 
+/* A function that a call seldom comes to stands apart: the call itself then saves fewer registers. */
+#ifdef __GNUC__
+#define SELDOM __attribute__((noinline))
+#else
+#define SELDOM
+#endif
+
 enum {
     KNOWN_PROPERTIES = 0x3f, /* the bits of a memory type that wallthyme knows */
     KNOWN_FLAGS = 0x1f,      /* of wtv_create_info */
@@ -116,22 +123,21 @@ struct wtv_allocator {
     table mappings; /* how often a block is mapped, by its key */
 };
 
-static void enter(wtv_allocator *a)
+static inline void enter(wtv_allocator *a)
 {
     if (a->has_lock)
         pthread_mutex_lock(&a->lock);
 }
 
-static void leave(wtv_allocator *a)
+static inline void leave(wtv_allocator *a)
 {
     if (a->has_lock)
         pthread_mutex_unlock(&a->lock);
 }
 
-static VkResult result_of(uint32_t status)
+static SELDOM VkResult error_of(uint32_t status)
 {
     switch (status) {
-    case WT_OK: return VK_SUCCESS;
     case WT_OUT_OF_DEVICE_MEMORY: return VK_ERROR_OUT_OF_DEVICE_MEMORY;
     case WT_OUT_OF_HOST_MEMORY: return VK_ERROR_OUT_OF_HOST_MEMORY;
     case WT_NO_COMPATIBLE_MEMORY_TYPES: return VK_ERROR_FEATURE_NOT_PRESENT;
@@ -143,9 +149,15 @@ static VkResult result_of(uint32_t status)
     }
 }
 
+static inline VkResult result_of(uint32_t status)
+{
+    return status == WT_OK ? VK_SUCCESS : error_of(status);
+}
+
+/* The object of a name that the core knows. */
 static object *object_of(const wtv_allocator *a, uint64_t name)
 {
-    return (object *)*value_of(&a->objects, name);
+    return (object *)slot_of(&a->objects, name)->value;
 }
 
 static void free_object(wtv_allocator *a, object *held)
@@ -154,21 +166,29 @@ static void free_object(wtv_allocator *a, object *held)
     free(held);
 }
 
-/* Frees the memory objects that the core has let go. */
-static void free_gone(wtv_allocator *a)
+/* Frees the objects of the names that were read, and then of those that wait. */
+static SELDOM void free_named(wtv_allocator *a, uint64_t names[NAMES_READ], size_t count)
 {
-    uint64_t names[NAMES_READ];
-    size_t count = 0;
-    do {
-        wt_gone(&a->core, names, NAMES_READ, &count);
+    while (count > 0) {
         for (size_t i = 0; i < count; i++) {
             free_object(a, object_of(a, names[i]));
             take_out(&a->objects, names[i]);
         }
-    } while (count == NAMES_READ);
+        wt_gone(&a->core, names, NAMES_READ, &count);
+    }
 }
 
-static void tell_block(const wtv_allocator *a, const wt_block *block, wtv_block *told)
+/* Frees the memory objects that the core has let go. */
+static inline void free_gone(wtv_allocator *a)
+{
+    uint64_t names[NAMES_READ];
+    size_t count = 0;
+    wt_gone(&a->core, names, NAMES_READ, &count);
+    if (count > 0)
+        free_named(a, names, count);
+}
+
+static inline void tell_block(const wtv_allocator *a, const wt_block *block, wtv_block *told)
 {
     const object *held = object_of(a, block->object);
     *told = (wtv_block){
@@ -289,19 +309,31 @@ static VkResult ended(const work *w, uint32_t status)
     return lacked_device_memory || was_ended ? w->result : result_of(status);
 }
 
-/* Serves a request, under the lock. */
-static VkResult serve(wtv_allocator *a, const wt_request *request, work *w, wt_block *block)
+/* Serves a request that asks questions, of which this is the first. */
+static SELDOM VkResult serve_by_driver(wtv_allocator *a, const wt_request *request, const wt_question *first, work *w,
+                                       wt_block *block)
 {
     wt_question asked[WT_MAX_QUESTIONS + 1];
-    uint32_t status;
-    for (size_t n = 0; (status = wt_alloc(&a->core, request, asked, n, block, &asked[n])) == WT_ASK; n++)
+    uint32_t status = WT_ASK;
+    asked[0] = *first;
+    for (size_t n = 0; status == WT_ASK; status = wt_alloc(&a->core, request, asked, n, block, &asked[n])) {
         asked[n].answer = answer(a, w, &asked[n]);
+        n++;
+    }
     if (status == WT_OK && block->fresh) {
         put(&a->objects, block->object, (uintptr_t)w->made);
         w->made = NULL;
     }
     free_made(a, w);
     return ended(w, status);
+}
+
+/* Serves a request, under the lock. Most ask nothing. */
+static inline VkResult serve(wtv_allocator *a, const wt_request *request, work *w, wt_block *block)
+{
+    wt_question first;
+    uint32_t status = wt_alloc(&a->core, request, NULL, 0, block, &first);
+    return status == WT_ASK ? serve_by_driver(a, request, &first, w, block) : result_of(status);
 }
 
 static bool is_in_chain(const void *chain, VkStructureType type)
@@ -313,7 +345,7 @@ static bool is_in_chain(const void *chain, VkStructureType type)
 }
 
 /* What this side chains itself may not come from the program. */
-static bool is_chain(const void *chain)
+static SELDOM bool is_chain(const void *chain)
 {
     return !is_in_chain(chain, VK_STRUCTURE_TYPE_MEMORY_DEDICATED_ALLOCATE_INFO)
            && !is_in_chain(chain, VK_STRUCTURE_TYPE_MEMORY_ALLOCATE_FLAGS_INFO);
@@ -325,7 +357,7 @@ static uint32_t greater(uint32_t one, uint32_t other)
 }
 
 /* What is asked of the core. */
-static wt_request request_of(const wtv_allocator *a, const VkMemoryRequirements *needs, const wtv_request *wish)
+static inline wt_request request_of(const wtv_allocator *a, const VkMemoryRequirements *needs, const wtv_request *wish)
 {
     return (wt_request){
         .size = needs->size,
@@ -343,7 +375,7 @@ static VkResult allocate(wtv_allocator *a, const VkMemoryRequirements *needs, co
 {
     wt_request request = request_of(a, needs, wish);
     wt_block block;
-    if (!is_chain(wish->next))
+    if (wish->next != NULL && !is_chain(wish->next))
         return VK_ERROR_VALIDATION_FAILED_EXT;
     w->next = wish->next;
     enter(a);
@@ -483,14 +515,33 @@ VkResult wtv_create_image(wtv_allocator *a, const VkImageCreateInfo *info, const
 
 /* ---- Returns. ---- */
 
+/* Takes a block back, mapped or not. */
+static inline uint32_t take_back(wtv_allocator *a, wtv_allocation allocation)
+{
+    uint32_t status = wt_free(&a->core, allocation);
+    if (status == WT_OK && a->mappings.count > 0 && value_of(&a->mappings, allocation) != NULL)
+        take_out(&a->mappings, allocation);
+    return status;
+}
+
+VkResult wtv_free(wtv_allocator *a, wtv_allocation allocation)
+{
+    if (allocation == 0)
+        return VK_SUCCESS;
+    enter(a);
+    uint32_t status = take_back(a, allocation);
+    if (status == WT_OK)
+        free_gone(a);
+    leave(a);
+    return result_of(status);
+}
+
 /* What is bound to the block is destroyed before its place can be granted again, and before its object is freed. */
-static VkResult take_back(wtv_allocator *a, wtv_allocation allocation, VkBuffer buffer, VkImage image)
+static VkResult take_back_with(wtv_allocator *a, wtv_allocation allocation, VkBuffer buffer, VkImage image)
 {
     enter(a);
-    uint32_t status = wt_free(&a->core, allocation);
+    uint32_t status = take_back(a, allocation);
     if (status == WT_OK) {
-        if (value_of(&a->mappings, allocation) != NULL)
-            take_out(&a->mappings, allocation);
         if (buffer != VK_NULL_HANDLE)
             a->call.destroy_buffer(a->device, buffer, a->callbacks);
         if (image != VK_NULL_HANDLE)
@@ -501,23 +552,18 @@ static VkResult take_back(wtv_allocator *a, wtv_allocation allocation, VkBuffer 
     return result_of(status);
 }
 
-VkResult wtv_free(wtv_allocator *a, wtv_allocation allocation)
-{
-    return allocation == 0 ? VK_SUCCESS : take_back(a, allocation, VK_NULL_HANDLE, VK_NULL_HANDLE);
-}
-
 VkResult wtv_destroy_buffer(wtv_allocator *a, VkBuffer buffer, wtv_allocation allocation)
 {
     if (buffer == VK_NULL_HANDLE && allocation == 0)
         return VK_SUCCESS;
-    return take_back(a, allocation, buffer, VK_NULL_HANDLE);
+    return take_back_with(a, allocation, buffer, VK_NULL_HANDLE);
 }
 
 VkResult wtv_destroy_image(wtv_allocator *a, VkImage image, wtv_allocation allocation)
 {
     if (image == VK_NULL_HANDLE && allocation == 0)
         return VK_SUCCESS;
-    return take_back(a, allocation, VK_NULL_HANDLE, image);
+    return take_back_with(a, allocation, VK_NULL_HANDLE, image);
 }
 
 VkResult wtv_cleanup(wtv_allocator *a)
