@@ -27,13 +27,13 @@ static wtv_allocator *create_allocator(const device *d)
 /* The resources that the device alone works on. */
 static void create_for_device(wtv_allocator *memory, resources *r, blocks *b)
 {
-    const wtv_request device = {.usage = WT_USAGE_FAST_DEVICE_ACCESS};
     const VkBufferCreateInfo vertices =
         buffer_info(sizeof VERTICES, VK_BUFFER_USAGE_VERTEX_BUFFER_BIT | VK_BUFFER_USAGE_TRANSFER_DST_BIT);
     const VkImageCreateInfo texture =
         image_info(TEXTURE_SIDE, VK_IMAGE_USAGE_SAMPLED_BIT | VK_IMAGE_USAGE_TRANSFER_DST_BIT);
     const VkImageCreateInfo target =
         image_info(TARGET_SIDE, VK_IMAGE_USAGE_COLOR_ATTACHMENT_BIT | VK_IMAGE_USAGE_TRANSFER_SRC_BIT);
+    const wtv_request device = {.usage = WT_USAGE_FAST_DEVICE_ACCESS};
     MUST(wtv_create_buffer(memory, &vertices, &device, &r->vertices, &b->vertices, NULL));
     MUST(wtv_create_image(memory, &texture, &device, &r->texture, &b->texture, NULL));
     MUST(wtv_create_image(memory, &target, &device, &r->target, &b->target, NULL));
@@ -42,11 +42,11 @@ static void create_for_device(wtv_allocator *memory, resources *r, blocks *b)
 /* The two buffers that the host writes or reads. */
 static void create_for_host(wtv_allocator *memory, resources *r, blocks *b)
 {
-    const wtv_request upload = {.usage = WT_USAGE_UPLOAD | WT_USAGE_TRANSIENT};
-    const wtv_request download = {.usage = WT_USAGE_DOWNLOAD};
     const VkBufferCreateInfo staging =
         buffer_info(STAGED_VERTICES + sizeof VERTICES, VK_BUFFER_USAGE_TRANSFER_SRC_BIT);
     const VkBufferCreateInfo read_back = buffer_info(TARGET_BYTES, VK_BUFFER_USAGE_TRANSFER_DST_BIT);
+    const wtv_request upload = {.usage = WT_USAGE_UPLOAD | WT_USAGE_TRANSIENT};
+    const wtv_request download = {.usage = WT_USAGE_DOWNLOAD};
     MUST(wtv_create_buffer(memory, &staging, &upload, &r->staging, &b->staging, NULL));
     MUST(wtv_create_buffer(memory, &read_back, &download, &r->read_back, &b->read_back, NULL));
 }

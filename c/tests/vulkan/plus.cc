@@ -182,7 +182,11 @@ void test_moves_of_mappings(const Driver &driver, const Allocator &memory) {
     must(first.get() == bytes && driver.held().mapped == 1, "mappings do not nest");
     second.reset();
     must(!second && driver.held().mapped == 1, "a mapping ended the other one");
+    const Buffer other = got(memory.create_buffer(stub_buffer_info(100), alone));
+    second = got(other.map());
+    must(driver.held().mapped == 2, "another buffer is not mapped");
     second = std::move(first);
+    must(second.get() == bytes && driver.held().mapped == 1, "a mapping that was assigned over did not end");
     second = Mapping();
     must(driver.held().mapped == 0, "the last mapping did not end");
 }
@@ -326,10 +330,12 @@ void test_bytes() {
     must(memcmp(device + 10, "def", 3) == 0, "a mapping is not flushed");
     memcpy(mapping.get(), "ghi", 3);
     memcpy(other_mapping.get(), "jkl", 3);
+    memcpy(other_mapping.as<char>() + 300, "jkl", 3); // in the next atom
     const wtv_range ranges[] = {buffer.range(), other.range(0, 3)};
     const uint64_t calls = stub_calls(driver.get(), STUB_FLUSH);
     DONE(memory.flush(ranges, 2));
     must(memcmp(device, "ghi", 3) == 0 && memcmp(other_device, "jkl", 3) == 0, "ranges are not flushed");
+    must(memcmp(other_device + 300, "jkl", 3) != 0, "more than the range is flushed");
     must(stub_calls(driver.get(), STUB_FLUSH) == calls + 1, "two ranges are not flushed by one call");
     memcpy(device, "mno", 3);
     memcpy(other_device, "pqr", 3);
@@ -589,6 +595,24 @@ void test_growth() {
 }
 
 #ifndef WALLTHYME_NO_EXCEPTIONS
+// From a device to a bound and filled buffer: four statements.
+void first_use(VkInstance instance, VkPhysicalDevice physical_device, VkDevice device, stub *driver) {
+    const Allocator memory = Allocator::create(
+        create_info(instance, physical_device, device, stub_get_instance_proc_addr, VK_API_VERSION_1_1));
+    const VkBufferCreateInfo info = {VK_STRUCTURE_TYPE_BUFFER_CREATE_INFO, nullptr, 0, 12,
+                                     VK_BUFFER_USAGE_TRANSFER_SRC_BIT, VK_SHARING_MODE_EXCLUSIVE, 0, nullptr};
+    const Buffer buffer = memory.create_buffer(info, request(WT_USAGE_UPLOAD));
+    buffer.write(0, "hello block", 12);
+
+    must(memcmp(stub_buffer_bytes(driver, buffer.get()), "hello block", 12) == 0, "the buffer is not filled");
+}
+
+void test_first_use() {
+    const Driver driver;
+    const wtv_create_info offered = stub_info(driver.get());
+    first_use(offered.instance, offered.physical_device, offered.device, driver.get());
+}
+
 struct Odd {};
 
 // What the program throws ends the members that were made.
@@ -697,6 +721,7 @@ void *operator new(std::size_t size, const std::nothrow_t &) noexcept {
 
 int main() {
     test_all();
+    test_first_use();
     test_throwing();
     test_with_results();
     return 0;

@@ -1,6 +1,6 @@
 //! What a report tells.
 
-use serde::{Deserialize, Serialize};
+use serde::Serialize;
 
 /// What an allocator holds of its device's memory, and what lies in it.
 #[derive(Debug, Drop, PartialEq, Serialize)]
@@ -16,8 +16,7 @@ pub struct Report {
 }
 
 /// A heap.
-#[derive(Clone, Copy, Debug, PartialEq, Eq, Serialize, Deserialize)]
-#[serde(deny_unknown_fields)]
+#[derive(Clone, Copy, Debug, PartialEq, Eq, Serialize)]
 pub struct HeapReport {
     /// Its size, in bytes.
     pub size: u64,
@@ -30,7 +29,7 @@ pub struct HeapReport {
 }
 
 /// What an object is held for.
-#[derive(Clone, Copy, Debug, PartialEq, Eq, Serialize, Deserialize)]
+#[derive(Clone, Copy, Debug, PartialEq, Eq, Serialize)]
 pub enum ObjectKind {
     /// One block, which is the whole object.
     Dedicated,
@@ -46,8 +45,7 @@ pub enum ObjectKind {
 }
 
 /// The held objects of a memory type that are held for the same.
-#[derive(Clone, Copy, Debug, PartialEq, Eq, Serialize, Deserialize)]
-#[serde(deny_unknown_fields)]
+#[derive(Clone, Copy, Debug, PartialEq, Eq, Serialize)]
 pub struct KindReport {
     /// The index of the memory type.
     pub memory_type: u32,

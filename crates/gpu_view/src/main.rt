@@ -5,6 +5,7 @@
 mod drawing;
 mod dump;
 mod picture;
+mod rows;
 mod view;
 mod wanted;
 mod words;

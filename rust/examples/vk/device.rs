@@ -2,6 +2,7 @@
 //! checks each call, synchronisation too.
 
 use super::*;
+use std::fmt::{Display, Formatter};
 use std::ptr::{from_mut, from_ref, null};
 use std::sync::atomic::{AtomicU32, Ordering};
 use std::sync::Arc;
@@ -10,6 +11,7 @@ use wallthyme::vulkan::{raw, DeviceInfo, Enabled};
 
 const API_VERSION_1_2: u32 = 1 << 22 | 2 << 12;
 const LAYER_NOT_PRESENT: i32 = -6;
+const INCOMPATIBLE_DRIVER: i32 = -9;
 const QUEUE_GRAPHICS: u32 = 1;
 const ONE_TIME_SUBMIT: u32 = 1;
 const RESET_COMMAND_BUFFER: u32 = 2;
@@ -36,13 +38,35 @@ pub struct Device {
     messages: Arc<AtomicU32>,
 }
 
+/// Why no device was opened.
+#[derive(Debug)]
+pub enum NoDevice {
+    /// This is not installed.
+    NotInstalled(&'static str),
+    /// A call failed.
+    Failed(String),
+}
+
+impl Display for NoDevice {
+    fn fmt(&self, formatter: &mut Formatter<'_>) -> std::fmt::Result {
+        match self {
+            NoDevice::NotInstalled(what) => write!(formatter, "{what} is not installed"),
+            NoDevice::Failed(why) => formatter.write_str(why),
+        }
+    }
+}
+
+impl std::error::Error for NoDevice {}
+
+impl From<String> for NoDevice {
+    fn from(why: String) -> Self {
+        NoDevice::Failed(why)
+    }
+}
+
 /// A call's result as an error.
 pub fn must(call: &str, result: i32) -> Result<(), String> {
-    if result == 0 {
-        Ok(())
-    } else {
-        Err(format!("VkResult {result} of {call}"))
-    }
+    (result == 0).then_some(()).ok_or_else(|| format!("VkResult {result} of {call}"))
 }
 
 /// What a call writes to its last parameter.
@@ -100,49 +124,54 @@ fn create_instance(get: GetInstanceProcAddr, messages: &AtomicU32, validated: bo
 impl Device {
     /// Opens the first device, with what it has of the `wanted`. Without the validation layer that is an error where
     /// `validated`, and else only said.
-    pub fn open(wanted: Enabled, validated: bool) -> Result<Device, String> {
-        let get = get_instance_proc_addr().ok_or("there is no libvulkan.so.1")?;
+    pub fn open(wanted: Enabled, validated: bool) -> Result<Device, NoDevice> {
+        let get = get_instance_proc_addr().ok_or(NoDevice::NotInstalled("libvulkan.so.1"))?;
         let messages = Arc::<AtomicU32>::default();
-        let (instance, has_layer) = match create_instance(get, &messages, true) {
-            Ok(instance) => (instance, true),
-            Err(LAYER_NOT_PRESENT) if validated => return Err("there is no validation layer".to_owned()),
-            Err(LAYER_NOT_PRESENT) => {
-                eprintln!("unchecked, since the validation layer is not installed");
-                (create_instance(get, &messages, false).map_err(|result| format!("VkResult {result}"))?, false)
-            }
-            Err(result) => return Err(format!("no instance can be created: VkResult {result}")),
-        };
+        let mut has_layer = true;
+        let mut instance = create_instance(get, &messages, true);
+        if instance == Err(LAYER_NOT_PRESENT) && !validated {
+            eprintln!("unchecked, since the validation layer is not installed");
+            has_layer = false;
+            instance = create_instance(get, &messages, false);
+        }
+        let instance = instance.map_err(|result| match result {
+            LAYER_NOT_PRESENT => NoDevice::NotInstalled("the validation layer"),
+            INCOMPATIBLE_DRIVER => NoDevice::NotInstalled("a Vulkan driver"),
+            result => NoDevice::Failed(format!("VkResult {result} of vkCreateInstance")),
+        })?;
         // SAFETY: the instance is live; all that is passed lives until its call ends.
-        unsafe {
-            let call = Functions::load(get, instance);
-            let messenger = has_layer.then(|| Messages::load(get, instance));
-            let messenger = messenger.map(|call| {
-                let mut handle = 0;
+        let (call, messenger) = unsafe {
+            let messenger = has_layer.then(|| {
+                let (call, mut handle) = (Messages::load(get, instance), 0);
                 (call.create_messenger)(instance, &messenger_info(&messages), null(), &mut handle);
                 (call, handle)
             });
-            let (mut found, mut physical) = (1, 0);
-            if (call.enumerate_physical_devices)(instance, &mut found, &mut physical) < 0 || found == 0 {
-                return Err("there is no Vulkan driver".to_owned());
-            }
-            let mut device = Device {
-                get,
-                call,
-                instance,
-                physical,
-                handle: 0,
-                api_version: 0,
-                enabled: Enabled::empty(),
-                commands: 0,
-                queue: 0,
-                pool: 0,
-                messenger,
-                messages,
-            };
-            device.read_offered(wanted);
-            device.open_queue()?;
-            Ok(device)
+            (Functions::load(get, instance), messenger)
+        };
+        let (handle, api_version, enabled, commands, queue, pool) = (0, 0, Enabled::empty(), 0, 0, 0);
+        let (mut found, mut physical) = (1, 0);
+        // SAFETY: as above.
+        let result = unsafe { (call.enumerate_physical_devices)(instance, &mut found, &mut physical) };
+        let mut device = Device {
+            get,
+            call,
+            instance,
+            physical,
+            handle,
+            api_version,
+            enabled,
+            commands,
+            queue,
+            pool,
+            messenger,
+            messages,
+        };
+        if result < 0 || found == 0 {
+            return Err(NoDevice::NotInstalled("a Vulkan driver"));
         }
+        device.read_offered(wanted);
+        device.open_queue()?;
+        Ok(device)
     }
 
     /// The version, and what there is of the `wanted`.

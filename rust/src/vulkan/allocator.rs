@@ -53,7 +53,8 @@ impl Drop for Created<'_> {
 /// An allocator of buffers and images with their memory, over a [`Device`].
 ///
 /// One that is dropped frees each memory object that no block needs. Where blocks are live, their objects stay, and it
-/// is reported on standard error, as for a [`GpuAllocator`]. Drop it before the `VkDevice` is destroyed.
+/// is reported on standard error, as for a [`GpuAllocator`]. Drop it before the `VkDevice` is destroyed
+/// (`vkDestroyDevice` wants each object of the device gone).
 #[derive(Debug)]
 pub struct Allocator {
     pub(super) device: Device,
@@ -65,7 +66,7 @@ impl Allocator {
     ///
     /// # Errors
     ///
-    /// [`Error::New`].
+    /// [`Error::New`]. Nothing is held then.
     pub fn new(device: Device) -> Result<Self, Error> {
         let config = device.default_config();
         Allocator::with_config(device, config)
@@ -75,7 +76,7 @@ impl Allocator {
     ///
     /// # Errors
     ///
-    /// [`Error::New`].
+    /// [`Error::New`]. Nothing is held then.
     pub fn with_config(device: Device, config: Config) -> Result<Self, Error> {
         let granularity = device.buffer_image_granularity();
         let core = GpuAllocator::with_granularity(config, device.device_properties(), granularity)?;
@@ -175,7 +176,8 @@ impl Allocator {
     ///
     /// # Safety
     ///
-    /// The buffer is of this allocator, and has this block. The device is done with both.
+    /// The buffer is of this allocator, and has this block. The device is done with both
+    /// (VUID-vkDestroyBuffer-buffer-00922, VUID-vkFreeMemory-memory-00677).
     #[track_caller]
     pub unsafe fn destroy_buffer(&mut self, buffer: Buffer) {
         // SAFETY: as the caller says.
@@ -190,7 +192,8 @@ impl Allocator {
     ///
     /// # Safety
     ///
-    /// The image is of this allocator, and has this block. The device is done with both.
+    /// The image is of this allocator, and has this block. The device is done with both
+    /// (VUID-vkDestroyImage-image-01000, VUID-vkFreeMemory-memory-00677).
     #[track_caller]
     pub unsafe fn destroy_image(&mut self, image: Image) {
         // SAFETY: as the caller says.
@@ -254,7 +257,8 @@ impl Allocator {
     ///
     /// # Errors
     ///
-    /// [`Error::NoDeviceAddress`], [`Error::Chained`], [`Error::Driver`], [`Error::Allocation`].
+    /// [`Error::NoDeviceAddress`], [`Error::Chained`], [`Error::Driver`], [`Error::Allocation`]. Nothing is changed
+    /// then.
     ///
     /// # Panics
     ///

@@ -85,7 +85,8 @@ impl Allocator {
     }
 
     /// Flushes ranges of mapped blocks, counted in bytes from their starts: what the host wrote reaches the device with
-    /// the next submission. At most 16 go to one call of the driver; none does where the memory is host-coherent.
+    /// the next submission. They go to the driver as whole atoms (VUID-VkMappedMemoryRange-offset-00687, -size-01390),
+    /// at most 16 in one call; none does where the memory is host-coherent.
     ///
     /// # Errors
     ///

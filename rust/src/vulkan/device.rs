@@ -17,6 +17,9 @@ use std::ptr::{from_mut, from_ref, null};
 /// `VK_ERROR_OUT_OF_DEVICE_MEMORY` or `VK_ERROR_TOO_MANY_OBJECTS`, so that an allocation goes on with its next memory
 /// type, and [`OutOfHostMemory`](crate::OutOfMemory::OutOfHostMemory) for each other error, which ends it. A
 /// [`DeviceFor`] keeps the very result.
+///
+/// It is `Send` and `Sync`: its handles are numbers, Vulkan lets any thread use a `VkDevice`, and where a call wants to
+/// be the only one on an object (the specification's "externally synchronized"), a `&mut` or a value stands for that.
 #[derive(Clone)]
 pub struct Device {
     pub(crate) call: Functions,
@@ -63,14 +66,14 @@ impl Device {
     /// # Errors
     ///
     /// [`Error::Missing`]: a handle is null, or a function cannot be loaded. [`Error::NoBudget`]:
-    /// [`Enabled::MEMORY_BUDGET`] without [`Enabled::PROPERTIES2`] or version 1.1.
+    /// [`Enabled::MEMORY_BUDGET`] without [`Enabled::PROPERTIES2`] or version 1.1. Nothing is held then.
     ///
     /// # Safety
     ///
     /// * The handles are live and belong together. They outlive each call of this value and its clones, the drop of an
     ///   [`Allocator`](super::Allocator) over it too.
     /// * `get_instance_proc_addr` is `vkGetInstanceProcAddr`, or does what it does, for that instance.
-    /// * What `api_version` and `enabled` say is so.
+    /// * What `api_version`, `enabled` and `other_objects` say is so.
     /// * The callbacks are as Vulkan asks, and may be called from each thread that uses this value.
     pub unsafe fn load(info: &DeviceInfo) -> Result<Device, Error> {
         for (is_null, what) in [
@@ -174,7 +177,7 @@ impl Device {
     ///
     /// # Errors
     ///
-    /// [`Error::NoBudget`], without [`Enabled::MEMORY_BUDGET`].
+    /// [`Error::NoBudget`], without [`Enabled::MEMORY_BUDGET`]. Each limit is then as before.
     ///
     /// # Panics
     ///
@@ -236,7 +239,7 @@ impl Device {
     ///
     /// # Errors
     ///
-    /// [`Error::Driver`].
+    /// [`Error::Driver`]. The block is as before.
     ///
     /// # Safety
     ///
@@ -256,7 +259,7 @@ impl Device {
     ///
     /// # Errors
     ///
-    /// [`Error::Driver`].
+    /// [`Error::Driver`]. The block is as before.
     ///
     /// # Safety
     ///

@@ -11,7 +11,8 @@ use std::ptr::{null, NonNull};
 
 /// A [`Device`] as it is asked for one buffer or image, or for a block of none. It chains to a memory object what
 /// belongs to that resource, exactly where the object will hold its block alone
-/// ([`OWN`](AllocationFlags::OWN)), and keeps what the driver returned last.
+/// ([`OWN`](AllocationFlags::OWN)): such an object has the size of the resource's requirements
+/// (VUID-VkMemoryDedicatedAllocateInfo-image-02964, -buffer-02965). And it keeps what the driver returned last.
 ///
 /// It is the same device to an allocator: a block that was allocated by one may be used by the other.
 #[derive(Debug)]

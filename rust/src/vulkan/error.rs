@@ -90,7 +90,8 @@ pub enum Error {
     /// [`MemoryRequest::next`](super::MemoryRequest::next) has this struct, which is chained by itself.
     Chained(&'static str),
 
-    /// A device address is asked for without [`Enabled::DEVICE_ADDRESS`](super::Enabled::DEVICE_ADDRESS).
+    /// A device address is asked for without [`Enabled::DEVICE_ADDRESS`](super::Enabled::DEVICE_ADDRESS)
+    /// (VUID-VkMemoryAllocateInfo-flags-03331).
     NoDeviceAddress,
 
     /// A block that is to be flushed or invalidated is not mapped.

@@ -15,7 +15,8 @@ impl Allocator {
     ///
     /// # Safety
     ///
-    /// The block is of this allocator. What was bound to it is destroyed, and the device is done with it.
+    /// The block is of this allocator. What was bound to it is destroyed, and the device is done with it
+    /// (VUID-vkFreeMemory-memory-00677).
     #[track_caller]
     pub unsafe fn free(&mut self, block: MemoryBlock<Memory>) {
         // SAFETY: the device is the allocator's, and done with the block, as the caller says.
@@ -95,7 +96,8 @@ impl Allocator {
     ///
     /// # Errors
     ///
-    /// [`Error::NoBudget`], without [`Enabled::MEMORY_BUDGET`](super::Enabled::MEMORY_BUDGET).
+    /// [`Error::NoBudget`], without [`Enabled::MEMORY_BUDGET`](super::Enabled::MEMORY_BUDGET). Each limit is then as
+    /// before.
     pub fn update_budget(&mut self) -> Result<(), Error> {
         self.device.update_budget(&mut self.core)
     }
@@ -104,7 +106,7 @@ impl Allocator {
     ///
     /// # Errors
     ///
-    /// [`AllocationError::OutOfHostMemory`] in [`Error::Allocation`].
+    /// [`AllocationError::OutOfHostMemory`] in [`Error::Allocation`]. Nothing is changed then.
     pub fn report(&mut self) -> Result<String, Error> {
         self.core.report().map_err(|error| Error::Allocation(error.into()))
     }

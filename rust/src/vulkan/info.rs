@@ -47,7 +47,8 @@ pub struct DeviceInfo {
     /// Go to each call of Vulkan that takes them.
     pub callbacks: Option<AllocationCallbacks>,
 
-    /// How many memory objects the program makes itself, at most, beside the allocator's.
+    /// How many memory objects the program makes itself, at most, beside the allocator's, those of another allocator
+    /// too: all count for the device (VUID-vkAllocateMemory-maxMemoryAllocationCount-04101).
     pub other_objects: u32,
 }
 

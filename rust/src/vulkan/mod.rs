@@ -12,10 +12,10 @@
 //! # Threads
 //!
 //! Vulkan lets each thread use a `VkDevice`, but asks that one thread at a time uses a memory object, a buffer or an
-//! image where a call creates, binds, maps or destroys it. Here a `&mut` or a value stands for such a use: `&mut
-//! Allocator` where blocks come and go, and `&mut MemoryBlock` where its bytes are used. So [`Device`] and
-//! [`Allocator`] are `Send` and `Sync`. A program of several threads keeps its allocator in a `Mutex`, and reads and
-//! writes blocks outside of it, by a clone of the device.
+//! image where a call binds, maps or destroys it ("externally synchronized", chapter Threading Behavior). Here a `&mut`
+//! or a value stands for such a use: `&mut Allocator` where blocks come and go, and `&mut MemoryBlock` where its bytes
+//! are used. So [`Device`] and [`Allocator`] are `Send` and `Sync`. A program of several threads keeps its allocator in
+//! a `Mutex`, and reads and writes blocks outside of it, by a clone of the device.
 //!
 //! # What the host writes and reads
 //!

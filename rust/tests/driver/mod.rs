@@ -11,7 +11,7 @@ use std::fs;
 use std::io::{stderr, Write};
 use std::path::PathBuf;
 use std::sync::Once;
-use vk::device::Device;
+use vk::device::{Device, NoDevice};
 use wallthyme::vulkan::Enabled;
 
 /// The software driver's file, where the Vulkan loader looks for such; none where it is not there.
@@ -47,10 +47,11 @@ pub fn open(what: &str) -> Option<Device> {
     pretend::plan(|plan| *plan = pretend::Plan::NOTHING);
     match Device::open(Enabled::all(), true) {
         Ok(device) => Some(device),
-        Err(missing) => {
-            leave_out(what, &missing);
+        Err(missing @ NoDevice::NotInstalled(_)) => {
+            leave_out(what, &missing.to_string());
             None
         }
+        Err(NoDevice::Failed(why)) => panic!("{why}"),
     }
 }
 

@@ -8,30 +8,28 @@ use gpu_desk::{Answer, Answered, Denial, Desk, Grant, Wish};
 use gpu_report::{
     HeapReport, KindReport, ObjectKind, ObjectReport, Place, Report, Statistics, write_report,
 };
-use serde::Deserialize;
+use serde::Serialize;
+use serde_json::Value;
 use std::alloc::Global;
 use std::process::Abort;
 use std::test::Fail;
 
-/// What the text tells, as it is documented.
-#[derive(Drop, Deserialize)]
-#[serde(deny_unknown_fields)]
-struct Dump {
-    heaps: Vec<HeapReport>,
+/// What the text has to hold, as it is documented.
+#[derive(Drop, Serialize)]
+struct Dump<'r> {
+    heaps: &'r [HeapReport],
     types: Vec<TypeRow>,
-    kinds: Vec<KindReport>,
+    kinds: &'r [KindReport],
     objects: Vec<ObjectRow>,
 }
 
-#[derive(Debug, Drop, PartialEq, Deserialize)]
-#[serde(deny_unknown_fields)]
+#[derive(Drop, Serialize)]
 struct TypeRow {
     heap: u32,
     properties: u8,
 }
 
-#[derive(Drop, Deserialize)]
-#[serde(deny_unknown_fields)]
+#[derive(Drop, Serialize)]
 struct ObjectRow {
     object: u64,
     memory_type: u32,
@@ -40,10 +38,11 @@ struct ObjectRow {
     places: Vec<PlaceRow>,
 }
 
-#[derive(Debug, Drop, PartialEq, Deserialize)]
-#[serde(deny_unknown_fields)]
+#[derive(Drop, Serialize)]
 struct PlaceRow {
+    #[serde(skip_serializing_if = "Option::is_none")]
     key: Option<u64>,
+    #[serde(skip_serializing_if = "Option::is_none")]
     user: Option<u64>,
     offset: u64,
     size: u64,
@@ -124,8 +123,8 @@ fn granted(
     never(rt, "too many questions")
 }
 
-/// Whether a place is told as it is, with the value of its block.
-fn same_place(rt: &impl Abort, desk: &Desk, told: &PlaceRow, place: &Place) {
+/// A place, with the value of its block.
+fn place_row(rt: &impl Abort, desk: &Desk, place: &Place) -> PlaceRow {
     let user = match place.block {
         Some(key) => match desk.block(key) {
             Ok(grant) => Some(grant.user),
@@ -133,24 +132,53 @@ fn same_place(rt: &impl Abort, desk: &Desk, told: &PlaceRow, place: &Place) {
         },
         None => None,
     };
-    let wanted = PlaceRow {
+    PlaceRow {
         key: place.block,
         user,
         offset: place.offset,
         size: place.size,
-    };
-    same(rt, "a place", told, &wanted);
+    }
 }
 
-fn same_object(rt: &impl Abort, desk: &Desk, told: &ObjectRow, object: &ObjectReport) {
-    same(rt, "a name", &told.object, &object.object);
-    same(rt, "a memory type", &told.memory_type, &object.memory_type);
-    same(rt, "a kind", &told.kind, &object.kind);
-    same(rt, "a size", &told.size, &object.size);
-    same(rt, "places", &told.places.len(), &object.places.len());
-    for (place, wanted) in told.places.iter().zip(object.places.iter()) {
-        same_place(rt, desk, place, wanted);
+fn object_row(
+    rt: &impl Abort,
+    alloc: Global,
+    desk: &Desk,
+    object: &ObjectReport,
+) -> Result<ObjectRow, Fail> {
+    let mut places = Vec::new(alloc);
+    for place in &object.places {
+        places.push(place_row(rt, desk, place))?;
     }
+    Ok(ObjectRow {
+        object: object.object,
+        memory_type: object.memory_type,
+        kind: object.kind,
+        size: object.size,
+        places,
+    })
+}
+
+/// What the text of a report of the desk has to hold.
+fn wanted(rt: &impl Abort, alloc: Global, desk: &Desk, report: &Report) -> Result<Value, Fail> {
+    let mut types = Vec::new(alloc);
+    for offered in &TYPES {
+        types.push(TypeRow {
+            heap: offered.heap,
+            properties: offered.props.bits(),
+        })?;
+    }
+    let mut objects = Vec::new(alloc);
+    for object in &report.objects {
+        objects.push(object_row(rt, alloc, desk, object)?)?;
+    }
+    let dump = Dump {
+        heaps: report.heaps.as_slice(),
+        types,
+        kinds: report.kinds.as_slice(),
+        objects,
+    };
+    Ok(serde_json::to_value(alloc, &dump)?)
 }
 
 /// Ends a desk: its blocks come back, and the names of its objects are read.
@@ -186,18 +214,8 @@ fn compare(rt: &impl Abort, alloc: Global, desk: &Desk) -> Result<(), Fail> {
         &length,
     );
     same(rt, "a byte of 0", &text.contains(&0), &false);
-    let dump: Dump = serde_json::from_slice(alloc, text.as_slice())?;
-    same(rt, "heaps", &dump.heaps, &report.heaps);
-    same(rt, "kinds", &dump.kinds, &report.kinds);
-    same(rt, "types", &dump.types.len(), &TYPES.len());
-    for (told, wanted) in dump.types.iter().zip(TYPES.iter()) {
-        same(rt, "a type's heap", &told.heap, &wanted.heap);
-        same(rt, "its properties", &told.properties, &wanted.props.bits());
-    }
-    same(rt, "objects", &dump.objects.len(), &report.objects.len());
-    for (told, wanted) in dump.objects.iter().zip(report.objects.iter()) {
-        same_object(rt, desk, told, wanted);
-    }
+    let read = Value::from_slice(alloc, text.as_slice())?;
+    same(rt, "its text", &read, &wanted(rt, alloc, desk, &report)?);
     for kind in &report.kinds {
         let Some(all) = Statistics::of_desk(alloc, desk, kind.memory_type)? else {
             return Err(Fail::from("no such type"));
