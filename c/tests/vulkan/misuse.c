@@ -4,9 +4,10 @@
 #include "stub.h"
 
 #include <pthread.h>
+#include <stdarg.h>
 #include <string.h>
 
-/* ---- What the linker puts in place of the functions for memory, of the lock's and of wt_version. ---- */
+/* ---- What the linker puts in place of the functions for memory, of the lock's, and of three of the library's. ---- */
 
 void *__real_malloc(size_t size);
 void *__real_calloc(size_t count, size_t size);
@@ -14,15 +15,23 @@ void *__real_realloc(void *old, size_t size);
 void __real_free(void *memory);
 int __real_pthread_mutex_init(pthread_mutex_t *lock, const pthread_mutexattr_t *attributes);
 uint32_t __real_wt_version(void);
+uint32_t __real_wt_alloc(wt_allocator *a, const wt_request *request, const wt_question *asked, size_t asked_len,
+                         wt_block *block, wt_question *question);
+uint32_t __real_wt_map(wt_allocator *a, uint64_t key, uint64_t offset, uint64_t size, const wt_question *asked,
+                       size_t asked_len, wt_range *mapped, wt_question *question);
 void *__wrap_malloc(size_t size);
 void *__wrap_calloc(size_t count, size_t size);
 void *__wrap_realloc(void *old, size_t size);
 void __wrap_free(void *memory);
 int __wrap_pthread_mutex_init(pthread_mutex_t *lock, const pthread_mutexattr_t *attributes);
 uint32_t __wrap_wt_version(void);
+uint32_t __wrap_wt_alloc(wt_allocator *a, const wt_request *request, const wt_question *asked, size_t asked_len,
+                         wt_block *block, wt_question *question);
+uint32_t __wrap_wt_map(wt_allocator *a, uint64_t key, uint64_t offset, uint64_t size, const wt_question *asked,
+                       size_t asked_len, wt_range *mapped, wt_question *question);
 
 static long served_before = -1; /* how many requests are served before one is refused; below 0: each is served */
-static bool is_all_refused, is_lock_refused;
+static bool is_all_refused, is_lock_refused, is_in_vain;
 static unsigned refusals;
 static long live_memory; /* pieces */
 static uint32_t other_version;
@@ -78,6 +87,23 @@ int __wrap_pthread_mutex_init(pthread_mutex_t *lock, const pthread_mutexattr_t *
 uint32_t __wrap_wt_version(void)
 {
     return other_version != 0 ? other_version : __real_wt_version();
+}
+
+/* The library may lack memory once the driver has answered. */
+uint32_t __wrap_wt_alloc(wt_allocator *a, const wt_request *request, const wt_question *asked, size_t asked_len,
+                         wt_block *block, wt_question *question)
+{
+    if (is_in_vain && asked_len > 0)
+        return WT_OUT_OF_HOST_MEMORY;
+    return __real_wt_alloc(a, request, asked, asked_len, block, question);
+}
+
+uint32_t __wrap_wt_map(wt_allocator *a, uint64_t key, uint64_t offset, uint64_t size, const wt_question *asked,
+                       size_t asked_len, wt_range *mapped, wt_question *question)
+{
+    if (is_in_vain && asked_len > 0)
+        return WT_OUT_OF_HOST_MEMORY;
+    return __real_wt_map(a, key, offset, size, asked, asked_len, mapped, question);
 }
 
 /* ---- The world of a row. ---- */
@@ -497,6 +523,19 @@ static void map_and_unmap(world *w, const row *r)
     expect(wtv_unmap(w->allocator, w->at[r->which]) == VK_SUCCESS, "a block is not unmapped");
 }
 
+static void answer_in_vain(world *w, const row *r)
+{
+    (void)w, (void)r;
+    is_in_vain = true;
+}
+
+static void refuse_in_vain(world *w, const row *r)
+{
+    (void)r;
+    is_in_vain = true;
+    stub_refuse(w->driver, STUB_ALLOCATE, VK_ERROR_OUT_OF_DEVICE_MEMORY, 0, true);
+}
+
 static void limit_all_heaps(world *w, const row *r)
 {
     (void)r;
@@ -546,6 +585,7 @@ static const row rows[] = {
     {"map what the host does not see", UNMAPPABLE, call_map, .which = LOCAL},
     {"write what the host does not see", UNMAPPABLE, call_write, .which = LOCAL, .size = 1},
     {"read what the host does not see", UNMAPPABLE, call_read, .which = LOCAL, .size = 1},
+    {"map in vain", VK_ERROR_OUT_OF_HOST_MEMORY, call_map, .which = OWN, .prepare = answer_in_vain},
     {"unmap a shared block that is not mapped", INVALID, call_unmap, .which = SHARED},
     {"unmap an own block that is not mapped", INVALID, call_unmap, .which = OWN},
     {"unmap what the host does not see", INVALID, call_unmap, .which = LOCAL},
@@ -629,6 +669,11 @@ static const row rows[] = {
     {"allocate with all objects held", VK_ERROR_TOO_MANY_OBJECTS, ALLOCATE, .request.dedicated = WT_REQUIRED,
      .prepare = hold_all_objects},
 
+    {"allocate in vain", VK_ERROR_OUT_OF_HOST_MEMORY, ALLOCATE, .request.dedicated = WT_REQUIRED,
+     .prepare = answer_in_vain},
+    {"allocate in vain behind a refusal", VK_ERROR_OUT_OF_HOST_MEMORY, ALLOCATE, .request.dedicated = WT_REQUIRED,
+     .prepare = refuse_in_vain},
+
     {"allocate for no buffer", INVALID, call_allocate_for_no_buffer, .which = ZERO},
     {"allocate for no image", INVALID, call_allocate_for_no_image, .which = ZERO},
     {"allocate for a buffer with a flag", INVALID, call_allocate_for_buffer, .request.flags = WT_OPTIMAL},
@@ -661,6 +706,7 @@ static const row rows[] = {
 
 static void undo_preparation(world *w)
 {
+    is_in_vain = false;
     while (fillers_len > 0)
         expect(wtv_free(w->allocator, fillers[--fillers_len]) == VK_SUCCESS, "a block is not taken back");
 }
@@ -728,18 +774,21 @@ typedef struct creation {
 static void take_instance(stub *s, wtv_create_info *info)
 {
     (void)s;
+    info->functions = &stub_table;
     info->instance = VK_NULL_HANDLE;
 }
 
 static void take_physical_device(stub *s, wtv_create_info *info)
 {
     (void)s;
+    info->functions = &stub_table;
     info->physical_device = VK_NULL_HANDLE;
 }
 
 static void take_device(stub *s, wtv_create_info *info)
 {
     (void)s;
+    info->functions = &stub_table;
     info->device = VK_NULL_HANDLE;
 }
 
@@ -1318,7 +1367,202 @@ static void run_scarcity(void)
     printf("misuse: each of %ld requests for memory refused in turn, and %u calls failed\n", served, calls_failed);
 }
 
-/* ---- What zeros mean, budgets, and the usual configuration. ---- */
+/* ---- What is raised by itself, what zeros mean, budgets, and the usual configuration. ---- */
+
+static wtv_allocator *created(stub *s, const wtv_functions *functions)
+{
+    wtv_create_info info = stub_info(s);
+    wtv_allocator *a = NULL;
+    info.config = &small_config;
+    info.functions = functions;
+    expect(wtv_create(&info, &a) == VK_SUCCESS, "no allocator is created");
+    return a;
+}
+
+static void closed(stub *s, wtv_allocator *a)
+{
+    expect(wtv_destroy(a, NULL, 0, NULL) == VK_SUCCESS, "an allocator is not destroyed");
+    expect(stub_close(s) == 0, "the stub found failures");
+}
+
+/* An image of that many texels a side, and whether it gets an object of its own for nothing but the driver's wish. */
+static void check_wish(uint32_t side, uint32_t version, bool is_wanted)
+{
+    stub_plan plan = stub_usual_plan();
+    plan.api_version = version;
+    stub *s = stub_open(&plan);
+    wtv_allocator *a = created(s, &stub_table);
+    const VkImageCreateInfo info = stub_image_info(side, side, true);
+    VkImage image;
+    wtv_block block;
+    bool requires_own;
+    wtv_allocation allocation;
+    expect(wtv_create_image(a, &info, NULL, &image, &allocation, &block) == VK_SUCCESS, "no image is created");
+    stub_needs_of_image(s, image, &requires_own);
+    expect(!requires_own, "the stub requires what it should prefer");
+    expect(block.dedicated == is_wanted, "a driver's wish is passed over, or one that it does not have is met");
+    expect(wtv_destroy_image(a, image, allocation) == VK_SUCCESS, "an image is not destroyed");
+    closed(s, a);
+}
+
+/* Images of 8 KiB and more would like an object of their own, which they get from 4 KiB on. */
+static void run_wishes(void)
+{
+    current = "a driver's wish";
+    check_wish(60, VK_API_VERSION_1_1, true);
+    check_wish(60, VK_API_VERSION_1_0, false);
+    check_wish(40, VK_API_VERSION_1_1, false);
+}
+
+static VKAPI_ATTR VkResult VKAPI_CALL create_without_addresses(VkDevice device, const VkBufferCreateInfo *info,
+                                                               const VkAllocationCallbacks *callbacks,
+                                                               VkBuffer *buffer)
+{
+    VkBufferCreateInfo plain = *info;
+    plain.usage &= ~(VkBufferUsageFlags)VK_BUFFER_USAGE_SHADER_DEVICE_ADDRESS_BIT;
+    return stub_table.create_buffer(device, &plain, callbacks, buffer);
+}
+
+/* A buffer with addresses: refused where they are not enabled, and else in memory that is near the device. */
+static void check_addresses(uint32_t flags, VkResult wanted, uint32_t usage, uint32_t wanted_type)
+{
+    const wtv_functions without = {.create_buffer = create_without_addresses};
+    stub_plan plan = stub_usual_plan();
+    plan.flags = flags;
+    stub *s = stub_open(&plan);
+    wtv_allocator *a = created(s, flags == 0 ? &without : NULL);
+    VkBufferCreateInfo info = stub_buffer_info(SMALL);
+    const wtv_request request = {.usage = usage};
+    VkBuffer buffer = VK_NULL_HANDLE;
+    wtv_allocation allocation = 0;
+    wtv_block block;
+    info.usage |= VK_BUFFER_USAGE_SHADER_DEVICE_ADDRESS_BIT;
+    expect(wtv_create_buffer(a, &info, &request, &buffer, &allocation, &block) == wanted, "another result");
+    expect(wanted != VK_SUCCESS || block.memory_type == wanted_type, "another memory type");
+    expect(wtv_destroy_buffer(a, buffer, allocation) == VK_SUCCESS, "a buffer is not destroyed");
+    closed(s, a);
+}
+
+/* Two buffers in one block, behind its first bytes. */
+static void run_binds(void)
+{
+    world w = begun("binds within a block");
+    const VkMemoryRequirements needs = {4 * BLOCK_SIZE, BLOCK_SIZE, 1u << STUB_COHERENT};
+    VkBuffer second = made_buffer(&w);
+    wtv_block block;
+    expect(wtv_allocate(w.allocator, &needs, NULL, &w.made, &block) == VK_SUCCESS, "no block is allocated");
+    expect(wtv_bind_buffer(w.allocator, w.made, BLOCK_SIZE, w.loose_buffer) == VK_SUCCESS, "a buffer is not bound");
+    expect(wtv_bind_buffer(w.allocator, w.made, 3 * BLOCK_SIZE, second) == VK_SUCCESS, "a buffer is not bound");
+    expect(stub_buffer_bytes(w.driver, w.loose_buffer)
+               == stub_memory_bytes(w.driver, block.memory, block.offset + BLOCK_SIZE, SMALL), "it is bound elsewhere");
+    expect(stub_buffer_bytes(w.driver, second)
+               == stub_memory_bytes(w.driver, block.memory, block.offset + 3 * BLOCK_SIZE, SMALL),
+           "it is bound elsewhere");
+    stub_table.destroy_buffer(stub_info(w.driver).device, second, NULL);
+    replace_and_free(&w);
+    ended(&w);
+}
+
+/* The text that wtv_statistics_text should write, by the numbers of the other calls. */
+typedef struct expected_text {
+    char text[8192];
+    size_t length;
+} expected_text;
+
+static void put(expected_text *e, const char *format, ...)
+{
+    va_list values;
+    va_start(values, format);
+    e->length += (size_t)vsnprintf(e->text + e->length, sizeof e->text - e->length, format, values);
+    va_end(values);
+    expect(e->length < sizeof e->text, "a text is longer than it should be");
+}
+
+/* A sum below 2^64, or a little over it: 2^64 is 18446744073709551616. */
+static void put_sum(expected_text *e, const char *name, uint64_t high, uint64_t low)
+{
+    expect(high == 0 || (high == 1 && low < 200000000), "a sum is another one");
+    if (high == 0)
+        put(e, "\"%s\":%llu", name, (unsigned long long)low);
+    else
+        put(e, "\"%s\":18446744073%09llu", name, (unsigned long long)(low + 709551616));
+}
+
+static void put_kind(expected_text *e, const char *name, const wt_kind_statistics *kind)
+{
+    put(e, ",\"%s\":{\"objects\":%llu,\"blocks\":%llu,", name, (unsigned long long)kind->objects,
+        (unsigned long long)kind->blocks);
+    put_sum(e, "live_bytes", kind->live_bytes_high, kind->live_bytes);
+    put(e, ",");
+    put_sum(e, "free_bytes", kind->free_bytes_high, kind->free_bytes);
+    put(e, ",\"largest_free\":%llu}", (unsigned long long)kind->largest_free);
+}
+
+static void put_statistics(expected_text *e, wtv_allocator *a)
+{
+    put(e, "{\"heaps\":[");
+    for (uint32_t i = 0; i < STUB_HEAPS; i++) {
+        wt_heap_counts heap;
+        expect(wtv_heap(a, i, &heap) == VK_SUCCESS, "a heap is not counted");
+        put(e, "%s{\"size\":%llu,\"limit\":%llu,", i > 0 ? "," : "", (unsigned long long)stub_heaps[i].size,
+            (unsigned long long)heap.limit);
+        put_sum(e, "used", heap.used_high, heap.used);
+        put(e, ",\"budget\":%llu}", (unsigned long long)heap.budget);
+    }
+    put(e, "],\"types\":[");
+    for (uint32_t i = 0; i < STUB_TYPES; i++) {
+        wt_type_statistics type;
+        expect(wtv_statistics(a, i, &type) == VK_SUCCESS, "no statistics");
+        put(e, "%s{\"heap\":%u,\"properties\":%u", i > 0 ? "," : "", (unsigned)stub_types[i].heapIndex,
+            (unsigned)stub_types[i].propertyFlags);
+        put_kind(e, "dedicated", &type.dedicated);
+        put_kind(e, "imported", &type.imported);
+        put_kind(e, "buddy", &type.buddy);
+        put_kind(e, "free_list", &type.free_list);
+        put(e, "}");
+    }
+    put(e, "]}");
+}
+
+static void check_statistics(world *w)
+{
+    static expected_text wanted;
+    char *text;
+    wanted.length = 0;
+    put_statistics(&wanted, w->allocator);
+    expect(wtv_statistics_text(w->allocator, &text) == VK_SUCCESS, "no text");
+    expect(strcmp(text, wanted.text) == 0, "a text is another one");
+    wtv_free_text(text);
+}
+
+/* Two imports that are said to have 2^63 bytes each, of which nothing is used: sums of 2^64 bytes. */
+static void run_texts(void)
+{
+    const VkDeviceSize half = (VkDeviceSize)1 << 63;
+    world w = begun("texts");
+    wtv_allocation large[2];
+    wt_heap_counts heap;
+    expect(create_shared_buffer(&w) == VK_SUCCESS, "no transient buffer");
+    check_statistics(&w);
+    for (int i = 0; i < 2; i++) {
+        VkDeviceMemory memory = stub_make_object(w.driver, STUB_LOCAL, SMALL);
+        expect(wtv_import(w.allocator, memory, STUB_LOCAL, half, 0, half, &large[i], NULL) == VK_SUCCESS, "no import");
+    }
+    expect(wtv_heap(w.allocator, STUB_LOCAL_HEAP, &heap) == VK_SUCCESS && heap.used_high == 1, "a sum is below 2^64");
+    check_statistics(&w);
+    for (int i = 0; i < 2; i++)
+        expect(wtv_free(w.allocator, large[i]) == VK_SUCCESS, "a block is not taken back");
+    destroy_made(&w);
+    ended(&w);
+}
+
+static void run_addresses(void)
+{
+    current = "addresses";
+    check_addresses(0, INVALID, 0, 0);
+    check_addresses(WTV_CREATE_DEVICE_ADDRESS, VK_SUCCESS, 0, STUB_LOCAL);
+    check_addresses(WTV_CREATE_DEVICE_ADDRESS, VK_SUCCESS, WT_USAGE_UPLOAD, STUB_COHERENT);
+}
 
 static void run_zeros(void)
 {
@@ -1366,8 +1610,7 @@ static void check_budget(VkDeviceSize budget, VkDeviceSize beside, VkDeviceSize 
     if (result == VK_SUCCESS)
         expect(wtv_free(a, more) == VK_SUCCESS, "a block is not taken back");
     expect(wtv_free(a, held) == VK_SUCCESS, "a block is not taken back");
-    expect(wtv_destroy(a, NULL, 0, NULL) == VK_SUCCESS, "an allocator is not destroyed");
-    expect(stub_close(s) == 0, "the stub found failures");
+    closed(s, a);
 }
 
 static void run_budgets(void)
@@ -1385,16 +1628,36 @@ static void run_budgets(void)
     check_budget(0, 0, 0);
 }
 
-/* The unit that the usual configuration is counted in, over heaps of which the last one alone is device-local. */
+/* The unit that the usual configuration is counted in, over a heap that is device-local, and another one. */
 static void check_config(VkDeviceSize local, VkDeviceSize other, uint64_t unit)
 {
-    VkPhysicalDeviceMemoryProperties memory = {.memoryHeapCount = local > 0 ? 2 : 1};
-    memory.memoryHeaps[0].size = other;
-    memory.memoryHeaps[1] = (VkMemoryHeap){local, VK_MEMORY_HEAP_DEVICE_LOCAL_BIT};
-    wt_config config;
     const wt_config wanted = {4 * unit, unit / 8, 16 * unit, unit, 16 * unit, 1024, unit};
-    wtv_default_config(&memory, &config);
-    expect(memcmp(&config, &wanted, sizeof config) == 0, "a configuration is another one");
+    for (uint32_t place = 0; place < 2; place++) {
+        VkPhysicalDeviceMemoryProperties memory = {.memoryHeapCount = 2};
+        wt_config config;
+        memory.memoryHeaps[place] = (VkMemoryHeap){local, VK_MEMORY_HEAP_DEVICE_LOCAL_BIT};
+        memory.memoryHeaps[1 - place].size = other;
+        wtv_default_config(&memory, &config);
+        expect(memcmp(&config, &wanted, sizeof config) == 0, "a configuration is another one");
+    }
+}
+
+/* How many bytes the first object has that small blocks share, which the configuration decides. */
+static VkDeviceSize first_chunk(const wt_config *config)
+{
+    const VkMemoryRequirements needs = {SMALL, 1, 1u << STUB_LOCAL};
+    stub_plan plan = stub_usual_plan();
+    stub *s = stub_open(&plan);
+    wtv_create_info info = stub_info(s);
+    wtv_allocator *a = NULL;
+    wtv_allocation allocation;
+    info.config = config;
+    expect(wtv_create(&info, &a) == VK_SUCCESS, "no allocator is created");
+    expect(wtv_allocate(a, &needs, NULL, &allocation, NULL) == VK_SUCCESS, "no block is allocated");
+    VkDeviceSize size = stub_held_now(s).bytes[STUB_LOCAL_HEAP];
+    expect(wtv_free(a, allocation) == VK_SUCCESS, "a block is not taken back");
+    closed(s, a);
+    return size;
 }
 
 static void run_configs(void)
@@ -1412,6 +1675,8 @@ static void run_configs(void)
     check_config(8 * gibibyte, 0, 8 * mebibyte);
     check_config(80 * gibibyte, 0, 8 * mebibyte);
     check_config(0, 2 * gibibyte, 2 * mebibyte);
+    expect(first_chunk(NULL) == 64 << 10, "an allocator without a configuration does not take the usual one");
+    expect(first_chunk(&small_config) == 8 << 10, "an allocator does not take the program's configuration");
     wtv_default_config(&memory, &config);
     expect(memcmp(&config, &prototyping, sizeof config) == 0, "8 GiB do not get WT_CONFIG_PROTOTYPING");
 }
@@ -1424,6 +1689,10 @@ int main(void)
     run_creations();
     printf("misuse: %zu rows, the unknown allocations, %zu creations and the missing functions\n", LENGTH(rows),
            LENGTH(creations));
+    run_wishes();
+    run_addresses();
+    run_binds();
+    run_texts();
     run_zeros();
     run_budgets();
     run_configs();
