@@ -352,8 +352,8 @@ void test_blocks() {
     const VkDevice device = stub_info(driver.get()).device;
     const VkBufferCreateInfo buffer_info = stub_buffer_info(300);
     const VkImageCreateInfo image_info = stub_image_info(16, 8, true);
-    VkBuffer buffer, other;
-    VkImage image;
+    VkBuffer buffer = VkBuffer(), other = VkBuffer();
+    VkImage image = VkImage();
     must(stub_table.create_buffer(device, &buffer_info, nullptr, &buffer) == VK_SUCCESS
              && stub_table.create_buffer(device, &buffer_info, nullptr, &other) == VK_SUCCESS
              && stub_table.create_image(device, &image_info, nullptr, &image) == VK_SUCCESS,
