@@ -348,7 +348,7 @@ static void check_block(worker *w, const resource *r, const VkMemoryRequirements
              == (block->dedicated == 1 && priority != NULL ? priority->priority : -1),
          "a chain is lost, or went to a shared object");
     must(wtv_block_of(w->world->allocator, block->allocation, &now) == VK_SUCCESS, "a new block is unknown");
-    must(is_same_block(&now, block), "a block is told in two ways");
+    must(is_same_block(&now, block), "a block is shown in two ways");
 }
 
 /* What is left of a resource that the program made itself, after its memory was refused. */

@@ -1333,7 +1333,7 @@ static void end_without_memory(scarcity *s)
     expect(stub_close(s->driver) == 0, "the stub found failures");
 }
 
-/* All calls that take memory, with one of its pieces refused, if there are so many. */
+/* All calls that take memory, with one of its pieces refused. It says whether there is a piece of that number. */
 static bool run_scarcely(long served)
 {
     static VkResult (*const calls[])(scarcity *) = {take_shared,    import_scarcely, map_last,         take_transient,

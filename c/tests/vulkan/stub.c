@@ -117,11 +117,11 @@ typedef struct dispatched {
 struct stub {
     dispatched instance, physical, device;
     stub_plan plan;
-    pthread_mutex_t lock; /* over the tables, what is bound, and what is held and told */
+    pthread_mutex_t lock; /* over the tables, what is bound, what is held, and limits */
     table objects, buffers, images;
     VkDeviceSize used[STUB_HEAPS], used_by_program[STUB_HEAPS]; /* by the allocator's objects, and the program's own */
     VkDeviceSize limits[STUB_HEAPS], budgets[STUB_HEAPS], beside[STUB_HEAPS];
-    bool is_budget_told;
+    bool is_budget_read;
     uint64_t budgets_below;
     bool is_hidden[STUB_FUNCTIONS];
 
@@ -486,7 +486,7 @@ static void draw_budget(stub *s, uint32_t heap)
 static void fill_budget(stub *s, VkPhysicalDeviceMemoryBudgetPropertiesEXT *budget)
 {
     enter(s);
-    s->is_budget_told = true;
+    s->is_budget_read = true;
     for (uint32_t i = 0; i < STUB_HEAPS; i++) {
         if (s->plan.draws_budgets)
             draw_budget(s, i);
@@ -575,7 +575,7 @@ static void check_room(stub *s, uint32_t type, VkDeviceSize size)
     holds(s, size > 0 && size <= s->plan.largest, name, "a size that the device does not allow");
     holds(s, used <= stub_heaps[heap].size, name, "an object passes its heap");
     holds(s, used <= s->limits[heap], name, "an object passes its heap's limit");
-    holds(s, !s->is_budget_told || used + s->beside[heap] <= s->budgets[heap], name, "an object passes its budget");
+    holds(s, !s->is_budget_read || used + s->beside[heap] <= s->budgets[heap], name, "an object passes its budget");
     holds(s, s->objects.live < s->plan.max_objects, name, "an object too many");
 }
 
