@@ -275,8 +275,8 @@ static void print(const run *r, const share *shares, const tally *sum)
     printf("%" PRIu64 " messages\n", r->device->messages);
 }
 
-/* Flushes and invalidates are made just where there is memory that is not coherent. After enough refused objects, another
-   memory type was tried for each reason. */
+/* Flushes and invalidates are made just where there is memory that is not coherent. After enough refused objects,
+   another memory type was tried for each reason. */
 static void check_refused(const arguments *given, const tally *sum)
 {
     const VkPhysicalDeviceMemoryProperties memory = driver_memory();
