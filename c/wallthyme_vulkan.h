@@ -23,8 +23,9 @@
  * Any other error is the driver's. How driver errors end or continue a request stands at wtv_create_buffer.
  *
  * Threads. Calls may come from any thread: each takes the allocator's lock, and keeps it until its request or return
- * has ended, the driver's calls included. WTV_CREATE_NO_LOCK leaves the lock out; the program then makes one call at a
- * time. wtv_destroy wants no other call beside it. VkAllocationCallbacks must not call the allocator they serve.
+ * has ended, the driver's calls for memory objects included. Buffers and images are created and bound without it.
+ * WTV_CREATE_NO_LOCK leaves the lock out; the program then makes one call at a time. wtv_destroy wants no other call
+ * beside it. VkAllocationCallbacks must not call the allocator they serve.
  *
  * Memory. It takes its own from malloc: bounded by the most blocks and objects that were held at once.
  *

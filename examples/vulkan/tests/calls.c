@@ -87,6 +87,13 @@ static void count_error(tally *t, VkResult result)
     t->refused_lost += result == VK_ERROR_DEVICE_LOST;
 }
 
+/* The next memory type was tried. */
+static void count_granted(worker *w)
+{
+    w->tally.after_device_memory += w->refuser.met.first == VK_ERROR_OUT_OF_DEVICE_MEMORY;
+    w->tally.after_objects += w->refuser.met.first == VK_ERROR_TOO_MANY_OBJECTS;
+}
+
 VkResult request_ends(worker *w, VkResult result)
 {
     VkResult ending = w->refuser.met.ending;
@@ -94,6 +101,8 @@ VkResult request_ends(worker *w, VkResult result)
         must(result == ending, "a request does not return the error that ended it");
     else if (result != VK_SUCCESS)
         check_own_error(w, result);
+    else
+        count_granted(w);
     if (result != VK_SUCCESS && is_alone(w))
         check_unchanged(w);
     count_error(&w->tally, result);

@@ -7,7 +7,7 @@
 #include <pthread.h>
 #include <time.h>
 
-enum { MOST_OBJECTS = 512, LINGERING = 1000000 /* nanoseconds */ };
+enum { MOST_OBJECTS = 512, LINGERING = 20 /* milliseconds */ };
 
 /* A memory object. */
 typedef struct object {
@@ -53,21 +53,22 @@ static void *chained(const void *chain, VkStructureType type)
 
 static int inside;
 
+void driver_linger(uint32_t milliseconds)
+{
+    const struct timespec time = {.tv_nsec = (long)milliseconds * 1000000};
+    if (set.lingers)
+        nanosleep(&time, NULL);
+}
+
 static void come_in(void)
 {
     must(__atomic_add_fetch(&inside, 1, __ATOMIC_SEQ_CST) == 1, "two threads are inside the allocator's lock");
+    driver_linger(LINGERING);
 }
 
 static void go_out(void)
 {
     __atomic_sub_fetch(&inside, 1, __ATOMIC_SEQ_CST);
-}
-
-static void linger(void)
-{
-    const struct timespec while_long = {.tv_nsec = LINGERING};
-    if (set.lingers)
-        nanosleep(&while_long, NULL);
 }
 
 /* ---- Objects, under the lock. ---- */
@@ -294,7 +295,6 @@ static VKAPI_ATTR VkResult VKAPI_CALL allocate_memory(VkDevice device, const VkM
                                                       const VkAllocationCallbacks *callbacks, VkDeviceMemory *made)
 {
     come_in();
-    linger();
     must(callbacks_are_of_program(callbacks), "vkAllocateMemory has other callbacks");
     check_request(info);
     VkResult result = refusing_draw(ALLOCATE_MEMORY);

@@ -20,7 +20,7 @@ typedef struct driver_settings {
     bool hides_coherence;     /* no memory type is reported as coherent, so that there are ranges to flush */
     bool is_shifted;          /* planted: each bind is one byte off */
     bool drops_flushes;       /* planted: no flush reaches the driver */
-    bool lingers;             /* stays in vkAllocateMemory for a while, so that another thread comes in */
+    bool lingers;             /* each call inside the lock lasts, so that another thread comes in */
 } driver_settings;
 
 typedef struct driver_counts {
@@ -53,5 +53,8 @@ void driver_compare(wtv_allocator *allocator);
 
 /* No budget counts any more: the program has lifted the limits. */
 void driver_lifted(void);
+
+/* Waits for a while, of less than a second, where the driver lingers. */
+void driver_linger(uint32_t milliseconds);
 
 #endif

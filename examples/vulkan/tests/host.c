@@ -74,17 +74,22 @@ static void pass_by_copies(worker *w, const resource *r, void (*pass)(worker *, 
 
 /* ---- By pointers: several blocks are mapped, and flushed or invalidated together. ---- */
 
+/* A mapping begins where the block's own value says, also where it nests. */
 unsigned char *resource_map(worker *w, const resource *r)
 {
+    wtv_allocator *a = w->run->allocator;
+    wtv_block block;
     void *host, *again;
     do
         refusing_begins();
-    while (is_refused(w, wtv_map(w->run->allocator, r->allocation, &host)));
-    if (random_in_hundred(&w->random, 25)) { /* mappings nest */
+    while (is_refused(w, wtv_map(a, r->allocation, &host)));
+    must(wtv_block_of(a, r->allocation, &block) == VK_SUCCESS && block.mapped == host,
+         "a block is mapped elsewhere than it says");
+    must(r->block.mapped == NULL || r->block.mapped == host, "a block of a shared object is mapped elsewhere now");
+    if (random_in_hundred(&w->random, 25)) {
         refusing_begins();
-        must(!is_refused(w, wtv_map(w->run->allocator, r->allocation, &again)) && again == host,
-             "a nested mapping is another one");
-        must(wtv_unmap(w->run->allocator, r->allocation) == VK_SUCCESS, "wtv_unmap");
+        must(!is_refused(w, wtv_map(a, r->allocation, &again)) && again == host, "a nested mapping is another one");
+        must(wtv_unmap(a, r->allocation) == VK_SUCCESS, "wtv_unmap");
     }
     return host;
 }

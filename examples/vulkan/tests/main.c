@@ -27,8 +27,10 @@
 
 enum {
     MOST_THREADS = 16,
+    STARTING = 5,             /* milliseconds */
     LEAST_HEAP = 4 << 20,     /* drawn: up to eight times that */
-    LEAST_OBJECTS = 16,       /* drawn: up to eight times that */
+    LEAST_OBJECTS = 24,       /* drawn: up to eight times that */
+    ENOUGH_REFUSED = 150,
     LEAST_GRANULARITY = 1024, /* taken where the device's is less, so that it matters */
 };
 
@@ -139,11 +141,14 @@ static void open_allocator(run *r, const arguments *given, const wt_config *conf
     must(wtv_create(&info, &r->allocator) == VK_SUCCESS, "wtv_create");
 }
 
+/* Where the lock is left out, a thread is inside before the next one starts: so they meet there, not in the library. */
 static void on_all_threads(run *r, share *shares, void *(*work)(void *))
 {
     pthread_t threads[MOST_THREADS];
-    for (uint32_t i = 0; i < r->threads; i++)
+    for (uint32_t i = 0; i < r->threads; i++) {
         must(pthread_create(&threads[i], NULL, work, &shares[i]) == 0, "pthread_create");
+        driver_linger(STARTING);
+    }
     for (uint32_t i = 0; i < r->threads; i++)
         must(pthread_join(threads[i], NULL) == 0, "pthread_join");
 }
@@ -198,12 +203,17 @@ static void work(run *r, share *shares, const arguments *given, uint64_t *random
 
 /* ---- What it came to. ---- */
 
-static void add_tally(tally *sum, const tally *one)
+/* A tally is numbers alone. */
+static tally sum_of(const run *r, const share *shares)
 {
-    uint64_t *sums = (uint64_t *)sum;
-    const uint64_t *ones = (const uint64_t *)one;
-    for (size_t i = 0; i < sizeof *sum / sizeof *sums; i++)
-        sums[i] += ones[i];
+    tally sum = {0};
+    uint64_t *sums = (uint64_t *)&sum;
+    for (uint32_t i = 0; i < r->threads; i++) {
+        const uint64_t *numbers = (const uint64_t *)&shares[i].worker.tally;
+        for (size_t j = 0; j < sizeof sum / sizeof *sums; j++)
+            sums[j] += numbers[j];
+    }
+    return sum;
 }
 
 static void print_threads(const run *r, const share *shares)
@@ -220,8 +230,9 @@ static void print_threads(const run *r, const share *shares)
 
 static void print_tally(const tally *t)
 {
-    printf("created: %" PRIu64 ", %" PRIu64 " of them imports, %" PRIu64 " bound by hand\n", t->created, t->imports,
-           t->bound_by_hand);
+    printf("created: %" PRIu64 ", %" PRIu64 " of them imports, %" PRIu64 " bound by hand; after an object was refused"
+           " for want of device memory %" PRIu64 ", of objects %" PRIu64 "\n",
+           t->created, t->imports, t->bound_by_hand, t->after_device_memory, t->after_objects);
     printf("ended: for device memory %" PRIu64 ", host memory %" PRIu64 ", memory types %" PRIu64 ", objects %" PRIu64
            ", a lost device %" PRIu64 "; %" PRIu64 " unasked for a heap's limit; after %" PRIu64 " all was as before\n",
            t->refused_device_memory, t->refused_host_memory, t->refused_types, t->refused_objects, t->refused_lost,
@@ -253,22 +264,20 @@ static void print_driver(const run *r, const tally *t)
            counts.objects_made, counts.objects_freed, t->copies, t->compared);
 }
 
-static void print(const run *r, const share *shares)
+static void print(const run *r, const share *shares, const tally *sum)
 {
-    tally sum = {0};
-    for (uint32_t i = 0; i < r->threads; i++)
-        add_tally(&sum, &shares[i].worker.tally);
     if (!r->device->is_validated)
         fprintf(stderr, "vulkan: the validation layer is not installed\n");
     print_threads(r, shares);
-    print_tally(&sum);
+    print_tally(sum);
     print_refused();
-    print_driver(r, &sum);
+    print_driver(r, sum);
     printf("%" PRIu64 " messages\n", r->device->messages);
 }
 
-/* Flushes and invalidates are made just where there is memory that is not coherent. */
-static void check_refused(const arguments *given)
+/* Flushes and invalidates are made just where there is memory that is not coherent. After enough refused objects,
+   another memory type was tried for each reason. */
+static void check_refused(const arguments *given, const tally *sum)
 {
     const VkPhysicalDeviceMemoryProperties memory = driver_memory();
     VkMemoryPropertyFlags all = VK_MEMORY_PROPERTY_HOST_COHERENT_BIT;
@@ -280,6 +289,8 @@ static void check_refused(const arguments *given)
             must(refusing_calls(i) == 0, "coherent memory is flushed or invalidated");
         else
             must(given->refused_percent == 0 || refusing_refused(i) > 0, "a function of the driver is never refused");
+    if (refusing_refused(ALLOCATE_MEMORY) >= ENOUGH_REFUSED && memory.memoryTypeCount > 1)
+        must(sum->after_device_memory > 0 && sum->after_objects > 0, "no other memory type is tried");
 }
 
 static void check_returned(void)
@@ -310,9 +321,10 @@ int main(int count, char **texts)
     work(&r, shares, &given, &random);
     pages_close(&r.pages);
     device_close(&d);
-    print(&r, shares);
+    const tally sum = sum_of(&r, shares);
+    print(&r, shares, &sum);
     check_returned();
-    check_refused(&given);
+    check_refused(&given, &sum);
     free(shares);
     return d.messages == 0 ? 0 : 1;
 }

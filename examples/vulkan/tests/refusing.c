@@ -2,25 +2,27 @@
 
 #include "random.h"
 
-enum { MOST_ERRORS = 4 };
+enum { MOST_ERRORS = 6 };
 
 #define DEVICE_MEMORY VK_ERROR_OUT_OF_DEVICE_MEMORY
 #define HOST_MEMORY VK_ERROR_OUT_OF_HOST_MEMORY
+#define OBJECTS VK_ERROR_TOO_MANY_OBJECTS
+#define LOST VK_ERROR_DEVICE_LOST
 
-/* Each function with the errors that it is refused with. The first one is drawn in half of the cases. */
+/* Each function with the errors that it is refused with: one of them is drawn. */
 static const struct refused_function {
     const char *name;
-    VkResult errors[MOST_ERRORS];
     uint32_t count;
+    VkResult errors[MOST_ERRORS];
 } FUNCTIONS[REFUSABLES] = {
-    [ALLOCATE_MEMORY] = {"allocate", {DEVICE_MEMORY, VK_ERROR_TOO_MANY_OBJECTS, HOST_MEMORY, VK_ERROR_DEVICE_LOST}, 4},
-    [MAP_MEMORY] = {"map", {DEVICE_MEMORY, HOST_MEMORY, VK_ERROR_MEMORY_MAP_FAILED}, 3},
-    [FLUSH_RANGES] = {"flush", {DEVICE_MEMORY, HOST_MEMORY}, 2},
-    [INVALIDATE_RANGES] = {"invalidate", {DEVICE_MEMORY, HOST_MEMORY}, 2},
-    [CREATE_BUFFER] = {"create buffer", {DEVICE_MEMORY, HOST_MEMORY}, 2},
-    [CREATE_IMAGE] = {"create image", {DEVICE_MEMORY, HOST_MEMORY}, 2},
-    [BIND_BUFFER] = {"bind buffer", {DEVICE_MEMORY, HOST_MEMORY}, 2},
-    [BIND_IMAGE] = {"bind image", {DEVICE_MEMORY, HOST_MEMORY}, 2},
+    [ALLOCATE_MEMORY] = {"allocate", 6, {DEVICE_MEMORY, DEVICE_MEMORY, OBJECTS, OBJECTS, HOST_MEMORY, LOST}},
+    [MAP_MEMORY] = {"map", 3, {DEVICE_MEMORY, HOST_MEMORY, VK_ERROR_MEMORY_MAP_FAILED}},
+    [FLUSH_RANGES] = {"flush", 2, {DEVICE_MEMORY, HOST_MEMORY}},
+    [INVALIDATE_RANGES] = {"invalidate", 2, {DEVICE_MEMORY, HOST_MEMORY}},
+    [CREATE_BUFFER] = {"create buffer", 2, {DEVICE_MEMORY, HOST_MEMORY}},
+    [CREATE_IMAGE] = {"create image", 2, {DEVICE_MEMORY, HOST_MEMORY}},
+    [BIND_BUFFER] = {"bind buffer", 2, {DEVICE_MEMORY, HOST_MEMORY}},
+    [BIND_IMAGE] = {"bind image", 2, {DEVICE_MEMORY, HOST_MEMORY}},
 };
 
 static uint64_t calls[REFUSABLES], refused[REFUSABLES];
@@ -48,7 +50,7 @@ VkResult refusing_draw(enum refusable function)
     if (!random_in_hundred(&by->random, by->percent))
         return VK_SUCCESS;
     __atomic_add_fetch(&refused[function], 1, __ATOMIC_RELAXED);
-    return drawn->errors[random_in_hundred(&by->random, 50) ? 0 : random_below(&by->random, drawn->count)];
+    return drawn->errors[random_below(&by->random, drawn->count)];
 }
 
 /* Where device memory lacks for an object or for its mapping, the next memory type is tried. */

@@ -9,7 +9,7 @@ enum { ALLOCATED_FOR_PERCENT = 8, BOUND_BY_HAND_PERCENT = 6, IMPORTED_PERCENT = 
 /* What is drawn of a request, in percent. */
 enum {
     ADDRESSES_PERCENT = 25,
-    REQUIRED_PERCENT = 4,
+    REQUIRED_PERCENT = 6,
     PREFERRED_PERCENT = 6,
     FEW_TYPES_PERCENT = 4,
     CHAINED_PERCENT = 10,

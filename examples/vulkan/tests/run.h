@@ -28,6 +28,7 @@ typedef struct tally {
     uint64_t copies, compared;                /* by the device; bytes, by the host */
     uint64_t unchanged;                       /* refused requests after which all was compared with what was before */
     uint64_t unasked;                         /* requests that ended for a heap's limit, and asked the driver nothing */
+    uint64_t after_device_memory, after_objects; /* granted after the driver refused an object for want of these */
     uint64_t over_limit;                      /* blocks in held objects of a heap over its limit */
     uint64_t mixed;                           /* refused writes after which each byte was the old or the new one */
     uint64_t refused_device_memory, refused_host_memory, refused_types, refused_objects, refused_lost;

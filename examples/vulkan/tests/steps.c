@@ -1,12 +1,14 @@
 #include "steps.h"
 
 #include "random.h"
+#include <string.h>
 
 enum {
-    TURN = 1200,   /* steps */
-    FRAME = 50,    /* steps from one look at the budgets to the next */
-    CLEANUP = 700, /* steps from one cleanup to the next */
-    WALKED = 24,   /* blocks, by one wtv_blocks */
+    TURN = 1200,       /* steps */
+    FRAME = 50,        /* steps from one look at the budgets to the next */
+    CLEANUP = 700,     /* steps from one cleanup to the next */
+    WALKED = 24,       /* blocks, by one wtv_blocks */
+    READER_TRIES = 20, /* some draws permit no memory type that the host sees */
 };
 
 /* ---- Steps. ---- */
@@ -177,7 +179,8 @@ static void write_statistics(wtv_allocator *a)
 {
     char *text;
     must(wtv_statistics_text(a, &text) == VK_SUCCESS, "wtv_statistics_text");
-    must(text[0] == '{', "the statistics are no text");
+    size_t length = strlen(text);
+    must(strncmp(text, "{\"heaps\":[{", 11) == 0 && strcmp(text + length - 4, "}}]}") == 0, "the statistics are cut");
     wtv_free_text(text);
 }
 
@@ -208,9 +211,12 @@ void share_open(share *s, run *r, uint32_t number, uint64_t seed, uint32_t resou
     s->most = MOST_ALIVE / r->threads;
     s->most_bytes = MOST_BYTES / r->threads;
     const content most = {.length = s->most_bytes};
+    bool is_open = false;
     commands_open(&w->commands, r->device);
     refusing_by(&w->refuser);
-    must(resource_open(w, &s->reader, &most, BUFFER, true) == VK_SUCCESS, "there is no memory to read from");
+    for (int i = 0; i < READER_TRIES && !is_open; i++)
+        is_open = resource_open(w, &s->reader, &most, BUFFER, true) == VK_SUCCESS;
+    must(is_open, "there is no memory to read from");
 }
 
 void *share_work(void *given)
