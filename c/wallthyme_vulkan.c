@@ -919,9 +919,10 @@ VkResult wtv_update_budget(wtv_allocator *a)
         return VK_ERROR_EXTENSION_NOT_PRESENT;
     enter(a);
     a->call.get_physical_device_memory_properties2(a->physical_device, &properties);
-    uint32_t status = follow(a, &budget);
+    bool is_filled = budget.heapBudget[0] != 0; /* which it always is where the extension is there */
+    uint32_t status = is_filled ? follow(a, &budget) : WT_OK;
     leave(a);
-    return result_of(status);
+    return is_filled ? result_of(status) : VK_ERROR_EXTENSION_NOT_PRESENT;
 }
 
 VkResult wtv_set_heap_limit(wtv_allocator *a, uint32_t heap, VkDeviceSize limit)

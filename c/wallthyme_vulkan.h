@@ -4,7 +4,7 @@
  * decisions want. It is tested, not proved. It does not link to libvulkan: the program hands in vkGetInstanceProcAddr,
  * or a table of functions. Any device serves from Vulkan 1.0 on.
  *
- *     wtv_create_info info = { instance, physical_device, device };
+ *     wtv_create_info info = {.instance = instance, .physical_device = physical_device, .device = device};
  *     info.get_instance_proc_addr = vkGetInstanceProcAddr;
  *     info.api_version = VK_API_VERSION_1_1;
  *     wtv_create(&info, &allocator);
@@ -145,14 +145,20 @@ typedef struct wtv_range {
 
 /* ---- Allocators. ---- */
 
-/* Creates an allocator. VK_ERROR_INITIALIZATION_FAILED: a handle or a function is missing, api_version, a flag or a
-   property of the device is not one that serves, or header and library have different versions.
-   VK_ERROR_OUT_OF_HOST_MEMORY. */
+/* Creates an allocator. VK_ERROR_OUT_OF_HOST_MEMORY. VK_ERROR_INITIALIZATION_FAILED, where one of these is so:
+   - instance, physical_device or device is null, or flags has an unknown bit;
+   - api_version is not 0 and no version of Vulkan, as 11 instead of VK_API_VERSION_1_1;
+   - a function is missing: get_instance_proc_addr is null, or does not have one of api_version or of an extension in
+     flags (it is higher than what the instance was created for);
+   - WTV_CREATE_MEMORY_BUDGET without properties2;
+   - the device's properties are not as Vulkan has them (an atom or a granularity that is no power of two);
+   - header and library have different versions. */
 VkResult wtv_create(const wtv_create_info *info, wtv_allocator **allocator);
 
-/* Frees all memory objects, and the allocator itself; null does nothing. Where blocks are live it does nothing but tell
-   them: VK_ERROR_VALIDATION_FAILED_EXT, *count is their number, and live has the first of them, at most room. live may
-   be null where room is 0; count may be null. */
+/* Frees all memory objects, and the allocator itself; null does nothing. Where blocks are live it frees nothing, and
+   lists them: VK_ERROR_VALIDATION_FAILED_EXT, *count is their number, and live has the first of them, at most room. So
+   look at its result: the VkDevice must not be destroyed before. live may be null where room is 0, and count may be
+   null. */
 VkResult wtv_destroy(wtv_allocator *a, wtv_block *live, size_t room, size_t *count);
 
 /* The configuration of an allocator that is given none. With H the size of the largest device-local heap (of the
@@ -163,7 +169,8 @@ void wtv_default_config(const VkPhysicalDeviceMemoryProperties *memory, wt_confi
 
 /* ---- Buffers and images. ---- */
 
-/* Creates a buffer, allocates memory for it and binds it. *block is what wtv_block_of tells; block may be null.
+/* Creates a buffer, allocates memory for it and binds it. *block is what wtv_block_of returns; block may be null, and
+   request too: all zeros.
    Not for sparse buffers (VK_ERROR_FEATURE_NOT_PRESENT).
    Where the driver refuses an object with VK_ERROR_OUT_OF_DEVICE_MEMORY or VK_ERROR_TOO_MANY_OBJECTS, the next memory
    type is tried. Any other error ends the request. Whatever was made is destroyed then. Where the bind is refused, the
@@ -229,7 +236,10 @@ VkResult wtv_map(wtv_allocator *a, wtv_allocation allocation, void **bytes);
 VkResult wtv_unmap(wtv_allocator *a, wtv_allocation allocation);
 
 /* Copies size bytes into a block, from offset on, and flushes them; or copies them out, once they are invalidated. The
-   block need not be mapped. An error of a flush leaves each byte the old one or the new one. */
+   host has to see the memory: ask for WT_USAGE_UPLOAD, WT_USAGE_DOWNLOAD or WT_USAGE_HOST_ACCESS, since with
+   WT_USAGE_FAST_DEVICE_ACCESS alone it may not (VK_ERROR_MEMORY_MAP_FAILED). The block need not be mapped. The bytes
+   may lie behind those that were asked for (wtv_block.asked), up to the block's end. An error of a flush leaves each
+   byte the old one or the new one. */
 VkResult wtv_write(wtv_allocator *a, wtv_allocation allocation, VkDeviceSize offset, const void *bytes, size_t size);
 VkResult wtv_read(wtv_allocator *a, wtv_allocation allocation, VkDeviceSize offset, void *bytes, size_t size);
 
@@ -243,7 +253,7 @@ VkResult wtv_invalidate(wtv_allocator *a, const wtv_range *ranges, size_t count)
 /* Reads the budgets of VK_EXT_memory_budget and limits each heap by its own: to heapBudget less what the process holds
    beside this allocator (heapUsage less what is held, at least 0), at least 0. Call it once a frame or so. A limit
    below what is held refuses new objects and frees nothing. VK_ERROR_EXTENSION_NOT_PRESENT: without
-   WTV_CREATE_MEMORY_BUDGET. */
+   WTV_CREATE_MEMORY_BUDGET, or where the driver fills in no budget, as one without the extension. */
 VkResult wtv_update_budget(wtv_allocator *a);
 
 /* Sets one heap's limit by hand; at or over the heap's size there is none. What is held of a heap, and its limit. */
@@ -262,6 +272,24 @@ void wtv_free_text(char *text);
 
 /* Frees the memory objects that no block needs. */
 VkResult wtv_cleanup(wtv_allocator *a);
+
+/* What a result of these calls means, in a line with no full stop. */
+static inline const char *wtv_text(VkResult result) {
+    switch (result) {
+    case VK_SUCCESS: return "Done";
+    case VK_ERROR_OUT_OF_HOST_MEMORY: return "Host memory exhausted";
+    case VK_ERROR_OUT_OF_DEVICE_MEMORY: return "Device memory exhausted, or a heap's limit reached";
+    case VK_ERROR_INITIALIZATION_FAILED: return "What the allocator is created over is not fit: see wtv_create";
+    case VK_ERROR_DEVICE_LOST: return "The device is lost";
+    case VK_ERROR_MEMORY_MAP_FAILED: return "The host does not see the memory, or the driver did not map it";
+    case VK_ERROR_EXTENSION_NOT_PRESENT: return "VK_EXT_memory_budget is not enabled or not there";
+    case VK_ERROR_FEATURE_NOT_PRESENT:
+        return "No permitted memory type serves the usage, or the resource is sparse or disjoint";
+    case VK_ERROR_TOO_MANY_OBJECTS: return "As many memory objects are held as the device allows";
+    case VK_ERROR_VALIDATION_FAILED_EXT: return "An argument that the call forbids";
+    default: return "An error of the driver";
+    }
+}
 
 #ifdef __cplusplus
 }

@@ -20,6 +20,6 @@ void use_first(const device *d)
     must(wtv_create_buffer(allocator, &info, &request, &buffer, &allocation, NULL) == VK_SUCCESS, "wtv_create_buffer");
     must(wtv_write(allocator, allocation, 0, GREETING, sizeof GREETING) == VK_SUCCESS, "wtv_write");
 
-    wtv_destroy_buffer(allocator, buffer, allocation); /* the device is done with it */
-    wtv_destroy(allocator, NULL, 0, NULL);             /* once the last block is freed */
+    must(wtv_destroy_buffer(allocator, buffer, allocation) == VK_SUCCESS, "wtv_destroy_buffer"); /* no longer used */
+    must(wtv_destroy(allocator, NULL, 0, NULL) == VK_SUCCESS, "wtv_destroy: a block is live");
 }

@@ -177,6 +177,7 @@ impl<M> MemoryBlock<M> {
     /// * Through the address those bytes alone are reached, and none that the device may be writing, or, to write,
     ///   reading: rounded to whole atoms where the memory is not host-coherent.
     #[inline]
+    #[track_caller]
     pub unsafe fn map(
         &mut self,
         device: &impl MemoryDevice<M>,
@@ -239,6 +240,7 @@ impl<M> MemoryBlock<M> {
     /// * The device is not reading or writing those bytes, rounded to whole atoms where the memory is not
     ///   host-coherent.
     #[inline]
+    #[track_caller]
     pub unsafe fn write_bytes(
         &mut self,
         device: &impl MemoryDevice<M>,
@@ -278,6 +280,7 @@ impl<M> MemoryBlock<M> {
     /// * `device` is the one that the block was allocated from, or that its memory was imported from.
     /// * The device is not writing those bytes, rounded to whole atoms where the memory is not host-coherent.
     #[inline]
+    #[track_caller]
     pub unsafe fn read_bytes(
         &mut self,
         device: &impl MemoryDevice<M>,

@@ -1625,7 +1625,40 @@ static void run_budgets(void)
     check_budget(1000000, 1000000, 0);
     check_budget(1000000, 2000000, 0);
     check_budget(50000, 0, 50000);
-    check_budget(0, 0, 0);
+    check_budget(1, 0, 1);
+}
+
+/* Each result of these calls has a text of its own. */
+static void run_results(void)
+{
+    static const VkResult results[] = {
+        VK_SUCCESS, VK_ERROR_OUT_OF_HOST_MEMORY, VK_ERROR_OUT_OF_DEVICE_MEMORY, VK_ERROR_INITIALIZATION_FAILED,
+        VK_ERROR_DEVICE_LOST, VK_ERROR_MEMORY_MAP_FAILED, VK_ERROR_EXTENSION_NOT_PRESENT, VK_ERROR_FEATURE_NOT_PRESENT,
+        VK_ERROR_TOO_MANY_OBJECTS, VK_ERROR_VALIDATION_FAILED_EXT, VK_ERROR_INVALID_EXTERNAL_HANDLE,
+    };
+    const size_t count = sizeof results / sizeof *results;
+    current = "texts of results";
+    for (size_t i = 0; i < count; i++)
+        for (size_t other = 0; other < i; other++)
+            expect(strcmp(wtv_text(results[i]), wtv_text(results[other])) != 0, "two results have one text");
+}
+
+/* A driver without the extension leaves what is chained as it is: no limit is set then. */
+static void run_no_budget(void)
+{
+    stub_plan plan = stub_usual_plan();
+    wtv_allocator *a = NULL;
+    wt_heap_counts counts;
+    current = "no budget";
+    plan.flags = WTV_CREATE_MEMORY_BUDGET;
+    stub *s = stub_open(&plan);
+    wtv_create_info info = stub_info(s);
+    expect(wtv_create(&info, &a) == VK_SUCCESS, "no allocator is created");
+    expect(wtv_set_heap_limit(a, STUB_LOCAL_HEAP, 12345) == VK_SUCCESS, "a limit is not set");
+    stub_set_budget(s, STUB_LOCAL_HEAP, 0, 0);
+    expect(wtv_update_budget(a) == VK_ERROR_EXTENSION_NOT_PRESENT, "an empty budget is followed");
+    expect(wtv_heap(a, STUB_LOCAL_HEAP, &counts) == VK_SUCCESS && counts.limit == 12345, "a limit is another one");
+    closed(s, a);
 }
 
 /* The unit that the usual configuration is counted in, over a heap that is device-local, and another one. */
@@ -1695,6 +1728,8 @@ int main(void)
     run_texts();
     run_zeros();
     run_budgets();
+    run_no_budget();
+    run_results();
     run_configs();
     run_refusals();
     run_scarcity();

@@ -480,7 +480,7 @@ static void draw_budget(stub *s, uint32_t heap)
     uint64_t half = drawn(s, 4);
     VkDeviceSize most = half == 2 ? s->used[heap] + 1 : stub_heaps[heap].size;
     s->beside[heap] = half < 2 ? 0 : drawn(s, stub_heaps[heap].size / 8);
-    s->budgets[heap] = half < 2 ? stub_heaps[heap].size : s->beside[heap] + drawn(s, most);
+    s->budgets[heap] = half < 2 ? stub_heaps[heap].size : 1 + s->beside[heap] + drawn(s, most);
 }
 
 static void fill_budget(stub *s, VkPhysicalDeviceMemoryBudgetPropertiesEXT *budget)

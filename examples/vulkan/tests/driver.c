@@ -222,7 +222,7 @@ static void draw_budget(uint32_t heap, VkPhysicalDeviceMemoryBudgetPropertiesEXT
     VkDeviceSize beside = kind < 2 ? 0 : random_below(&budgets_random, (uint32_t)size / 8);
     VkDeviceSize most = kind == 2 ? held + 1 : size;
     budget->heapUsage[heap] = held + beside;
-    budget->heapBudget[heap] = kind < 2 ? size : beside + random_below(&budgets_random, (uint32_t)most);
+    budget->heapBudget[heap] = kind < 2 ? size : 1 + beside + random_below(&budgets_random, (uint32_t)most);
 }
 
 /* The limit is what the budget leaves beside what others hold. What is handed over just now counts as held. */

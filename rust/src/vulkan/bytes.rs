@@ -19,13 +19,14 @@ impl Allocator {
     ///
     /// # Panics
     ///
-    /// Where the range does not lie in the block. Nothing is written.
+    /// Where the range does not lie in the block, which may be longer than what was asked for. Nothing is written.
     ///
     /// # Safety
     ///
     /// * The block is of this allocator.
     /// * The device is not reading or writing those bytes, rounded to whole atoms where the memory is not
     ///   host-coherent.
+    #[track_caller]
     pub unsafe fn write(&self, block: &mut MemoryBlock<Memory>, offset: u64, data: &[u8]) -> Result<(), Error> {
         let asked = DeviceFor::none(&self.device);
         // SAFETY: the device is the block's; else as the caller says.
@@ -41,12 +42,13 @@ impl Allocator {
     ///
     /// # Panics
     ///
-    /// Where the range does not lie in the block. Nothing is read.
+    /// Where the range does not lie in the block, which may be longer than what was asked for. Nothing is read.
     ///
     /// # Safety
     ///
     /// * The block is of this allocator.
     /// * The device is not writing those bytes, rounded to whole atoms where the memory is not host-coherent.
+    #[track_caller]
     pub unsafe fn read(&self, block: &mut MemoryBlock<Memory>, offset: u64, data: &mut [u8]) -> Result<(), Error> {
         let asked = DeviceFor::none(&self.device);
         // SAFETY: the device is the block's; else as the caller says.

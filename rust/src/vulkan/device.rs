@@ -85,6 +85,9 @@ impl Device {
                 return Err(Error::Missing(what));
             }
         }
+        if !info.has_version() {
+            return Err(Error::Version);
+        }
         if info.enabled.contains(Enabled::MEMORY_BUDGET) && !info.has(Enabled::PROPERTIES2) {
             return Err(Error::NoBudget);
         }
@@ -177,7 +180,8 @@ impl Device {
     ///
     /// # Errors
     ///
-    /// [`Error::NoBudget`], without [`Enabled::MEMORY_BUDGET`]. Each limit is then as before.
+    /// [`Error::NoBudget`], without [`Enabled::MEMORY_BUDGET`], or where the driver fills in no budget, as one without
+    /// the extension. Each limit is then as before.
     ///
     /// # Panics
     ///
@@ -189,6 +193,10 @@ impl Device {
         let mut properties = raw::MemoryProperties2 { p_next: from_mut(&mut budgets).cast(), ..Default::default() };
         // SAFETY: the physical device is live, as the caller of `load` says, and the structs live until the call ends.
         unsafe { (call.get_memory_properties2)(self.physical, &mut properties) };
+        // The budget of a heap is never 0 where the extension is there.
+        if budgets.heap_budget[0] == 0 {
+            return Err(Error::NoBudget);
+        }
         for heap in 0..self.memory_heaps().len() {
             let (usage, budget) = (budgets.heap_usage[heap], budgets.heap_budget[heap]);
             let others = usage.saturating_sub(allocator.heap_used(heap as u32));

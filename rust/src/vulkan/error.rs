@@ -78,6 +78,9 @@ pub enum Error {
     /// This function could not be loaded, or this handle is null.
     Missing(&'static str),
 
+    /// [`DeviceInfo::api_version`](super::DeviceInfo::api_version) is no version of Vulkan.
+    Version,
+
     /// The buffer is sparse: memory is bound to parts of it, which is the program's to do.
     SparseBuffer,
 
@@ -97,7 +100,7 @@ pub enum Error {
     /// A block that is to be flushed or invalidated is not mapped.
     NotMapped,
 
-    /// Budgets are asked for without [`Enabled::MEMORY_BUDGET`](super::Enabled::MEMORY_BUDGET).
+    /// Budgets are asked for without [`Enabled::MEMORY_BUDGET`](super::Enabled::MEMORY_BUDGET), or the driver has none.
     NoBudget,
 }
 
@@ -119,7 +122,7 @@ impl Error {
             | Error::SparseImage
             | Error::DisjointImage => VkResult::ERROR_FEATURE_NOT_PRESENT,
             Error::Map(MapError::NonHostVisible | MapError::MapFailed) => VkResult::ERROR_MEMORY_MAP_FAILED,
-            Error::New(NewError::BadProperties | NewError::OtherVersion) | Error::Missing(_) => {
+            Error::New(NewError::BadProperties | NewError::OtherVersion) | Error::Missing(_) | Error::Version => {
                 VkResult::ERROR_INITIALIZATION_FAILED
             }
             Error::Map(MapError::AlreadyMapped) | Error::Chained(_) | Error::NoDeviceAddress | Error::NotMapped => {
@@ -138,13 +141,14 @@ impl Display for Error {
             Error::Map(error) => Display::fmt(error, formatter),
             Error::New(error) => Display::fmt(error, formatter),
             Error::Missing(what) => write!(formatter, "{what} is missing"),
+            Error::Version => formatter.write_str("`api_version` is no version of Vulkan"),
             Error::SparseBuffer => formatter.write_str("Sparse buffers get no memory here"),
             Error::SparseImage => formatter.write_str("Sparse images get no memory here"),
             Error::DisjointImage => formatter.write_str("Disjoint images get no memory here"),
             Error::Chained(name) => write!(formatter, "{name} is in `next`, and is chained by itself"),
             Error::NoDeviceAddress => formatter.write_str("The feature bufferDeviceAddress is not enabled"),
             Error::NotMapped => formatter.write_str("Block is not mapped"),
-            Error::NoBudget => formatter.write_str("The extension VK_EXT_memory_budget is not enabled"),
+            Error::NoBudget => formatter.write_str("The extension VK_EXT_memory_budget is not enabled or not there"),
         }
     }
 }

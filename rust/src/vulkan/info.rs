@@ -38,7 +38,8 @@ pub struct DeviceInfo {
     /// Loads the functions: `vkGetInstanceProcAddr`.
     pub get_instance_proc_addr: Option<GetInstanceProcAddr>,
 
-    /// The lesser of the version that the instance was created for and the one that the device offers. 0 means 1.0.
+    /// The lesser of the version that the instance was created for and the one that the device offers, as
+    /// `VK_API_VERSION_1_1` (`1 << 22 | 1 << 12`). 0 means 1.0.
     pub api_version: u32,
 
     /// What was enabled beside that version.
@@ -68,6 +69,11 @@ impl Default for DeviceInfo {
 }
 
 impl DeviceInfo {
+    /// Whether the version is one. The upper three bits are a version's variant, which Vulkan has as 0.
+    pub(crate) fn has_version(&self) -> bool {
+        self.api_version == 0 || (self.api_version >> 29 == 0 && self.api_version >= 1 << 22)
+    }
+
     /// Whether all of that may be used. Version 1.1 has the first two.
     pub(crate) fn has(&self, feature: Enabled) -> bool {
         let of_version = match self.api_version {

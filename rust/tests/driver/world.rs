@@ -110,7 +110,7 @@ impl<'a> World<'a> {
 
     /// A budget that is often below what is held: new objects are refused then, and what is live stays.
     fn follow_budget(&mut self) {
-        let [budget, usage] = [self.random.below(8) << 20, self.random.below(4) << 20];
+        let [budget, usage] = [(self.random.below(8) << 20).max(1), self.random.below(4) << 20];
         if plan(|plan| plan.budget.replace([budget, usage]).is_none()) {
             return plan(|plan| plan.budget = None);
         }

@@ -88,6 +88,8 @@ fn handles_and_extensions_that_are_missing() {
         (DeviceInfo { physical_device: raw::PhysicalDevice(0), ..good }, Error::Missing("physical_device")),
         (DeviceInfo { device: raw::Device(0), ..good }, Error::Missing("device")),
         (DeviceInfo { get_instance_proc_addr: None, ..good }, Error::Missing("get_instance_proc_addr")),
+        (DeviceInfo { api_version: 11, ..good }, Error::Version),
+        (DeviceInfo { api_version: 1 << 29 | 1 << 22, ..good }, Error::Version),
         (DeviceInfo { api_version: 0, enabled: Enabled::MEMORY_BUDGET, ..good }, Error::NoBudget),
     ] {
         // SAFETY: it is refused before anything is called.
@@ -145,6 +147,15 @@ fn budgets_set_limits() {
     assert_eq!(set(0, 16 << 20), 16 << 20);
     assert_eq!(set(9 << 20, 4 << 20), 0);
     assert_eq!(set(1 << 20, u64::MAX), HEAP);
+    // A driver without the extension leaves all as it was.
+    (stub.state().budgets.heap_usage[0], stub.state().budgets.heap_budget[0]) = (0, 0);
+    assert_eq!(allocator.update_budget(), Err(Error::NoBudget));
+    assert_eq!(allocator.heap_limit(0), HEAP);
+    let mut set = |usage, budget| {
+        (stub.state().budgets.heap_usage[0], stub.state().budgets.heap_budget[0]) = (usage, budget);
+        allocator.update_budget().unwrap();
+        allocator.heap_limit(0)
+    };
     // Below what is held: new objects are refused, without a call, and nothing is freed.
     assert_eq!(set(1 << 20, 1 << 10), 1 << 10);
     let calls = stub.state().calls.iter().filter(|call| **call == "vkAllocateMemory").count();

@@ -223,6 +223,7 @@ fn texts_and_results() {
         ),
         (NewError::OutOfHostMemory.into(), "Host memory exhausted", VkResult::ERROR_OUT_OF_HOST_MEMORY),
         (Error::Missing("vkFreeMemory"), "vkFreeMemory is missing", VkResult::ERROR_INITIALIZATION_FAILED),
+        (Error::Version, "`api_version` is no version of Vulkan", VkResult::ERROR_INITIALIZATION_FAILED),
         (Error::SparseBuffer, "Sparse buffers get no memory here", VkResult::ERROR_FEATURE_NOT_PRESENT),
         (Error::NotMapped, "Block is not mapped", VkResult::ERROR_VALIDATION_FAILED_EXT),
         (
