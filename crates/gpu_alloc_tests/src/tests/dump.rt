@@ -40,9 +40,7 @@ struct ObjectRow {
 
 #[derive(Drop, Serialize)]
 struct PlaceRow {
-    #[serde(skip_serializing_if = "Option::is_none")]
     key: Option<u64>,
-    #[serde(skip_serializing_if = "Option::is_none")]
     user: Option<u64>,
     offset: u64,
     size: u64,
