@@ -216,6 +216,10 @@ impl Row for Place {
             Some(_) => Some(members.word(from, 2)?),
             None => None,
         };
+        // (no picture shows the value)
+        if members.numbers[3].is_some() {
+            members.word(from, 3)?;
+        }
         Ok(Place {
             block,
             offset: members.word(from, 0)?,
