@@ -1,5 +1,5 @@
 -- What the calls make of objects that are kept is kept.
-use Rattle.std.proofs.Common.{◌≡◌, ◌≢◌, ◌⊎◌, ℕ, suc, ◌+◌, ◌-◌, ◌^◌, ◌<◌, ◌≤◌, Some, None, Bool, true, false, List, All, [], ◌∷◌, ◌++◌, length, take, Option, cond, ap, inl, inr, nat_eq, nat_lt, refl, subst, sym, ◌∙◌, arith}
+use Rattle.std.proofs.Common.{◌≡◌, ◌≢◌, ◌⊎◌, ℕ, ◌+◌, ◌-◌, ◌^◌, ◌<◌, ◌≤◌, Some, None, Bool, true, false, List, All, [], ◌∷◌, ◌++◌, take, Option, cond, ap, inl, inr, nat_eq, nat_lt, refl, subst, sym, ◌∙◌, arith}
 use Rattle.std.proofs.lemmas.Bool.Decides.{nat_tests}
 use Rattle.std.proofs.lemmas.Cmp.{nat_eq_equiv}
 use Rattle.std.proofs.lemmas.List.Elements.{All-nil, All-pop, All-push, All-take, All-weaker}
@@ -7,16 +7,15 @@ use Rattle.std.proofs.lemmas.List.Sorted.{IsPermutation-to_front}
 use Rattle.std.proofs.lemmas.Map.Keys.{IsDistinct-IsPermutation, IsDistinct-tail}
 use Rattle.std.specs.List.{Contains, IsDistinct}
 use Rattle.std.specs.Option.{is_some, IsSome, IfSome, option_to_list}
-use Rattle.std.specs.Map.{lookup}
 use Rattle.std.specs.Cmp.{nat_cmp_total}
 use Rattle.std.specs.FinMap as map
-use Rattle.std.specs.FinMap.{FinMap}
-use Rattle.std.specs.Ordering.{nat_cmp}
+use Rattle.std.specs.FinMap.{FinMap, nat_cmp-IsAntisymmetric}
+use Rattle.std.specs.Ordering.{nat_cmp, eq_by_cmp}
 use Rattle.indexmap.proofs.MapLemmas.{distinct-take}
 use Rattle.gpu_alloc_base.proofs.Lists.{all_contained, distinct_push, head_is_other}
-use Rattle.gpu_alloc_base.proofs.Names.{is_there, one_or_two, get_entries, put_by_name, get_put-other, get_removed, get_removed-other, len_put, len_removed}
+use Rattle.gpu_alloc_base.proofs.Names.{is_there, one_or_two, get_put-other, get_removed, get_removed-other, len_put, len_removed}
 use Rattle.gpu_answers.specs.Held.{HeldState, AreKept, ChangesAt, IsUsed, room_in}
-use Rattle.gpu_answers.specs.declared.held.HeldObject.{HeldObject}
+use Rattle.gpu_answers.specs.declared.objects.HeldObject.{HeldObject}
 
 other_name : (a b : ℕ) → a ≢ b → nat_eq a b ≡ false
 other_name a b ne = grind (arith, nat_tests)
@@ -130,31 +129,26 @@ pub room_is : (entries last taken places : ℕ) (objects : FinMap nat_cmp HeldOb
 room_is entries last taken places objects room = omega (arith, room)
 
 -- room for an entry, for all names and for one more, and a name
-pub room_for_one : (entries last taken places : ℕ) (objects : FinMap nat_cmp HeldObject) (count : ℕ) → 1 ≤ entries → last < 2 ^ 64 → (last ≡ 2 ^ 64 - 1 → ⊥)
-    → map.len objects ≤ count → taken + (count + 1) ≤ places → 0 < room_in entries last taken places objects
+pub room_for_one : (entries last taken places : ℕ) (objects : FinMap nat_cmp HeldObject) (count : ℕ) → 0 < entries → last < 2 ^ 64 → (last ≡ 2 ^ 64 - 1 → ⊥)
+    → map.len objects < count → taken + count ≤ places → 0 < room_in entries last taken places objects
 room_for_one entries last taken places objects count entry fits name few names = omega (arith, entry, fits, name, few, names)
 
 -- an object that is held of equal states
 pub held_in : (s t : HeldState) (name : ℕ) → s ≡ t → IsSome (map.get t.objects name) → (o : HeldObject) × (map.get s.objects name ≡ Some o)
 held_in s t name same held = let there = is_there _ held in (there.0, ap (λ (u : HeldState). map.get u.objects name) same ∙ there.1)
 
--- an entry that is there and is changed
-pub changed_by : (f : HeldObject → HeldObject) (old new : List (ℕ × HeldObject)) (name : ℕ) (o : HeldObject) → lookup (nat_eq name) old ≡ Some o
-    → (IsSome (lookup (nat_eq name) old) → (q : ℕ) → lookup (nat_eq q) new ≡ cond (nat_eq name q) (Some (f o)) (lookup (nat_eq q) old))
-    → ChangesAt f (map.from_entries {R = nat_cmp} old) name (map.from_entries new)
-changed_by f old new name o found puts = (o, get_entries old name ∙ found, put_by_name old new name (f o) (puts (subst IsSome (sym found) refl)))
+-- an object that is taken off and comes back changed
+pub changed_by : (f : HeldObject → HeldObject) (old taken new : FinMap nat_cmp HeldObject) (name : ℕ) (o : HeldObject) → map.get old name ≡ Some o
+    → taken ≡ map.remove old name → new ≡ map.insert taken name (f o) → ChangesAt f old name new
+changed_by f old taken new name o there off on = (o, there, on ∙ ap (λ m. map.insert m name (f o)) off ∙ put_back)
+  where
+    put_back : map.insert (map.remove old name) name (f o) ≡ map.insert old name (f o)
+    put_back = map.same_map nat_cmp_total nat_cmp-IsAntisymmetric _ _ (λ q.
+        map.get-insert nat_cmp_total (map.remove old name) name (f o) q ∙ found q (eq_by_cmp nat_cmp q name) refl ∙ sym (map.get-insert nat_cmp_total old name (f o) q))
+      where
+        found : (q : ℕ) (b : Bool) → eq_by_cmp nat_cmp q name ≡ b → cond b (Some (f o)) (map.get (map.remove old name) q) ≡ cond b (Some (f o)) (map.get old q)
+        found q true e = refl
+        found q false e = map.get-remove nat_cmp_total old name q ∙ ap (λ b. cond b None (map.get old q)) e
 
 pub changed_in : (f : HeldObject → HeldObject) (s t : HeldState) (name : ℕ) (new : FinMap nat_cmp HeldObject) → s ≡ t → ChangesAt f s.objects name new → ChangesAt f t.objects name new
 changed_in f s t name new same c = subst (λ (u : HeldState). ChangesAt f u.objects name new) same c
-
--- there are no more objects than entries
-pub len_at_most : (entries : List (ℕ × HeldObject)) → map.len (map.from_entries {R = nat_cmp} entries) ≤ length entries
-len_at_most [] = let none = map.len-empty nat_cmp HeldObject in omega (arith, none)
-len_at_most (e ∷ entries) =
-    let rest = len_at_most entries in
-    subst (λ n. n ≤ suc (length entries)) (sym (map.len-insert nat_cmp_total (map.from_entries {R = nat_cmp} entries) e.0 e.1))
-    (at_most_one_more (is_some (map.get (map.from_entries {R = nat_cmp} entries) e.0)) _ _ rest)
-  where
-    at_most_one_more : (b : Bool) (n m : ℕ) → n ≤ m → cond b n (n + 1) ≤ suc m
-    at_most_one_more true n m le = omega arith
-    at_most_one_more false n m le = omega arith

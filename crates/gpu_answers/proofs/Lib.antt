@@ -1,4 +1,5 @@
 pub mod Asked
 pub mod Keeping
 pub mod Naming
+pub mod ObjectRows
 pub mod Rows

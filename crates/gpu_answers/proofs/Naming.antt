@@ -13,7 +13,7 @@ use Rattle.gpu_alloc_types.specs.Properties.{Properties}
 use Rattle.gpu_answers.specs.Device.{IsStep, objects_of, shown}
 use Rattle.gpu_answers.specs.DeviceState.{DeviceState}
 use Rattle.gpu_answers.specs.Held.{HeldState, IsPast, KeepsNames}
-use Rattle.gpu_answers.specs.declared.held.HeldObject.{HeldObject}
+use Rattle.gpu_answers.specs.declared.objects.HeldObject.{HeldObject}
 
 -- An object that is not there.
 

@@ -14,7 +14,7 @@ use Rattle.gpu_alloc_types.specs.Device.Event.{Allocated, Deallocated}
 use Rattle.gpu_alloc_types.specs.declared.types.OutOfMemory.{OutOfMemory}
 use Rattle.gpu_answers.specs.Device.{all_shown, shown, within}
 use Rattle.gpu_answers.specs.Held.{ChangesAt, mapped_as, new_object}
-use Rattle.gpu_answers.specs.declared.held.HeldObject.{HeldObject}
+use Rattle.gpu_answers.specs.declared.objects.HeldObject.{HeldObject}
 
 -- where host and device see the same bytes, a flush or an invalidate changes nothing
 flush_is_calm : (r : Range) (o : Object) → o.device_bytes ≡ o.host_bytes → IsFlushed {E = OutOfMemory} (Ok tt) r o o

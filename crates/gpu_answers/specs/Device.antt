@@ -11,7 +11,7 @@ use Rattle.gpu_alloc_types.specs.declared.types.OutOfMemory.TheVariants.{OutOfHo
 use Rattle.gpu_answers.specs.Asking.{RunState, Asks, begun, map_question, allocation_refusal, map_refusal}
 use Rattle.gpu_answers.specs.DeviceState.{DeviceState}
 use Rattle.gpu_answers.specs.Held.{HeldState}
-use Rattle.gpu_answers.specs.declared.held.HeldObject.{HeldObject}
+use Rattle.gpu_answers.specs.declared.objects.HeldObject.{HeldObject}
 use Rattle.gpu_answers.specs.declared.question.Answer.{Answer}
 use Rattle.gpu_answers.specs.declared.question.Answer.TheVariants.{Granted}
 use Rattle.gpu_answers.specs.declared.question.Question.TheVariants.{Allocate}

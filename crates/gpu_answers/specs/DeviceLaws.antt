@@ -9,7 +9,7 @@ use Rattle.gpu_alloc_types.specs.Properties.{Properties, is_host_visible}
 use Rattle.gpu_alloc_types.specs.Device.{Event, Row, IsWellFormed}
 use Rattle.gpu_answers.specs.Device.{IsStep, objects_of, shown, within}
 use Rattle.gpu_answers.specs.DeviceState.{DeviceState}
-use Rattle.gpu_answers.specs.declared.held.HeldObject.{HeldObject}
+use Rattle.gpu_answers.specs.declared.objects.HeldObject.{HeldObject}
 
 pub step_is_row : (old : DeviceState) (e : Event) (new : DeviceState) → IsStep old e new
     → Row old.properties (objects_of old) e (objects_of new)

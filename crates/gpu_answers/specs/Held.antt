@@ -5,8 +5,8 @@ use Rattle.std.specs.FinMap as map
 use Rattle.std.specs.FinMap.{FinMap}
 use Rattle.std.specs.List.{Contains, IsDistinct}
 use Rattle.std.specs.Ordering.{nat_cmp}
-use Rattle.gpu_answers.specs.declared.held.HeldObject.{HeldObject}
-use Rattle.gpu_answers.specs.contracts.held.HeldObject as held_object
+use Rattle.gpu_answers.specs.declared.objects.HeldObject.{HeldObject}
+use Rattle.gpu_answers.specs.contracts.objects.HeldObject as held_object
 
 -- The objects by name, the latest name that was used, the names that were given back, and how many more objects fit in
 -- with no allocation

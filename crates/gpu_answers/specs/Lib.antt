@@ -3,3 +3,4 @@ pub mod Device
 pub mod DeviceLaws
 pub mod DeviceState
 pub mod Held
+pub mod Objects

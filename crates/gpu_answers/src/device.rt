@@ -170,16 +170,16 @@ impl ObjectDevice<ObjectName> for AnsweredDevice {
         };
         match self.run.ask(question) {
             Some(Answer::Granted) => {
-                let name = self.held.hold(size, memory_type);
-                self.run.note_made(name);
-                Ok(ObjectName::new(name))
+                let memory = self.held.hold(size, memory_type);
+                self.run.note_made(memory.object());
+                Ok(memory)
             }
             refused => Err(allocation_refused(refused)),
         }
     }
 
     fn deallocate_memory(&mut self, memory: &ObjectName) {
-        self.held.give_back(memory.object());
+        self.held.give_back(memory);
     }
 
     fn map_memory(
@@ -190,7 +190,7 @@ impl ObjectDevice<ObjectName> for AnsweredDevice {
     ) -> Result<(), DeviceMapError> {
         match self.run.ask_to_map(memory.object(), offset, size) {
             Some(Answer::Granted) => {
-                self.held.set_mapped(memory.object(), Some((offset, size)));
+                self.held.set_mapped(memory, Some((offset, size)));
                 Ok(())
             }
             refused => Err(map_refused(refused)),
@@ -198,7 +198,7 @@ impl ObjectDevice<ObjectName> for AnsweredDevice {
     }
 
     fn unmap_memory(&mut self, memory: &ObjectName) {
-        self.held.set_mapped(memory.object(), None);
+        self.held.set_mapped(memory, None);
     }
 
     fn flush_memory_ranges(

@@ -4,23 +4,11 @@ ghost use Rattle.std.specs.Prelude.{◌≡◌, ◌+◌, ◌<◌, [], ◌∷◌, 
 ghost use Rattle.std.specs.FinMap as map;
 ghost use Rattle.gpu_answers.specs.Held.{new_object, mapped_as, AreNamed, ChangesAt, IsSpent};
 
-use indexmap::IndexMap;
+use crate::ObjectName;
+use crate::objects::{HeldObject, Objects};
+use gpu_alloc_types::MemoryObject;
 use std::alloc::{AllocError, Global};
-use std::hash::{BuildHasherDefault, FoldHasher};
 use std::marker::Model;
-
-/// What is kept of an object: all but its bytes.
-#[derive(Clone, Copy, Debug, PartialEq, Eq)]
-pub(crate) struct HeldObject {
-    /// The index of its memory type.
-    pub(crate) memory_type: u32,
-
-    /// How many bytes long it is.
-    pub(crate) size: u64,
-
-    /// Where what is mapped of it starts, and how long that is, both in bytes.
-    pub(crate) mapped: Option<(u64, u64)>,
-}
 
 /// The objects that are held, by name, and the names of those that were given back.
 ///
@@ -29,7 +17,7 @@ pub(crate) struct HeldObject {
 /// count, on average.
 #[derive(Drop)]
 pub(crate) struct HeldObjects {
-    objects: IndexMap<u64, HeldObject, BuildHasherDefault<FoldHasher>>,
+    objects: Objects,
     last_name: u64,
     gone: Vec<u64>,
 }
@@ -43,19 +31,18 @@ impl Model for HeldObjects {
     ghost coded = { held_code };
 
     ghost use Rattle.std.specs.Prelude.{vec_len, vec_capacity};
-    ghost use Rattle.indexmap.specs.IndexMap.{spare};
     ghost use Rattle.gpu_answers.specs.Held.{AreKept, room_in};
 
     ghost view = { λ held. record {
-      objects = map.from_entries held.objects.entries;
+      objects = held.objects.objects;
       last_name = held.last_name;
       gone = held.gone.items;
-      room = room_in (spare held.objects) held.last_name (vec_len held.gone) (vec_capacity held.gone)
-          (map.from_entries held.objects.entries);
+      room = room_in held.objects.room held.last_name (vec_len held.gone) (vec_capacity held.gone)
+          (held.objects.objects);
     } };
 
     ghost invariant = { λ held. AreKept held.last_name held.gone.items (vec_len held.gone) (vec_capacity held.gone)
-        (map.from_entries held.objects.entries) };
+        (held.objects.objects) };
 }
 
 impl HeldObjects {
@@ -66,7 +53,7 @@ impl HeldObjects {
         ensures gone { result.gone ≡ [] }
     {
         HeldObjects {
-            objects: IndexMap::new(alloc),
+            objects: Objects::new(alloc),
             last_name: 0,
             gone: Vec::new(alloc),
         }
@@ -88,13 +75,13 @@ impl HeldObjects {
         if self.last_name == u64::MAX {
             return Err(AllocError);
         }
-        self.objects.reserve(1)?;
-        self.gone.reserve(self.objects.len() + 1)?;
+        let count = self.objects.reserve()?;
+        self.gone.reserve(count)?;
         Ok(())
     }
 
-    /// Holds an unmapped object under the next name, and answers the name. There has to be room.
-    pub(crate) fn hold(&mut self, size: u64, memory_type: u32) -> u64
+    /// Holds an unmapped object under the next name, and answers its handle. There has to be room.
+    pub(crate) fn hold(&mut self, size: u64, memory_type: u32) -> ObjectName
         requires { 0 < self.old.room }
         ensures name { result ≡ self.old.last_name + 1 }
         ensures free { map.get self.old.objects result ≡ None }
@@ -108,33 +95,38 @@ impl HeldObjects {
             size,
             mapped: None,
         };
-        self.objects.insert(name, object).unwrap();
+        let place = self.objects.insert_reserved(name, object);
         self.last_name = name;
-        name
+        ObjectName::new(name, place)
     }
 
     /// Gives an object back that is held. Its name goes last among those that were given back.
-    pub(crate) fn give_back(&mut self, name: u64)
-        requires { IsSome (map.get self.old.objects name) }
-        ensures objects { self.new.objects ≡ map.remove self.old.objects name }
+    pub(crate) fn give_back(&mut self, memory: &ObjectName)
+        requires { IsSome (map.get self.old.objects memory.now) }
+        ensures objects { self.new.objects ≡ map.remove self.old.objects memory.now }
         ensures last_name { self.new.last_name ≡ self.old.last_name }
-        ensures gone { self.new.gone ≡ self.old.gone ++ name ∷ [] }
+        ensures gone { self.new.gone ≡ self.old.gone ++ memory.now ∷ [] }
     {
-        self.objects.swap_remove(&name);
+        let name = memory.object();
+        self.objects.remove(memory.place(), name);
         self.gone.push_reserved(name);
     }
 
     /// Maps a range of an object that is held, or none.
-    pub(crate) fn set_mapped(&mut self, name: u64, range: Option<(u64, u64)>)
-        requires { IsSome (map.get self.old.objects name) }
-        ensures objects { ChangesAt (mapped_as range) self.old.objects name self.new.objects }
+    pub(crate) fn set_mapped(&mut self, memory: &ObjectName, range: Option<(u64, u64)>)
+        requires { IsSome (map.get self.old.objects memory.now) }
+        ensures objects { ChangesAt (mapped_as range) self.old.objects memory.now self.new.objects }
         ensures last_name { self.new.last_name ≡ self.old.last_name }
         ensures gone { self.new.gone ≡ self.old.gone }
     {
-        let Some(object) = self.objects.get_mut(&name) else {
-            unreachable!()
+        let name = memory.object();
+        let object = self.objects.remove(memory.place(), name);
+        // (a slab fills the place that was left last, so the object's handles find it as before)
+        let changed = HeldObject {
+            mapped: range,
+            ..object
         };
-        object.mapped = range;
+        self.objects.insert_reserved(name, changed);
     }
 
     /// The names that were given back, in that order.

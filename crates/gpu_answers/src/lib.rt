@@ -5,6 +5,7 @@
 mod device;
 mod held;
 mod name;
+mod objects;
 mod properties;
 mod question;
 mod run;

@@ -10,6 +10,8 @@ use std::marker::Model;
 #[derive(Drop)]
 pub struct ObjectName {
     name: u64,
+    // Where the device has the object's row. Contracts don't see it, since the device confirms it.
+    place: usize,
 }
 
 impl Model for ObjectName {
@@ -21,17 +23,25 @@ impl Model for ObjectName {
 }
 
 impl ObjectName {
-    /// A handle of the object of that name.
-    pub(crate) fn new(name: u64) -> ObjectName
+    /// A handle of the object of that name, whose row is at that place.
+    #[inline(always)]
+    pub(crate) fn new(name: u64, place: usize) -> ObjectName
         ensures { result ≡ name }
     {
-        ObjectName { name }
+        ObjectName { name, place }
+    }
+
+    /// Where the device has the object's row.
+    #[inline(always)]
+    pub(crate) fn place(&self) -> usize {
+        self.place
     }
 }
 
 impl MemoryObject for ObjectName {
     ghost object = { λ handle. handle };
 
+    #[inline(always)]
     fn object(&self) -> u64 {
         self.name
     }
@@ -41,6 +51,6 @@ impl MemoryObject for ObjectName {
         ensures same { IfOk result (λ other. other ≡ self.now) }
         ensures succeeds { IsOk result }
     {
-        Ok(ObjectName { name: self.name })
+        Ok(ObjectName::new(self.name, self.place))
     }
 }

@@ -1,4 +1,4 @@
-use Rattle.std.proofs.Common.{[], ◌∷◌, ◌++◌, ◌∙◌, ap, refl, subst, sym}
+use Rattle.std.proofs.Common.{refl, subst, sym}
 use Rattle.std.specs.FinMap as map
 use Rattle.gpu_alloc_types.specs.Device.{IsHeld}
 use Rattle.gpu_answers.specs.Device.{objects_of}
@@ -10,12 +10,12 @@ returns c =
     let gone = c.give_back.ensures in
     rw (← c.self.view_is) (record {
       row = given_back_row c.self.inside.properties c.self.inside.held.objects c.args.memory.now c.give_back.new.self.objects
-          (gone.objects ∙ ap (map.remove c.self.inside.held.objects) c.object.ensures);
+          gone.objects;
       offers = refl;
       answers = refl;
       names = (
         gone.last_name,
-        gone.gone ∙ ap (λ name. c.self.inside.held.gone ++ name ∷ []) c.object.ensures,
+        gone.gone,
         shown_is_there c.self.inside.properties (map.get c.self.inside.held.objects c.args.memory.now)
             (subst (λ s. IsHeld (objects_of s) c.args.memory.now) (sym c.self.view_is) c.requires),
       );

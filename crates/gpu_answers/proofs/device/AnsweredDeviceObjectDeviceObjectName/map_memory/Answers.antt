@@ -2,7 +2,6 @@ use Rattle.std.proofs.Common.{◌∙◌, Some, ap, refl, subst, sym}
 use Rattle.gpu_alloc_types.specs.Device.{HeldWith, IsMappable}
 use Rattle.gpu_answers.specs.Asking.{Asks, map_question}
 use Rattle.gpu_answers.specs.Device.{objects_of}
-use Rattle.gpu_answers.specs.Held.{ChangesAt, mapped_as}
 use Rattle.gpu_answers.proofs.Rows.{mapped_row}
 use Rattle.gpu_answers.proofs.device.AnsweredDeviceObjectDeviceObjectName.map_memory.Goals as goal
 
@@ -15,7 +14,7 @@ returns-in-Some-Granted c =
     let held = subst (λ s. HeldWith (objects_of s) c.args.memory.now (IsMappable s.properties c.args.offset c.args.size)) (sym c.self.view_is) c.requires in
     rw (← c.self.view_is) (record {
       row = mapped_row c.self.inside.properties c.self.inside.held.objects _ new held
-          (subst (λ name. ChangesAt (mapped_as (Some (c.args.offset, c.args.size))) c.self.inside.held.objects name new) c.object-in-Some-Granted.ensures c.set_mapped.ensures.objects);
+          c.set_mapped.ensures.objects;
       offers = refl;
       answers = told;
       names = (c.set_mapped.ensures.last_name, c.set_mapped.ensures.gone);

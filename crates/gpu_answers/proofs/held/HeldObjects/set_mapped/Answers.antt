@@ -1,25 +1,20 @@
-use Rattle.std.proofs.Common.{◌∙◌, ap, sym}
+use Rattle.std.proofs.Common.{◌∙◌, ap, subst}
 use Rattle.std.specs.FinMap as map
-use Rattle.std.specs.Option.{option_copied_mut}
-use Rattle.gpu_alloc_base.proofs.Names.{get_entries}
-use Rattle.gpu_answers.specs.Held.{HeldState, mapped_as}
+use Rattle.gpu_alloc_base.proofs.Names.{get_removed}
+use Rattle.gpu_answers.specs.Held.{ChangesAt, mapped_as}
 use Rattle.gpu_answers.proofs.Keeping.{changed_by, changed_in, kept-changed}
 use Rattle.gpu_answers.proofs.held.HeldObjects.set_mapped.Goals as goal
 
-pub unreachable-requires : goal.unreachable-requires
-unreachable-requires c =
-    let none = sym (ap option_copied_mut c.in_default.is) ∙ c.get_mut.ensures.value ∙ sym (get_entries _ c.args.name) ∙ ap (λ (s : HeldState). map.get s.objects c.args.name) c.self.view_is in
-    let held = rw (sym none) at c.requires in
-    cc
+pub insert_reserved-requires-clause-free : goal.insert_reserved-requires-clause-free
+insert_reserved-requires-clause-free c =
+    ap (λ m. map.get m c.object-name.result) c.remove-object.ensures.objects ∙ get_removed _ c.object-name.result
+
+changed : (c : goal.After-insert_reserved) → ChangesAt (mapped_as c.args.range) c.self.inside.objects.objects c.args.memory.now c.insert_reserved.new.self.objects
+changed c = subst (λ name. ChangesAt (mapped_as c.args.range) c.self.inside.objects.objects name c.insert_reserved.new.self.objects) c.object-name.ensures
+    (changed_by (mapped_as c.args.range) _ _ _ c.object-name.result c.remove-object.result c.remove-object.ensures.was c.remove-object.ensures.objects c.insert_reserved.ensures.objects)
 
 pub invariant_of-self : goal.invariant_of-self
-invariant_of-self c =
-    kept-changed _ _ _ _ _ c.self.invariant (mapped_as c.args.range) c.args.name _
-    (changed_by _ _ _ c.args.name c.in-Some.object.now (sym c.get_mut.ensures.value ∙ ap option_copied_mut c.in-Some.is)
-    (λ some. ((c.get_mut.follows.holds _).3 some).0))
+invariant_of-self c = kept-changed _ _ _ _ _ c.self.invariant (mapped_as c.args.range) c.args.memory.now _ (changed c)
 
 pub returns-clause-objects : goal.returns-clause-objects
-returns-clause-objects c =
-    changed_in (mapped_as c.args.range) _ _ c.args.name _ c.self.view_is
-    (changed_by _ _ _ c.args.name c.in-Some.object.now (sym c.get_mut.ensures.value ∙ ap option_copied_mut c.in-Some.is)
-    (λ some. ((c.get_mut.follows.holds _).3 some).0))
+returns-clause-objects c = changed_in (mapped_as c.args.range) _ _ c.args.memory.now _ c.self.view_is (changed c)

@@ -1,5 +1,4 @@
 use Rattle.std.proofs.Common.{arith}
-use Rattle.std.specs.FinMap as map
 use Rattle.gpu_answers.proofs.Keeping.{kept-first, taken_is_spent}
 use Rattle.gpu_answers.proofs.held.HeldObjects.take_gone.Goals as goal
 
@@ -11,4 +10,4 @@ invariant_of-self c =
 pub returns-clause-spent : goal.returns-clause-spent
 returns-clause-spent c =
     let kept = c.self.invariant in
-    taken_is_spent c.self.inside.last_name (map.from_entries c.self.inside.objects.entries) c.self.inside.gone.items c.pop.new.self.items _ kept.used kept.once c.pop.ensures.items
+    taken_is_spent c.self.inside.last_name c.self.inside.objects.objects c.self.inside.gone.items c.pop.new.self.items _ kept.used kept.once c.pop.ensures.items
