@@ -33,5 +33,8 @@ pub atom_power : (size atom : ℕ) (b : Bool) → IsTrue (is_power_of_two size) 
 atom_power size atom true power is = subst (λ n. IsTrue (is_power_of_two n)) (sym is) power
 atom_power size atom false power is = subst (λ n. IsTrue (is_power_of_two n)) (sym is) (bit_of_power 0)
 
+pub some_atom : (size atom : ℕ) (b : Bool) → IsTrue (is_power_of_two size) → atom ≡ cond b size 1 → 0 < atom
+some_atom size atom b power is = let k = power_of_bit atom (atom_power size atom b power is) in omega (arith, k.1, pow_pos k.0)
+
 pub one_more : (n : ℕ) → IsTrue (is_power_of_two n) → n - 1 + 1 ≡ n
 one_more n power = let k = power_of_bit n power in omega (arith, k.1, pow_pos k.0)

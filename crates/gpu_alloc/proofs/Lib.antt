@@ -22,6 +22,7 @@ pub mod InPages
 pub mod Ledgers
 pub mod LongestRanges
 pub mod MayAsk
+pub mod NewChunkRows
 pub mod NewObjects
 pub mod Opened
 pub mod OwnObjects

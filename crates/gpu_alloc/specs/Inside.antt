@@ -1,12 +1,13 @@
 -- What an allocator's fields stand for, and what they keep.
-use Rattle.std.specs.Prelude.{◌≡◌, ℕ, ◌+◌, ◌<◌, ◌≤◌, ◌^◌, false, List, [], ◌∷◌, map, length, slice_get, sum_by, Some}
-use Rattle.std.specs.Prelude.{is_some, IfSome, IsTrue, cond}
+use Rattle.std.specs.Prelude.{◌≡◌, ℕ, ◌+◌, ◌<◌, ◌≤◌, ◌^◌, false, List, [], ◌∷◌, map, length, slice_get, sum_by, Option, None, Some}
+use Rattle.std.specs.Prelude.{IfSome, IsTrue}
 use Rattle.std.specs.FinMap as map_of
 use Rattle.std.specs.FinSet as set
 use Rattle.std.specs.Ordering.{nat_cmp}
 use Rattle.gpu_alloc_types.specs.Properties.{Properties, IsUsable, heap_size, props_at, atom_of}
 use Rattle.gpu_alloc_types.specs.declared.types.MemoryHeap.{MemoryHeap}
 use Rattle.gpu_alloc.specs.declared.limits.Limits.{Limits}
+use Rattle.gpu_alloc_block.specs.declared.block.Kind.{Kind}
 use Rattle.gpu_alloc_block.specs.declared.block.Kind.TheVariants.{BuddyChunk, FreeListChunk}
 use Rattle.gpu_alloc_base.specs.declared.buddy_block.Leaf.{Leaf}
 use Rattle.gpu_alloc_base.specs.declared.config.Config.{Config}
@@ -127,9 +128,12 @@ abbrev pub leaf_at : Span → Place → Leaf
 leaf_at span place =
     record { object = span.object; chunk = place.chunk; offset = span.offset; size = span.size; index = place.index }
 
--- the held objects with the block's chunk, where it was not among them
-abbrev pub with_chunk_of : map_of.FinMap nat_cmp HeldObject → Leaf → HeldObject → map_of.FinMap nat_cmp HeldObject
-with_chunk_of held leaf chunk = cond (is_some (map_of.get held leaf.object)) held (map_of.insert held leaf.object chunk)
+-- the held objects with a block's chunk, where that is a new one of so many bytes
+abbrev pub with_new_chunk : map_of.FinMap nat_cmp HeldObject → (object memory_type : ℕ) → Kind → Option ℕ
+    → map_of.FinMap nat_cmp HeldObject
+with_new_chunk held object t kind None = held
+with_new_chunk held object t kind (Some size) =
+    map_of.insert held object (record { memory_type = t; counted = size; kind = kind })
 
 -- Both have the same chunks and the same blocks in them, and the table has each block's place.
 pub record IsLinked (t : Table) (b : Buddy) : Type 0 where
@@ -180,11 +184,6 @@ slot_at span number = record { object = span.object; chunk = number; offset = sp
 -- a block of a free list stands under its key there
 abbrev pub place_of_slot : ℕ → Place
 place_of_slot key = record { chunk = 0; index = key }
-
--- the held objects with the block's chunk, where it was not among them
-abbrev pub with_chunk_of_slot : map_of.FinMap nat_cmp HeldObject → Slot → HeldObject → map_of.FinMap nat_cmp HeldObject
-with_chunk_of_slot held slot chunk =
-    cond (is_some (map_of.get held slot.object)) held (map_of.insert held slot.object chunk)
 
 -- Both have the same chunks under the same numbers, and the same blocks in them.
 pub record IsListLinked (t : Table) (l : Listing) : Type 0 where

@@ -8,6 +8,7 @@ pub mod Exactness
 pub mod FirstTypes
 pub mod FreeBytes
 pub mod FreeListSharing
+pub mod Growth
 pub mod FreeRanges
 pub mod Importing
 pub mod Listing

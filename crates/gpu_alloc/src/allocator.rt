@@ -27,6 +27,7 @@ ghost use Rattle.gpu_alloc_block.specs.State.{HeldObject, Span, IsLive, IsOwned,
 mod by_type;
 mod candidates;
 mod choosing;
+mod growth;
 mod heaps;
 mod importing;
 mod listing;
@@ -49,7 +50,8 @@ use gpu_alloc_buddy::BuddyAllocator;
 use gpu_alloc_freelist::FreeListAllocator;
 use gpu_alloc_types::{DeviceProperties, MemoryObject, ObjectDevice, OutOfMemory, UsageFlags};
 use gpu_alloc_usage::meaning;
-use rows::{add_leaf, add_slot};
+use growth::{room_in_buddy, room_in_list};
+use rows::{add_leaf, add_slot, new_buddy_chunk, new_list_chunk};
 use std::alloc::{AllocError, Allocator, Global};
 use std::marker::{Brand, Model};
 use std::sync::ledger::Blank;
@@ -481,19 +483,16 @@ impl<M: MemoryObject, A: Allocator> GpuAllocator<M, A> {
     {
         let own = memory_type as usize;
         let heap = self.limits.heap_index(memory_type);
-        let first = uncounted::refuses::<M, A, Brand>(
+        let remained = self.allocations_remains;
+        let first = room_in_buddy(
+            &mut self.spans,
             &self.buddies[own],
-            request.size,
-            request.align_mask,
+            request,
             &self.heaps[heap],
-            self.allocations_remains,
-            Blank::new(1),
+            remained,
         );
         if let Some(refusal) = first {
             return passing(refusal);
-        }
-        if self.spans.reserve().is_err() {
-            return Err(AllocationError::OutOfHostMemory);
         }
         let flags = self.limits.flags();
         let answer = uncounted::alloc::<M, A, D, Brand, Brand>(
@@ -512,8 +511,9 @@ impl<M: MemoryObject, A: Allocator> GpuAllocator<M, A> {
                 let props = self.limits.props(memory_type);
                 let atom = self.limits.atom(memory_type);
                 let (memory, leaf) = buddy_block::into_parts(block);
-                let chunk_size = self.buddies[own].chunk_size(leaf.chunk);
-                let key = add_leaf(&mut self.spans, leaf, memory_type, chunk_size);
+                let remains = self.allocations_remains;
+                let new_chunk = new_buddy_chunk(&self.buddies[own], leaf, remained, remains);
+                let key = add_leaf(&mut self.spans, leaf, memory_type, new_chunk);
                 Ok(Some(MemoryBlock::new(
                     memory,
                     leaf.offset,
@@ -546,17 +546,16 @@ impl<M: MemoryObject, A: Allocator> GpuAllocator<M, A> {
     {
         let own = memory_type as usize;
         let heap = self.limits.heap_index(memory_type);
-        let first = self.free_lists[own].refuses(
-            request.size,
-            request.align_mask,
+        let remained = self.allocations_remains;
+        let first = room_in_list(
+            &mut self.spans,
+            &self.free_lists[own],
+            request,
             &self.heaps[heap],
-            self.allocations_remains,
+            remained,
         );
         if let Some(refusal) = first {
             return passing(refusal);
-        }
-        if self.spans.reserve().is_err() {
-            return Err(AllocationError::OutOfHostMemory);
         }
         let flags = self.limits.flags();
         let answer = self.free_lists[own].alloc(
@@ -572,8 +571,9 @@ impl<M: MemoryObject, A: Allocator> GpuAllocator<M, A> {
                 let props = self.limits.props(memory_type);
                 let atom = self.limits.atom(memory_type);
                 let (memory, slot, list_key) = free_list_block::into_parts(block);
-                let chunk_size = self.free_lists[own].chunk_size(slot.chunk);
-                let key = add_slot(&mut self.spans, slot, list_key, memory_type, chunk_size);
+                let remains = self.allocations_remains;
+                let new_chunk = new_list_chunk(&self.free_lists[own], slot, remained, remains);
+                let key = add_slot(&mut self.spans, slot, list_key, memory_type, new_chunk);
                 Ok(Some(MemoryBlock::new(
                     memory,
                     slot.offset,

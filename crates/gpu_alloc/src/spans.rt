@@ -194,6 +194,15 @@ impl<A: Allocator> Spans<A> {
         self.objects.len()
     }
 
+    /// Whether there is room for one more span and one more object, so that `reserve` takes no memory.
+    #[inline(always)]
+    pub fn has_room(&self) -> bool
+        ensures { IsTrue result ↔ (0 < self.now.room) }
+    {
+        let Spans { spans, objects } = self;
+        spans.len() < spans.capacity() && objects.len() < objects.capacity()
+    }
+
     /// Makes room for one more span and one more object, so that one `insert` cannot fail.
     ///
     /// The only refusal is want of memory. Nothing but the room changes, after a refusal too.
@@ -282,15 +291,15 @@ impl<A: Allocator> Spans<A> {
         }
     }
 
-    /// Takes an object off those that are held, where it is one. Spans stay as they are. It takes no memory and cannot
-    /// fail.
+    /// Takes an object off those that are held, where it is asked for. Spans stay as they are. It takes no memory and
+    /// cannot fail.
     #[inline(always)]
-    pub(crate) fn let_go(&mut self, object: u64)
-        ensures held { self.new.held ≡ map.remove self.old.held object }
+    pub(crate) fn let_go(&mut self, object: u64, asked: bool)
+        ensures held { self.new.held ≡ without_old self.old.held object asked }
         ensures live { self.new.live ≡ self.old.live }
         ensures places { self.new.places ≡ self.old.places }
         ensures room { self.old.room ≤ self.new.room }
     {
-        let _ = let_go(&mut self.objects, object, true);
+        let _ = let_go(&mut self.objects, object, asked);
     }
 }

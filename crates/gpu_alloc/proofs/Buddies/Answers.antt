@@ -1,5 +1,5 @@
 -- What a block that a memory type's buddy allocator gives comes to for the whole allocator.
-use Rattle.std.proofs.Common.{◌≡◌, ◌⊎◌, inl, inr, ℕ, ◌+◌, ◌-◌, ◌^◌, ◌<◌, ◌≤◌, false, cond, List, Option, Some, None, Ok, is_some, IfSome, refl, sym, ◌∙◌, ap, subst, arith}
+use Rattle.std.proofs.Common.{◌≡◌, ◌⊎◌, inl, inr, ℕ, ◌+◌, ◌-◌, ◌^◌, ◌<◌, ◌≤◌, false, List, Option, Some, None, Ok, is_some, IfSome, IsSome, MatchOption, refl, sym, ◌∙◌, ap, subst, arith}
 use Rattle.std.proofs.Math.ListN.{set}
 use Rattle.gpu_alloc_base.proofs.AlignedPowers.{pow-le}
 use Rattle.std.specs.FinMap as finite
@@ -16,11 +16,11 @@ use Rattle.gpu_alloc_buddy.specs.BuddySound.{IsSound}
 use Rattle.gpu_alloc_buddy.specs.BuddyState.{Buddy}
 use Rattle.gpu_alloc_base.specs.Chunks.{Chunk, IsNew}
 use Rattle.gpu_alloc_freelist.specs.FreeListState.{Listing}
-use Rattle.gpu_alloc.specs.Inside.{state_in, properties_in, with_chunk_of, span_of_leaf, place_of_leaf, IsConsistent}
+use Rattle.gpu_alloc.specs.Inside.{state_in, properties_in, chunk_object, with_new_chunk, span_of_leaf, place_of_leaf, IsConsistent}
 use Rattle.gpu_alloc_base.specs.NewChunk.{made}
 use Rattle.gpu_alloc.specs.BuddySharing.{buddy_question, buddy_block, with_span, with_buddy_chunk}
 use Rattle.gpu_alloc.specs.Spans.{Table}
-use Rattle.gpu_alloc_block.specs.State.{HeldObject, Block, State}
+use Rattle.gpu_alloc_block.specs.State.{Block, State}
 use Rattle.gpu_alloc_block.specs.declared.block.Kind.TheVariants.{BuddyChunk}
 use Rattle.gpu_alloc_base.specs.declared.buddy_block.Leaf.{Leaf}
 use Rattle.gpu_alloc_base.specs.declared.heap.Heap.{Heap}
@@ -35,6 +35,7 @@ use Rattle.gpu_alloc_base.proofs.Books.{made_new}
 use Rattle.gpu_alloc_base.proofs.ToldTwice.{asks_is}
 use Rattle.gpu_alloc.proofs.HandedOn.{Given}
 use Rattle.gpu_alloc_types.specs.Flags.{has_bit}
+use Rattle.gpu_alloc.proofs.NewChunkRows.{none_new, some_new}
 use Rattle.gpu_alloc.proofs.NewObjects.{counted_new}
 use Rattle.gpu_alloc.proofs.HeapLists.{type_heap_is}
 use Rattle.gpu_alloc.proofs.Buddies.Serving.{Serves, front_is, told_with}
@@ -73,13 +74,29 @@ module _ {A : Type 0} {l : Limits A} {heaps : List Heap} {buddies : List Buddy} 
   abbrev block : Block
   block = buddy_block before index (span_of_leaf leaf)
 
-  -- The table with the block's span, and its chunk where that is new.
-  module _ (now : Table) (counted : ℕ) (sound : IsSound after.allocator) (size_is : IfSome (finite.get after.allocator.chunks leaf.chunk) (λ c. c.size ≡ counted))
-      (held : now.held ≡ with_chunk_of t.held leaf (record { memory_type = index; counted = counted; kind = BuddyChunk }))
-      (live : now.live ≡ set_of.insert t.live (span_of_leaf leaf)) (places : now.places ≡ finite.insert t.places (span_of_leaf leaf) (place_of_leaf leaf)) where
-    abbrev chunk_row : HeldObject
-    chunk_row = record { memory_type = index; counted = counted; kind = BuddyChunk }
+  -- Whether the chunk is new, and how large it is then.
+  abbrev pub IsTold : Option ℕ → Type 0
+  IsTold new_chunk = MatchOption new_chunk (remaining ≤ after.remaining) (λ n. (after.remaining < remaining) × IfSome (finite.get after.allocator.chunks leaf.chunk) (λ c. c.size ≡ n))
 
+  there : (front : IsFront b size leaf) → finite.get t.held leaf.object ≡ Some (chunk_object b front.chunk)
+  there front =
+      let chunk_found = buddy_of l heaps buddies lists t remaining index b given.is given.known given.at in
+      ap (finite.get t.held) front.object ∙ chunk_found.linked.chunks leaf.chunk front.chunk front.held
+
+  -- a chunk that is not new is held
+  pub chunk_is_known : (new_chunk : Option ℕ) → IsTold new_chunk → MatchOption new_chunk (IsSome (finite.get t.held leaf.object)) (λ _. finite.get t.held leaf.object ≡ None)
+  chunk_is_known new_chunk told = elim (answers) [
+    | inl gives ↦
+        let none = none_new new_chunk remaining after.remaining _ told (ap (λ (a : Account Buddy). a.remaining) gives.state) in
+        subst (λ o. MatchOption o (IsSome (finite.get t.held leaf.object)) (λ _. finite.get t.held leaf.object ≡ None)) (sym none) (ap is_some (there gives.place))
+    | inr gives ↦
+        let found = some_new new_chunk remaining after.remaining _ told gives.asks.has.remains.objects (ap (λ (a : Account Buddy). a.remaining) gives.state) in
+        subst (λ o. MatchOption o (IsSome (finite.get t.held leaf.object)) (λ _. finite.get t.held leaf.object ≡ None)) (sym found.1) (not_held_yet (more_in gives.place.free_key).was_free)
+  ]
+
+  -- The table with the block's span, and its chunk where that is new.
+  module _ (now : Table) (new_chunk : Option ℕ) (sound : IsSound after.allocator) (told : IsTold new_chunk) (held : now.held ≡ with_new_chunk t.held leaf.object index BuddyChunk new_chunk)
+      (live : now.live ≡ set_of.insert t.live (span_of_leaf leaf)) (places : now.places ≡ finite.insert t.places (span_of_leaf leaf) (place_of_leaf leaf)) where
     more : HasLeafMore t now leaf
     more = record { free = span_is_free; live = live; places = places }
 
@@ -96,15 +113,14 @@ module _ {A : Type 0} {l : Limits A} {heaps : List Heap} {buddies : List Buddy} 
     in_chunk : (front : IsFront b size leaf) → new ≡ old → after ≡ account (with_leaf b leaf) heap remaining
         → GivesInPlace (buddy_candidate before size index) es block (with_span before (span_of_leaf leaf)) → IsServed after
     in_chunk front same_objects after_is gives =
-        let chunk_found = buddy_of l heaps buddies lists t remaining index b given.is given.known given.at in
-        let there = ap (finite.get t.held) front.object ∙ chunk_found.linked.chunks leaf.chunk front.chunk front.held in
-        let same_held : now.held ≡ t.held = held ∙ ap (λ (o : Option HeldObject). cond (is_some o) t.held (finite.insert t.held leaf.object chunk_row)) there in
+        let none = none_new new_chunk remaining after.remaining _ told (ap (λ (a : Account Buddy). a.remaining) after_is) in
+        let same_held : now.held ≡ t.held = held ∙ ap (with_new_chunk t.held leaf.object index BuddyChunk) none in
         let sound_now = subst IsSound (ap (λ (a : Account Buddy). a.allocator) after_is) sound in
         let state = state_with_leaf l heaps buddies lists t remaining index b given.is given.known given.at i heap given.here given.at_heap leaf front.chunk now front.held front.object sound_now same_held more in
         subst IsServed (sym after_is) (record {
           consistent = consistent_with_leaf l heaps buddies lists t remaining index b given.is given.known given.at i heap given.here given.at_heap leaf front.chunk now front.held front.object sound_now same_held more;
           gives = inl (subst (GivesInPlace (buddy_candidate before size index) es block) (sym state) gives);
-          objects_are = rw there same_objects;
+          objects_are = rw (there front) same_objects;
         })
 
     -- in a new chunk
@@ -119,9 +135,9 @@ module _ {A : Type 0} {l : Limits A} {heaps : List Heap} {buddies : List Buddy} 
         let chunk : Chunk = record { object = leaf.object; size = n } in
         let after_buddy = ap (λ (a : Account Buddy). a.allocator) after_is in
         let chunk_now : finite.get after.allocator.chunks leaf.chunk ≡ Some chunk = ap (λ (x : Buddy). finite.get x.chunks leaf.chunk) after_buddy ∙ own_inserted b.chunks leaf.chunk chunk in
-        let is_counted : n ≡ counted = subst (λ (o : Option Chunk). IfSome o (λ c. c.size ≡ counted)) chunk_now size_is in
-        let row_is : chunk_row ≡ record { memory_type = index; counted = n; kind = BuddyChunk } = λ k. record chunk_row { counted = sym is_counted k } in
-        let held_now = held ∙ ap (λ (o : Option HeldObject). cond (is_some o) t.held (finite.insert t.held leaf.object chunk_row)) free ∙ ap (finite.insert t.held leaf.object) row_is in
+        let found = some_new new_chunk remaining after.remaining _ told some (ap (λ (a : Account Buddy). a.remaining) after_is) in
+        let is_counted : n ≡ found.0 = subst (λ (o : Option Chunk). IfSome o (λ c. c.size ≡ found.0)) chunk_now found.2 in
+        let held_now = held ∙ ap (with_new_chunk t.held leaf.object index BuddyChunk) found.1 ∙ ap (λ m. with_new_chunk t.held leaf.object index BuddyChunk (Some m)) (sym is_counted) in
         let sound_now = subst IsSound after_buddy sound in
         let power = sound.space.powers leaf.chunk chunk chunk_now in
         let small : n < 2 ^ 64 = omega (arith, power.1.1, pow-le power.0 63 power.1.0) in

@@ -1,5 +1,5 @@
 -- What a block that a memory type's free list gives comes to for the whole allocator.
-use Rattle.std.proofs.Common.{IfSome, ◌≡◌, ◌⊎◌, inl, inr, ℕ, ◌+◌, ◌-◌, ◌^◌, ◌<◌, ◌≤◌, false, cond, List, Option, Some, None, Ok, is_some, refl, sym, ◌∙◌, ap, subst, arith}
+use Rattle.std.proofs.Common.{IfSome, IsSome, MatchOption, ◌≡◌, ◌⊎◌, inl, inr, ℕ, ◌+◌, ◌-◌, ◌^◌, ◌<◌, ◌≤◌, false, List, Option, Some, None, Ok, is_some, refl, sym, ◌∙◌, ap, subst, arith}
 use Rattle.std.proofs.Math.ListN.{set}
 use Rattle.std.specs.FinMap as finite
 use Rattle.std.specs.FinSet as set_of
@@ -21,10 +21,11 @@ use Rattle.gpu_alloc_base.proofs.ToldTwice.{asks_is}
 use Rattle.gpu_alloc_freelist.proofs.Spaces.{next_is_new}
 use Rattle.gpu_alloc.proofs.HandedOn.{Given}
 use Rattle.gpu_alloc_types.specs.Flags.{has_bit}
+use Rattle.gpu_alloc.proofs.NewChunkRows.{none_new, some_new}
 use Rattle.gpu_alloc.proofs.NewObjects.{counted_new}
 use Rattle.gpu_alloc_freelist.specs.FreeListSound.{IsSound}
 use Rattle.gpu_alloc_freelist.specs.FreeListState.{Listing}
-use Rattle.gpu_alloc.specs.Inside.{state_in, properties_in, with_chunk_of_slot, span_of_slot, slot_at, place_of_slot, IsConsistent}
+use Rattle.gpu_alloc.specs.Inside.{state_in, properties_in, list_object, with_new_chunk, span_of_slot, slot_at, place_of_slot, IsConsistent}
 use Rattle.gpu_alloc.specs.FreeListSharing.{list_question, list_block, latest_number, tail_of, with_list_chunk}
 use Rattle.gpu_alloc_base.specs.NewChunk.{ChunkQuestion, made}
 use Rattle.gpu_alloc.specs.BuddySharing.{with_span}
@@ -82,13 +83,31 @@ module _ {A : Type 0} {limits : Limits A} {heaps : List Heap} {buddies : List Bu
   abbrev block : Block
   block = list_block before index slot.chunk (span_of_slot slot)
 
-  -- The table with the block's span, and its chunk where that is new.
-  module _ (now : Table) (counted key : ℕ) (sound : IsSound after.allocator) (size_is : IfSome (finite.get after.allocator.space.chunks slot.chunk) (λ c. c.size ≡ counted))
-      (held : now.held ≡ with_chunk_of_slot t.held slot (record { memory_type = index; counted = counted; kind = FreeListChunk slot.chunk }))
-      (live : now.live ≡ set_of.insert t.live (span_of_slot slot)) (places : now.places ≡ finite.insert t.places (span_of_slot slot) (place_of_slot key)) where
-    abbrev chunk_row : HeldObject
-    chunk_row = record { memory_type = index; counted = counted; kind = FreeListChunk slot.chunk }
+  -- Whether the chunk is new, and how large it is then.
+  abbrev pub IsTold : Option ℕ → Type 0
+  IsTold new_chunk =
+      MatchOption new_chunk (remaining ≤ after.remaining) (λ n. (after.remaining < remaining) × IfSome (finite.get after.allocator.space.chunks slot.chunk) (λ c. c.size ≡ n))
 
+  there : (tail : IsTail l.space size alignment slot) → finite.get t.held slot.object ≡ Some (list_object l slot.chunk tail.object.0)
+  there tail =
+      let own = own_listing limits heaps buddies lists t remaining index l given.is given.known given.at in
+      ap (finite.get t.held) tail.object.2 ∙ own.linked.chunks slot.chunk tail.object.0 tail.object.1
+
+  -- a chunk that is not new is held
+  pub chunk_is_known : (new_chunk : Option ℕ) → IsTold new_chunk → MatchOption new_chunk (IsSome (finite.get t.held slot.object)) (λ _. finite.get t.held slot.object ≡ None)
+  chunk_is_known new_chunk told = elim (answers) [
+    | inl gives ↦
+        let none = none_new new_chunk remaining after.remaining _ told (ap (λ (a : Account Listing). a.remaining) gives.state) in
+        subst (λ o. MatchOption o (IsSome (finite.get t.held slot.object)) (λ _. finite.get t.held slot.object ≡ None)) (sym none) (ap is_some (there gives.place))
+    | inr gives ↦
+        let found = some_new new_chunk remaining after.remaining _ told gives.asks.has.remains.objects (ap (λ (a : Account Listing). a.remaining) gives.state) in
+        subst (λ o. MatchOption o (IsSome (finite.get t.held slot.object)) (λ _. finite.get t.held slot.object ≡ None)) (sym found.1) (not_held_yet (more_in gives.place).was_free)
+  ]
+
+  -- The table with the block's span, and its chunk where that is new.
+  module _ (now : Table) (new_chunk : Option ℕ) (key : ℕ) (sound : IsSound after.allocator) (told : IsTold new_chunk)
+      (held : now.held ≡ with_new_chunk t.held slot.object index (FreeListChunk slot.chunk) new_chunk)
+      (live : now.live ≡ set_of.insert t.live (span_of_slot slot)) (places : now.places ≡ finite.insert t.places (span_of_slot slot) (place_of_slot key)) where
     more : HasSlotMore t now slot
     more = record { key = key; free = slot_is_free; live = live; places = places }
 
@@ -105,17 +124,16 @@ module _ {A : Type 0} {limits : Limits A} {heaps : List Heap} {buddies : List Bu
     in_run : (tail : IsTail l.space size alignment slot) → new ≡ old → after ≡ account (listing_with_slot l slot) heap remaining
         → GivesInPlace (list_candidate before size alignment index) es block (with_span before (span_of_slot slot)) → IsServed after
     in_run tail same_objects after_is gives =
-        let own = own_listing limits heaps buddies lists t remaining index l given.is given.known given.at in
         let chunk : Chunk = tail.object.0 in
         let found = tail.object.1 in
-        let there = ap (finite.get t.held) tail.object.2 ∙ own.linked.chunks slot.chunk chunk found in
-        let same_held : now.held ≡ t.held = held ∙ ap (λ (o : Option HeldObject). cond (is_some o) t.held (finite.insert t.held slot.object chunk_row)) there in
+        let none = none_new new_chunk remaining after.remaining _ told (ap (λ (a : Account Listing). a.remaining) after_is) in
+        let same_held : now.held ≡ t.held = held ∙ ap (with_new_chunk t.held slot.object index (FreeListChunk slot.chunk)) none in
         let sound_now = subst IsSound (ap (λ (a : Account Listing). a.allocator) after_is) sound in
         let state = state_with_slot limits heaps buddies lists t remaining index l given.is given.known given.at i heap given.here given.at_heap slot chunk now found tail.object.2 sound_now same_held more in
         subst IsServed (sym after_is) (record {
           consistent = consistent_with_slot limits heaps buddies lists t remaining index l given.is given.known given.at i heap given.here given.at_heap slot chunk now found tail.object.2 sound_now same_held more;
           gives = inl (subst (GivesInPlace (list_candidate before size alignment index) es block) (sym state) gives);
-          objects_are = rw there same_objects;
+          objects_are = rw (there tail) same_objects;
         })
 
     -- in a new chunk
@@ -135,9 +153,9 @@ module _ {A : Type 0} {limits : Limits A} {heaps : List Heap} {buddies : List Bu
         ap (λ (x : Listing). finite.get x.space.chunks slot.chunk) after_list ∙ ap (finite.get (finite.insert l.space.chunks (l.space.latest + 1) chunk)) number
         ∙ own_inserted l.space.chunks (l.space.latest + 1) chunk in
         let row : HeldObject = record { memory_type = index; counted = n; kind = FreeListChunk slot.chunk } in
-        let is_counted : n ≡ counted = subst (λ (o : Option Chunk). IfSome o (λ c. c.size ≡ counted)) chunk_now size_is in
-        let row_is : chunk_row ≡ row = λ k. record chunk_row { counted = sym is_counted k } in
-        let held_now = held ∙ ap (λ (o : Option HeldObject). cond (is_some o) t.held (finite.insert t.held slot.object chunk_row)) free ∙ ap (finite.insert t.held slot.object) row_is in
+        let found = some_new new_chunk remaining after.remaining _ told some (ap (λ (a : Account Listing). a.remaining) after_is) in
+        let is_counted : n ≡ found.0 = subst (λ (o : Option Chunk). IfSome o (λ c. c.size ≡ found.0)) chunk_now found.2 in
+        let held_now = held ∙ ap (with_new_chunk t.held slot.object index (FreeListChunk slot.chunk)) found.1 ∙ ap (λ m. with_new_chunk t.held slot.object index (FreeListChunk slot.chunk) (Some m)) (sym is_counted) in
         let small : n < 2 ^ 64 = (sound.space.sizes slot.chunk chunk chunk_now).1 in
         let sound_now = subst IsSound after_list sound in
         let state = state_with_list_chunk limits heaps buddies lists t remaining index l given.is given.known given.at i heap given.here given.at_heap slot n now changed number free some small sound_now held_now more refl within in

@@ -132,37 +132,39 @@ impl<M: MemoryObject, A: Allocator> GpuAllocator<M, A> {
             × TriesAsked self.old (asked_of self.old request hint paged.now) memory_type es result self.new }
         ensures objects { ObjectsTried self.old result self.new (D.objects device.old) (D.objects device.new) }
     {
-        match paged {
-            None => self.try_type(device, request, hint, memory_type),
-            Some(paged) => self.try_in_pages(device, request, hint, *paged, memory_type),
-        }
+        // (field by field, so that nothing of it is written to memory where no page is asked for)
+        let (size, align_mask, usage, memory_types, hint) = match paged {
+            None => (
+                request.size,
+                request.align_mask,
+                request.usage,
+                request.memory_types,
+                hint,
+            ),
+            Some(paged) => {
+                let asked = self.ask_in_pages(request, hint, *paged, memory_type);
+                let own = asked.request;
+                (
+                    own.size,
+                    own.align_mask,
+                    own.usage,
+                    own.memory_types,
+                    asked.hint,
+                )
+            }
+        };
+        let request = Request {
+            size,
+            align_mask,
+            usage,
+            memory_types,
+        };
+        self.try_type(device, request, hint, memory_type)
     }
 
-    /// Tries one memory type for whole pages. (It stands apart, so that other requests do not pay for it.)
+    /// What a memory type is asked for whole pages. (It stands apart, so that other requests do not pay for it.)
     #[cold]
     #[inline(never)]
-    fn try_in_pages<D: ObjectDevice<M>>(
-        &mut self,
-        device: &mut D,
-        request: Request,
-        hint: Option<Dedicated>,
-        paged: Request,
-        memory_type: u32,
-    ) -> Result<Option<MemoryBlock<M>>, AllocationError>
-        requires askable { IsAskable (self.old.properties).buffer_device_address request }
-        requires pages { IsAskable (self.old.properties).buffer_device_address paged }
-        requires known { memory_type < length (self.old.properties).memory_types }
-        requires agrees { Agrees self.old (D.properties device.old) (D.objects device.old) }
-        ensures tries { (es : List Event) × Chain D.step device.old es device.new
-            × TriesAsked self.old (ask_in_pages self.old request hint paged) memory_type es result self.new }
-        ensures objects { ObjectsTried self.old result self.new (D.objects device.old) (D.objects device.new) }
-    {
-        let asked = self.ask_in_pages(request, hint, paged, memory_type);
-        self.try_type(device, asked.request, asked.hint, memory_type)
-    }
-
-    /// What a memory type is asked for whole pages.
-    #[inline(always)]
     fn ask_in_pages(
         &self,
         request: Request,

@@ -71,17 +71,17 @@ impl<M: MemoryObject, A: Allocator> GpuAllocator<M, A> {
         let (offset, size) = (block.offset(), block.size());
         let memory = into_memory(block);
         let object = memory.object();
-        let span = self.spans.find(key, object, offset, size).unwrap();
+        let removed = self.spans.remove(key, object, offset, size, false);
         let heap = self.limits.heap_index(memory_type);
         let gone = uncounted::give_back::<M, A, D, Brand>(
             &mut self.buddies[memory_type as usize],
             device,
-            BuddyBlock::new(memory, leaf_in(span)),
+            BuddyBlock::new(memory, leaf_in(removed.span)),
             &mut self.heaps[heap],
             &mut self.allocations_remains,
             Blank::new(1),
         );
-        self.spans.remove(key, object, offset, size, gone);
+        self.spans.let_go(object, gone);
     }
 
     /// Takes back a block of a free list's chunk of this number.
@@ -149,7 +149,7 @@ impl<M: MemoryObject, A: Allocator> GpuAllocator<M, A> {
             &mut self.heaps[heap],
             &mut self.allocations_remains,
         ) {
-            self.spans.let_go(object);
+            self.spans.let_go(object, true);
         }
     }
 }

@@ -1,41 +1,93 @@
 //! Blocks of shared chunks as rows of the table of spans.
 
-ghost use Rattle.std.specs.Prelude.{◌≡◌, ◌+◌, ◌^◌, ◌<◌, false};
+ghost use Rattle.std.specs.Prelude.{◌≡◌, ◌+◌, ◌^◌, ◌<◌, ◌≤◌, None, Some, IfSome, IsSome, MatchOption, false};
 ghost use Rattle.std.specs.FinMap as map;
 ghost use Rattle.std.specs.FinSet as set;
-ghost use Rattle.gpu_alloc.specs.Inside.{span_of_leaf, place_of_leaf, leaf_at, with_chunk_of, span_of_slot};
-ghost use Rattle.gpu_alloc.specs.Inside.{place_of_slot, with_chunk_of_slot};
+ghost use Rattle.gpu_alloc.specs.Inside.{span_of_leaf, place_of_leaf, leaf_at, span_of_slot, place_of_slot};
+ghost use Rattle.gpu_alloc.specs.Inside.{with_new_chunk};
 ghost use Rattle.gpu_alloc.specs.Spans.{span_in, place_in};
 
 use crate::spans::{HeldRow, LiveSpan, Spans};
 use gpu_alloc_base::buddy_block::Leaf;
 use gpu_alloc_base::free_list_block::Slot;
 use gpu_alloc_block::Kind;
+use gpu_alloc_buddy::BuddyAllocator;
+use gpu_alloc_freelist::FreeListAllocator;
+use gpu_alloc_types::MemoryObject;
 use std::alloc::Allocator;
 
-/// Adds the span of a buddy allocator's block, and its chunk where it was not held, into room that was made.
+/// The size of the chunk of a buddy allocator's block, where it is new: one object fewer may be held than before then.
+#[inline(always)]
+pub(super) fn new_buddy_chunk<M: MemoryObject, A: Allocator>(
+    buddy: &BuddyAllocator<M, A>,
+    leaf: Leaf,
+    remained: u32,
+    remains: u32,
+) -> Option<u64>
+    requires held { IsSome (map.get (buddy.now).chunks leaf.chunk) }
+    ensures { MatchOption result (remained ≤ remains) (λ size. (remains < remained)
+        × IfSome (map.get (buddy.now).chunks leaf.chunk) (λ chunk. chunk.size ≡ size)) }
+{
+    if remains < remained {
+        Some(buddy.chunk_size(leaf.chunk))
+    } else {
+        None
+    }
+}
+
+/// The size of the chunk of a free list's block, where it is new: one object fewer may be held than before then.
+#[inline(always)]
+pub(super) fn new_list_chunk<M: MemoryObject, A: Allocator>(
+    list: &FreeListAllocator<M, A>,
+    slot: Slot,
+    remained: u32,
+    remains: u32,
+) -> Option<u64>
+    requires held { IsSome (map.get (list.now).space.chunks slot.chunk) }
+    ensures { MatchOption result (remained ≤ remains) (λ size. (remains < remained)
+        × IfSome (map.get (list.now).space.chunks slot.chunk) (λ chunk. chunk.size ≡ size)) }
+{
+    if remains < remained {
+        Some(list.chunk_size(slot.chunk))
+    } else {
+        None
+    }
+}
+
+/// The row of a new chunk of so many bytes, where there is one.
+#[inline(always)]
+fn chunk_row(memory_type: u32, kind: Kind, new_chunk: Option<u64>) -> Option<HeldRow>
+    ensures { MatchOption new_chunk (result ≡ None) (λ size. result ≡ Some
+        (record { memory_type = memory_type; counted = size; kind = kind })) }
+{
+    match new_chunk {
+        None => None,
+        Some(counted) => Some(HeldRow {
+            memory_type,
+            counted,
+            kind,
+        }),
+    }
+}
+
+/// Adds the span of a buddy allocator's block into room that was made, and its chunk, of so many bytes, where that is
+/// new.
 #[inline(always)]
 pub(super) fn add_leaf<A: Allocator>(
     spans: &mut Spans<A>,
     leaf: Leaf,
     memory_type: u32,
-    chunk_size: u64,
+    new_chunk: Option<u64>,
 ) -> usize
     requires room { 0 < spans.old.room }
     requires free { set.contains spans.old.live (span_of_leaf leaf) ≡ false }
-    ensures held { spans.new.held ≡ with_chunk_of spans.old.held leaf
-        (record { memory_type = memory_type; counted = chunk_size; kind = Kind.BuddyChunk }) }
+    requires chunk { MatchOption new_chunk (IsSome (map.get spans.old.held leaf.object))
+        (λ _. map.get spans.old.held leaf.object ≡ None) }
+    ensures held { spans.new.held
+        ≡ with_new_chunk spans.old.held leaf.object memory_type Kind.BuddyChunk new_chunk }
     ensures live { spans.new.live ≡ set.insert spans.old.live (span_of_leaf leaf) }
     ensures places { spans.new.places ≡ map.insert spans.old.places (span_of_leaf leaf) (place_of_leaf leaf) }
 {
-    let chunk = match spans.held(leaf.object) {
-        Some(_) => None,
-        None => Some(HeldRow {
-            memory_type,
-            counted: chunk_size,
-            kind: Kind::BuddyChunk,
-        }),
-    };
     let span = LiveSpan {
         object: leaf.object,
         offset: leaf.offset,
@@ -43,37 +95,28 @@ pub(super) fn add_leaf<A: Allocator>(
         chunk: leaf.chunk,
         index: leaf.index,
     };
-    spans.insert(span, chunk)
+    spans.insert(span, chunk_row(memory_type, Kind::BuddyChunk, new_chunk))
 }
 
-/// Adds the span of a free list's block with its key in that list, and its chunk where it was not held, into room that
-/// was made.
+/// Adds the span of a free list's block with its key in that list into room that was made, and its chunk, of so many
+/// bytes, where that is new.
 #[inline(always)]
 pub(super) fn add_slot<A: Allocator>(
     spans: &mut Spans<A>,
     slot: Slot,
     list_key: usize,
     memory_type: u32,
-    chunk_size: u64,
+    new_chunk: Option<u64>,
 ) -> usize
     requires room { 0 < spans.old.room }
     requires free { set.contains spans.old.live (span_of_slot slot) ≡ false }
-    ensures held { spans.new.held ≡ with_chunk_of_slot spans.old.held slot (record {
-      memory_type = memory_type;
-      counted = chunk_size;
-      kind = Kind.FreeListChunk slot.chunk;
-    }) }
+    requires chunk { MatchOption new_chunk (IsSome (map.get spans.old.held slot.object))
+        (λ _. map.get spans.old.held slot.object ≡ None) }
+    ensures held { spans.new.held
+        ≡ with_new_chunk spans.old.held slot.object memory_type (Kind.FreeListChunk slot.chunk) new_chunk }
     ensures live { spans.new.live ≡ set.insert spans.old.live (span_of_slot slot) }
     ensures places { spans.new.places ≡ map.insert spans.old.places (span_of_slot slot) (place_of_slot list_key) }
 {
-    let chunk = match spans.held(slot.object) {
-        Some(_) => None,
-        None => Some(HeldRow {
-            memory_type,
-            counted: chunk_size,
-            kind: Kind::FreeListChunk(slot.chunk),
-        }),
-    };
     let span = LiveSpan {
         object: slot.object,
         offset: slot.offset,
@@ -81,7 +124,8 @@ pub(super) fn add_slot<A: Allocator>(
         chunk: 0,
         index: list_key,
     };
-    spans.insert(span, chunk)
+    let kind = Kind::FreeListChunk(slot.chunk);
+    spans.insert(span, chunk_row(memory_type, kind, new_chunk))
 }
 
 /// A live span's block in its buddy allocator.

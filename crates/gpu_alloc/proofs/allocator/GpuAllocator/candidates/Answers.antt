@@ -1,4 +1,4 @@
-use Rattle.std.proofs.Common.{◌≡◌, ◌∙◌, ◌≤◌, filter, length, take, ap, arith}
+use Rattle.std.proofs.Common.{◌≡◌, ◌∙◌, ◌≤◌, filter, length, ap, arith}
 use Rattle.std.proofs.lemmas.List.{take_all}
 use Rattle.gpu_alloc_types.specs.Flags.{usage_bits}
 use Rattle.gpu_alloc_usage.specs.Ranking.{implied, is_allowed, named, ranking}

@@ -1,10 +1,9 @@
-use Rattle.std.proofs.Common.{◌≡◌, IfSome, option_map, sym, ap, ◌∙◌, subst}
+use Rattle.std.proofs.Common.{◌≡◌, sym, ap, ◌∙◌}
 use Rattle.std.specs.FinMap as finite
 use Rattle.std.specs.FinSet as set_of
 use Rattle.gpu_alloc_base.specs.Accounts.{account}
-use Rattle.gpu_alloc.specs.Spans.{span_at, span_in, place_in, without_old}
+use Rattle.gpu_alloc.specs.Spans.{span_at, without_old}
 use Rattle.gpu_alloc_block.specs.State.{Span, span_of}
-use Rattle.gpu_alloc.specs.declared.spans.LiveSpan.{LiveSpan}
 use Rattle.gpu_alloc.proofs.Buddies.Returns.{Given, given_back, agrees_before, counted_first, IsReturned, back}
 use Rattle.gpu_alloc.proofs.Soundness.{sound_is}
 use Rattle.gpu_alloc.proofs.allocator.GpuAllocator.dealloc_in_chunk.Given.{Over}
@@ -22,10 +21,9 @@ given : (g : Over) (c : goal.After-new-2 g)
     c.index_mut.result.now c.index_mut-2.result.now c.new.result c.args.block
 given g c =
     let owned = rw (← c.self.view_is) at c.requires.owned in
-    let span = subst (λ o. IfSome o (λ (row : LiveSpan). span_in row ≡ span_at c.object-object.result c.offset-offset.result c.size-size.result)) c.unwrap-span.ensures c.find.ensures.span in
-    let place = sym (ap (option_map place_in) c.unwrap-span.ensures) ∙ c.find.ensures.place ∙ ap (finite.get c.self.inside.spans.places) (asked_span g c) in
-    given_back _ _ _ _ _ _ _ _ _ _ _ c.args.block c.unwrap-span.result c.self.invariant owned c.requires.shared c.memory_type-memory_type.ensures c.index_mut.ensures.value
-    c.heap_index-heap.ensures c.index_mut-2.ensures.value (span ∙ asked_span g c) place (c.new.ensures ∙ c.leaf_in.ensures)
+    let place = sym c.remove-removed.ensures.place ∙ ap (finite.get c.self.inside.spans.places) (asked_span g c) in
+    given_back _ _ _ _ _ _ _ _ _ _ _ c.args.block c.remove-removed.result.span c.self.invariant owned c.requires.shared c.memory_type-memory_type.ensures c.index_mut.ensures.value
+    c.heap_index-heap.ensures c.index_mut-2.ensures.value (c.remove-removed.ensures.span ∙ asked_span g c) place (c.new.ensures ∙ c.leaf_in.ensures)
 
 pub give_back-gone-requires-clause-live : goal.give_back-gone-requires-clause-live
 give_back-gone-requires-clause-live g c = (given g c).live
@@ -38,22 +36,21 @@ give_back-gone-requires-clause-counted g c = counted_first (given g c)
 
 -- What the calls did, and what it comes to.
 
-removed_span : (g : Over) (c : goal.After-remove g) → ◌≡◌ {A = Span} (span_at c.object-object.result c.offset-offset.result c.size-size.result) (span_of c.args.block)
+removed_span : (g : Over) (c : goal.After-let_go g) → ◌≡◌ {A = Span} (span_at c.object-object.result c.offset-offset.result c.size-size.result) (span_of c.args.block)
 removed_span g c =
     let name = c.object-object.ensures ∙ c.into_memory-memory.ensures in
     λ k. record { object = name k; offset = c.offset-offset.ensures k; size = c.size-size.ensures k }
 
-given_after : (g : Over) (c : goal.After-remove g)
+given_after : (g : Over) (c : goal.After-let_go g)
     → Given c.self.inside.limits c.self.inside.heaps.items c.self.inside.buddies.items c.self.inside.free_lists.items c.self.inside.spans c.self.inside.allocations_remains c.memory_type-memory_type.result c.heap_index-heap.result
     c.index_mut.result.now c.index_mut-2.result.now c.new.result c.args.block
 given_after g c =
     let owned = rw (← c.self.view_is) at c.requires.owned in
-    let span = subst (λ o. IfSome o (λ (row : LiveSpan). span_in row ≡ span_at c.object-object.result c.offset-offset.result c.size-size.result)) c.unwrap-span.ensures c.find.ensures.span in
-    let place = sym (ap (option_map place_in) c.unwrap-span.ensures) ∙ c.find.ensures.place ∙ ap (finite.get c.self.inside.spans.places) (removed_span g c) in
-    given_back _ _ _ _ _ _ _ _ _ _ _ c.args.block c.unwrap-span.result c.self.invariant owned c.requires.shared c.memory_type-memory_type.ensures c.index_mut.ensures.value
-    c.heap_index-heap.ensures c.index_mut-2.ensures.value (span ∙ removed_span g c) place (c.new.ensures ∙ c.leaf_in.ensures)
+    let place = sym c.remove-removed.ensures.place ∙ ap (finite.get c.self.inside.spans.places) (removed_span g c) in
+    given_back _ _ _ _ _ _ _ _ _ _ _ c.args.block c.remove-removed.result.span c.self.invariant owned c.requires.shared c.memory_type-memory_type.ensures c.index_mut.ensures.value
+    c.heap_index-heap.ensures c.index_mut-2.ensures.value (c.remove-removed.ensures.span ∙ removed_span g c) place (c.new.ensures ∙ c.leaf_in.ensures)
 
-returned_by : (g : Over) (c : goal.After-remove g) → IsReturned (given_after g c) (account c.give_back-gone.new.buddy c.give_back-gone.new.heap c.give_back-gone.new.allocations_remains) c.remove.new.self
+returned_by : (g : Over) (c : goal.After-let_go g) → IsReturned (given_after g c) (account c.give_back-gone.new.buddy c.give_back-gone.new.heap c.give_back-gone.new.allocations_remains) c.let_go.new.self
     (g.D.ObjectDevice.properties c.args.device.now) (g.D.ObjectDevice.properties c.give_back-gone.new.device) (g.D.ObjectDevice.objects c.args.device.now) (g.D.ObjectDevice.objects c.give_back-gone.new.device)
     c.give_back-gone.ensures.frees.0 c.give_back-gone.result (account c.give_back-gone.new.buddy c.give_back-gone.new.heap c.give_back-gone.new.allocations_remains)
 returned_by g c =
@@ -67,9 +64,9 @@ returned_by g c =
       agrees = agrees;
       properties = c.give_back-gone.ensures.properties;
       told = c.give_back-gone.ensures.told;
-      held = c.remove.ensures.held ∙ ap (λ n. without_old c.self.inside.spans.held n asked) name;
-      live = c.remove.ensures.live ∙ ap (set_of.remove c.self.inside.spans.live) (removed_span g c);
-      places = c.remove.ensures.places ∙ ap (finite.remove c.self.inside.spans.places) (removed_span g c);
+      held = c.let_go.ensures.held ∙ ap (λ held. without_old held c.object-object.result asked) c.remove-removed.ensures.held ∙ ap (λ n. without_old c.self.inside.spans.held n asked) name;
+      live = c.let_go.ensures.live ∙ c.remove-removed.ensures.live ∙ ap (set_of.remove c.self.inside.spans.live) (removed_span g c);
+      places = c.let_go.ensures.places ∙ c.remove-removed.ensures.places ∙ ap (finite.remove c.self.inside.spans.places) (removed_span g c);
     })
 
 pub invariant_of-self : goal.invariant_of-self

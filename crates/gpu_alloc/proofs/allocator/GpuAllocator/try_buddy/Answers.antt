@@ -1,5 +1,7 @@
-use Rattle.std.proofs.Common.{◌≡◌, ◌⊎◌, ℕ, ◌<◌, [], IfSome, refl, sym, ap, ◌∙◌, subst, arith}
+use Rattle.std.proofs.Common.{◌^◌, ◌≡◌, ◌⊎◌, ℕ, ◌<◌, [], refl, sym, ap, ◌∙◌, subst, arith}
 use Rattle.std.proofs.lemmas.Nat.{pow_pos}
+use Rattle.gpu_alloc_base.proofs.AlignedPowers.{pow-le}
+use Rattle.gpu_alloc_base.specs.declared.buddy_block.Leaf.{Leaf}
 use Rattle.gpu_alloc_base.specs.FreeSpace.{IsPowerOfTwo}
 use Rattle.std.proofs.lemmas.List.{get_or-set_same}
 use Rattle.std.proofs.Math.ListN.{set}
@@ -9,24 +11,25 @@ use Rattle.std.specs.Option.{IsSome, is_some}
 use Rattle.gpu_alloc_types.specs.Flags.{allocation_bits}
 use Rattle.gpu_alloc_types.specs.Properties.{Properties}
 use Rattle.gpu_alloc_base.specs.Accounts.{account}
-use Rattle.gpu_alloc.specs.Inside.{state_in, properties_in, with_chunk_of, span_of_leaf, place_of_leaf}
+use Rattle.gpu_alloc.specs.Inside.{state_in, properties_in, with_new_chunk, span_of_leaf, place_of_leaf}
 use Rattle.gpu_alloc_base.specs.Case.{GivesInPlace, GivesInNewObject}
 use Rattle.gpu_alloc_base.specs.NewChunk.{flags_of}
 use Rattle.gpu_alloc.specs.BuddySharing.{buddy_block}
 use Rattle.gpu_alloc.specs.Candidates.{buddy_candidate}
 use Rattle.gpu_alloc.specs.Spans.{Table}
-use Rattle.gpu_alloc_block.specs.State.{State, HeldObject, Block}
+use Rattle.gpu_alloc_block.specs.State.{State, Block}
 use Rattle.gpu_alloc_block.specs.declared.block.Kind.TheVariants.{BuddyChunk}
-use Rattle.gpu_alloc_base.proofs.Outcomes.{when_ok}
+use Rattle.gpu_alloc.proofs.Atoms.{some_atom}
 use Rattle.gpu_alloc.proofs.Consistency.{heap_there}
 use Rattle.gpu_alloc.proofs.HeapLists.{type_heap_is}
 use Rattle.gpu_alloc.proofs.OwnObjects.{consistent-room}
 use Rattle.gpu_alloc.proofs.Buddies.Served.{buddy_agrees}
 use Rattle.gpu_alloc.proofs.Buddies.Serving.{Serves, told_of, rounded_is}
-use Rattle.gpu_alloc.proofs.Buddies.Answers.{span_is_free, IsServed, served}
+use Rattle.gpu_alloc.proofs.Buddies.Answers.{span_is_free, IsTold, chunk_is_known, IsServed, served}
 use Rattle.gpu_alloc.proofs.Buddies.Grants.{serves, counted_before, consistent_refused, state_refused}
-use Rattle.gpu_alloc_base.proofs.ToldTwice.{first_is, refused_is, wants_is}
-use Rattle.gpu_alloc.proofs.Trials.{refused_tries, nothing_made}
+use Rattle.gpu_alloc_base.proofs.ToldTwice.{refused_is}
+use Rattle.gpu_alloc.proofs.NewChunkRows.{told_of_chunk}
+use Rattle.gpu_alloc.proofs.Trials.{first_refusal, refused_tries, nothing_made}
 use Rattle.gpu_alloc.proofs.allocator.GpuAllocator.try_buddy.Given.{Over}
 use Rattle.gpu_alloc.proofs.HandedOn.{Given, given_by, below, address_there}
 use Rattle.gpu_alloc.proofs.allocator.GpuAllocator.try_buddy.Goals as goal
@@ -42,25 +45,17 @@ returns-in-Some g c =
     let known = rw (← c.self.view_is) at c.requires.known in
     let serving = serves c.self.inside.limits _ _ _ _ _ c.args.memory_type c.index.result.now c.self.invariant known c.index.ensures in
     let flags = flags_of (properties_in c.self.inside.limits c.self.inside.heaps.items) in
-    let first = rw c.in-Some.is at (c.refuses-first.ensures flags) in
+    let first = c.in-Some.ensures.refused flags in
     let told = told_of _ _ _ c.args.memory_type _ serving c.index-2.result.now c.args.request flags (type_heap_is c.self.inside.limits _ _ _ _ _ c.self.invariant.books c.args.memory_type _ c.index-2.result.now known c.heap_index-heap.ensures c.index-2.ensures) refl in
     let s : State = state_in c.self.inside.limits c.self.inside.heaps.items c.self.inside.buddies.items c.self.inside.free_lists.items c.self.inside.spans c.self.inside.allocations_remains in
-    rw (c.passing.ensures, ← c.self.view_is) (record {
-      tries = ([], refl, refused_tries _ [] c.in-Some.refusal _ (first_is told c.in-Some.refusal first));
+    let same = ap (λ t. state_in c.self.inside.limits c.self.inside.heaps.items c.self.inside.buddies.items c.self.inside.free_lists.items t c.self.inside.allocations_remains) c.room_in_buddy-first.ensures.kept in
+    rw (c.passing.ensures, ← c.self.view_is, same) (record {
+      tries = ([], refl, refused_tries _ [] c.in-Some.refusal _ (first_refusal told c.in-Some.refusal first));
       objects = nothing_made s c.in-Some.refusal s _ _ refl;
     })
 
 pub invariant_of-self : goal.invariant_of-self
-invariant_of-self g c = consistent-room _ _ _ _ _ _ _ _ c.reserve.ensures.kept c.self.invariant
-
-pub returns-then-is_err-clause-tries : goal.returns-then-is_err-clause-tries
-returns-then-is_err-clause-tries g c =
-    let known = rw (← c.self.view_is) at c.requires.known in
-    let serving = serves c.self.inside.limits _ _ _ _ _ c.args.memory_type c.index.result.now c.self.invariant known c.index.ensures in
-    let flags = flags_of (properties_in c.self.inside.limits c.self.inside.heaps.items) in
-    let refused = wants_is (told_of _ _ _ c.args.memory_type _ serving c.index-2.result.now c.args.request flags (type_heap_is c.self.inside.limits _ _ _ _ _ c.self.invariant.books c.args.memory_type _ c.index-2.result.now known c.heap_index-heap.ensures c.index-2.ensures) refl) (c.in_default.ensures flags) in
-    let same = ap (λ t. state_in c.self.inside.limits c.self.inside.heaps.items c.self.inside.buddies.items c.self.inside.free_lists.items t c.self.inside.allocations_remains) c.reserve.ensures.kept in
-    rw (← c.self.view_is) ([], refl, (same, refused.1))
+invariant_of-self g c = consistent-room _ _ _ _ _ _ _ _ c.room_in_buddy-first.ensures.kept c.self.invariant
 
 -- The call of the buddy allocator.
 
@@ -87,9 +82,20 @@ add_leaf-key-requires-clause-free g c =
     let known = rw (← c.self.view_is) at c.requires.known in
     let agrees = rw (← c.self.view_is) at c.requires.agrees in
     let given = given_by c.self.inside.limits c.self.invariant known c.index_mut.ensures.value c.heap_index-heap.ensures c.index_mut-2.ensures.value c.flags-flags.ensures agrees in
-    ap (λ (t : Table). set_of.contains t.live (span_of_leaf c.into_parts-memory.result.1)) c.reserve.ensures.kept
+    ap (λ (t : Table). set_of.contains t.live (span_of_leaf c.into_parts-memory.result.1)) c.room_in_buddy-first.ensures.kept
     ∙ ap (λ leaf. set_of.contains c.self.inside.spans.live (span_of_leaf leaf)) c.into_parts-memory.ensures.leaf
     ∙ span_is_free given _ _ told.0 _ told.2 c.in-Ok.ensures.objects (some_power c.in-Ok.ensures.granted.power)
+
+pub add_leaf-key-requires-clause-chunk : goal.add_leaf-key-requires-clause-chunk
+add_leaf-key-requires-clause-chunk g c =
+    let agrees = rw (← c.self.view_is) at c.requires.agrees in
+    let known = rw (← c.self.view_is) at c.requires.known in
+    let given = given_by c.self.inside.limits c.self.invariant known c.index_mut.ensures.value c.heap_index-heap.ensures c.index_mut-2.ensures.value c.flags-flags.ensures agrees in
+    let own : c.index-in-Ok.result.now ≡ c.alloc-answer.new.buddy =
+    c.index-in-Ok.ensures ∙ get_or-set_same c.self.inside.buddies.items c.args.memory_type c.alloc-answer.new.buddy c.index-in-Ok.result.now (below refl c.self.invariant.shared.count known) in
+    let told = told_of_chunk _ _ _ _ _ (ap (λ a. finite.get a.chunks c.into_parts-memory.result.1.chunk) own ∙ ap (λ leaf. finite.get c.alloc-answer.new.buddy.chunks leaf.chunk) c.into_parts-memory.ensures.leaf) c.new_buddy_chunk-new_chunk.ensures in
+    let is = chunk_is_known given _ _ c.in-Ok.ensures.allocates.0 _ c.in-Ok.ensures.allocates.2 c.in-Ok.ensures.objects (some_power c.in-Ok.ensures.granted.power) c.new_buddy_chunk-new_chunk.result told in
+    rw (ap (λ (t : Table). t.held) c.room_in_buddy-first.ensures.kept, c.into_parts-memory.ensures.leaf) is
 
 given : (g : Over) (c : goal.After-new-in-Ok g)
     → Given c.self.inside.limits c.self.inside.heaps.items c.self.inside.buddies.items c.self.inside.free_lists.items c.self.inside.spans c.self.inside.allocations_remains c.args.memory_type c.heap_index-heap.result
@@ -101,29 +107,26 @@ given g c =
 
 -- The table with the block's span, as `served` asks for it.
 
-size_is : (g : Over) (c : goal.After-new-in-Ok g) → IfSome (finite.get c.alloc-answer.new.buddy.chunks c.in-Ok.block.chunk) (λ chunk. chunk.size ≡ c.chunk_size-chunk_size.result)
-size_is g c =
+told_now : (g : Over) (c : goal.After-new-in-Ok g) → IsTold (given g c) _ _ c.in-Ok.ensures.allocates.0 _ c.in-Ok.ensures.allocates.2 c.in-Ok.ensures.objects (some_power c.in-Ok.ensures.granted.power) c.new_buddy_chunk-new_chunk.result
+told_now g c =
     let known = rw (← c.self.view_is) at c.requires.known in
-    let own : c.index-in-Ok.result.now ≡ c.alloc-answer.new.buddy = c.index-in-Ok.ensures ∙ get_or-set_same c.self.inside.buddies.items c.args.memory_type c.alloc-answer.new.buddy c.index-in-Ok.result.now (below refl c.self.invariant.shared.count known) in
-    subst (λ b. IfSome (finite.get b.chunks c.in-Ok.block.chunk) (λ chunk. chunk.size ≡ c.chunk_size-chunk_size.result)) own
-    (subst (λ leaf. IfSome (finite.get c.index-in-Ok.result.now.chunks leaf.chunk) (λ chunk. chunk.size ≡ c.chunk_size-chunk_size.result)) c.into_parts-memory.ensures.leaf c.chunk_size-chunk_size.ensures)
+    let own : c.index-in-Ok.result.now ≡ c.alloc-answer.new.buddy =
+    c.index-in-Ok.ensures ∙ get_or-set_same c.self.inside.buddies.items c.args.memory_type c.alloc-answer.new.buddy c.index-in-Ok.result.now (below refl c.self.invariant.shared.count known) in
+    told_of_chunk _ _ _ _ _ (ap (λ a. finite.get a.chunks c.into_parts-memory.result.1.chunk) own ∙ ap (λ leaf. finite.get c.alloc-answer.new.buddy.chunks leaf.chunk) c.into_parts-memory.ensures.leaf) c.new_buddy_chunk-new_chunk.ensures
 
-abbrev row : (g : Over) → goal.After-new-in-Ok g → HeldObject
-row g c = record { memory_type = c.args.memory_type; counted = c.chunk_size-chunk_size.result; kind = BuddyChunk }
-
-held_is : (g : Over) (c : goal.After-new-in-Ok g) → c.add_leaf-key.new.spans.held ≡ with_chunk_of c.self.inside.spans.held c.in-Ok.block (row g c)
+held_is : (g : Over) (c : goal.After-new-in-Ok g) → c.add_leaf-key.new.spans.held ≡ with_new_chunk c.self.inside.spans.held c.in-Ok.block.object c.args.memory_type BuddyChunk c.new_buddy_chunk-new_chunk.result
 held_is g c =
-    c.add_leaf-key.ensures.held ∙ ap (λ (t : Table). with_chunk_of t.held c.into_parts-memory.result.1 (row g c)) c.reserve.ensures.kept
-    ∙ ap (λ leaf. with_chunk_of c.self.inside.spans.held leaf (row g c)) c.into_parts-memory.ensures.leaf
+    c.add_leaf-key.ensures.held ∙ ap (λ (t : Table). with_new_chunk t.held c.into_parts-memory.result.1.object c.args.memory_type BuddyChunk c.new_buddy_chunk-new_chunk.result) c.room_in_buddy-first.ensures.kept
+    ∙ ap (λ leaf. with_new_chunk c.self.inside.spans.held leaf.object c.args.memory_type BuddyChunk c.new_buddy_chunk-new_chunk.result) c.into_parts-memory.ensures.leaf
 
 live_is : (g : Over) (c : goal.After-new-in-Ok g) → c.add_leaf-key.new.spans.live ≡ set_of.insert c.self.inside.spans.live (span_of_leaf c.in-Ok.block)
 live_is g c =
-    c.add_leaf-key.ensures.live ∙ ap (λ (t : Table). set_of.insert t.live (span_of_leaf c.into_parts-memory.result.1)) c.reserve.ensures.kept
+    c.add_leaf-key.ensures.live ∙ ap (λ (t : Table). set_of.insert t.live (span_of_leaf c.into_parts-memory.result.1)) c.room_in_buddy-first.ensures.kept
     ∙ ap (λ leaf. set_of.insert c.self.inside.spans.live (span_of_leaf leaf)) c.into_parts-memory.ensures.leaf
 
 places_are : (g : Over) (c : goal.After-new-in-Ok g) → c.add_leaf-key.new.spans.places ≡ finite.insert c.self.inside.spans.places (span_of_leaf c.in-Ok.block) (place_of_leaf c.in-Ok.block)
 places_are g c =
-    c.add_leaf-key.ensures.places ∙ ap (λ (t : Table). finite.insert t.places (span_of_leaf c.into_parts-memory.result.1) (place_of_leaf c.into_parts-memory.result.1)) c.reserve.ensures.kept
+    c.add_leaf-key.ensures.places ∙ ap (λ (t : Table). finite.insert t.places (span_of_leaf c.into_parts-memory.result.1) (place_of_leaf c.into_parts-memory.result.1)) c.room_in_buddy-first.ensures.kept
     ∙ ap (λ leaf. finite.insert c.self.inside.spans.places (span_of_leaf leaf) (place_of_leaf leaf)) c.into_parts-memory.ensures.leaf
 
 abbrev before : (g : Over) → goal.After-new-in-Ok g → State
@@ -147,10 +150,10 @@ after g c =
     c.add_leaf-key.new.spans c.alloc-answer.new.allocations_remains
 
 is : (g : Over) (c : goal.After-new-in-Ok g)
-    → IsServed (given g c) _ _ c.in-Ok.ensures.allocates.0 _ c.in-Ok.ensures.allocates.2 c.in-Ok.ensures.objects (some_power c.in-Ok.ensures.granted.power) c.add_leaf-key.new.spans c.chunk_size-chunk_size.result c.in-Ok.ensures.sound (size_is g c) (held_is g c)
+    → IsServed (given g c) _ _ c.in-Ok.ensures.allocates.0 _ c.in-Ok.ensures.allocates.2 c.in-Ok.ensures.objects (some_power c.in-Ok.ensures.granted.power) c.add_leaf-key.new.spans c.new_buddy_chunk-new_chunk.result c.in-Ok.ensures.sound (told_now g c) (held_is g c)
     (live_is g c) (places_are g c) (account c.alloc-answer.new.buddy c.alloc-answer.new.heap c.alloc-answer.new.allocations_remains)
 is g c =
-    served (given g c) _ _ c.in-Ok.ensures.allocates.0 _ c.in-Ok.ensures.allocates.2 c.in-Ok.ensures.objects (some_power c.in-Ok.ensures.granted.power) c.add_leaf-key.new.spans c.chunk_size-chunk_size.result c.in-Ok.ensures.sound (size_is g c) (held_is g c)
+    served (given g c) _ _ c.in-Ok.ensures.allocates.0 _ c.in-Ok.ensures.allocates.2 c.in-Ok.ensures.objects (some_power c.in-Ok.ensures.granted.power) c.add_leaf-key.new.spans c.new_buddy_chunk-new_chunk.result c.in-Ok.ensures.sound (told_now g c) (held_is g c)
     (live_is g c) (places_are g c)
 
 pub invariant_of-self-in-Ok : goal.invariant_of-self-in-Ok
@@ -174,7 +177,7 @@ invariant_of-self-in-Err g c =
     let known = rw (← c.self.view_is) at c.requires.known in
     let same = c.in-Err.ensures.refused in
     consistent_refused c.self.inside.limits _ _ _ _ _ c.args.memory_type c.index_mut.result.now c.self.invariant known c.index_mut.ensures.value c.heap_index-heap.result c.index_mut-2.result.now c.heap_index-heap.ensures
-    c.index_mut-2.ensures.value _ _ _ same.0 same.1.0 same.1.1 c.reserve.new.self (consistent-room _ _ _ _ _ _ _ _ c.reserve.ensures.kept c.self.invariant)
+    c.index_mut-2.ensures.value _ _ _ same.0 same.1.0 same.1.1 c.room_in_buddy-first.new.spans (consistent-room _ _ _ _ _ _ _ _ c.room_in_buddy-first.ensures.kept c.self.invariant)
 
 pub returns-in-Err : goal.returns-in-Err
 returns-in-Err g c =
@@ -183,7 +186,7 @@ returns-in-Err g c =
     let same = c.in-Err.ensures.refused in
     let told = c.in-Err.ensures.allocates in
     let left = state_refused c.self.inside.limits _ _ _ _ _ c.args.memory_type c.index_mut.result.now c.self.invariant known c.index_mut.ensures.value c.heap_index-heap.result c.index_mut-2.result.now c.heap_index-heap.ensures
-    c.index_mut-2.ensures.value _ _ _ same.0 same.1.0 same.1.1 c.reserve.new.self (ap (λ (t : Table). t.held) c.reserve.ensures.kept) (ap (λ (t : Table). t.live) c.reserve.ensures.kept) in
+    c.index_mut-2.ensures.value _ _ _ same.0 same.1.0 same.1.1 c.room_in_buddy-first.new.spans (ap (λ (t : Table). t.held) c.room_in_buddy-first.ensures.kept) (ap (λ (t : Table). t.live) c.room_in_buddy-first.ensures.kept) in
     let s : State = state_in c.self.inside.limits c.self.inside.heaps.items c.self.inside.buddies.items c.self.inside.free_lists.items c.self.inside.spans c.self.inside.allocations_remains in
     rw (c.passing-in-Err.ensures, ← c.self.view_is, left) (record {
       tries = (
@@ -203,14 +206,11 @@ index-requires g c = below refl (c.self.inside.buddies.ok.0 ∙ c.self.invariant
 pub index-requires-2 : goal.index-requires-2
 index-requires-2 g c = below c.heap_index-heap.ensures c.self.inside.heaps.ok.0 (heap_there _ _ _ _ c.self.invariant.books refl c.args.memory_type (rw (← c.self.view_is) at c.requires.known))
 
-pub refuses-first-requires-clause-nonempty : goal.refuses-first-requires-clause-nonempty
-refuses-first-requires-clause-nonempty g c = c.requires.askable.nonempty
+pub room_in_buddy-first-requires-clause-nonempty : goal.room_in_buddy-first-requires-clause-nonempty
+room_in_buddy-first-requires-clause-nonempty g c = c.requires.askable.nonempty
 
-pub refuses-first-requires-clause-alignment : goal.refuses-first-requires-clause-alignment
-refuses-first-requires-clause-alignment g c = c.requires.askable.alignment
-
-pub returns-then-is_err-clause-objects : goal.returns-then-is_err-clause-objects
-returns-then-is_err-clause-objects g c = refl
+pub room_in_buddy-first-requires-clause-alignment : goal.room_in_buddy-first-requires-clause-alignment
+room_in_buddy-first-requires-clause-alignment g c = c.requires.askable.alignment
 
 pub index_mut-requires : goal.index_mut-requires
 index_mut-requires g c = below refl (c.self.inside.buddies.ok.0 ∙ c.self.invariant.shared.count) (rw (← c.self.view_is) at c.requires.known)
@@ -228,15 +228,26 @@ pub props-props-requires : goal.props-props-requires
 props-props-requires g c = rw (← c.self.view_is) at c.requires.known
 
 pub add_leaf-key-requires-clause-room : goal.add_leaf-key-requires-clause-room
-add_leaf-key-requires-clause-room g c = when_ok c.reserve.result (sym c.if-is_err.ensures.value) c.reserve.ensures.room
+add_leaf-key-requires-clause-room g c = c.in_default.ensures.room refl
 
 pub index-requires-in-Ok : goal.index-requires-in-Ok
 index-requires-in-Ok g c = below refl (c.self.inside.buddies.ok.0 ∙ c.self.invariant.shared.count) (rw (← c.self.view_is) at c.requires.known)
 
-pub chunk_size-chunk_size-requires : goal.chunk_size-chunk_size-requires
-chunk_size-chunk_size-requires g c =
+pub new_buddy_chunk-new_chunk-requires : goal.new_buddy_chunk-new_chunk-requires
+new_buddy_chunk-new_chunk-requires g c =
     let known = rw (← c.self.view_is) at c.requires.known in
     let own : c.index-in-Ok.result.now ≡ c.alloc-answer.new.buddy =
     c.index-in-Ok.ensures ∙ get_or-set_same c.self.inside.buddies.items c.args.memory_type c.alloc-answer.new.buddy c.index-in-Ok.result.now (below refl c.self.invariant.shared.count known) in
-    subst (λ b. IsSome (finite.get b.chunks c.into_parts-memory.result.1.chunk)) (sym own)
-    (subst (λ leaf. IsSome (finite.get c.alloc-answer.new.buddy.chunks leaf.chunk)) (sym c.into_parts-memory.ensures.leaf) (ap is_some c.in-Ok.ensures.granted.inside.1))
+    record {
+      held = subst (λ b. IsSome (finite.get b.chunks c.into_parts-memory.result.1.chunk)) (sym own)
+          (subst (λ leaf. IsSome (finite.get c.alloc-answer.new.buddy.chunks leaf.chunk)) (sym c.into_parts-memory.ensures.leaf) (ap is_some c.in-Ok.ensures.granted.inside.1));
+    }
+
+pub new-requires-in-Ok : goal.new-requires-in-Ok
+new-requires-in-Ok g c =
+    let inside = c.in-Ok.ensures.granted.inside in
+    let power = c.in-Ok.ensures.sound.space.powers c.in-Ok.block.chunk inside.0 inside.1 in
+    let small : inside.0.size < 2 ^ 64 = omega (arith, power.1.1, pow-le power.0 63 power.1.0) in
+    let offset = ap (λ (leaf : Leaf). leaf.offset) c.into_parts-memory.ensures.leaf in
+    let size = ap (λ (leaf : Leaf). leaf.size) c.into_parts-memory.ensures.leaf in
+    record { finish = omega (arith, offset, size, inside.2.1, small); some = some_atom _ _ _ c.self.invariant.books.usable.atom c.atom-atom.ensures }

@@ -2,9 +2,6 @@ use Rattle.gpu_alloc.proofs.allocator.GpuAllocator.try_buddy.Given as goal
 
 -- The ledgers of counts that nobody reads have the blanks' names and parts.
 
-abbrev pub ghosts-refuses : goal.ghosts-refuses
-ghosts-refuses g a = record { name = a.blank.name; parts = a.blank.parts }
-
 abbrev pub ghosts-alloc-L-Ledger : goal.ghosts-alloc-L-Ledger
 ghosts-alloc-L-Ledger g a = record { name = a.looks.name; parts = a.looks.parts }
 
