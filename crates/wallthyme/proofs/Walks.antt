@@ -1,5 +1,5 @@
 -- Walks: one block more in a page, and a walk in pages as one block by block.
-use Rattle.std.proofs.Common.{◌≡◌, ◌<◌, ◌+◌, ◌++◌, ◌∷◌, [], ℕ, List, length, map, take, slice_set, arith, refl, sym, subst, ap, ◌∙◌}
+use Rattle.std.proofs.Common.{◌≡◌, ◌<◌, ◌+◌, ◌++◌, ◌∷◌, [], ℕ, List, length, map, take, slice_set, refl, sym, subst, ap, ◌∙◌}
 use Rattle.std.proofs.lemmas.List.{take_more_set}
 use Rattle.gpu_desk.specs.Desk.{DeskState}
 use Rattle.gpu_desk.specs.Walk.{Walks}

@@ -11,7 +11,26 @@ use gpu_desk::{Answered, Denial};
 
 /// Reads the answers that C gave so far into `answers`, or tells the status of one that is none. It takes memory where
 /// there are more than ever before.
+#[inline(always)]
 pub(crate) fn answers_of(answers: &mut Vec<Answered>, asked: &[layout::Question]) -> Result<(), u32>
+    ensures answers { OnOk result (answers.new.items ≡ map answered_of asked.now) }
+    ensures formed { OnOk result (AreAnswered asked.now) }
+    ensures malformed { IfErr result (λ status. ((status ≡ BAD_ANSWER) × HasNoAnswer asked.now)
+        ⊎ (status ≡ OUT_OF_HOST_MEMORY)) }
+    ensures failed { IfErr result (λ status. status ≢ OK) }
+    ensures unasked { IfErr result (λ status. status ≢ ASK) }
+    ensures is_open { IfErr result (λ status. status ≢ NOT_OPEN) }
+{
+    if asked.is_empty() {
+        answers.clear();
+        return Ok(());
+    }
+    read_answers(answers, asked)
+}
+
+/// The same of some answers. (It stands apart, so that a call with none does not pay for it.)
+#[inline(never)]
+fn read_answers(answers: &mut Vec<Answered>, asked: &[layout::Question]) -> Result<(), u32>
     ensures answers { OnOk result (answers.new.items ≡ map answered_of asked.now) }
     ensures formed { OnOk result (AreAnswered asked.now) }
     ensures malformed { IfErr result (λ status. ((status ≡ BAD_ANSWER) × HasNoAnswer asked.now)

@@ -1,5 +1,5 @@
 -- One more block is told.
-use Rattle.std.proofs.Common.{◌≡◌, ◌<◌, ℕ, length, arith, ap, sym, subst, ◌∙◌}
+use Rattle.std.proofs.Common.{◌≡◌, ◌<◌, length, arith, ap, sym, subst, ◌∙◌}
 use Rattle.gpu_desk.specs.Calls.{Told}
 use Rattle.gpu_desk.specs.Walk.{IsNext}
 use Rattle.gpu_desk.specs.declared.told.Grant.{Grant}

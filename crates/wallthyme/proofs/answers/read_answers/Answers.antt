@@ -1,5 +1,5 @@
 -- One more question was answered.
-use Rattle.std.proofs.Common.{◌≡◌, ◌⊎◌, ◌<◌, ◌+◌, ◌++◌, ◌∷◌, [], inl, inr, ℕ, suc, if◌then◌else◌, Bool, true, false, not, List, Option, Some, slice_index_or, length, take, arith, refl, sym, ◌∙◌, ap, subst}
+use Rattle.std.proofs.Common.{◌≡◌, ◌<◌, ◌+◌, ◌++◌, ◌∷◌, [], inl, inr, ℕ, suc, if◌then◌else◌, Bool, false, not, List, slice_index_or, length, take, arith, sym, ◌∙◌, ap}
 use Rattle.std.proofs.Math.Seq.{take-suc}
 use Rattle.std.proofs.lemmas.List.{map-append, get_or_default}
 use Rattle.std.specs.Prelude.{map}
@@ -8,7 +8,7 @@ use Rattle.gpu_answers.specs.declared.question.Answered.{Answered}
 use Rattle.wallthyme.specs.Layout.{answered_of}
 use Rattle.wallthyme.specs.Malformed.{is_answered}
 use Rattle.wallthyme.specs.declared.layout.Question.{Question}
-use Rattle.wallthyme.proofs.answers.answers_of.Goals as goal
+use Rattle.wallthyme.proofs.answers.read_answers.Goals as goal
 
 one_more_told : (asked : List Question) (i : ℕ) (d : Question) (a : Answered) (xs : List Answered) → i < length asked
     → xs ≡ map answered_of (take i asked) → a ≡ answered_of (slice_index_or asked i d) → xs ++ a ∷ [] ≡ map answered_of (take (i + 1) asked)

@@ -4,7 +4,7 @@ use Rattle.std.specs.Prelude.{map}
 use Rattle.wallthyme.specs.Layout.{answered_of}
 use Rattle.wallthyme.specs.Malformed.{is_answered}
 use Rattle.wallthyme.specs.declared.layout.Question.{Question}
-use Rattle.wallthyme.proofs.answers.answers_of.Given as goal
+use Rattle.wallthyme.proofs.answers.read_answers.Given as goal
 
 abbrev pub invariant-loop-question : goal.invariant-loop-question
 invariant-loop-question l = record {
