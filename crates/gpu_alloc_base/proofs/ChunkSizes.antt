@@ -52,6 +52,22 @@ cut_twice product final cut result bound cut_is result_is = omega (arith, bound,
 pieces_within : (next size n : ℕ) → 0 < next → size ≤ next * n → (size + (next - 1)) / next ≤ n
 pieces_within next size n some enough = omega (arith, div_below (size + (next - 1)) next (n + 1) some (omega (arith, enough, some)))
 
+-- what is in whole pieces holds a size in whole pieces exactly where it holds the size
+pub up_within : (size n m : ℕ) → 0 < n → IsMultipleOf n m → nat_le (up size n) m ≡ nat_le size m
+up_within size n m positive whole = elim (cases_lt m size) [
+  | inl less ↦
+      let enough = up_enough size n (omega (arith, less)) positive in
+      let no : nat_le (up size n) m ≡ false = grind (arith, nat_tests) in
+      let nor : nat_le size m ≡ false = grind (arith, nat_tests) in
+      no ∙ sym nor
+  | inr holds ↦
+      let few = pieces_within n size whole.0 positive (omega (arith, holds, whole.1)) in
+      let within : up size n ≤ m = omega (arith, mul-le-mul_right n few, whole.1) in
+      let yes : nat_le (up size n) m ≡ true = grind (arith, nat_tests) in
+      let also : nat_le size m ≡ true = grind (arith, nat_tests) in
+      yes ∙ sym also
+]
+
 pub grown_is_least : (next final size : ℕ) → 0 < next → next ≤ final → final ≤ 2 ^ 62 → size ≤ final → IsLeastProduct next final size (grown_chunk next final size)
 grown_is_least next final size some le bound fits = elim (cases_lt next size) [
   | inr small ↦ rw (grown_small next final size small) (record {

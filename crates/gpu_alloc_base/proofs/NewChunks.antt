@@ -1,7 +1,7 @@
 -- A new object that is mapped, or given back.
-use Rattle.std.proofs.Common.{◌≡◌, ◌≢◌, sym, inl, inr, ℕ, ◌<◌, true, List, [], ◌∷◌, Option, Some, None, Ok, Err, refl, ◌∙◌, ap, arith}
+use Rattle.std.proofs.Common.{◌≡◌, ◌≢◌, sym, inl, inr, ℕ, ◌<◌, true, [], ◌∷◌, Option, Some, None, Ok, Err, refl, ◌∙◌, ap, arith}
 use Rattle.gpu_alloc_types.specs.Properties.{Properties, is_host_visible}
-use Rattle.gpu_alloc_types.specs.Device.{Object, Event, Row, HeldWith, IsHeld, IsMappable, put}
+use Rattle.gpu_alloc_types.specs.Device.{Object, Row, HeldWith, IsHeld, IsMappable, put}
 use Rattle.gpu_alloc_types.specs.Device.Event.{Allocated, Mapped}
 use Rattle.gpu_alloc_types.specs.Objects.{put-same, put-other, put-put, put-undone}
 use Rattle.gpu_alloc_types.specs.declared.types.DeviceMapError.{DeviceMapError}
@@ -10,9 +10,7 @@ use Rattle.gpu_alloc_types.specs.declared.types.OutOfMemory.{OutOfMemory}
 use Rattle.gpu_alloc_types.specs.declared.types.OutOfMemory.TheVariants.{OutOfDeviceMemory as DeviceFull, OutOfHostMemory as HostFull}
 use Rattle.gpu_alloc_base.specs.Errors.{like_memory}
 use Rattle.gpu_alloc_base.specs.Chunks.{Chunk, IsThere}
-use Rattle.gpu_alloc_base.specs.NewChunk.{ChunkQuestion, HasOneChunkMore, AsksBlock, AsksChunk, AsksChunkTwice, unmapped, new_chunk_refusal}
-use Rattle.gpu_alloc_base.specs.declared.error.AllocationError.{AllocationError}
-use Rattle.gpu_alloc_base.specs.declared.error.AllocationError.TheVariants.{OutOfDeviceMemory, OutOfHostMemory, NoCompatibleMemoryTypes, TooManyObjects}
+use Rattle.gpu_alloc_base.specs.NewChunk.{ChunkQuestion, HasOneChunkMore, AsksChunk, unmapped, new_chunk_refusal}
 
 module _ (q : ChunkQuestion) (f g : ℕ → Option Object) (flags name : ℕ) (p : Properties) where
   -- a new object may be mapped whole
@@ -91,10 +89,3 @@ new_is_there q chunk f g more size =
         mapped = λ visible. more.1.1.mapped ∙ rw visible (ap (λ n. Some (0, n)) (sym more.1.1.of_size));
       },
     )
-
--- a refused question, as the answer for a block in the object
-pub block_refused : (q : ChunkQuestion) (es : List Event) (e : AllocationError) → AsksChunkTwice q es (Err e) → AsksBlock q es (Err e)
-block_refused q es OutOfDeviceMemory lacks = lacks
-block_refused q es OutOfHostMemory lacks = lacks
-block_refused q es NoCompatibleMemoryTypes lacks = absurd lacks
-block_refused q es TooManyObjects lacks = absurd lacks

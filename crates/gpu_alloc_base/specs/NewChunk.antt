@@ -84,14 +84,6 @@ AsksChunkTwice q es (Err OutOfHostMemory) = LacksHostMemory q es ⊎ IsGivenBack
 AsksChunkTwice q es (Err NoCompatibleMemoryTypes) = ⊥
 AsksChunkTwice q es (Err TooManyObjects) = ⊥
 
--- the same for a block in the object, which has the second handle
-abbrev pub AsksBlock : ChunkQuestion → List Event → Result ℕ AllocationError → Type 0
-AsksBlock q es (Ok object) = es ≡ made q object
-AsksBlock q es (Err OutOfDeviceMemory) = LacksDeviceMemory q es
-AsksBlock q es (Err OutOfHostMemory) = LacksHostMemory q es ⊎ IsGivenBack q es
-AsksBlock q es (Err NoCompatibleMemoryTypes) = ⊥
-AsksBlock q es (Err TooManyObjects) = ⊥
-
 -- an answer by its object's name, and by the names that its two handles give
 abbrev pub told_object : {B E : Type 0} → (B → ℕ) → Result B E → Result ℕ E
 told_object object answer = result_map_both object (λ e. e) answer

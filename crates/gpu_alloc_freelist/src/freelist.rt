@@ -1,7 +1,7 @@
 //! The free-list allocator: shared chunks of one memory type, whose blocks are the tails of free runs.
 
 ghost use Rattle.std.specs.Prelude.{◌≡◌, ℕ, ◌+◌, ◌≤◌, ◌<◌, ◌^◌, ◌↔◌, Contains, IfOk, IfSome, OnErr};
-ghost use Rattle.std.specs.Prelude.{IsSome, IsTrue, Some, None, length, max, true, false};
+ghost use Rattle.std.specs.Prelude.{IsSome, IsTrue, Some, None, length, max, nat_le, true, false};
 ghost use Rattle.std.specs.FinMap as map;
 ghost use Rattle.std.specs.FinSet as set;
 ghost use Rattle.std.specs.Int.{is_power_of_two};
@@ -33,6 +33,7 @@ mod live;
 mod runs;
 
 use gpu_alloc_base::heap::Heap;
+use gpu_alloc_base::new_chunk::new_chunk_with_handle;
 use gpu_alloc_base::range_order::put_in_order;
 use gpu_alloc_base::sizes::next_power_of_two;
 use gpu_alloc_base::steps::Steps;
@@ -388,6 +389,15 @@ impl<M: MemoryObject, A: Allocator> FreeListAllocator<M, A> {
         freelist.close();
     }
 
+    /// Whether so many bytes in whole atoms are no more than a largest chunk, so that `alloc` takes a request of that size.
+    #[inline(always)]
+    pub fn fits_a_chunk(&self, size: u64) -> bool
+        ensures { result ≡ nat_le (up size (self.now).atom) (self.now).final_chunk }
+    {
+        // (a largest chunk is of whole atoms itself)
+        size <= self.final_chunk_size
+    }
+
     /// A size in whole atoms.
     fn rounded_size(&self, size: u64) -> u64
         requires nonempty { 0 < size }
@@ -506,15 +516,14 @@ impl<M: MemoryObject, A: Allocator> FreeListAllocator<M, A> {
         }
         let chunk_size = self.chunk_size_for(size);
         let visible = self.props.intersects(MemoryPropertyFlags::HOST_VISIBLE);
-        let block = self.freelist.get_block_from_new_chunk(
-            device,
-            chunk_size,
-            self.memory_type,
-            flags,
-            visible,
-            align_mask,
-            size,
-        )?;
+        let made = new_chunk_with_handle(device, chunk_size, self.memory_type, flags, visible);
+        let (memory, handle) = match made {
+            Ok(handles) => handles,
+            Err(refusal) => return Err(refusal),
+        };
+        let block = self
+            .freelist
+            .begin(memory, handle, chunk_size, align_mask, size);
         self.chunk_size = (2 * chunk_size).min(self.final_chunk_size);
         // (the heap's limit is a u64, so a ledger that stays within it does not overflow)
         let _ = heap.limit();

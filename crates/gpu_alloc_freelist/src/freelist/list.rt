@@ -5,9 +5,6 @@ ghost use Rattle.std.specs.Prelude.{IfSome, IfNone, IfOk, IfErr, OnOk, OnErr, Is
 ghost use Rattle.std.specs.FinMap as map;
 ghost use Rattle.std.specs.FinSet as set;
 ghost use Rattle.std.specs.List.{Contains};
-ghost use Rattle.gpu_alloc_types.specs.Flags.{allocation_bits};
-ghost use Rattle.gpu_alloc_types.specs.Properties.{is_host_visible};
-ghost use Rattle.gpu_alloc_types.specs.Device.{Asked, IsAskable};
 ghost use Rattle.gpu_alloc_freelist.specs.Chunks.{IsWholeChunk};
 ghost use Rattle.gpu_alloc_freelist.specs.FreeList.{TakesTail, IsFirstToGo, MayGo, HasNumber, HasPlace, with_slot};
 ghost use Rattle.gpu_alloc_freelist.specs.FreeList.{without_slot, with_chunk, without_chunk, first_tail, no_space};
@@ -19,17 +16,15 @@ ghost use Rattle.gpu_alloc_freelist.specs.Runs.{AreFewComparisons};
 ghost use Rattle.gpu_alloc_freelist.specs.Wholes.{wholes};
 ghost use Rattle.gpu_alloc_base.specs.FreeRuns.{IsFreeRun, AreRising};
 ghost use Rattle.gpu_alloc_base.specs.AlignMasks.{IsAlignMask};
-ghost use Rattle.gpu_alloc_base.specs.NewChunk.{AsksBlock, ChunkAfter, chunk_question, told_object};
 ghost use Rattle.gpu_alloc_base.specs.declared.region.FreeListRegion.{FreeListRegion as Region};
 
 use super::chunks::{Chunks, NumberedChunk};
 use super::live::Live;
 use super::runs::{Runs, tail_of};
 use gpu_alloc_base::free_list_block::{into_parts, key_of, slot_of};
-use gpu_alloc_base::new_chunk::new_chunk;
 use gpu_alloc_base::steps::Steps;
-use gpu_alloc_base::{AllocationError, FreeListBlock, FreeListRegion};
-use gpu_alloc_types::{AllocationFlags, MemoryObject, ObjectDevice};
+use gpu_alloc_base::{FreeListBlock, FreeListRegion};
+use gpu_alloc_types::MemoryObject;
 use std::alloc::{AllocError, Allocator, Global};
 use std::marker::Model;
 use std::sync::ledger::Ledger;
@@ -137,11 +132,45 @@ impl<M: MemoryObject, A: Allocator> FreeList<M, A> {
         ensures room { OnOk result (self.old.room ≤ self.new.room + 1) }
         ensures sound { IsSoundSpace self.new.space }
     {
-        let number = self.latest + 1;
+        self.keeps_sound();
         let handle = match memory.duplicate() {
             Ok(handle) => handle,
             Err(_) => return Err(memory),
         };
+        Ok(self.begin(memory, handle, memory_size, align_mask, size))
+    }
+
+    /// Nothing is done: its contract tells what every list keeps.
+    fn keeps_sound(&self)
+        ensures { IsSoundSpace self.now.space }
+    {
+        let _ = &self.runs;
+    }
+
+    /// A block as [`get_block_from_new_memory`](FreeList::get_block_from_new_memory) gives it, which has the second
+    /// handle of the chunk's object. It takes no memory and cannot fail.
+    pub(crate) fn begin(
+        &mut self,
+        memory: M,
+        handle: M,
+        memory_size: u64,
+        align_mask: u64,
+        size: u64,
+    ) -> FreeListBlock<M>
+        requires same { M.object handle ≡ M.object memory }
+        requires room { 0 < self.old.room }
+        requires nonempty { 0 < size }
+        requires inside { size ≤ memory_size }
+        requires alignment { IsAlignMask align_mask }
+        requires number { HasNumber self.old.space }
+        ensures block { result ≡ first_tail self.old.space (M.object memory) memory_size size (align_mask + 1) }
+        ensures chunk { self.new.space ≡ with_slot (with_chunk self.old.space (M.object memory) memory_size) result }
+        ensures added { AddsBlock self.old.space self.new.space result }
+        ensures leaves { LeavesBlocks self.old.space self.new.space }
+        ensures room { self.old.room ≤ self.new.room + 1 }
+        ensures sound { IsSoundSpace self.new.space }
+    {
+        let number = self.latest + 1;
         self.latest = number;
         let whole = FreeListRegion {
             chunk: number,
@@ -158,49 +187,7 @@ impl<M: MemoryObject, A: Allocator> FreeList<M, A> {
             });
         }
         let key = self.live.keep(slot);
-        Ok(FreeListBlock::new(handle, slot, key))
-    }
-
-    /// A block as [`get_block_from_new_memory`](FreeList::get_block_from_new_memory) gives it, in a chunk that the
-    /// device is asked for. Room is made before, so that after the question only the device refuses, or the host a
-    /// second handle of the chunk: then the chunk is given back, and nothing has changed.
-    pub(crate) fn get_block_from_new_chunk<D: ObjectDevice<M>>(
-        &mut self,
-        device: &mut D,
-        chunk_size: u64,
-        memory_type: u32,
-        flags: AllocationFlags,
-        visible: bool,
-        align_mask: u64,
-        size: u64,
-    ) -> Result<FreeListBlock<M>, AllocationError>
-        requires room { 0 < self.old.room }
-        requires nonempty { 0 < size }
-        requires inside { size ≤ chunk_size }
-        requires alignment { IsAlignMask align_mask }
-        requires number { HasNumber self.old.space }
-        requires askable { IsAskable (D.properties device.old) chunk_size memory_type (allocation_bits flags) }
-        requires visible { is_host_visible (D.properties device.old) memory_type ≡ visible }
-        ensures asks { Asked D.step device.old device.new
-            (λ es. AsksBlock (chunk_question chunk_size memory_type (allocation_bits flags) visible) es
-            (told_object (λ slot. slot.object) result)) }
-        ensures objects { ChunkAfter (chunk_question chunk_size memory_type (allocation_bits flags) visible)
-            (told_object (λ slot. slot.object) result) (D.objects device.old) (D.objects device.new) }
-        ensures properties { D.properties device.new ≡ D.properties device.old }
-        ensures block { IfOk result
-            (λ slot. slot ≡ first_tail self.old.space slot.object chunk_size size (align_mask + 1)) }
-        ensures chunk { IfOk result
-            (λ slot. self.new.space ≡ with_slot (with_chunk self.old.space slot.object chunk_size) slot) }
-        ensures refused { OnErr result (self.new ≡ self.old) }
-    {
-        let memory = new_chunk(device, chunk_size, memory_type, flags, visible)?;
-        match self.get_block_from_new_memory(memory, chunk_size, align_mask, size) {
-            Ok(block) => Ok(block),
-            Err(memory) => {
-                device.deallocate_memory(&memory);
-                Err(AllocationError::OutOfHostMemory)
-            }
-        }
+        FreeListBlock::new(handle, slot, key)
     }
 
     /// A block that is the tail of the last free run with room for it: all from the last multiple of `align_mask + 1`

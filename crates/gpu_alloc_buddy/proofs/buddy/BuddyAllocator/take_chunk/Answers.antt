@@ -7,7 +7,6 @@ use Rattle.gpu_alloc_base.specs.Chunks.{Chunk}
 use Rattle.gpu_alloc_base.specs.NewChunk.{HasOneChunkMore, chunk_question, made}
 use Rattle.gpu_alloc_base.proofs.Books.{object_more, refused_chunk}
 use Rattle.gpu_alloc_base.proofs.Maps.{own_inserted}
-use Rattle.gpu_alloc_base.proofs.NewChunks.{block_refused}
 use Rattle.gpu_alloc_buddy.specs.Buddy.{buddy_case, chunk_size, question, with_chunk, with_leaf}
 use Rattle.gpu_alloc_buddy.specs.BuddyInside.{buddy_in}
 use Rattle.gpu_alloc_buddy.specs.BuddyState.{Buddy}
@@ -35,7 +34,7 @@ returns-in-Err-clause-answers g c =
     let after : Buddy = buddy_in c.reserve.new.self.space c.self.inside.next_order c.self.inside.minimal_size c.self.inside.memory_type (property_bits c.self.inside.props) c.self.inside.atom in
     let same : after ≡ b = rw (c.reserve.ensures.kept.space) refl in
     let case = buddy_case (account b c.args.heap.now c.args.allocations_remains.now) (2 ^ c.args.order) flags in
-    let refused = refused_chunk case q told.0 c.in-Err.refusal refl is asks (block_refused q told.0 c.in-Err.refusal told.2) in (
+    let refused = refused_chunk case q told.0 c.in-Err.refusal refl is asks told.2 in (
       told.0,
       told.1,
       subst (λ x. Answers (buddy_case (account x c.args.heap.now c.args.allocations_remains.now) (2 ^ c.args.order) flags) told.0 (Err c.in-Err.refusal) (account after c.args.heap.now c.args.allocations_remains.now)) c.self.view_is

@@ -1,5 +1,4 @@
-use Rattle.std.proofs.Common.{arith, ◌≡◌, ℕ, ◌+◌, ◌-◌, List, Option, Ok, [], inl, inr, refl, sym, ◌∙◌, ap, subst}
-use Rattle.std.proofs.lemmas.Result.{err_from_is_err_and}
+use Rattle.std.proofs.Common.{arith, ◌≡◌, ℕ, ◌+◌, ◌-◌, List, Option, Ok, Err, [], inl, inr, refl, sym, ◌∙◌, ap, subst}
 use Rattle.gpu_alloc_types.specs.Device.{Object, Event}
 use Rattle.gpu_alloc_types.specs.Flags.{allocation_bits, has_bit, property_bits}
 use Rattle.gpu_alloc_freelist.specs.FreeList.{first_tail, with_chunk, with_slot}
@@ -25,28 +24,34 @@ returns-then-is_err-clause-answers g c =
     let asks = rw (← c.self.view_is) at c.requires.asks in
     rw (← c.self.view_is) ([], refl, (rw (c.reserve.ensures.kept) refl, inl (refl, record { fits = tt; ways = inr (asks.has.remains, asks.within) })))
 
-pub returns-in_err-block-clause-answers : goal.returns-in_err-block-clause-answers
-returns-in_err-block-clause-answers g c =
-    let p = err_from_is_err_and c.from_residual.result c.from_residual.ensures.1 in
+pub returns-in-Err-clause-answers : goal.returns-in-Err-clause-answers
+returns-in-Err-clause-answers g c =
     let l = listing_in c.self.inside.freelist.space c.self.inside.chunk_size c.self.inside.final_chunk_size c.self.inside.memory_type (property_bits c.self.inside.props) (c.self.inside.atom_mask + 1) in
     let asks = rw (← c.self.view_is) at c.requires.asks in
-    let told = c.in_err-block.ensures.asks in
+    let told = c.in-Err.ensures.asks in
     let flags = allocation_bits c.args.flags in
     let is = question_is l c.args.size c.chunk_size_for-chunk_size.result flags c.intersects-visible.result c.chunk_size_for-chunk_size.ensures.is c.intersects-visible.ensures in
     let case = list_case (account l c.args.heap.now c.args.allocations_remains.now) c.args.size (c.args.align_mask + 1) flags in
     let q = chunk_question c.chunk_size_for-chunk_size.result c.self.inside.memory_type flags c.intersects-visible.result in
-    rw (← c.self.view_is, p.1, p.2, c.in_err-block.ensures.refused, c.reserve.ensures.kept) (told.0, told.1, refused_chunk case q told.0 _ refl is asks told.2)
+    let after = listing_in c.reserve.new.self.space c.self.inside.chunk_size c.self.inside.final_chunk_size c.self.inside.memory_type (property_bits c.self.inside.props) (c.self.inside.atom_mask + 1) in
+    let same : after ≡ l = rw (c.reserve.ensures.kept) refl in
+    let refused = refused_chunk case q told.0 c.in-Err.refusal refl is asks told.2 in (
+      told.0,
+      told.1,
+      subst (λ x. Answers (list_case (account x c.args.heap.now c.args.allocations_remains.now) c.args.size (c.args.align_mask + 1) flags) told.0 (Err c.in-Err.refusal) (account after c.args.heap.now c.args.allocations_remains.now)) c.self.view_is
+          (subst (λ x. Answers case told.0 (Err c.in-Err.refusal) (account x c.args.heap.now c.args.allocations_remains.now)) (sym same) refused),
+    )
 
 pub invariant_of-self-3 : goal.invariant_of-self-3
 invariant_of-self-3 g c =
     let l : Listing = listing_in c.self.inside.freelist.space c.self.inside.chunk_size c.self.inside.final_chunk_size c.self.inside.memory_type (property_bits c.self.inside.props) (c.self.inside.atom_mask + 1) in
-    let object = c.in_ok-block.block.object in
+    let object = (g.M.MemoryObject.object c.in-Ok.handles.0) in
     let rounded = rw (← c.self.view_is) at c.requires.fits in
     let agrees = rw (← c.self.view_is) at c.requires.agrees in
-    let other : IsOther l object = other_objects l (g.D.ObjectDevice.properties c.args.device.now) (g.D.ObjectDevice.objects c.args.device.now) object agrees c.in_ok-block.ensures.objects.0 in
+    let other : IsOther l object = other_objects l (g.D.ObjectDevice.properties c.args.device.now) (g.D.ObjectDevice.objects c.args.device.now) object agrees c.in-Ok.ensures.objects.0 in
     let asked = askable l c.args.size c.args.align_mask rounded in
-    let is = grown_is l c.reserve.new.self.space c.get_block_from_new_chunk.new.self.space c.in_ok-block.block object c.chunk_size_for-chunk_size.result c.min-self-inside.result c.args.size (c.args.align_mask + 1)
-    c.reserve.ensures.kept c.in_ok-block.ensures.block c.in_ok-block.ensures.chunk c.chunk_size_for-chunk_size.ensures.is c.min-self-inside.ensures in
+    let is = grown_is l c.reserve.new.self.space c.begin-block.new.self.space c.begin-block.result object c.chunk_size_for-chunk_size.result c.min-self-inside.result c.args.size (c.args.align_mask + 1)
+    c.reserve.ensures.kept c.begin-block.ensures.block c.begin-block.ensures.chunk c.chunk_size_for-chunk_size.ensures.is c.min-self-inside.ensures in
     subst IsSound (sym is) (sound_in_new_chunk l object c.args.size (c.args.align_mask + 1) c.self.invariant other asked)
 
 pub invariant_of-self : goal.invariant_of-self
@@ -55,29 +60,26 @@ invariant_of-self g c = rw (c.reserve.ensures.kept) c.self.invariant
 pub invariant_of-self-2 : goal.invariant_of-self-2
 invariant_of-self-2 g c = rw (c.reserve.ensures.kept) c.self.invariant
 
-pub invariant_of-self-in_err-block : goal.invariant_of-self-in_err-block
-invariant_of-self-in_err-block g c = rw (c.in_err-block.ensures.refused, c.reserve.ensures.kept) c.self.invariant
-
 pub chunk_size_for-chunk_size-requires-clause-fits : goal.chunk_size_for-chunk_size-requires-clause-fits
 chunk_size_for-chunk_size-requires-clause-fits g c = (rw (← c.self.view_is) at c.requires.fits).fits
 
-pub get_block_from_new_chunk-requires-clause-askable : goal.get_block_from_new_chunk-requires-clause-askable
-get_block_from_new_chunk-requires-clause-askable g c =
+pub new_chunk_with_handle-made-requires-clause-askable : goal.new_chunk_with_handle-made-requires-clause-askable
+new_chunk_with_handle-made-requires-clause-askable g c =
     let agrees = rw (← c.self.view_is) at c.requires.agrees in
     record { nonempty = omega (arith, c.requires.fits.nonempty, c.chunk_size_for-chunk_size.ensures.enough); known = agrees.known; address = c.requires.address }
 
-pub get_block_from_new_chunk-requires-clause-visible : goal.get_block_from_new_chunk-requires-clause-visible
-get_block_from_new_chunk-requires-clause-visible g c =
+pub new_chunk_with_handle-made-requires-clause-visible : goal.new_chunk_with_handle-made-requires-clause-visible
+new_chunk_with_handle-made-requires-clause-visible g c =
     let agrees = rw (← c.self.view_is) at c.requires.agrees in
     ap (λ bits. has_bit bits 2) agrees.same ∙ sym c.intersects-visible.ensures
 
-pub get_block_from_new_chunk-requires-clause-number : goal.get_block_from_new_chunk-requires-clause-number
-get_block_from_new_chunk-requires-clause-number g c =
+pub begin-block-requires-clause-number : goal.begin-block-requires-clause-number
+begin-block-requires-clause-number g c =
     let asks = rw (← c.self.view_is) at c.requires.asks in
     rw (c.reserve.ensures.kept) asks.has.remains.number
 
-pub get_block_from_new_chunk-requires-clause-inside : goal.get_block_from_new_chunk-requires-clause-inside
-get_block_from_new_chunk-requires-clause-inside g c = c.chunk_size_for-chunk_size.ensures.enough
+pub begin-block-requires-clause-inside : goal.begin-block-requires-clause-inside
+begin-block-requires-clause-inside g c = c.chunk_size_for-chunk_size.ensures.enough
 
 pub overflow_mul-chunk_size : goal.overflow_mul-chunk_size
 overflow_mul-chunk_size g c = omega (arith, c.chunk_size_for-chunk_size.ensures.bound)
@@ -113,17 +115,17 @@ pub returns-clause-answers : goal.returns-clause-answers
 returns-clause-answers g c =
     let l : Listing = listing_in c.self.inside.freelist.space c.self.inside.chunk_size c.self.inside.final_chunk_size c.self.inside.memory_type (property_bits c.self.inside.props) (c.self.inside.atom_mask + 1) in
     let asks = rw (← c.self.view_is) at c.requires.asks in
-    let told = c.in_ok-block.ensures.asks in
+    let told = c.in-Ok.ensures.asks in
     let flags = allocation_bits c.args.flags in
     let q : ChunkQuestion = chunk_question c.chunk_size_for-chunk_size.result c.self.inside.memory_type flags c.intersects-visible.result in
     let is = question_is l c.args.size c.chunk_size_for-chunk_size.result flags c.intersects-visible.result c.chunk_size_for-chunk_size.ensures.is c.intersects-visible.ensures in
-    let after = account (record l { space = c.get_block_from_new_chunk.new.self.space; next_chunk = c.min-self-inside.result }) c.alloc.new.self (c.args.allocations_remains.now - 1) in (
+    let after = account (record l { space = c.begin-block.new.self.space; next_chunk = c.min-self-inside.result }) c.alloc.new.self (c.args.allocations_remains.now - 1) in (
       told.0,
       told.1,
-      subst (λ x. Answers (list_case (account x c.args.heap.now c.args.allocations_remains.now) c.args.size (c.args.align_mask + 1) flags) told.0 (Ok c.in_ok-block.block) after) c.self.view_is
-          (grown_answers l c.args.heap.now c.alloc.new.self c.args.allocations_remains.now c.args.size (c.args.align_mask + 1) flags c.in_ok-block.block.object c.chunk_size_for-chunk_size.result c.min-self-inside.result
-          c.reserve.new.self.space c.get_block_from_new_chunk.new.self.space c.in_ok-block.block told.0 q c.reserve.ensures.kept c.in_ok-block.ensures.block c.in_ok-block.ensures.chunk c.chunk_size_for-chunk_size.ensures.is c.min-self-inside.ensures
-          c.alloc.ensures is told.2 asks),
+      subst (λ x. Answers (list_case (account x c.args.heap.now c.args.allocations_remains.now) c.args.size (c.args.align_mask + 1) flags) told.0 (Ok c.begin-block.result) after) c.self.view_is
+          (grown_answers l c.args.heap.now c.alloc.new.self c.args.allocations_remains.now c.args.size (c.args.align_mask + 1) flags (g.M.MemoryObject.object c.in-Ok.handles.0) c.chunk_size_for-chunk_size.result c.min-self-inside.result
+          c.reserve.new.self.space c.begin-block.new.self.space c.begin-block.result told.0 q c.reserve.ensures.kept c.begin-block.ensures.block c.begin-block.ensures.chunk c.chunk_size_for-chunk_size.ensures.is c.min-self-inside.ensures
+          c.alloc.ensures is told.2.0 asks),
     )
 
 -- and the device's objects
@@ -148,13 +150,8 @@ returns-clause-objects g c =
     let q : ChunkQuestion = chunk_question c.chunk_size_for-chunk_size.result c.self.inside.memory_type flags c.intersects-visible.result in
     let is = question_is l c.args.size c.chunk_size_for-chunk_size.result flags c.intersects-visible.result c.chunk_size_for-chunk_size.ensures.is c.intersects-visible.ensures in
     let before = g.D.ObjectDevice.objects c.args.device.now in
-    let after = g.D.ObjectDevice.objects c.get_block_from_new_chunk.new.device in
-    let new : Listing = record l { space = c.get_block_from_new_chunk.new.self.space; next_chunk = c.min-self-inside.result } in
-    subst (λ x. ObjectsAfter x (Ok c.in_ok-block.block) new before after) c.self.view_is
-    (grown_objects l c.args.size (c.args.align_mask + 1) flags c.in_ok-block.block.object c.chunk_size_for-chunk_size.result c.min-self-inside.result c.reserve.new.self.space
-    c.get_block_from_new_chunk.new.self.space c.in_ok-block.block q before after c.self.invariant c.reserve.ensures.kept c.in_ok-block.ensures.block c.in_ok-block.ensures.chunk c.chunk_size_for-chunk_size.ensures.is is c.in_ok-block.ensures.objects)
-
-pub returns-in_err-block-clause-objects : goal.returns-in_err-block-clause-objects
-returns-in_err-block-clause-objects g c =
-    let p = err_from_is_err_and c.from_residual.result c.from_residual.ensures.1 in
-    rw (p.1) c.in_err-block.ensures.objects
+    let after = g.D.ObjectDevice.objects c.new_chunk_with_handle-made.new.device in
+    let new : Listing = record l { space = c.begin-block.new.self.space; next_chunk = c.min-self-inside.result } in
+    subst (λ x. ObjectsAfter x (Ok c.begin-block.result) new before after) c.self.view_is
+    (grown_objects l c.args.size (c.args.align_mask + 1) flags (g.M.MemoryObject.object c.in-Ok.handles.0) c.chunk_size_for-chunk_size.result c.min-self-inside.result c.reserve.new.self.space
+    c.begin-block.new.self.space c.begin-block.result q before after c.self.invariant c.reserve.ensures.kept c.begin-block.ensures.block c.begin-block.ensures.chunk c.chunk_size_for-chunk_size.ensures.is is c.in-Ok.ensures.objects)
