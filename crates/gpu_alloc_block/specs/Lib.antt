@@ -5,6 +5,7 @@ pub mod Codes
 pub mod Contents
 pub mod InHand
 pub mod Kept
+pub mod KeptMapping
 pub mod Keyed
 pub mod Lists
 pub mod Mapped

@@ -20,6 +20,7 @@ ghost use Rattle.gpu_alloc_block.specs.Mapped.{refusal, unmapping};
 ghost use Rattle.gpu_alloc_block.specs.Ranges.{HasEnd, atom_end, rounded};
 ghost use Rattle.gpu_alloc_block.specs.State.{Block, is_shared};
 
+use crate::kept_mapping::KeptMapping;
 use gpu_alloc_base::MapError;
 use gpu_alloc_types::{
     DeviceMapError, MappedMemoryRange, MemoryDevice, MemoryObject, MemoryPropertyFlags,
@@ -76,7 +77,7 @@ pub struct MemoryBlock<M: MemoryObject> {
     // The least unit of what has to be flushed of it, in bytes. A block's calls see no properties of the device.
     atom: u64,
     kind: Kind,
-    mapping: Option<Mapping>,
+    mapping: KeptMapping,
     // Under which the table of live spans has it. Contracts don't see it, since the table confirms it.
     key: usize,
 }
@@ -141,7 +142,7 @@ impl<M: MemoryObject> MemoryBlock<M> {
             props,
             atom,
             kind,
-            mapping: None,
+            mapping: KeptMapping::none(),
             key,
         }
     }
@@ -209,8 +210,7 @@ impl<M: MemoryObject> MemoryBlock<M> {
     pub fn mapping(&self) -> Option<Mapping>
         ensures { result ≡ self.now.mapping }
     {
-        let MemoryBlock { mapping, .. } = self;
-        *mapping
+        self.mapping.get()
     }
 
     /// Maps `size` bytes of the block from `offset` on, in bytes from its start, so that the host sees them until
@@ -261,7 +261,7 @@ impl<M: MemoryObject> MemoryBlock<M> {
             Ok(()) => {
                 let start = self.offset + offset;
                 let mapping = Mapping { start, len };
-                self.mapping = Some(mapping);
+                self.mapping = KeptMapping::of(mapping);
                 Ok(mapping)
             }
             Err(refusal) => Err(MapError::from(refusal)),
@@ -289,11 +289,11 @@ impl<M: MemoryObject> MemoryBlock<M> {
         ensures in_hand { KeepsInHand self.old (D.properties device.old) (D.objects device.old) self.new
             (D.properties device.new) (D.objects device.new) }
     {
-        if self.mapping.is_none() {
+        if !self.mapping.is_some() {
             return false;
         }
         self.close(device);
-        self.mapping = None;
+        self.mapping = KeptMapping::none();
         true
     }
 

@@ -2,6 +2,7 @@
 #![tactic(auto)]
 
 pub mod block;
+mod kept_mapping;
 pub mod laws;
 
 pub use block::{Kind, Mapping, MemoryBlock};

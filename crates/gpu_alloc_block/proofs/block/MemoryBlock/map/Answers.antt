@@ -22,9 +22,9 @@ returns-in-Ok-clause-agrees g c =
     let opened = g.D.ObjectDevice.objects c.open.new.device in
     let objects = subst (λ answer. ObjectsMapped b (rounded b c.args.offset c.args.size) answer f opened) c.in-Ok.is c.open.ensures.objects in
     let inside : IsOfBlock b (mapping_of b c.args.offset c.args.size) = record { nonempty = c.requires.nonempty; from = omega arith; to = omega (arith, c.requires.inside) } in
-    subst (λ x. BlockAgrees (record x { mapping = Some (mapping_of x c.args.offset c.args.size) }) q opened) (sym c.self.view_is)
+    rw (c.of-self-inside.ensures) (subst (λ x. BlockAgrees (record x { mapping = Some (mapping_of x c.args.offset c.args.size) }) q opened) (sym c.self.view_is)
     (agrees_remapped b (Some (mapping_of b c.args.offset c.args.size)) p q f opened c.open.ensures.properties inside (λ some. able_seen b (sym c.refusal.ensures ∙ c.in_default.is))
-    (mapped_so p b c.args.offset c.args.size f opened c.requires.agrees objects) c.requires.agrees)
+    (mapped_so p b c.args.offset c.args.size f opened c.requires.agrees objects) c.requires.agrees))
 
 pub returns-in-Ok-clause-keeps : goal.returns-in-Ok-clause-keeps
 unfolding BlockAgrees
@@ -40,8 +40,8 @@ returns-in-Ok-clause-keeps g c =
 pub returns-in-Ok-clause-same : goal.returns-in-Ok-clause-same
 unfolding BlockAgrees
 returns-in-Ok-clause-same g c =
-    subst (λ x. IsSameBlock c.args.self.now (record x { mapping = Some (mapping_of x c.args.offset c.args.size) })) (sym c.self.view_is)
-    (same_block c.args.self.now (Some (mapping_of c.args.self.now c.args.offset c.args.size)))
+    rw (c.of-self-inside.ensures) (subst (λ x. IsSameBlock c.args.self.now (record x { mapping = Some (mapping_of x c.args.offset c.args.size) })) (sym c.self.view_is)
+    (same_block c.args.self.now (Some (mapping_of c.args.self.now c.args.offset c.args.size))))
 
 pub returns-in-Some-clause-bytes : goal.returns-in-Some-clause-bytes
 returns-in-Some-clause-bytes g c = λ d. same_objects d (g.D.ObjectDevice.objects c.args.device.now) (g.D.ObjectDevice.objects c.args.device.now) refl
@@ -70,9 +70,9 @@ returns-in-Ok-clause-in_hand g c =
     let objects = subst (λ answer. ObjectsMapped b (rounded b c.args.offset c.args.size) answer f opened) c.in-Ok.is c.open.ensures.objects in
     let inside : IsOfBlock b m = record { nonempty = c.requires.nonempty; from = omega arith; to = omega (arith, c.requires.inside) } in
     let so = mapped_so p b c.args.offset c.args.size f opened c.requires.agrees objects in
-    subst (λ x. KeepsInHand b p f (record x { mapping = Some (mapping_of x c.args.offset c.args.size) }) q opened) (sym c.self.view_is)
+    rw (c.of-self-inside.ensures) (subst (λ x. KeepsInHand b p f (record x { mapping = Some (mapping_of x c.args.offset c.args.size) }) q opened) (sym c.self.view_is)
     (remapped_in_hand b (Some m) p q f opened c.open.ensures.properties so (agrees_remapped b (Some m) p q f opened c.open.ensures.properties inside (λ some. able_seen b (sym c.refusal.ensures ∙ c.in_default.is)) so c.requires.agrees)
-    (λ d. opened_leaves (is_shared b.kind) (rounded b c.args.offset c.args.size) f opened b d refl objects))
+    (λ d. opened_leaves (is_shared b.kind) (rounded b c.args.offset c.args.size) f opened b d refl objects)))
 
 pub returns-in-Err-clause-bytes : goal.returns-in-Err-clause-bytes
 returns-in-Err-clause-bytes g c = λ d.

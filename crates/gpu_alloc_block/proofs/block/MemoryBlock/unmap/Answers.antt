@@ -17,8 +17,8 @@ returns-clause-agrees g c =
     let q = g.D.ObjectDevice.properties c.close.new.device in
     let f = g.D.ObjectDevice.objects c.args.device.now in
     let closed = g.D.ObjectDevice.objects c.close.new.device in
-    subst (λ x. BlockAgrees (record x { mapping = None }) q closed) (sym c.self.view_is)
-    (agrees_remapped b None p q f closed c.close.ensures.properties tt (λ some. absurd (cc)) (unmapped_so p b f closed c.requires c.close.ensures.objects) c.requires)
+    rw (c.none-self-inside.ensures) (subst (λ x. BlockAgrees (record x { mapping = None }) q closed) (sym c.self.view_is)
+    (agrees_remapped b None p q f closed c.close.ensures.properties tt (λ some. absurd (cc)) (unmapped_so p b f closed c.requires c.close.ensures.objects) c.requires))
 
 pub returns-clause-keeps : goal.returns-clause-keeps
 unfolding BlockAgrees
@@ -32,13 +32,13 @@ returns-clause-keeps g c =
 pub returns-clause-same : goal.returns-clause-same
 unfolding BlockAgrees
 returns-clause-same g c =
-    subst (λ x. IsSameBlock c.args.self.now (record x { mapping = None })) (sym c.self.view_is) (same_block c.args.self.now None)
+    rw (c.none-self-inside.ensures) (subst (λ x. IsSameBlock c.args.self.now (record x { mapping = None })) (sym c.self.view_is) (same_block c.args.self.now None))
 
-pub returns-then-is_none-clause-bytes : goal.returns-then-is_none-clause-bytes
-returns-then-is_none-clause-bytes g c = λ d. same_objects d (g.D.ObjectDevice.objects c.args.device.now) (g.D.ObjectDevice.objects c.args.device.now) refl
+pub returns-then-not-is_some-clause-bytes : goal.returns-then-not-is_some-clause-bytes
+returns-then-not-is_some-clause-bytes g c = λ d. same_objects d (g.D.ObjectDevice.objects c.args.device.now) (g.D.ObjectDevice.objects c.args.device.now) refl
 
-pub returns-then-is_none-clause-in_hand : goal.returns-then-is_none-clause-in_hand
-returns-then-is_none-clause-in_hand g c =
+pub returns-then-not-is_some-clause-in_hand : goal.returns-then-not-is_some-clause-in_hand
+returns-then-not-is_some-clause-in_hand g c =
     nothing_in_hand c.args.self.now (g.D.ObjectDevice.properties c.args.device.now) (g.D.ObjectDevice.properties c.args.device.now) (g.D.ObjectDevice.objects c.args.device.now) (g.D.ObjectDevice.objects c.args.device.now) refl refl c.requires
 
 pub returns-clause-bytes : goal.returns-clause-bytes
@@ -55,6 +55,6 @@ returns-clause-in_hand g c =
     let f = g.D.ObjectDevice.objects c.args.device.now in
     let closed = g.D.ObjectDevice.objects c.close.new.device in
     let so = unmapped_so p b f closed c.requires c.close.ensures.objects in
-    subst (λ x. KeepsInHand b p f (record x { mapping = None }) q closed) (sym c.self.view_is)
+    rw (c.none-self-inside.ensures) (subst (λ x. KeepsInHand b p f (record x { mapping = None }) q closed) (sym c.self.view_is)
     (remapped_in_hand b None p q f closed c.close.ensures.properties so (agrees_remapped b None p q f closed c.close.ensures.properties tt (λ some. absurd (cc)) so c.requires)
-    (λ d. closed_leaves (is_shared b.kind) f closed b d c.close.ensures.objects))
+    (λ d. closed_leaves (is_shared b.kind) f closed b d c.close.ensures.objects)))
