@@ -8,8 +8,8 @@ pub mod Exactness
 pub mod FirstTypes
 pub mod FreeBytes
 pub mod FreeListSharing
-pub mod Growth
 pub mod FreeRanges
+pub mod Growth
 pub mod Importing
 pub mod Listing
 pub mod Inside

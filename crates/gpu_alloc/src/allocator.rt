@@ -231,7 +231,7 @@ impl<M: MemoryObject, A: Allocator> GpuAllocator<M, A> {
         ensures sound { Sound.IsSound self.new }
     {
         self.keeps_sound();
-        let answer = self.allocate(device, request, None, &None);
+        let answer = self.allocate(device, &request, None, &None);
         self.keeps_sound();
         answer
     }
@@ -277,7 +277,7 @@ impl<M: MemoryObject, A: Allocator> GpuAllocator<M, A> {
         ensures sound { Sound.IsSound self.new }
     {
         self.keeps_sound();
-        let answer = self.allocate(device, request, Some(dedicated), &None);
+        let answer = self.allocate(device, &request, Some(dedicated), &None);
         self.keeps_sound();
         answer
     }
@@ -286,15 +286,15 @@ impl<M: MemoryObject, A: Allocator> GpuAllocator<M, A> {
     fn allocate<D: ObjectDevice<M>>(
         &mut self,
         device: &mut D,
-        request: Request,
+        request: &Request,
         hint: Option<Dedicated>,
         paged: &Option<Request>,
     ) -> Result<MemoryBlock<M>, AllocationError>
-        requires askable { IsAskable (self.old.properties).buffer_device_address request }
+        requires askable { IsAskable (self.old.properties).buffer_device_address request.now }
         requires pages { IfSome paged.now (IsAskable (self.old.properties).buffer_device_address) }
         requires agrees { Agrees self.old (D.properties device.old) (D.objects device.old) }
         ensures decided { (es : List Event) × Chain D.step device.old es device.new
-            × AllocatesBy self.old (plan_with self.old request hint paged.now) es result self.new }
+            × AllocatesBy self.old (plan_with self.old request.now hint paged.now) es result self.new }
         ensures objects { ObjectsAfter self.old result self.new (D.objects device.old) (D.objects device.new) }
     {
         if request.size > self.max_allocation_size() {
@@ -304,7 +304,7 @@ impl<M: MemoryObject, A: Allocator> GpuAllocator<M, A> {
             return Err(AllocationError::TooManyObjects);
         }
         let usage = meaning(request.usage);
-        if !self.has_candidate(request, usage) {
+        if !self.has_candidate(*request, usage) {
             return Err(AllocationError::NoCompatibleMemoryTypes);
         }
         self.try_all(device, request, hint, paged, usage)
@@ -334,17 +334,18 @@ impl<M: MemoryObject, A: Allocator> GpuAllocator<M, A> {
     fn try_all<D: ObjectDevice<M>>(
         &mut self,
         device: &mut D,
-        request: Request,
+        request: &Request,
         hint: Option<Dedicated>,
         paged: &Option<Request>,
         usage: UsageFlags,
     ) -> Result<MemoryBlock<M>, AllocationError>
-        requires askable { IsAskable (self.old.properties).buffer_device_address request }
+        requires askable { IsAskable (self.old.properties).buffer_device_address request.now }
         requires pages { IfSome paged.now (IsAskable (self.old.properties).buffer_device_address) }
-        requires meant { usage_bits usage ≡ implied (usage_bits request.usage) }
+        requires meant { usage_bits usage ≡ implied (usage_bits (request.now).usage) }
         requires agrees { Agrees self.old (D.properties device.old) (D.objects device.old) }
         ensures tries { (es : List Event) × Chain D.step device.old es device.new
-            × TriesAll self.old (asked_of self.old request hint paged.now) (candidates_of self.old request) es result self.new }
+            × TriesAll self.old (asked_of self.old request.now hint paged.now) (candidates_of self.old request.now) es
+            result self.new }
         ensures objects { ObjectsAfter self.old result self.new (D.objects device.old) (D.objects device.new) }
     {
         for rank in 0..self.ranked(usage).len() {

@@ -5,8 +5,8 @@ ghost use Rattle.std.specs.Prelude.{◌≡◌, ◌<◌, None, Some, is_some};
 use crate::block::Mapping;
 use std::marker::Model;
 
-/// What is mapped of a block, or nothing, whose length is 0. (An `Option` has a tag beside, and carries bytes that nobody
-/// reads where there is nothing.)
+/// What is mapped of a block, or nothing, whose length is 0. (An `Option` has a tag beside it, and carries bytes that
+/// nobody reads where there is nothing.)
 #[derive(Drop)]
 pub(crate) struct KeptMapping {
     start: u64,

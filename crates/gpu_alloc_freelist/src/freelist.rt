@@ -389,7 +389,8 @@ impl<M: MemoryObject, A: Allocator> FreeListAllocator<M, A> {
         freelist.close();
     }
 
-    /// Whether so many bytes in whole atoms are no more than a largest chunk, so that `alloc` takes a request of that size.
+    /// Whether so many bytes in whole atoms are no more than a largest chunk, so that `alloc` takes a request of that
+    /// size.
     #[inline(always)]
     pub fn fits_a_chunk(&self, size: u64) -> bool
         ensures { result ≡ nat_le (up size (self.now).atom) (self.now).final_chunk }

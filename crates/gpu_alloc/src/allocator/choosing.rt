@@ -1,7 +1,6 @@
 //! Which way a memory type serves a request.
 
-ghost use Rattle.std.specs.Prelude.{◌≡◌, ◌<◌, ◌/◌, length};
-ghost use Rattle.gpu_alloc_types.specs.Properties.{heap_size};
+ghost use Rattle.std.specs.Prelude.{◌≡◌, ◌<◌, length};
 ghost use Rattle.gpu_alloc.specs.Allocation.{strategy, unhinted, fits_a_chunk};
 
 use super::{GpuAllocator, Strategy};
@@ -54,16 +53,12 @@ impl<M: MemoryObject, A: Allocator> GpuAllocator<M, A> {
         }
     }
 
-    /// Whether a request in whole atoms fits a largest free-list chunk. Its size is below a 32nd part of a heap.
+    /// Whether a request in whole atoms fits a largest free-list chunk.
     #[inline(always)]
     fn fits_a_chunk(&self, request: Request, memory_type: u32) -> bool
         requires known { memory_type < length (self.now.properties).memory_types }
-        requires small { request.size < heap_size self.now.properties memory_type / 32 }
         ensures { result ≡ fits_a_chunk self.now request memory_type }
     {
-        let atom = self.limits.atom(memory_type);
-        let heap = self.heap_size(memory_type);
-        let size = (request.size + (atom - 1)) / atom * atom;
-        size <= self.limits.config.final_size(heap, atom)
+        self.free_lists[memory_type as usize].fits_a_chunk(request.size)
     }
 }

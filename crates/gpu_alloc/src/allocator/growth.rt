@@ -4,9 +4,9 @@
 ghost use Rattle.std.specs.Prelude.{◌≡◌, ℕ, ◌≤◌, ◌<◌, IfSome, None, Some};
 ghost use Rattle.gpu_alloc_base.specs.Accounts.{account};
 ghost use Rattle.gpu_alloc_base.specs.AlignMasks.{IsAlignMask};
-ghost use Rattle.gpu_alloc.specs.Growth.{IsFirst};
 ghost use Rattle.gpu_alloc_base.specs.Sizes.{up};
 ghost use Rattle.gpu_alloc_base.specs.Wanted.{wanted};
+ghost use Rattle.gpu_alloc.specs.Growth.{IsFirst};
 ghost use Rattle.gpu_alloc_buddy.specs.Buddy as of_buddy;
 ghost use Rattle.gpu_alloc_freelist.specs.FreeListAllocator as of_list;
 

@@ -91,7 +91,7 @@ impl<M: MemoryObject, A: Allocator> GpuAllocator<M, A> {
         ensures objects { ObjectsAfter self.old result self.new (D.objects device.old) (D.objects device.new) }
     {
         match request.in_pages(granularity) {
-            Some(paged) => self.allocate(device, request, hint, &Some(paged)),
+            Some(paged) => self.allocate(device, &request, hint, &Some(paged)),
             None => Err(AllocationError::OutOfDeviceMemory),
         }
     }
@@ -119,17 +119,17 @@ impl<M: MemoryObject, A: Allocator> GpuAllocator<M, A> {
     pub(super) fn try_asked<D: ObjectDevice<M>>(
         &mut self,
         device: &mut D,
-        request: Request,
+        request: &Request,
         hint: Option<Dedicated>,
         paged: &Option<Request>,
         memory_type: u32,
     ) -> Result<Option<MemoryBlock<M>>, AllocationError>
-        requires askable { IsAskable (self.old.properties).buffer_device_address request }
+        requires askable { IsAskable (self.old.properties).buffer_device_address request.now }
         requires pages { IfSome paged.now (IsAskable (self.old.properties).buffer_device_address) }
         requires known { memory_type < length (self.old.properties).memory_types }
         requires agrees { Agrees self.old (D.properties device.old) (D.objects device.old) }
         ensures tries { (es : List Event) × Chain D.step device.old es device.new
-            × TriesAsked self.old (asked_of self.old request hint paged.now) memory_type es result self.new }
+            × TriesAsked self.old (asked_of self.old request.now hint paged.now) memory_type es result self.new }
         ensures objects { ObjectsTried self.old result self.new (D.objects device.old) (D.objects device.new) }
     {
         // (field by field, so that nothing of it is written to memory where no page is asked for)
@@ -142,7 +142,7 @@ impl<M: MemoryObject, A: Allocator> GpuAllocator<M, A> {
                 hint,
             ),
             Some(paged) => {
-                let asked = self.ask_in_pages(request, hint, *paged, memory_type);
+                let asked = self.ask_in_pages(request, hint, paged, memory_type);
                 let own = asked.request;
                 (
                     own.size,
@@ -167,22 +167,22 @@ impl<M: MemoryObject, A: Allocator> GpuAllocator<M, A> {
     #[inline(never)]
     fn ask_in_pages(
         &self,
-        request: Request,
+        request: &Request,
         hint: Option<Dedicated>,
-        paged: Request,
+        paged: &Request,
         memory_type: u32,
     ) -> Ask
         requires known { memory_type < length (self.now.properties).memory_types }
-        ensures { result ≡ ask_in_pages self.now request hint paged memory_type }
+        ensures { result ≡ ask_in_pages self.now request.now hint paged.now memory_type }
     {
-        if self.serves_alone(paged, hint, memory_type) {
+        if self.serves_alone(*paged, hint, memory_type) {
             Ask {
-                request,
+                request: *request,
                 hint: Some(Dedicated::Required),
             }
         } else {
             Ask {
-                request: paged,
+                request: *paged,
                 hint,
             }
         }

@@ -28,8 +28,8 @@ returns-clause-tries g c =
     let before = c.loop-rank.invariant.passed in
     let row = ranking (named (usage_bits c.args.usage)) c.args.self.now.properties.memory_types in
     let past : length row ≤ c.loop-rank.rank = rw (← c.ranked-rank-end.ensures.ranked) (omega (arith, c.loop-rank-test.false)) in
-    let ends = continues_end c.args.self.now (asked_of c.args.self.now c.args.request c.args.hint c.args.paged.now) (is_allowed c.args.request.memory_types) row c.loop-rank.rank before.0 past before.2 in
-    rw c.loop-rank.invariant.same (before.0, before.1, tries_as_meant c.args.self.now c.args.request (asked_of c.args.self.now c.args.request c.args.hint c.args.paged.now) (usage_bits c.args.usage) _ _ _ c.requires.meant ends)
+    let ends = continues_end c.args.self.now (asked_of c.args.self.now c.args.request.now c.args.hint c.args.paged.now) (is_allowed c.args.request.now.memory_types) row c.loop-rank.rank before.0 past before.2 in
+    rw c.loop-rank.invariant.same (before.0, before.1, tries_as_meant c.args.self.now c.args.request.now (asked_of c.args.self.now c.args.request.now c.args.hint c.args.paged.now) (usage_bits c.args.usage) _ _ _ c.requires.meant ends)
 
 pub loop-rank-preserved : goal.loop-rank-preserved
 loop-rank-preserved g c = elim c.if-request-memory_type-eq1.branch [
@@ -38,11 +38,11 @@ loop-rank-preserved g c = elim c.if-request-memory_type-eq1.branch [
       let row = ranking (named (usage_bits c.args.usage)) c.args.self.now.properties.memory_types in
       let at_rank = c.ranked.ensures.ranked ∙ ap (λ s. ranking (named (usage_bits c.args.usage)) s.properties.memory_types) c.loop-rank.invariant.same in
       let inside : c.loop-rank.rank < length row = rw (← c.ranked-rank-end.ensures.ranked) c.loop-rank-test.true in
-      let allowed : is_allowed c.args.request.memory_types (get_or row c.loop-rank.rank 0) ≡ true = allowed_by_shift c.args.request.memory_types (get_or row c.loop-rank.rank 0) (rw at_rank at w.if-request-memory_type-eq1.true) in
+      let allowed : is_allowed c.args.request.now.memory_types (get_or row c.loop-rank.rank 0) ≡ true = allowed_by_shift c.args.request.now.memory_types (get_or row c.loop-rank.rank 0) (rw at_rank at w.if-request-memory_type-eq1.true) in
       let tried = rw (w.in-Ok-None.field-0-is, c.loop-rank.invariant.same, at_rank) at w.in-Ok-None.ensures.tries in
       record {
         same = w.self-is ∙ tried.2.1;
-        passed = rw (w.device-is, add-one) (_, chain_append g.D.ObjectDevice.step _ _ _ _ _ before.1 tried.1, continues_next c.args.self.now (asked_of c.args.self.now c.args.request c.args.hint c.args.paged.now) (is_allowed c.args.request.memory_types) row c.loop-rank.rank _ _ inside allowed before.2 tried.2.0);
+        passed = rw (w.device-is, add-one) (_, chain_append g.D.ObjectDevice.step _ _ _ _ _ before.1 tried.1, continues_next c.args.self.now (asked_of c.args.self.now c.args.request.now c.args.hint c.args.paged.now) (is_allowed c.args.request.now.memory_types) row c.loop-rank.rank _ _ inside allowed before.2 tried.2.0);
         objects = rw w.device-is (rw w.in-Ok-None.field-0-is at w.in-Ok-None.ensures.objects ∙ c.loop-rank.invariant.objects);
       }
   | else-request-memory_type-eq1 w ↦
@@ -50,10 +50,10 @@ loop-rank-preserved g c = elim c.if-request-memory_type-eq1.branch [
       let row = ranking (named (usage_bits c.args.usage)) c.args.self.now.properties.memory_types in
       let at_rank = c.ranked.ensures.ranked ∙ ap (λ s. ranking (named (usage_bits c.args.usage)) s.properties.memory_types) c.loop-rank.invariant.same in
       let inside : c.loop-rank.rank < length row = rw (← c.ranked-rank-end.ensures.ranked) c.loop-rank-test.true in
-      let past = not_by_shift c.args.request.memory_types (get_or row c.loop-rank.rank 0) (rw at_rank at w.if-request-memory_type-eq1.false) in
+      let past = not_by_shift c.args.request.now.memory_types (get_or row c.loop-rank.rank 0) (rw at_rank at w.if-request-memory_type-eq1.false) in
       record {
         same = w.self-is ∙ c.loop-rank.invariant.same;
-        passed = rw (w.device-is, add-one) (before.0, before.1, continues_past c.args.self.now (asked_of c.args.self.now c.args.request c.args.hint c.args.paged.now) (is_allowed c.args.request.memory_types) row c.loop-rank.rank before.0 inside past before.2);
+        passed = rw (w.device-is, add-one) (before.0, before.1, continues_past c.args.self.now (asked_of c.args.self.now c.args.request.now c.args.hint c.args.paged.now) (is_allowed c.args.request.now.memory_types) row c.loop-rank.rank before.0 inside past before.2);
         objects = rw w.device-is c.loop-rank.invariant.objects;
       }
 ]
@@ -64,10 +64,10 @@ returns-in-Ok-Some-clause-tries g c =
     let row = ranking (named (usage_bits c.args.usage)) c.args.self.now.properties.memory_types in
     let at_rank = c.ranked.ensures.ranked ∙ ap (λ s. ranking (named (usage_bits c.args.usage)) s.properties.memory_types) c.loop-rank.invariant.same in
     let inside : c.loop-rank.rank < length row = rw (← c.ranked-rank-end.ensures.ranked) c.loop-rank-test.true in
-    let allowed : is_allowed c.args.request.memory_types (get_or row c.loop-rank.rank 0) ≡ true = allowed_by_shift c.args.request.memory_types (get_or row c.loop-rank.rank 0) (rw at_rank at c.if-request-memory_type-eq1.true) in
+    let allowed : is_allowed c.args.request.now.memory_types (get_or row c.loop-rank.rank 0) ≡ true = allowed_by_shift c.args.request.now.memory_types (get_or row c.loop-rank.rank 0) (rw at_rank at c.if-request-memory_type-eq1.true) in
     let tried = rw (c.in-Ok-Some.field-0-is, c.loop-rank.invariant.same, at_rank) at c.in-Ok-Some.ensures.tries in
-    let decided = continues_decided c.args.self.now (asked_of c.args.self.now c.args.request c.args.hint c.args.paged.now) (is_allowed c.args.request.memory_types) row c.args.self.now c.loop-rank.rank before.0 tried.0 _ _ refl inside allowed before.2 tried.2 in
-    (_, chain_append g.D.ObjectDevice.step _ _ _ _ _ before.1 tried.1, tries_as_meant c.args.self.now c.args.request (asked_of c.args.self.now c.args.request c.args.hint c.args.paged.now) (usage_bits c.args.usage) _ _ _ c.requires.meant decided)
+    let decided = continues_decided c.args.self.now (asked_of c.args.self.now c.args.request.now c.args.hint c.args.paged.now) (is_allowed c.args.request.now.memory_types) row c.args.self.now c.loop-rank.rank before.0 tried.0 _ _ refl inside allowed before.2 tried.2 in
+    (_, chain_append g.D.ObjectDevice.step _ _ _ _ _ before.1 tried.1, tries_as_meant c.args.self.now c.args.request.now (asked_of c.args.self.now c.args.request.now c.args.hint c.args.paged.now) (usage_bits c.args.usage) _ _ _ c.requires.meant decided)
 
 pub returns-in-Err-clause-tries : goal.returns-in-Err-clause-tries
 returns-in-Err-clause-tries g c =
@@ -75,14 +75,14 @@ returns-in-Err-clause-tries g c =
     let row = ranking (named (usage_bits c.args.usage)) c.args.self.now.properties.memory_types in
     let at_rank = c.ranked.ensures.ranked ∙ ap (λ s. ranking (named (usage_bits c.args.usage)) s.properties.memory_types) c.loop-rank.invariant.same in
     let inside : c.loop-rank.rank < length row = rw (← c.ranked-rank-end.ensures.ranked) c.loop-rank-test.true in
-    let allowed : is_allowed c.args.request.memory_types (get_or row c.loop-rank.rank 0) ≡ true = allowed_by_shift c.args.request.memory_types (get_or row c.loop-rank.rank 0) (rw at_rank at c.if-request-memory_type-eq1.true) in
+    let allowed : is_allowed c.args.request.now.memory_types (get_or row c.loop-rank.rank 0) ≡ true = allowed_by_shift c.args.request.now.memory_types (get_or row c.loop-rank.rank 0) (rw at_rank at c.if-request-memory_type-eq1.true) in
     let tried = c.in-Err.ensures.tries in
     let same = c.loop-rank.invariant.same in
-    let is_asked = ap (λ (s : State). asked_of s c.args.request c.args.hint c.args.paged.now (get_or c.ranked.result.now c.loop-rank.rank 0)) same
-    ∙ ap (λ ts. asked_of c.args.self.now c.args.request c.args.hint c.args.paged.now (get_or ts c.loop-rank.rank 0)) at_rank in
+    let is_asked = ap (λ (s : State). asked_of s c.args.request.now c.args.hint c.args.paged.now (get_or c.ranked.result.now c.loop-rank.rank 0)) same
+    ∙ ap (λ ts. asked_of c.args.self.now c.args.request.now c.args.hint c.args.paged.now (get_or ts c.loop-rank.rank 0)) at_rank in
     let here = decides_as c.loop-rank.self c.args.self.now _ _ _ _ same is_asked (ap (λ ts. get_or ts c.loop-rank.rank 0) at_rank) tried.0 (Err c.in-Err.refusal) c.try_asked.new.self tried.2 in
-    let decided = continues_decided c.args.self.now (asked_of c.args.self.now c.args.request c.args.hint c.args.paged.now) (is_allowed c.args.request.memory_types) row c.args.self.now c.loop-rank.rank before.0 tried.0 _ _ refl inside allowed before.2 here in
-    (_, chain_append g.D.ObjectDevice.step _ _ _ _ _ before.1 tried.1, tries_as_meant c.args.self.now c.args.request (asked_of c.args.self.now c.args.request c.args.hint c.args.paged.now) (usage_bits c.args.usage) _ _ _ c.requires.meant decided)
+    let decided = continues_decided c.args.self.now (asked_of c.args.self.now c.args.request.now c.args.hint c.args.paged.now) (is_allowed c.args.request.now.memory_types) row c.args.self.now c.loop-rank.rank before.0 tried.0 _ _ refl inside allowed before.2 here in
+    (_, chain_append g.D.ObjectDevice.step _ _ _ _ _ before.1 tried.1, tries_as_meant c.args.self.now c.args.request.now (asked_of c.args.self.now c.args.request.now c.args.hint c.args.paged.now) (usage_bits c.args.usage) _ _ _ c.requires.meant decided)
 
 pub returns-in-Err-clause-objects : goal.returns-in-Err-clause-objects
 returns-in-Err-clause-objects g c =
