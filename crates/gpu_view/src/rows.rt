@@ -217,9 +217,10 @@ impl Row for Place {
             None => None,
         };
         // (no picture shows the value)
-        if members.numbers[3].is_some() {
-            members.word(from, 3)?;
-        }
+        let _user = match members.numbers[3] {
+            Some(_) => Some(members.word(from, 3)?),
+            None => None,
+        };
         Ok(Place {
             block,
             offset: members.word(from, 0)?,
