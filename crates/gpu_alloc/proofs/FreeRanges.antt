@@ -18,7 +18,7 @@ use Rattle.gpu_alloc_freelist.specs.FreeListAllocator.{IsRunOf}
 use Rattle.gpu_alloc_freelist.specs.FreeListState.{Listing, IsFreeIn}
 use Rattle.gpu_alloc.specs.FreeBytes.{IsFreeByte}
 use Rattle.gpu_alloc.specs.FreeRanges.{IsFreePieceOf, IsFreeRunOf, IsFreeRangeOf}
-use Rattle.gpu_alloc.specs.Spans.{Place}
+use Rattle.gpu_alloc.specs.Spans.{Place, Room}
 use Rattle.gpu_alloc_base.proofs.Lists.{contains_head, contains_later, head_is_other}
 use Rattle.gpu_alloc_base.proofs.Maps.{one_value}
 use Rattle.gpu_alloc_base.proofs.RangeOrder.{starts_apart, order_is_distinct}
@@ -27,7 +27,7 @@ use Rattle.gpu_alloc.proofs.FreeLists.Serving.{ServesList, list_chunk_was, free_
 
 -- Free pieces of buddy chunks.
 
-module _ (s : State) (places : map.FinMap span_cmp Place) (room index : ℕ) (b : Buddy) (serves : Serves s places room index b) where
+module _ (s : State) (places : map.FinMap span_cmp Place) (room : Room) (index : ℕ) (b : Buddy) (serves : Serves s places room index b) where
   piece_is : (r : FreeRange) → IsPieceOf b r → IsFreePieceOf s index r
   piece_is r is = record {
     length = is.length;
@@ -59,7 +59,7 @@ run_to F G x y to from start end run = record {
   longest = λ start' end' free before after. run.longest start' end' (λ at low high. from at (free at low high)) before after;
 }
 
-module _ (s : State) (places : map.FinMap span_cmp Place) (room index : ℕ) (l : Listing) (serves : ServesList s places room index l) where
+module _ (s : State) (places : map.FinMap span_cmp Place) (room : Room) (index : ℕ) (l : Listing) (serves : ServesList s places room index l) where
   module _ (number : ℕ) (chunk : Chunk) (held : map.get l.space.chunks number ≡ Some chunk) where
     byte_is : (at : ℕ) → IsFreeIn l.space number at → IsFreeByte s index (FreeListChunk number) chunk.object at
     byte_is at free =
@@ -115,7 +115,7 @@ distinct_append e (x ∷ xs) ys first second apart =
     ]))
     (distinct_append e xs ys (IsDistinct-tail e x xs first) second (λ a b has_a has_b. apart a b (contains_later x a xs has_a) has_b))
 
-module _ (s : State) (places : map.FinMap span_cmp Place) (room index : ℕ) (b : Buddy) (l : Listing) (of_buddy : Serves s places room index b) (of_list : ServesList s places room index l)
+module _ (s : State) (places : map.FinMap span_cmp Place) (room : Room) (index : ℕ) (b : Buddy) (l : Listing) (of_buddy : Serves s places room index b) (of_list : ServesList s places room index l)
     (pieces runs : List FreeRange) (pieces_are : (r : FreeRange) → Contains pieces r ↔ IsPieceOf b r) (runs_are : (r : FreeRange) → Contains runs r ↔ IsRunOf l.space r) where
   -- exactly the free pieces and the free runs
   pub pieces_and_runs : (r : FreeRange) → Contains (pieces ++ runs) r ↔ IsFreeRangeOf s index r

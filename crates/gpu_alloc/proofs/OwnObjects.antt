@@ -9,14 +9,14 @@ use Rattle.gpu_alloc_freelist.specs.FreeListState.{Listing}
 use Rattle.gpu_alloc.specs.Inside.{IsKnown, IsOfObject, IsChunkOf, IsLinked, IsBuddyOf, IsNumberedChunk, IsListLinked, IsListOf, IsConsistent, offer_of}
 use Rattle.gpu_alloc.specs.Budget.{is_import}
 use Rattle.gpu_alloc.specs.Sound.{is_list_chunk}
-use Rattle.gpu_alloc.specs.Spans.{Place, Table}
-use Rattle.gpu_alloc_block.specs.State.{HeldObject, Span, is_shared}
+use Rattle.gpu_alloc.specs.Spans.{Place, Room, Table}
+use Rattle.gpu_alloc_block.specs.State.{HeldObject, Span, is_shared, span_cmp}
 use Rattle.gpu_alloc_block.specs.declared.block.Kind.{Kind}
 use Rattle.gpu_alloc_block.specs.declared.block.Kind.TheVariants.{Dedicated, Imported, BuddyChunk, FreeListChunk}
 use Rattle.gpu_alloc_base.specs.declared.config.Config.{Config}
 use Rattle.gpu_alloc_base.specs.declared.heap.Heap.{Heap}
 use Rattle.gpu_alloc.proofs.Consistency.{HoldsMore, HoldsFewer, known_still, of_object_still, booked-held, booked-gone}
-use Rattle.gpu_alloc.proofs.Buddies.HasBuddies.{IsNoChunk, beside_more, beside_fewer, buddies_beside}
+use Rattle.gpu_alloc.proofs.Buddies.HasBuddies.{IsNoChunk, beside_came, beside_went, buddies_beside}
 use Rattle.gpu_alloc.proofs.FreeLists.HasLists.{IsNoListChunk, lists_beside}
 use Rattle.gpu_alloc.proofs.Buddies.Links.{IsBeside}
 use Rattle.gpu_alloc_base.proofs.Maps.{other_inserted, kept_other, gone, name_test, eq-true}
@@ -29,7 +29,7 @@ some_also P Q (Some x) also is = also x is
 
 -- Room is made, and nothing else changes.
 
-module _ (c : Config) (p : Properties) (t : Table) (room : ℕ) where
+module _ (c : Config) (p : Properties) (t : Table) (room : Room) where
   abbrev wider : Table
   wider = record t { room = room }
 
@@ -118,24 +118,27 @@ module _ (c : Config) (p : Properties) (heaps : List Heap) (buddies : List Buddy
     subst (λ (o : Option HeldObject). IfSome o (λ x. is_list_chunk x.kind ≡ false)) (sym none) tt,
   )
 
-  pub consistent-held : HoldsMore p heaps t remaining is.books offers now h span → (place : Place) → now.places ≡ finite.insert t.places span place
+  same_places : now.places ≡ t.places → (other : Span) → other.object ≢ span.object → finite.get now.places other ≡ finite.get t.places other
+  same_places places other apart = ap (λ (m : finite.FinMap span_cmp Place). finite.get m other) places
+
+  pub consistent-held : HoldsMore p heaps t remaining is.books offers now h span → now.places ≡ t.places
       → (heap changed : Heap) (i : ℕ) → 0 < remaining → i ≡ heap_at p h.memory_type → heap ≡ get_or heaps i heap → changed ≡ record heap { used = heap.used + h.counted } → (is_import h.kind ≡ false → heap.used + h.counted ≤ heap.limit)
       → IsConsistent c p (set heaps i changed) buddies lists now (remaining - 1)
-  consistent-held m place places heap changed i some here at more fits = record {
+  consistent-held m places heap changed i some here at more fits = record {
     books = booked-held p heaps t remaining is.books offers now h span m heap changed i some here at more fits;
     shared = buddies_beside c p t now buddies span.object beside is.shared (no_object t m.free).0 (own_object now found).0;
     listed = lists_beside c p t now lists span.object beside is.listed (no_object t m.free).1 (own_object now found).1;
   }
     where
       beside : IsBeside t now span.object
-      beside = beside_more t now span (λ q other. ap (λ (x : Held). finite.get x q) m.held ∙ other_inserted t.held span.object h q other) place m.live places
+      beside = beside_came t now span (λ q other. ap (λ (x : Held). finite.get x q) m.held ∙ other_inserted t.held span.object h q other) (same_places places) m.live
 
       found : finite.get now.held span.object ≡ Some h
       found =
           ap (λ (x : Held). finite.get x span.object) m.held ∙ finite.get-insert nat_cmp_total t.held span.object h span.object
           ∙ ap (λ b. cond b (Some h) (finite.get t.held span.object)) (name_test span.object span.object ∙ eq-true span.object span.object refl)
 
-  pub consistent-gone : HoldsFewer p heaps t remaining is.books offers now h span → now.places ≡ finite.remove t.places span
+  pub consistent-gone : HoldsFewer p heaps t remaining is.books offers now h span → now.places ≡ t.places
       → (heap changed : Heap) (i : ℕ) → i ≡ heap_at p h.memory_type → heap ≡ get_or heaps i heap → changed ≡ record heap { used = heap.used - h.counted }
       → IsConsistent c p (set heaps i changed) buddies lists now (remaining + 1)
   consistent-gone l places heap changed i here at less = record {
@@ -145,7 +148,7 @@ module _ (c : Config) (p : Properties) (heaps : List Heap) (buddies : List Buddy
   }
     where
       beside : IsBeside t now span.object
-      beside = beside_fewer t now span (λ q other. ap (λ (x : Held). finite.get x q) l.held ∙ kept_other t.held span.object q other) l.live places
+      beside = beside_went t now span (λ q other. ap (λ (x : Held). finite.get x q) l.held ∙ kept_other t.held span.object q other) (same_places places) l.live
 
       none : finite.get now.held span.object ≡ None
       none = ap (λ (x : Held). finite.get x span.object) l.held ∙ gone t.held span.object

@@ -4,7 +4,7 @@ use Rattle.std.proofs.Math.ListN.{set}
 use Rattle.std.specs.FinMap as finite
 use Rattle.std.specs.FinSet as set_of
 use Rattle.gpu_alloc_block.specs.State.{State, HeldObject, Block, IsOwned, is_shared, span_of}
-use Rattle.gpu_alloc.specs.Spans.{Table, held_of, span_at}
+use Rattle.gpu_alloc.specs.Spans.{Table}
 use Rattle.gpu_alloc_buddy.specs.BuddyState.{Buddy}
 use Rattle.gpu_alloc_freelist.specs.FreeListState.{Listing}
 use Rattle.gpu_alloc.specs.Inside.{state_in, properties_in, IsBooked}
@@ -13,7 +13,6 @@ use Rattle.gpu_alloc.specs.declared.limits.Limits.{Limits}
 use Rattle.gpu_alloc_block.specs.declared.block.Kind.{Kind}
 use Rattle.gpu_alloc_block.specs.declared.block.Kind.TheVariants.{Dedicated, Imported, BuddyChunk, FreeListChunk}
 use Rattle.gpu_alloc_base.specs.declared.heap.Heap.{Heap}
-use Rattle.gpu_alloc.specs.declared.spans.HeldRow.{HeldRow}
 use Rattle.gpu_alloc.proofs.Consistency.{HoldsFewer, known_object}
 use Rattle.gpu_alloc.proofs.HeapLists.{state_kept}
 use Rattle.gpu_alloc_base.proofs.Maps.{one_value}
@@ -30,21 +29,21 @@ goes_with BuddyChunk s object own = absurd (cc)
 goes_with (FreeListChunk number) s object own = absurd (cc)
 
 -- The table gave back what it had of the block's object, and holds it no more.
-pub let_go : {A : Type 0} (l : Limits A) (heaps : List Heap) (buddies : List Buddy) (lists : List Listing) (t now : Table) (remaining : ℕ) (b : Block) (name offset size : ℕ) (row : HeldRow) (is : IsBooked (properties_in l heaps) heaps t remaining)
-    → IsOwned (state_in l heaps buddies lists t remaining) b → is_shared b.kind ≡ false → name ≡ b.object → offset ≡ b.offset → size ≡ b.size → finite.get t.held name ≡ Some (held_of row)
-    → now.held ≡ finite.remove t.held name → now.live ≡ set_of.remove t.live (span_at name offset size)
-    → (is_shared row.kind ≡ false) × HoldsFewer (properties_in l heaps) heaps t remaining is refl now (held_of row) (span_of b)
-let_go l heaps buddies lists t now remaining b name offset size row is owned alone same_name same_offset same_size found held live =
-    let there : finite.get t.held b.object ≡ Some (held_of row) = ap (finite.get t.held) (sym same_name) ∙ found in
-    let same : owned.held.0 ≡ held_of row = one_value _ owned.held.0 (held_of row) owned.held.1 there in
-    let own : is_shared row.kind ≡ false = ap is_shared (ap (λ (x : HeldObject). x.kind) (sym same) ∙ owned.held.3) ∙ alone in
-    let one = (known_object (properties_in l heaps) heaps t remaining is refl b.object (held_of row) there).one_span own in (
+pub let_go : {A : Type 0} (l : Limits A) (heaps : List Heap) (buddies : List Buddy) (lists : List Listing) (t now : Table) (remaining : ℕ) (b : Block) (name : ℕ) (h : HeldObject) (is : IsBooked (properties_in l heaps) heaps t remaining)
+    → IsOwned (state_in l heaps buddies lists t remaining) b → is_shared b.kind ≡ false → name ≡ b.object → finite.get t.held name ≡ Some h
+    → now.held ≡ finite.remove t.held name → now.live ≡ set_of.remove t.live (span_of b)
+    → (is_shared h.kind ≡ false) × HoldsFewer (properties_in l heaps) heaps t remaining is refl now h (span_of b)
+let_go l heaps buddies lists t now remaining b name h is owned alone same_name found held live =
+    let there : finite.get t.held b.object ≡ Some h = ap (finite.get t.held) (sym same_name) ∙ found in
+    let same : owned.held.0 ≡ h = one_value _ owned.held.0 h owned.held.1 there in
+    let own : is_shared h.kind ≡ false = ap is_shared (ap (λ (x : HeldObject). x.kind) (sym same) ∙ owned.held.3) ∙ alone in
+    let one = (known_object (properties_in l heaps) heaps t remaining is refl b.object h there).one_span own in (
       own,
       record {
         found = there;
         last = λ other live of_it. one.alone other live of_it ∙ sym (one.alone (span_of b) owned.live refl);
         held = held ∙ ap (finite.remove t.held) same_name;
-        live = live ∙ ap (set_of.remove t.live) (λ k. record { object = same_name k; offset = same_offset k; size = same_size k });
+        live = live;
       },
     )
 

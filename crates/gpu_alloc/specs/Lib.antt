@@ -14,6 +14,7 @@ pub mod Importing
 pub mod Listing
 pub mod Inside
 pub mod Opening
+pub mod Own
 pub mod Owned
 pub mod Pages
 pub mod Release

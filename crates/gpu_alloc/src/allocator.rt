@@ -39,8 +39,9 @@ mod serving;
 mod uncounted;
 
 use crate::limits::Limits;
+use crate::own::OwnRow;
 use crate::request::is_required;
-use crate::spans::{HeldRow, LiveSpan, Spans};
+use crate::spans::Spans;
 use crate::{Dedicated, MemoryBlock, MemoryForUsage, Request};
 use by_type::{close_buddies, close_free_lists, empty_buddies, empty_free_lists, unused_heaps};
 use gpu_alloc_base::heap::Heap;
@@ -427,39 +428,34 @@ impl<M: MemoryObject, A: Allocator> GpuAllocator<M, A> {
         if self.allocations_remains == 0 {
             return Err(AllocationError::TooManyObjects);
         }
-        if self.spans.reserve().is_err() {
+        if self.spans.reserve_own().is_err() {
             return Err(AllocationError::OutOfHostMemory);
         }
         let flags = self.limits.flags();
         let answer = device.allocate_memory(request.size, memory_type, flags);
         match answer {
             Ok(memory) => {
-                let object = HeldRow {
-                    memory_type,
-                    counted: request.size,
-                    kind: Kind::Dedicated,
-                };
-                let span = LiveSpan {
+                let row = OwnRow {
                     object: memory.object(),
                     offset: 0,
                     size: request.size,
-                    chunk: 0,
-                    index: 0,
+                    memory_type,
+                    imported: false,
                 };
-                let key = self.spans.insert(span, Some(object));
+                let key = self.spans.insert_own(row);
                 let heap = self.limits.heap_index(memory_type);
-                self.heaps[heap].alloc(object.counted);
+                self.heaps[heap].alloc(row.size);
                 self.allocations_remains -= 1;
                 let props = self.limits.props(memory_type);
                 let atom = self.limits.atom(memory_type);
                 Ok(Some(MemoryBlock::new(
                     memory,
-                    span.offset,
-                    span.size,
-                    object.memory_type,
+                    row.offset,
+                    row.size,
+                    memory_type,
                     props,
                     atom,
-                    object.kind,
+                    Kind::Dedicated,
                     key,
                 )))
             }
@@ -683,14 +679,14 @@ impl<M: MemoryObject, A: Allocator> GpuAllocator<M, A> {
         ensures sound { Sound.IsSound self.now }
     {
         self.keeps_sound();
-        let object = block.memory().object();
-        match self.spans.held(object) {
-            Some(held) if held.is_of(block.memory_type(), block.kind()) => self
-                .spans
-                .find(block.key(), object, block.offset(), block.size())
-                .is_some(),
-            _ => false,
-        }
+        self.spans.has(
+            block.key(),
+            block.memory().object(),
+            block.offset(),
+            block.size(),
+            block.memory_type(),
+            block.kind(),
+        )
     }
 
     /// The largest size of a request, in bytes, as `new` was given it.
@@ -733,7 +729,8 @@ impl<M: MemoryObject, A: Allocator> GpuAllocator<M, A> {
         self.spans.len() as u32
     }
 
-    /// Whether an object of this name is held, as a block's own, as an import or as a chunk.
+    /// Whether an object of this name is held, as a block's own, as an import or as a chunk. A chunk is found in constant
+    /// time, any other object in a time that grows with the number of objects of one block.
     pub fn holds(&self, object: u64) -> bool
         ensures { result ≡ is_some (map.get self.now.held object) }
     {

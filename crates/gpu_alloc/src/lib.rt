@@ -7,6 +7,7 @@ pub mod freelist;
 pub mod heap;
 pub mod laws;
 mod limits;
+mod own;
 mod request;
 pub mod spans;
 pub mod steps;

@@ -1,16 +1,19 @@
 //! The table of held objects and live spans.
 
-ghost use Rattle.std.specs.Prelude.{◌≡◌, ◌↔◌, ◌+◌, ◌<◌, ◌≤◌, None, Some, IsOk, IsSome, IsTrue, OnOk, IfSome};
-ghost use Rattle.std.specs.Prelude.{MatchOption, cond, is_some, false, true};
+ghost use Rattle.std.specs.Prelude.{◌≡◌, ◌≢◌, ◌↔◌, ◌+◌, ◌^◌, ◌<◌, ◌≤◌, None, Some, IsOk, IsTrue, OnOk};
+ghost use Rattle.std.specs.Prelude.{MatchOption, false, true};
 ghost use Rattle.std.specs.FinMap as map;
 ghost use Rattle.std.specs.FinSet as set;
 ghost use Rattle.std.specs.Option.{option_map};
+ghost use Rattle.gpu_alloc.specs.Own.{own_held, own_span, IsRowOf};
 ghost use Rattle.gpu_alloc.specs.Spans.{span_at, span_in, place_in, held_of, objects_in, with_new, without_old};
-ghost use Rattle.gpu_alloc.specs.Spans.{IsUnder, IsNowhere};
+ghost use Rattle.gpu_alloc.specs.Spans.{IsHeldAs, IsHeldFor, IsNowhere, IsUnder};
+ghost use Rattle.gpu_alloc_block.specs.State.{Span, is_shared};
 ghost use Rattle.indexmap.specs.IndexMap.{spare};
 
 mod listing;
 
+use crate::own::{OwnObjects, OwnRow};
 use gpu_alloc_block::Kind;
 use indexmap::IndexMap;
 use slab::Slab;
@@ -71,27 +74,18 @@ impl HeldRow {
     }
 }
 
-/// What [`Spans::remove`] took off.
-#[derive(Clone, Copy, Debug, PartialEq, Eq)]
-pub struct Removed {
-    /// The span, with the place of its block.
-    pub span: LiveSpan,
+/// The chunks by name. The names are the device's, and their hashes go by a fixed seed.
+type Chunks<A> = IndexMap<u64, HeldRow, BuildHasherDefault<FoldHasher>, A>;
 
-    /// The span's object, where it was asked for.
-    pub object: Option<HeldRow>,
-}
-
-/// The held objects by name. The names are the device's, and their hashes go by a fixed seed.
-type Objects<A> = IndexMap<u64, HeldRow, BuildHasherDefault<FoldHasher>, A>;
-
-/// The held objects, and the live spans in them: none, one or several in each object.
+/// The held objects, and the live spans in them: one in an object of one block, none, one or several in a chunk.
 ///
 /// A live span stands under a key, which its block carries. With that key a span is found in constant time, and with
-/// another one in a time that grows with the number of live spans. An object is found in constant time.
+/// another one in a time that grows with the number of live spans. A chunk is found by its name in constant time.
 #[derive(Drop)]
 pub struct Spans<A: Allocator = Global> {
+    own: OwnObjects<A>,
     spans: Slab<LiveSpan, A>,
-    objects: Objects<A>,
+    chunks: Chunks<A>,
 }
 
 impl<A: Allocator> Model for Spans<A> {
@@ -102,12 +96,11 @@ impl<A: Allocator> Model for Spans<A> {
 
     ghost coded = { table_code };
 
-    ghost use Rattle.gpu_alloc_base.specs.SlabViews.{HasOneKeyEach};
-    ghost use Rattle.gpu_alloc.specs.Spans.{table_in, span_in, room_in};
+    ghost use Rattle.gpu_alloc.specs.Spans.{table_in, room_in, AreApart};
 
-    ghost view = { λ t. table_in t.spans t.objects.entries (room_in t.spans t.objects) };
+    ghost view = { λ t. table_in t.own t.spans t.chunks.entries (room_in t.spans t.chunks) };
 
-    ghost invariant = { λ t. HasOneKeyEach span_in t.spans };
+    ghost invariant = { λ t. AreApart t.own t.spans t.chunks.entries };
 }
 
 /// The key of a span's row: this one where its row is the span's, and else the one that a search over all rows finds.
@@ -146,30 +139,27 @@ fn search<A: Allocator>(
     None
 }
 
-/// Puts an object among those that are held, where there is a new one.
+/// Puts a chunk among those that are held, where there is a new one.
 #[inline(always)]
-fn hold<A: Allocator>(objects: &mut Objects<A>, name: u64, new_object: Option<HeldRow>)
-    requires { 0 < spare objects.old }
-    ensures held { objects_in objects.new.entries ≡ with_new (objects_in objects.old.entries) name new_object }
-    ensures room { spare objects.old ≤ spare objects.new + 1 }
+fn hold<A: Allocator>(chunks: &mut Chunks<A>, name: u64, new_chunk: Option<HeldRow>)
+    requires { 0 < spare chunks.old }
+    ensures held { objects_in chunks.new.entries ≡ with_new (objects_in chunks.old.entries) name new_chunk }
+    ensures room { spare chunks.old ≤ spare chunks.new + 1 }
 {
-    if let Some(object) = new_object {
-        objects.insert(name, object).unwrap();
+    if let Some(chunk) = new_chunk {
+        chunks.insert(name, chunk).unwrap();
     }
 }
 
-/// Takes an object off those that are held, where it is asked for.
+/// Takes a chunk off those that are held, where it is asked for.
 #[inline(always)]
-fn let_go<A: Allocator>(objects: &mut Objects<A>, name: u64, asked: bool) -> Option<HeldRow>
-    ensures object { option_map held_of result ≡ cond asked (map.get (objects_in objects.old.entries) name) None }
-    ensures held { objects_in objects.new.entries ≡ without_old (objects_in objects.old.entries) name asked }
-    ensures room { spare objects.old ≤ spare objects.new }
+fn let_go<A: Allocator>(chunks: &mut Chunks<A>, name: u64, asked: bool)
+    ensures { objects_in chunks.new.entries ≡ without_old (objects_in chunks.old.entries) name asked }
 {
-    if asked {
-        objects.swap_remove(&name)
-    } else {
-        None
+    if !asked {
+        return;
     }
+    let _ = chunks.swap_remove(&name);
 }
 
 impl<A: Allocator + Copy> Spans<A> {
@@ -180,126 +170,208 @@ impl<A: Allocator + Copy> Spans<A> {
         ensures places { result.places ≡ map.empty }
     {
         Spans {
+            own: OwnObjects::new(alloc),
             spans: Slab::new(alloc),
-            objects: IndexMap::new(alloc),
+            chunks: IndexMap::new(alloc),
         }
     }
 }
 
 impl<A: Allocator> Spans<A> {
-    /// How many objects are held.
+    /// How many objects are held. They have to be a number of 32 bits.
     pub fn len(&self) -> usize
+        requires { map.len self.now.held < 2 ^ 32 }
         ensures { result ≡ map.len self.now.held }
     {
-        self.objects.len()
+        self.own.len() + self.chunks.len()
     }
 
-    /// Whether there is room for one more span and one more object, so that `reserve` takes no memory.
+    /// Makes room for one more object of one block, so that one `insert_own` cannot fail.
+    ///
+    /// The only refusal is want of memory. Nothing but the room changes, after a refusal too.
+    #[inline(always)]
+    pub fn reserve_own(&mut self) -> Result<(), AllocError>
+        ensures room { OnOk result (0 < (self.new.room).own) }
+        ensures succeeds { 0 < (self.old.room).own → IsOk result }
+        ensures kept { self.new ≡ record self.old { room = self.new.room } }
+    {
+        self.own.reserve()
+    }
+
+    /// Adds an object of one block with that block, into room that was made, and tells the key that its block is to
+    /// carry. The object may not be held, nor a span of it be live.
+    #[inline(always)]
+    pub fn insert_own(&mut self, row: OwnRow) -> usize
+        requires room { 0 < (self.old.room).own }
+        requires free { map.get self.old.held row.object ≡ None }
+        requires unused { (span : Span) → IsTrue (set.contains self.old.live span) → span.object ≢ row.object }
+        ensures held { self.new.held ≡ map.insert self.old.held row.object (own_held row) }
+        ensures live { self.new.live ≡ set.insert self.old.live (own_span row) }
+        ensures places { self.new.places ≡ self.old.places }
+    {
+        self.own.insert(row)
+    }
+
+    /// Takes an object of one block off, with that block. It takes no memory and cannot fail.
+    ///
+    /// What comes of it is the same whatever the key is. The key that `insert_own` gave makes it fast.
+    #[inline(always)]
+    pub fn remove_own(&mut self, key: usize, object: u64) -> OwnRow
+        requires { IsHeldFor false self.old.held object }
+        ensures row { IsRowOf self.old.held self.old.live object result }
+        ensures held { self.new.held ≡ map.remove self.old.held object }
+        ensures live { self.new.live ≡ set.remove self.old.live (own_span result) }
+        ensures places { self.new.places ≡ self.old.places }
+    {
+        self.own.remove(key, object)
+    }
+
+    /// Whether there is room for one more span of a chunk and one more chunk, so that `reserve` takes no memory.
     #[inline(always)]
     pub fn has_room(&self) -> bool
-        ensures { IsTrue result ↔ (0 < self.now.room) }
+        ensures { IsTrue result ↔ (0 < (self.now.room).shared) }
     {
-        let Spans { spans, objects } = self;
-        spans.len() < spans.capacity() && objects.len() < objects.capacity()
+        let Spans { spans, chunks, .. } = self;
+        spans.len() < spans.capacity() && chunks.len() < chunks.capacity()
     }
 
-    /// Makes room for one more span and one more object, so that one `insert` cannot fail.
+    /// Makes room for one more span of a chunk and one more chunk, so that one `insert` cannot fail.
     ///
     /// The only refusal is want of memory. Nothing but the room changes, after a refusal too.
     #[inline(always)]
     pub fn reserve(&mut self) -> Result<(), AllocError>
-        ensures room { OnOk result (0 < self.new.room) }
-        ensures succeeds { 0 < self.old.room → IsOk result }
+        ensures room { OnOk result (0 < (self.new.room).shared) }
+        ensures succeeds { 0 < (self.old.room).shared → IsOk result }
         ensures kept { self.new ≡ record self.old { room = self.new.room } }
     {
         self.spans.reserve(1)?;
-        self.objects.reserve(1)
+        self.chunks.reserve(1)
     }
 
-    /// Adds a span that is not live, into room that was made, and tells its key, which the span's block is to carry.
+    /// Adds a span of a chunk that is not live, into room that was made, and tells its key, which the span's block is to
+    /// carry.
     ///
-    /// Where the span is of an object that is not held, `new_object` says what the object is, and it is held from then
-    /// on. Where the object is held, `new_object` has to be `None`.
+    /// Where the chunk is not held, `new_chunk` says what it is, and it is held from then on. Where it is held,
+    /// `new_chunk` has to be `None`.
     #[inline(always)]
-    pub fn insert(&mut self, span: LiveSpan, new_object: Option<HeldRow>) -> usize
-        requires room { 0 < self.old.room }
+    pub fn insert(&mut self, span: LiveSpan, new_chunk: Option<HeldRow>) -> usize
+        requires room { 0 < (self.old.room).shared }
         requires free { set.contains self.old.live (span_in span) ≡ false }
-        requires object { MatchOption new_object (IsSome (map.get self.old.held span.object))
-            (λ _. map.get self.old.held span.object ≡ None) }
-        ensures held { self.new.held ≡ with_new self.old.held span.object new_object }
+        requires chunk { MatchOption new_chunk (IsHeldFor true self.old.held span.object)
+            (λ row. (map.get self.old.held span.object ≡ None) × (is_shared row.kind ≡ true)) }
+        ensures held { self.new.held ≡ with_new self.old.held span.object new_chunk }
         ensures live { self.new.live ≡ set.insert self.old.live (span_in span) }
         ensures places { self.new.places ≡ map.insert self.old.places (span_in span) (place_in span) }
-        ensures room { self.old.room ≤ self.new.room + 1 }
     {
-        hold(&mut self.objects, span.object, new_object);
+        hold(&mut self.chunks, span.object, new_chunk);
         self.spans.insert_reserved(span)
     }
 
-    /// A span of an object, from `offset` on and of `size` bytes, with its block's place, exactly where it is live.
-    ///
-    /// The answer is the same whatever the key is. The key that `insert` gave for the span makes it fast.
-    #[inline(always)]
-    pub fn find(&self, key: usize, object: u64, offset: u64, size: u64) -> Option<LiveSpan>
-        ensures live { is_some result ≡ set.contains self.now.live (span_at object offset size) }
-        ensures span { IfSome result (λ span. span_in span ≡ span_at object offset size) }
-        ensures place { option_map place_in result ≡ map.get self.now.places (span_at object offset size) }
-    {
-        match key_of(&self.spans, key, object, offset, size) {
-            Some(found) => Some(self.spans[found]),
-            None => None,
-        }
-    }
-
-    /// What an object is, exactly where it is held.
-    #[inline(always)]
-    pub fn held(&self, object: u64) -> Option<HeldRow>
-        ensures { option_map held_of result ≡ map.get self.now.held object }
-    {
-        self.objects.get(&object).copied()
-    }
-
-    /// Takes a live span off, from `offset` on and of `size` bytes, and where it is asked for the span's object too,
-    /// which has to be held then. Other spans of that object stay live. It takes no memory and cannot fail.
+    /// Takes a live span of a chunk off, from `offset` on and of `size` bytes. The chunk stays, and so do its other spans.
+    /// It takes no memory and cannot fail.
     ///
     /// What comes of it is the same whatever the key is. The key that `insert` gave for the span makes it fast.
     #[inline(always)]
-    pub fn remove(
-        &mut self,
-        key: usize,
-        object: u64,
-        offset: u64,
-        size: u64,
-        with_object: bool,
-    ) -> Removed
+    pub fn remove(&mut self, key: usize, object: u64, offset: u64, size: u64) -> LiveSpan
         requires live { IsTrue (set.contains self.old.live (span_at object offset size)) }
-        requires held { with_object ≡ true → IsSome (map.get self.old.held object) }
-        ensures span { span_in result.span ≡ span_at object offset size }
-        ensures place { map.get self.old.places (span_at object offset size) ≡ Some (place_in result.span) }
-        ensures object { option_map held_of result.object ≡ cond with_object (map.get self.old.held object) None }
-        ensures held { self.new.held ≡ without_old self.old.held object with_object }
+        requires chunk { IsHeldFor true self.old.held object }
+        ensures span { span_in result ≡ span_at object offset size }
+        ensures place { map.get self.old.places (span_at object offset size) ≡ Some (place_in result) }
+        ensures held { self.new.held ≡ self.old.held }
         ensures live { self.new.live ≡ set.remove self.old.live (span_at object offset size) }
         ensures places { self.new.places ≡ map.remove self.old.places (span_at object offset size) }
-        ensures room { self.old.room ≤ self.new.room }
     {
         match key_of(&self.spans, key, object, offset, size) {
-            Some(found) => {
-                let span = self.spans.remove(found);
-                let object = let_go(&mut self.objects, object, with_object);
-                Removed { span, object }
-            }
+            Some(found) => self.spans.remove(found),
             None => unreachable!(),
         }
     }
 
-    /// Takes an object off those that are held, where it is asked for. Spans stay as they are. It takes no memory and
-    /// cannot fail.
+    /// Takes a chunk off those that are held, where it is asked for. Spans stay as they are. It takes no memory and cannot
+    /// fail.
     #[inline(always)]
-    pub(crate) fn let_go(&mut self, object: u64, asked: bool)
-        ensures held { self.new.held ≡ without_old self.old.held object asked }
+    pub(crate) fn let_go(&mut self, chunk: u64, asked: bool)
+        requires { asked ≡ true → IsHeldFor true self.old.held chunk }
+        ensures held { self.new.held ≡ without_old self.old.held chunk asked }
         ensures live { self.new.live ≡ self.old.live }
         ensures places { self.new.places ≡ self.old.places }
-        ensures room { self.old.room ≤ self.new.room }
     {
-        let _ = let_go(&mut self.objects, object, asked);
+        let_go(&mut self.chunks, chunk, asked);
+    }
+
+    /// Whether a span of an object is live, from `offset` on and of `size` bytes, and the object is held of this memory
+    /// type for this.
+    ///
+    /// The answer is the same whatever the key is. The key that the span's block carries makes it fast.
+    pub fn has(
+        &self,
+        key: usize,
+        object: u64,
+        offset: u64,
+        size: u64,
+        memory_type: u32,
+        kind: Kind,
+    ) -> bool
+        ensures { IsTrue result ↔ (IsTrue (set.contains self.now.live (span_at object offset size))
+            × IsHeldAs self.now.held object memory_type kind) }
+    {
+        if kind.is_shared() {
+            self.has_of_chunk(key, object, offset, size, memory_type, kind)
+        } else {
+            self.has_own(key, object, offset, size, memory_type, kind)
+        }
+    }
+
+    /// The same of a kind that means one block.
+    fn has_own(
+        &self,
+        key: usize,
+        object: u64,
+        offset: u64,
+        size: u64,
+        memory_type: u32,
+        kind: Kind,
+    ) -> bool
+        requires { is_shared kind ≡ false }
+        ensures { IsTrue result ↔ (IsTrue (set.contains self.now.live (span_at object offset size))
+            × IsHeldAs self.now.held object memory_type kind) }
+    {
+        match self.own.find(key, object) {
+            Some(row) => row.is(offset, size, memory_type, kind),
+            None => false,
+        }
+    }
+
+    /// The same of a kind that means a chunk.
+    fn has_of_chunk(
+        &self,
+        key: usize,
+        object: u64,
+        offset: u64,
+        size: u64,
+        memory_type: u32,
+        kind: Kind,
+    ) -> bool
+        requires { is_shared kind ≡ true }
+        ensures { IsTrue result ↔ (IsTrue (set.contains self.now.live (span_at object offset size))
+            × IsHeldAs self.now.held object memory_type kind) }
+    {
+        match self.chunks.get(&object) {
+            Some(row) if row.is_of(memory_type, kind) => {
+                key_of(&self.spans, key, object, offset, size).is_some()
+            }
+            _ => false,
+        }
+    }
+
+    /// What an object is, exactly where it is held. A chunk is found in constant time, an object of one block in a time
+    /// that grows with the number of these objects.
+    pub fn held(&self, object: u64) -> Option<HeldRow>
+        ensures { option_map held_of result ≡ map.get self.now.held object }
+    {
+        match self.chunks.get(&object) {
+            Some(row) => Some(*row),
+            None => self.own.held(object),
+        }
     }
 }

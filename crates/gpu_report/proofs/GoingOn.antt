@@ -1,11 +1,11 @@
 -- Texts that go on, and their rows.
-use Rattle.std.proofs.Common.{◌≡◌, ℕ, zero, suc, ◌+◌, ◌-◌, ◌^◌, ◌<◌, ◌≤◌, List, [], ◌∷◌, ◌++◌, length, take, get_or, min, append_assoc, refl, sym, ◌∙◌, ap, subst, arith, length-append, length-take}
+use Rattle.std.proofs.Common.{◌≡◌, ℕ, suc, ◌+◌, ◌-◌, ◌^◌, ◌<◌, ◌≤◌, List, [], ◌∷◌, ◌++◌, length, take, get_or, min, append_assoc, refl, sym, ◌∙◌, ap, subst, arith, length-append, length-take}
 use Rattle.std.proofs.Math.ListN.{set}
-use Rattle.std.proofs.lemmas.List.{append-nil, take_more, take_all}
+use Rattle.std.proofs.lemmas.List.{append-nil, take_more}
 use Rattle.std.proofs.lemmas.Grind.{flat_map-append}
 use Rattle.std.specs.List.{flat_map}
 use Rattle.gpu_report.specs.Text.{lead, rows}
-use Rattle.gpu_report.specs.Writing.{over, length_told, IsWritten, GoesOn}
+use Rattle.gpu_report.specs.Writing.{over, IsWritten, GoesOn}
 
 over_more : (text old : List ℕ) (b : ℕ) → length text < length old → over (text ++ b ∷ []) old ≡ set (over text old) (length text) b
 over_more [] [] b lt = absurd (omega (arith, lt))

@@ -1,25 +1,29 @@
 -- The held objects that are held as one memory type and kind, row by row.
-use Rattle.std.proofs.Common.{◌≡◌, ℕ, ◌+◌, ◌<◌, true, cond, List, [], ◌∷◌, ◌++◌, length, map, take, get_or, Option, Some, None, nat_eq, refl, sym, ◌∙◌, ap, subst, arith}
+use Rattle.std.proofs.Common.{◌≡◌, ℕ, ◌+◌, ◌<◌, true, cond, List, [], ◌∷◌, ◌++◌, length, map, take, get_or, Option, Some, None, nat_eq, refl, sym, ◌∙◌, ap, subst, arith, ◌≤◌, inl, inr, Less, Equal, Greater}
+use Rattle.std.proofs.lemmas.Bool.{cases_lt}
 use Rattle.std.proofs.lemmas.List.{take_more, map-append, length-map, get_or-map}
-use Rattle.std.proofs.lemmas.List.Elements.{filter-append}
+use Rattle.std.proofs.lemmas.List.Elements.{Contains-get_or, filter-append}
 use Rattle.std.proofs.lemmas.List.Sorted.{IsPermutation-map, IsPermutation-sym, Contains-permutation}
 use Rattle.std.proofs.lemmas.Map.Made.{keys_of-map_values}
 use Rattle.std.proofs.lemmas.Map.Keys.{IsDistinct-IsPermutation}
 use Rattle.std.proofs.lemmas.Map.Views.{lookup-from_Contains, Contains-from_lookup}
 use Rattle.std.proofs.lemmas.Cmp.{nat_eq_equiv}
 use Rattle.std.proofs.lemmas.Bool.Decides.{nat_tests}
-use Rattle.std.specs.List.{Contains, IsDistinct}
-use Rattle.std.specs.List.Sorted.{IsPermutation, IsNonDecreasing, IsNonDecreasingBy}
+use Rattle.std.specs.List.{Contains, HoldsAt, IsDistinct}
+use Rattle.std.specs.List.Sorted.{IsPermutation, IsNonDecreasing, IsNonDecreasingBy, IsPartitionPoint}
 use Rattle.std.specs.Map.{keys_of, lookup}
-use Rattle.std.specs.Ordering.{nat_cmp}
-use Rattle.std.specs.Cmp.{nat_cmp_total}
+use Rattle.std.specs.Ordering.{nat_cmp, ordering_index}
+use Rattle.std.specs.declared.cmp.Ordering.{Ordering}
+use Rattle.std.specs.Cmp.{nat_cmp_total, tied_itself}
 use Rattle.std.specs.FinMap as finite
 use Rattle.std.specs.FinMap.{nat_cmp-IsAntisymmetric}
 use Rattle.gpu_alloc_block.specs.declared.block.Kind.TheVariants.{Dedicated}
+use Rattle.gpu_alloc_base.proofs.ListViews.{contains_name}
 use Rattle.gpu_alloc_base.proofs.Names.{get_entries}
 use Rattle.gpu_alloc.specs.Spans.{entry_of, held_of, objects_in}
 use Rattle.gpu_alloc.specs.State.{HeldObject, State}
 use Rattle.gpu_alloc.specs.declared.spans.HeldRow.{HeldRow}
+use Rattle.gpu_report.proofs.Members.{from_mapped}
 use Rattle.gpu_report.specs.Held.{is_of, held_as, AreHeld}
 use Rattle.gpu_report.specs.declared.part.Part.{Part}
 
@@ -93,3 +97,45 @@ pub entry_held : (s : State) (held : List (ℕ × HeldObject)) (object : ℕ) (h
 entry_held s held object h are is =
     Contains-from_lookup same_number object h held
     (sym (get_entries held object) ∙ ap (λ (m : finite.FinMap nat_cmp HeldObject). finite.get m object) are.exact ∙ is)
+
+-- A row by its name, among rows that are sorted by their names.
+
+module _ (rows : List (ℕ × HeldRow)) (object : ℕ) where
+  abbrev pub beside : ℕ × HeldRow → Ordering
+  beside e = nat_cmp e.0 object
+
+  pub found_row : (i : ℕ) (d : ℕ × HeldRow) → IsDistinct nat_eq (keys_of (map entry_of rows)) → i < length rows → HoldsAt (λ e. beside e ≡ Equal) rows i
+      → Some (held_of (get_or rows i d).1) ≡ lookup (nat_eq object) (map entry_of rows)
+  found_row i d once lt at =
+      let e = get_or rows i d in
+      let name : e.0 ≡ object = nat_cmp-IsAntisymmetric e.0 object (at d) in
+      let has = contains_name entry_of rows e (Contains-get_or rows i d lt) in
+      sym (ap (λ n. lookup (nat_eq n) (map entry_of rows)) (sym name) ∙ lookup-from_Contains nat_eq_equiv e.0 (held_of e.1) (map entry_of rows) once has)
+
+  rises : IsNonDecreasing (keys_of (map entry_of rows)) → IsNonDecreasingBy (λ e. ordering_index (beside e)) rows
+  rises up i j d le lt =
+      let keys : keys_of (map entry_of rows) ≡ map (λ e. e.0) rows = keys_of-map_values held_of rows in
+      let at_i = get_or-map (λ (e : ℕ × HeldRow). e.0) rows i d 0 (omega (arith, le, lt)) in
+      let at_j = get_or-map (λ (e : ℕ × HeldRow). e.0) rows j d 0 lt in
+      let h = subst IsNonDecreasing keys up i j 0 le (omega (arith, lt, length-map rows (λ (e : ℕ × HeldRow). e.0))) in
+      later (get_or rows i d).0 (get_or rows j d).0 (omega (arith, at_i, at_j, h))
+    where
+      later : (a b : ℕ) → a ≤ b → ordering_index (nat_cmp a object) ≤ ordering_index (nat_cmp b object)
+      later a b at_most = grind (arith, nat_tests, at_most)
+
+  pub missed_row : (i : ℕ) → IsNonDecreasing (keys_of (map entry_of rows)) → (IsNonDecreasingBy (λ e. ordering_index (beside e)) rows → IsPartitionPoint (λ e. beside e ≡ Less) (λ e. beside e ≡ Greater) rows i)
+      → None ≡ lookup (nat_eq object) (map entry_of rows)
+  missed_row i up clause = sym (none (lookup (nat_eq object) (map entry_of rows)) refl)
+    where
+      none : (o : Option HeldObject) → lookup (nat_eq object) (map entry_of rows) ≡ o → lookup (nat_eq object) (map entry_of rows) ≡ None
+      none None is = is
+      none (Some h) is =
+          let e = from_mapped entry_of rows (object, h) (Contains-from_lookup same_number object h (map entry_of rows) is) in
+          let k : ℕ = e.1.0 in
+          let at : get_or rows k e.0 ≡ e.0 = e.1.2 in
+          let equal : beside (get_or rows k e.0) ≡ Equal = ap (λ (x : ℕ × HeldRow). beside x) at ∙ ap (λ (x : ℕ × HeldObject). nat_cmp x.0 object) e.2 ∙ tied_itself nat_cmp_total object in
+          let point = clause (rises up) in
+          elim (cases_lt k i) [
+            | inl low ↦ let less = point.0 k e.0 (omega arith) low in absurd (cc)
+            | inr high ↦ let greater = point.1 k e.0 high e.1.1 in absurd (cc)
+          ]

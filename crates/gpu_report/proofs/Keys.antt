@@ -1,14 +1,14 @@
 -- A desk's live blocks, as a walk over them lists them.
-use Rattle.std.proofs.Common.{◌≡◌, ◌≢◌, inl, inr, ℕ, ◌+◌, ◌-◌, ◌^◌, ◌<◌, ◌≤◌, List, [], ◌∷◌, ◌++◌, ◌==◌, Bool, false, cond, Option, Some, refl, sym, ap, subst, ◌∙◌, arith}
+use Rattle.std.proofs.Common.{◌≡◌, ◌≢◌, inl, inr, ℕ, ◌+◌, ◌-◌, ◌^◌, ◌<◌, List, [], ◌∷◌, ◌++◌, ◌==◌, false, cond, Option, Some, refl, sym, ap, subst, ◌∙◌, arith}
 use Rattle.std.proofs.lemmas.Bool.Decides.{nat_tests}
 use Rattle.std.proofs.lemmas.List.Elements.{Contains-append_left, Contains-append_right}
 use Rattle.std.specs.List.{Contains}
 use Rattle.std.specs.Option.{IsSome}
 use Rattle.std.specs.FinMap as map
-use Rattle.gpu_alloc.specs.State.{Block, Span, span_of}
+use Rattle.gpu_alloc.specs.State.{Block}
 use Rattle.gpu_alloc_base.proofs.Lists.{contains_cases, contains_none, contains_head, contains_later}
 use Rattle.gpu_alloc_base.proofs.ListViews.{contains_name}
-use Rattle.gpu_slots.specs.SlotMap.{place_of, IsFirstFrom, HasNoneFrom}
+use Rattle.gpu_slots.specs.SlotMap.{place_of}
 use Rattle.gpu_desk.specs.Desk.{DeskState, IsSound}
 use Rattle.gpu_desk.specs.Calls.{Told}
 use Rattle.gpu_desk.specs.declared.told.Grant.{Grant}

@@ -2,7 +2,7 @@
 use Rattle.std.specs.Prelude.{◌≡◌, ℕ, zero, suc, ◌==◌, ◌&&◌, Bool, false, List, [], ◌∷◌, ◌++◌, Option, Some, None, nat_eq}
 use Rattle.std.specs.List.{filter, IsDistinct}
 use Rattle.std.specs.List.Sorted.{IsNonDecreasing}
-use Rattle.std.specs.Map.{keys_of}
+use Rattle.std.specs.Map.{keys_of, lookup}
 use Rattle.std.specs.FinMap as finite
 use Rattle.gpu_alloc.specs.State.{HeldObject, State}
 use Rattle.gpu_alloc.specs.Types.Kind.{Kind}
@@ -53,6 +53,10 @@ pub record AreHeld (s : State) (held : List (ℕ × HeldObject)) : Type 0 where
   pub exact : finite.from_entries held ≡ s.held
   pub once : IsDistinct nat_eq (keys_of held)
   pub rising : IsNonDecreasing (keys_of held)
+
+-- whether the object of a name is one of them that is held as this
+abbrev pub is_listed_as : List (ℕ × HeldObject) → Part → ℕ → Bool
+is_listed_as entries p object = is_found p (lookup (nat_eq object) entries)
 
 -- those of them that are held as this
 abbrev pub held_as : List (ℕ × HeldObject) → Part → List (ℕ × HeldObject)

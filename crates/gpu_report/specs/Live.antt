@@ -6,10 +6,10 @@ use Rattle.std.specs.List.Sorted.{IsNonDecreasingBy, IsSortedByKey}
 use Rattle.std.specs.Ordering.{nat_cmp}
 use Rattle.std.specs.FinSet as set
 use Rattle.gpu_alloc.specs.Listing.{AreOnce}
-use Rattle.gpu_alloc.specs.State.{Span, State, IsLive, span_numbers}
+use Rattle.gpu_alloc.specs.State.{HeldObject, Span, State, IsLive, span_numbers}
 use Rattle.gpu_report.specs.declared.part.Part.{Part}
 use Rattle.gpu_report.specs.declared.live.LiveBlock.{LiveBlock}
-use Rattle.gpu_report.specs.Held.{is_held_as}
+use Rattle.gpu_report.specs.Held.{is_listed_as}
 
 abbrev pub span_told : LiveBlock → Span
 span_told b = record { object = b.object; offset = b.offset; size = b.size }
@@ -30,6 +30,6 @@ pub record LacksSpan (s : State) (blocks : List LiveBlock) : Type 0 where
   pub live : IsLive s span
   pub lacks : Contains (map span_told blocks) span → ⊥
 
--- the sizes of the live blocks in objects that are held as this
-abbrev pub live_sizes : State → Part → List LiveBlock → List ℕ
-live_sizes s p live = map (λ b. b.size) (filter (λ b. is_held_as s p b.object) live)
+-- the sizes of the live blocks in those of the held objects that are held as this
+abbrev pub live_sizes : List (ℕ × HeldObject) → Part → List LiveBlock → List ℕ
+live_sizes held p live = map (λ b. b.size) (filter (λ b. is_listed_as held p b.object) live)

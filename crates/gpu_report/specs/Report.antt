@@ -65,8 +65,8 @@ pub record AreSums (s : State) (held : List (ℕ × HeldObject)) (live : List Li
   pub free : List FreeRange
   pub are_free : AreFree s k.memory_type free
   pub objects : k.objects ≡ length (held_as held (part_of k.memory_type k.kind))
-  pub live_blocks : k.live_blocks ≡ length (live_sizes s (part_of k.memory_type k.kind) live)
-  pub live_bytes : k.live_bytes ≡ sum (live_sizes s (part_of k.memory_type k.kind) live)
+  pub live_blocks : k.live_blocks ≡ length (live_sizes held (part_of k.memory_type k.kind) live)
+  pub live_bytes : k.live_bytes ≡ sum (live_sizes held (part_of k.memory_type k.kind) live)
   pub free_bytes : k.free_bytes ≡ sum (free_sizes s (part_of k.memory_type k.kind) free)
   pub largest_free : k.largest_free ≡ largest (free_sizes s (part_of k.memory_type k.kind) free)
   pub scattered : k.scattered ≡ scattered (free_sizes s (part_of k.memory_type k.kind) free)

@@ -1,8 +1,12 @@
 //! The held objects by name, and the heaps.
 
-ghost use Rattle.std.specs.Prelude.{◌≡◌, IfOk, map as mapped};
+ghost use Rattle.std.specs.Prelude.{◌≡◌, IfOk, map as mapped, nat_eq};
+ghost use Rattle.std.specs.List.{IsDistinct};
+ghost use Rattle.std.specs.List.Sorted.{IsNonDecreasing};
+ghost use Rattle.std.specs.Map.{keys_of, lookup};
+ghost use Rattle.std.specs.Option.{option_map};
 ghost use Rattle.gpu_alloc.specs.Listing.{AreOfKnownTypes};
-ghost use Rattle.gpu_alloc.specs.Spans.{entry_of};
+ghost use Rattle.gpu_alloc.specs.Spans.{entry_of, held_of};
 ghost use Rattle.gpu_report.specs.Held.{AreHeld};
 ghost use Rattle.gpu_report.specs.Report.{AreHeaps};
 
@@ -22,6 +26,18 @@ pub(crate) fn held_by_name<M: MemoryObject, A: Allocator>(
     let mut rows = allocator.objects(alloc)?;
     rows.sort_unstable_by_key(|row| row.0);
     Ok(rows)
+}
+
+/// What the object of a name is, exactly where it is one of these, by name.
+pub(crate) fn find(held: &[(u64, HeldRow)], object: u64) -> Option<HeldRow>
+    requires once { IsDistinct nat_eq (keys_of (mapped entry_of held.now)) }
+    requires rising { IsNonDecreasing (keys_of (mapped entry_of held.now)) }
+    ensures { option_map held_of result ≡ lookup (nat_eq object) (mapped entry_of held.now) }
+{
+    match held.binary_search_by(|row| row.0.cmp(&object)) {
+        Ok(index) => Some(held[index].1),
+        Err(_) => None,
+    }
 }
 
 /// What is told of each heap.

@@ -29,11 +29,12 @@ pub(crate) fn kind_report<M: MemoryObject, A: Allocator>(
     live: &[LiveBlock],
     free: &[FreeRange],
 ) -> Result<KindReport, AllocError>
+    requires are_held { AreHeld allocator.now (mapped entry_of held.now) }
     requires are_free { AreFree allocator.now part.memory_type free.now }
     ensures sums { IfOk result (AreSums allocator.now (mapped entry_of held.now) live.now) }
     ensures of { IfOk result (λ k. part_told k ≡ part) }
 {
-    let live_sizes = part.live_sizes(alloc, allocator, live)?;
+    let live_sizes = part.live_sizes(alloc, held, live)?;
     let free_sizes = part.free_sizes(alloc, allocator, free)?;
     Ok(KindReport {
         memory_type: part.memory_type,

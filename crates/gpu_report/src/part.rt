@@ -1,12 +1,17 @@
 //! Held objects by memory type and kind.
 
-ghost use Rattle.std.specs.Prelude.{◌≡◌, IfOk, length, map as mapped};
+ghost use Rattle.std.specs.Prelude.{◌≡◌, IfOk, length, map as mapped, nat_eq};
+ghost use Rattle.std.specs.List.{IsDistinct};
+ghost use Rattle.std.specs.List.Sorted.{IsNonDecreasing};
+ghost use Rattle.std.specs.Map.{keys_of};
+ghost use Rattle.std.specs.Option.{option_map};
 ghost use Rattle.gpu_alloc.specs.Spans.{entry_of, held_of};
 ghost use Rattle.gpu_report.specs.Free.{free_sizes};
-ghost use Rattle.gpu_report.specs.Held.{held_as, is_held_as, is_of, kind_of, rank};
+ghost use Rattle.gpu_report.specs.Held.{held_as, is_found, is_of, kind_of, rank};
 ghost use Rattle.gpu_report.specs.Live.{live_sizes};
 ghost use Rattle.gpu_report.specs.Report.{is_chunk};
 
+use crate::held::find;
 use crate::{LiveBlock, ObjectKind};
 use gpu_alloc::spans::HeldRow;
 use gpu_alloc::{FreeRange, GpuAllocator, Kind, MemoryObject};
@@ -63,15 +68,11 @@ impl Part {
         row.memory_type == self.memory_type && ObjectKind::of(row.kind).rank() == self.kind.rank()
     }
 
-    /// Whether the object of a name is held as this.
-    fn holds<M: MemoryObject, A: Allocator>(
-        &self,
-        allocator: &GpuAllocator<M, A>,
-        object: u64,
-    ) -> bool
-        ensures { result ≡ is_held_as allocator.now self.now object }
+    /// Whether a row that was found is of an object that is held as this.
+    fn is_of(&self, found: Option<HeldRow>) -> bool
+        ensures { result ≡ is_found self.now (option_map held_of found) }
     {
-        match allocator.held(object) {
+        match found {
             Some(row) => self.has(&row),
             None => false,
         }
@@ -90,25 +91,27 @@ impl Part {
         count
     }
 
-    /// The sizes of the live blocks in objects that are held as this.
-    pub(crate) fn live_sizes<M: MemoryObject, A: Allocator>(
+    /// The sizes of the live blocks in those of the held objects, by name, that are held as this.
+    pub(crate) fn live_sizes(
         &self,
         alloc: Global,
-        allocator: &GpuAllocator<M, A>,
+        held: &[(u64, HeldRow)],
         live: &[LiveBlock],
     ) -> Result<Vec<u64>, AllocError>
-        ensures { IfOk result (λ sizes. sizes.items ≡ live_sizes allocator.now self.now live.now) }
+        requires once { IsDistinct nat_eq (keys_of (mapped entry_of held.now)) }
+        requires rising { IsNonDecreasing (keys_of (mapped entry_of held.now)) }
+        ensures { IfOk result (λ sizes. sizes.items ≡ live_sizes (mapped entry_of held.now) self.now live.now) }
     {
         let mut sizes = Vec::new(alloc);
         for block in live {
-            if self.holds(allocator, block.object) {
+            if self.is_of(find(held, block.object)) {
                 sizes.push(block.size)?;
             }
         }
         Ok(sizes)
     }
 
-    /// The lengths of the free ranges in objects that are held as this.
+    /// The lengths of the free ranges in chunks that are held as this.
     pub(crate) fn free_sizes<M: MemoryObject, A: Allocator>(
         &self,
         alloc: Global,
@@ -119,7 +122,7 @@ impl Part {
     {
         let mut sizes = Vec::new(alloc);
         for range in free {
-            if self.holds(allocator, range.object) {
+            if self.is_of(allocator.held(range.object)) {
                 sizes.push(range.end.saturating_sub(range.start))?;
             }
         }

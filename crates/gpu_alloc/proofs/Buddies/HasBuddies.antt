@@ -26,25 +26,34 @@ module _ (old now : Table) (span : Span) (held : (q : ℕ) → q ≢ span.object
     | false ↦ λ e. refl
   ] refl
 
-  pub beside_more : (place : Place) → now.live ≡ set_of.insert old.live span → now.places ≡ finite.insert old.places span place → IsBeside old now span.object
-  beside_more place live places = record {
+  abbrev KeepsPlaces : Type 0
+  KeepsPlaces = (other : Span) → other.object ≢ span.object → finite.get now.places other ≡ finite.get old.places other
+
+  pub beside_came : KeepsPlaces → now.live ≡ set_of.insert old.live span → IsBeside old now span.object
+  beside_came places live = record {
     held = held;
     live_was = λ other apart. (spans_more old now other.object span apart live).was other refl;
     live_is = λ other apart. (spans_more old now other.object span apart live).still other refl;
-    places = λ other apart.
-        ap (λ (m : finite.FinMap span_cmp Place). finite.get m other) places ∙ finite.get-insert span_total old.places span place other
-        ∙ ap (λ b. cond b (Some place) (finite.get old.places other)) (other_span other apart);
+    places = places;
   }
 
-  pub beside_fewer : now.live ≡ set_of.remove old.live span → now.places ≡ finite.remove old.places span → IsBeside old now span.object
-  beside_fewer live places = record {
+  pub beside_went : KeepsPlaces → now.live ≡ set_of.remove old.live span → IsBeside old now span.object
+  beside_went places live = record {
     held = held;
     live_was = λ other apart. (spans_fewer old now other.object span apart live).was other refl;
     live_is = λ other apart. (spans_fewer old now other.object span apart live).still other refl;
-    places = λ other apart.
-        ap (λ (m : finite.FinMap span_cmp Place). finite.get m other) places ∙ finite.get-remove span_total old.places span other
-        ∙ ap (λ b. cond b None (finite.get old.places other)) (other_span other apart);
+    places = places;
   }
+
+  pub beside_more : (place : Place) → now.live ≡ set_of.insert old.live span → now.places ≡ finite.insert old.places span place → IsBeside old now span.object
+  beside_more place live places = beside_came (λ other apart.
+      ap (λ (m : finite.FinMap span_cmp Place). finite.get m other) places ∙ finite.get-insert span_total old.places span place other
+      ∙ ap (λ b. cond b (Some place) (finite.get old.places other)) (other_span other apart)) live
+
+  pub beside_fewer : now.live ≡ set_of.remove old.live span → now.places ≡ finite.remove old.places span → IsBeside old now span.object
+  beside_fewer live places = beside_went (λ other apart.
+      ap (λ (m : finite.FinMap span_cmp Place). finite.get m other) places ∙ finite.get-remove span_total old.places span other
+      ∙ ap (λ b. cond b None (finite.get old.places other)) (other_span other apart)) live
 
 -- What that is to the buddy allocators.
 

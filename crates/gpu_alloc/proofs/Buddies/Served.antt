@@ -14,7 +14,7 @@ use Rattle.gpu_alloc_buddy.specs.BuddyState.{Buddy, IsLiveLeaf}
 use Rattle.gpu_alloc_base.specs.Chunks.{Chunk}
 use Rattle.gpu_alloc.specs.Inside.{IsChunkOf, IsBooked, chunk_object, span_of_leaf, place_of_leaf, leaf_at}
 use Rattle.gpu_alloc.specs.Release.{IsUnused, without_span}
-use Rattle.gpu_alloc.specs.Spans.{Place}
+use Rattle.gpu_alloc.specs.Spans.{Place, Room}
 use Rattle.gpu_alloc_block.specs.State.{HeldObject, Span, span_cmp, span_of, Block, State, IsLive, share}
 use Rattle.gpu_alloc_base.specs.declared.buddy_block.Leaf.{Leaf}
 use Rattle.gpu_alloc_base.specs.declared.heap.Heap.{Heap}
@@ -25,7 +25,7 @@ use Rattle.gpu_alloc_block.proofs.LiveSpans.{live_kept, live_other}
 use Rattle.gpu_alloc.proofs.Buddies.Serving.{table_of, Serves}
 use Rattle.gpu_alloc.proofs.HeapLists.{ledger_at}
 
-module _ (s : State) (places : map.FinMap span_cmp Place) (room index : ℕ) (b : Buddy) (serves : Serves s places room index b) where
+module _ (s : State) (places : map.FinMap span_cmp Place) (room : Room) (index : ℕ) (b : Buddy) (serves : Serves s places room index b) where
   -- What both tell.
 
   -- a chunk's object is held as one

@@ -19,7 +19,7 @@ use Rattle.gpu_alloc.specs.Candidates.{buddy_candidate, candidate}
 use Rattle.gpu_alloc.specs.declared.allocator.Strategy.TheVariants.{InBuddyChunk}
 use Rattle.gpu_alloc_base.proofs.ToldTwice.{IsToldAs}
 use Rattle.gpu_alloc.proofs.HeapLists.{IsHeap}
-use Rattle.gpu_alloc.specs.Spans.{Place, Table}
+use Rattle.gpu_alloc.specs.Spans.{Place, Room, Table}
 use Rattle.gpu_alloc_block.specs.State.{HeldObject, span_cmp, State}
 use Rattle.gpu_alloc_block.specs.declared.block.Kind.TheVariants.{BuddyChunk}
 use Rattle.gpu_alloc_base.specs.declared.buddy_block.Leaf.{Leaf}
@@ -27,11 +27,11 @@ use Rattle.gpu_alloc_base.specs.declared.heap.Heap.{Heap}
 use Rattle.gpu_alloc.specs.declared.request.Request.{Request}
 
 -- a state's table, with the places of blocks
-abbrev pub table_of : State → map.FinMap span_cmp Place → ℕ → Table
+abbrev pub table_of : State → map.FinMap span_cmp Place → Room → Table
 table_of s places room = record { held = s.held; live = s.live; places = places; room = room }
 
 -- the memory type's buddy allocator, whose next chunk is as the state tells
-pub record Serves (s : State) (places : map.FinMap span_cmp Place) (room index : ℕ) (b : Buddy) : Type 0 where
+pub record Serves (s : State) (places : map.FinMap span_cmp Place) (room : Room) (index : ℕ) (b : Buddy) : Type 0 where
   pub of : IsBuddyOf s.config s.properties (table_of s places room) index b
   pub next : next_chunk_of (slice_get s.types index) ≡ b.next_chunk
 
@@ -54,7 +54,7 @@ first_byte F x start length place =
     let some : 0 < 2 ^ place.power.0 = pow_pos place.power.0 in
     place.free start (record { from = omega arith; to = omega (arith, some, place.power.1) })
 
-module _ (s : State) (places : map.FinMap span_cmp Place) (room index : ℕ) (b : Buddy) (serves : Serves s places room index b) where
+module _ (s : State) (places : map.FinMap span_cmp Place) (room : Room) (index : ℕ) (b : Buddy) (serves : Serves s places room index b) where
   -- Bytes and pieces.
 
   pub free_byte : (key at : ℕ) (chunk : Chunk) → map.get b.chunks key ≡ Some chunk → IsFreeAt b key at → IsFreeByte s index BuddyChunk chunk.object at

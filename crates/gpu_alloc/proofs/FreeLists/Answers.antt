@@ -1,5 +1,5 @@
 -- What a block that a memory type's free list gives comes to for the whole allocator.
-use Rattle.std.proofs.Common.{IfSome, IsSome, MatchOption, ◌≡◌, ◌⊎◌, inl, inr, ℕ, ◌+◌, ◌-◌, ◌^◌, ◌<◌, ◌≤◌, false, List, Option, Some, None, Ok, is_some, refl, sym, ◌∙◌, ap, subst, arith}
+use Rattle.std.proofs.Common.{IfSome, MatchOption, ◌≡◌, ◌⊎◌, inl, inr, ℕ, ◌+◌, ◌-◌, ◌^◌, ◌<◌, ◌≤◌, false, true, List, Option, Some, None, Ok, refl, sym, ◌∙◌, ap, subst, arith}
 use Rattle.std.proofs.Math.ListN.{set}
 use Rattle.std.specs.FinMap as finite
 use Rattle.std.specs.FinSet as set_of
@@ -29,7 +29,7 @@ use Rattle.gpu_alloc.specs.Inside.{state_in, properties_in, list_object, with_ne
 use Rattle.gpu_alloc.specs.FreeListSharing.{list_question, list_block, latest_number, tail_of, with_list_chunk}
 use Rattle.gpu_alloc_base.specs.NewChunk.{ChunkQuestion, made}
 use Rattle.gpu_alloc.specs.BuddySharing.{with_span}
-use Rattle.gpu_alloc.specs.Spans.{Table}
+use Rattle.gpu_alloc.specs.Spans.{Table, IsHeldFor}
 use Rattle.gpu_alloc_block.specs.State.{HeldObject, Block, State}
 use Rattle.gpu_alloc_block.specs.declared.block.Kind.TheVariants.{FreeListChunk}
 use Rattle.gpu_alloc_base.specs.declared.free_list_block.Slot.{Slot}
@@ -94,14 +94,14 @@ module _ {A : Type 0} {limits : Limits A} {heaps : List Heap} {buddies : List Bu
       ap (finite.get t.held) tail.object.2 ∙ own.linked.chunks slot.chunk tail.object.0 tail.object.1
 
   -- a chunk that is not new is held
-  pub chunk_is_known : (new_chunk : Option ℕ) → IsTold new_chunk → MatchOption new_chunk (IsSome (finite.get t.held slot.object)) (λ _. finite.get t.held slot.object ≡ None)
+  pub chunk_is_known : (new_chunk : Option ℕ) → IsTold new_chunk → MatchOption new_chunk (IsHeldFor true t.held slot.object) (λ _. finite.get t.held slot.object ≡ None)
   chunk_is_known new_chunk told = elim (answers) [
     | inl gives ↦
         let none = none_new new_chunk remaining after.remaining _ told (ap (λ (a : Account Listing). a.remaining) gives.state) in
-        subst (λ o. MatchOption o (IsSome (finite.get t.held slot.object)) (λ _. finite.get t.held slot.object ≡ None)) (sym none) (ap is_some (there gives.place))
+        subst (λ o. MatchOption o (IsHeldFor true t.held slot.object) (λ _. finite.get t.held slot.object ≡ None)) (sym none) (list_object l slot.chunk gives.place.object.0, there gives.place, refl)
     | inr gives ↦
         let found = some_new new_chunk remaining after.remaining _ told gives.asks.has.remains.objects (ap (λ (a : Account Listing). a.remaining) gives.state) in
-        subst (λ o. MatchOption o (IsSome (finite.get t.held slot.object)) (λ _. finite.get t.held slot.object ≡ None)) (sym found.1) (not_held_yet (more_in gives.place).was_free)
+        subst (λ o. MatchOption o (IsHeldFor true t.held slot.object) (λ _. finite.get t.held slot.object ≡ None)) (sym found.1) (not_held_yet (more_in gives.place).was_free)
   ]
 
   -- The table with the block's span, and its chunk where that is new.

@@ -1,5 +1,5 @@
 -- Chunks that go out of a memory type's free list, one by one, in the allocator's fields and in its state.
-use Rattle.std.proofs.Common.{◌≡◌, ◌≢◌, ℕ, ◌+◌, ◌-◌, ◌<◌, Bool, List, [], ◌∷◌, ◌++◌, length, get_or, length-append, map, Option, Some, None, IsTrue, refl, sym, ◌∙◌, inl, inr, ap, subst, arith}
+use Rattle.std.proofs.Common.{true, ◌≡◌, ◌≢◌, ℕ, ◌+◌, ◌-◌, ◌<◌, Bool, List, [], ◌∷◌, ◌++◌, length, get_or, length-append, map, Option, Some, None, IsTrue, refl, sym, ◌∙◌, inl, inr, ap, subst, arith}
 use Rattle.std.proofs.Math.ListN.{set}
 use Rattle.std.proofs.lemmas.List.{map-append, append-nil, get_or-set_same}
 use Rattle.std.proofs.lemmas.Option.{slice_get_read, slice_get_cases}
@@ -20,7 +20,7 @@ use Rattle.gpu_alloc_freelist.specs.FreeListState.{Listing}
 use Rattle.gpu_alloc.specs.Inside.{state_in, properties_in, types_in, list_object, slot_at, IsLiveIn, IsConsistent, IsListOf, IsNumberedChunk}
 use Rattle.gpu_alloc.specs.Release.{GivesBack, LetsGo, without_all, without_objects}
 use Rattle.gpu_alloc.specs.FirstTypes.{first_types}
-use Rattle.gpu_alloc.specs.Spans.{Place, Table}
+use Rattle.gpu_alloc.specs.Spans.{Place, Room, Table, IsHeldFor}
 use Rattle.gpu_alloc_block.specs.State.{HeldObject, Span, span_cmp, State, total}
 use Rattle.gpu_alloc_block.specs.declared.block.Kind.TheVariants.{BuddyChunk}
 use Rattle.gpu_alloc_base.specs.declared.heap.Heap.{Heap}
@@ -180,7 +180,7 @@ pub record IsGivingBack {A : Type 0} (keep_last : Bool) (index i : ℕ) (s : Sta
   pub at_heap : heap ≡ get_or heaps i heap
   pub from : Account Listing
   pub places : finite.FinMap span_cmp Place
-  pub room : ℕ
+  pub room : Room
   pub serves : ServesList s places room index from.allocator
   pub numbers : List ℕ
   pub way : IsOnItsWay keep_last from objects q numbers es (account listing heap remaining) objects_now
@@ -278,6 +278,14 @@ module _ {A : Type 0} {keep_last : Bool} {index i : ℕ} {s : State} {q : Proper
           agrees = w.agrees;
           whole = w.whole;
         })))
+
+  -- What goes is held as a chunk.
+  pub goes_held : (es_now : List Event) (object : ℕ) (after : Account Listing) (objects_new : ℕ → Option Object) → GivesFirst keep_last (account fl heap remaining) es_now (Some object) after objects_now objects_new
+      → IsHeldFor true t.held object
+  goes_held es_now object after objects_new gives =
+      let there = found_value _ gives.1.0.goes.0.held in
+      let of = own_listing l heaps buddies lists t remaining index fl w.consistent w.known at in
+      (list_object fl gives.0 there.0, ap (finite.get t.held) (gives.1.1.0 ∙ ap object_in there.1) ∙ of.linked.chunks gives.0 there.0 there.1, refl)
 
   -- One more goes.
 

@@ -11,7 +11,7 @@ use Rattle.gpu_alloc_freelist.specs.FreeListState.{Listing}
 use Rattle.gpu_alloc.specs.Inside.{IsNumberedChunk, list_object, span_of_slot, slot_at}
 use Rattle.gpu_alloc.specs.FreeListSharing.{IsListChunk, IsFreeInChunk}
 use Rattle.gpu_alloc.specs.Release.{IsUnused, HasLastRun, MayGo, AreChunksGone, AreAllGone, without_all}
-use Rattle.gpu_alloc.specs.Spans.{Place}
+use Rattle.gpu_alloc.specs.Spans.{Place, Room}
 use Rattle.gpu_alloc_block.specs.State.{HeldObject, Span, span_cmp, State, IsLive}
 use Rattle.gpu_alloc_block.specs.declared.block.Kind.{Kind}
 use Rattle.gpu_alloc_block.specs.declared.block.Kind.TheVariants.{Dedicated, Imported, BuddyChunk, FreeListChunk}
@@ -45,7 +45,7 @@ map_contains f xs y has =
     let within : has.0 < length xs = omega (arith, has.1, length-map xs f) in
     (get_or xs has.0 0, (Contains-get_or xs has.0 0 within, sym (get_or-map f xs has.0 0 y within) ∙ has.2))
 
-module _ (s : State) (places : finite.FinMap span_cmp Place) (room index : ℕ) (l : Listing) (serves : ServesList s places room index l) where
+module _ (s : State) (places : finite.FinMap span_cmp Place) (room : Room) (index : ℕ) (l : Listing) (serves : ServesList s places room index l) where
   -- Chunks that are wholly free.
 
   pub unused_is : (number : ℕ) → list.IsWhollyFree l.space number → IsUnusedChunk s index number

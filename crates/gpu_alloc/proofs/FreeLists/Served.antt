@@ -13,7 +13,7 @@ use Rattle.gpu_alloc_freelist.specs.FreeListAllocator as list
 use Rattle.gpu_alloc_freelist.specs.FreeListState.{Listing, IsLiveSlot}
 use Rattle.gpu_alloc.specs.Inside.{IsNumberedChunk, IsBooked, list_object, slot_at}
 use Rattle.gpu_alloc.specs.FreeListSharing.{list_block}
-use Rattle.gpu_alloc.specs.Spans.{Place}
+use Rattle.gpu_alloc.specs.Spans.{Place, Room}
 use Rattle.gpu_alloc_block.specs.State.{HeldObject, Span, span_cmp, State, IsLive, share}
 use Rattle.gpu_alloc_base.specs.declared.heap.Heap.{Heap}
 use Rattle.gpu_alloc.proofs.Agreeing.{agrees_returned}
@@ -32,7 +32,7 @@ agrees_without_list_chunk s p objects object remaining agrees =
     let now : State = record s { held = map.remove s.held object; remaining = remaining } in
     agrees_returned s now p p objects (put objects object None) (list_block s 0 0 (record { object = object; offset = 0; size = 0 })) agrees refl refl refl refl (λ span live. live)
 
-module _ (s : State) (places : map.FinMap span_cmp Place) (room index : ℕ) (l : Listing) (serves : ServesList s places room index l) where
+module _ (s : State) (places : map.FinMap span_cmp Place) (room : Room) (index : ℕ) (l : Listing) (serves : ServesList s places room index l) where
   -- What both tell.
 
   -- a live span of a chunk's object is a live block of the chunk

@@ -18,7 +18,7 @@ use Rattle.gpu_alloc_base.proofs.ToldTwice.{IsToldAs}
 use Rattle.gpu_alloc.proofs.HeapLists.{IsHeap}
 use Rattle.gpu_alloc_base.specs.NewChunk.{flags_of}
 use Rattle.gpu_alloc_base.specs.Sizes.{up, grown_chunk}
-use Rattle.gpu_alloc.specs.Spans.{Place}
+use Rattle.gpu_alloc.specs.Spans.{Place, Room}
 use Rattle.gpu_alloc_block.specs.State.{span_cmp, State}
 use Rattle.gpu_alloc_base.specs.declared.free_list_block.Slot.{Slot}
 use Rattle.gpu_alloc_base.specs.declared.heap.Heap.{Heap}
@@ -28,12 +28,12 @@ use Rattle.gpu_alloc_base.proofs.SameRuns.{AreSameBytes, same_back, place_same, 
 use Rattle.gpu_alloc.proofs.Buddies.Serving.{table_of}
 
 -- the memory type's free list, whose next chunk and latest number are as the state tells
-pub record ServesList (s : State) (places : map.FinMap span_cmp Place) (room index : ℕ) (l : Listing) : Type 0 where
+pub record ServesList (s : State) (places : map.FinMap span_cmp Place) (room : Room) (index : ℕ) (l : Listing) : Type 0 where
   pub of : IsListOf s.config s.properties (table_of s places room) index l
   pub next : next_list_chunk s index ≡ l.next_chunk
   pub number : latest_number s index ≡ l.space.latest
 
-module _ (s : State) (places : map.FinMap span_cmp Place) (room index : ℕ) (l : Listing) (serves : ServesList s places room index l) where
+module _ (s : State) (places : map.FinMap span_cmp Place) (room : Room) (index : ℕ) (l : Listing) (serves : ServesList s places room index l) where
   -- Chunks and bytes.
 
   -- a chunk's object is held as one

@@ -37,7 +37,7 @@ pub(super) fn room_in_buddy<M: MemoryObject, A: Allocator>(
     ensures refused { IfSome result (λ e. (flags : ℕ)
         → IsFirst (of_buddy.case_of (account buddy.now heap.now allocations_remains)
         (wanted request.size request.align_mask flags)) e) }
-    ensures room { result ≡ None → 0 < spans.new.room }
+    ensures room { result ≡ None → 0 < (spans.new.room).shared }
     ensures kept { spans.new ≡ record spans.old { room = spans.new.room } }
 {
     if spans.has_room() {
@@ -60,7 +60,7 @@ fn grow_for_buddy<M: MemoryObject, A: Allocator>(
     ensures refused { IfSome result (λ e. (flags : ℕ)
         → IsFirst (of_buddy.case_of (account buddy.now heap.now allocations_remains)
         (wanted request.size request.align_mask flags)) e) }
-    ensures room { result ≡ None → 0 < spans.new.room }
+    ensures room { result ≡ None → 0 < (spans.new.room).shared }
     ensures kept { spans.new ≡ record spans.old { room = spans.new.room } }
 {
     let first = uncounted::refuses::<M, A, Brand>(
@@ -96,7 +96,7 @@ pub(super) fn room_in_list<M: MemoryObject, A: Allocator>(
     ensures refused { IfSome result (λ e. (flags : ℕ)
         → IsFirst (of_list.case_of (account list.now heap.now allocations_remains)
         (wanted request.size request.align_mask flags)) e) }
-    ensures room { result ≡ None → 0 < spans.new.room }
+    ensures room { result ≡ None → 0 < (spans.new.room).shared }
     ensures kept { spans.new ≡ record spans.old { room = spans.new.room } }
 {
     if spans.has_room() {
@@ -120,7 +120,7 @@ fn grow_for_list<M: MemoryObject, A: Allocator>(
     ensures refused { IfSome result (λ e. (flags : ℕ)
         → IsFirst (of_list.case_of (account list.now heap.now allocations_remains)
         (wanted request.size request.align_mask flags)) e) }
-    ensures room { result ≡ None → 0 < spans.new.room }
+    ensures room { result ≡ None → 0 < (spans.new.room).shared }
     ensures kept { spans.new ≡ record spans.old { room = spans.new.room } }
 {
     let first = list.refuses(request.size, request.align_mask, heap, allocations_remains);

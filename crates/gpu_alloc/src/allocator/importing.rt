@@ -11,7 +11,7 @@ ghost use Rattle.gpu_alloc_block.specs.State.{total};
 
 use super::GpuAllocator;
 use crate::MemoryBlock;
-use crate::spans::{HeldRow, LiveSpan};
+use crate::own::OwnRow;
 use gpu_alloc_block::Kind;
 use gpu_alloc_types::{MemoryObject, MemoryPropertyFlags};
 use std::alloc::Allocator;
@@ -83,34 +83,29 @@ impl<M: MemoryObject, A: Allocator> GpuAllocator<M, A> {
         ensures refused { OnErr result (self.new ≡ self.old) }
         ensures handed_back { IfErr result (λ handed. handed ≡ memory) }
     {
-        if self.spans.reserve().is_err() {
+        if self.spans.reserve_own().is_err() {
             return Err(memory);
         }
-        let object = HeldRow {
-            memory_type,
-            counted: size,
-            kind: Kind::Imported,
-        };
-        let span = LiveSpan {
+        let row = OwnRow {
             object: memory.object(),
             offset,
             size,
-            chunk: 0,
-            index: 0,
+            memory_type,
+            imported: true,
         };
-        let key = self.spans.insert(span, Some(object));
+        let key = self.spans.insert_own(row);
         let heap = self.limits.heap_index(memory_type);
-        self.heaps[heap].alloc(object.counted);
+        self.heaps[heap].alloc(row.size);
         self.allocations_remains -= 1;
         let atom = self.limits.atom(memory_type);
         Ok(MemoryBlock::new(
             memory,
-            span.offset,
-            span.size,
-            object.memory_type,
+            offset,
+            size,
+            memory_type,
             props,
             atom,
-            object.kind,
+            Kind::Imported,
             key,
         ))
     }

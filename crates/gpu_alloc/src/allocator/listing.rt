@@ -39,7 +39,8 @@ impl<M: MemoryObject, A: Allocator> GpuAllocator<M, A> {
         self.heaps[heap as usize].size()
     }
 
-    /// What an object of this name is held as, exactly where it is held.
+    /// What an object of this name is held as, exactly where it is held. A chunk is found in constant time, any other object
+    /// in a time that grows with the number of objects of one block.
     pub fn held(&self, object: u64) -> Option<HeldRow>
         ensures { option_map held_of result ≡ map.get self.now.held object }
     {

@@ -46,13 +46,12 @@ impl<M: MemoryObject, A: Allocator> GpuAllocator<M, A> {
         ensures agrees { Agrees self.new (D.properties device.new) (D.objects device.new) }
         ensures sound { Sound.IsSound self.new }
     {
-        let (key, offset, size) = (block.key(), block.offset(), block.size());
+        let key = block.key();
         let memory = into_memory(block);
         device.deallocate_memory(&memory);
-        let removed = self.spans.remove(key, memory.object(), offset, size, true);
-        let object = removed.object.unwrap();
-        let heap = self.limits.heap_index(object.memory_type);
-        self.heaps[heap].dealloc(object.counted);
+        let row = self.spans.remove_own(key, memory.object());
+        let heap = self.limits.heap_index(row.memory_type);
+        self.heaps[heap].dealloc(row.size);
         self.allocations_remains += 1;
         self.keeps_sound();
     }
@@ -71,12 +70,12 @@ impl<M: MemoryObject, A: Allocator> GpuAllocator<M, A> {
         let (offset, size) = (block.offset(), block.size());
         let memory = into_memory(block);
         let object = memory.object();
-        let removed = self.spans.remove(key, object, offset, size, false);
+        let span = self.spans.remove(key, object, offset, size);
         let heap = self.limits.heap_index(memory_type);
         let gone = uncounted::give_back::<M, A, D, Brand>(
             &mut self.buddies[memory_type as usize],
             device,
-            BuddyBlock::new(memory, leaf_in(removed.span)),
+            BuddyBlock::new(memory, leaf_in(span)),
             &mut self.heaps[heap],
             &mut self.allocations_remains,
             Blank::new(1),
@@ -121,8 +120,7 @@ impl<M: MemoryObject, A: Allocator> GpuAllocator<M, A> {
             offset,
             size,
         };
-        let removed = self.spans.remove(key, slot.object, offset, size, false);
-        let list_key = removed.span.index;
+        let list_key = self.spans.remove(key, slot.object, offset, size).index;
         self.free_lists[memory_type as usize].free(FreeListBlock::new(memory, slot, list_key));
     }
 

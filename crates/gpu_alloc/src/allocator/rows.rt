@@ -1,11 +1,11 @@
 //! Blocks of shared chunks as rows of the table of spans.
 
-ghost use Rattle.std.specs.Prelude.{◌≡◌, ◌+◌, ◌^◌, ◌<◌, ◌≤◌, None, Some, IfSome, IsSome, MatchOption, false};
+ghost use Rattle.std.specs.Prelude.{◌≡◌, ◌<◌, ◌≤◌, None, Some, IfSome, IsSome, MatchOption, false, true};
 ghost use Rattle.std.specs.FinMap as map;
 ghost use Rattle.std.specs.FinSet as set;
 ghost use Rattle.gpu_alloc.specs.Inside.{span_of_leaf, place_of_leaf, leaf_at, span_of_slot, place_of_slot};
 ghost use Rattle.gpu_alloc.specs.Inside.{with_new_chunk};
-ghost use Rattle.gpu_alloc.specs.Spans.{span_in, place_in};
+ghost use Rattle.gpu_alloc.specs.Spans.{span_in, place_in, IsHeldFor};
 
 use crate::spans::{HeldRow, LiveSpan, Spans};
 use gpu_alloc_base::buddy_block::Leaf;
@@ -79,9 +79,9 @@ pub(super) fn add_leaf<A: Allocator>(
     memory_type: u32,
     new_chunk: Option<u64>,
 ) -> usize
-    requires room { 0 < spans.old.room }
+    requires room { 0 < (spans.old.room).shared }
     requires free { set.contains spans.old.live (span_of_leaf leaf) ≡ false }
-    requires chunk { MatchOption new_chunk (IsSome (map.get spans.old.held leaf.object))
+    requires chunk { MatchOption new_chunk (IsHeldFor true spans.old.held leaf.object)
         (λ _. map.get spans.old.held leaf.object ≡ None) }
     ensures held { spans.new.held
         ≡ with_new_chunk spans.old.held leaf.object memory_type Kind.BuddyChunk new_chunk }
@@ -108,9 +108,9 @@ pub(super) fn add_slot<A: Allocator>(
     memory_type: u32,
     new_chunk: Option<u64>,
 ) -> usize
-    requires room { 0 < spans.old.room }
+    requires room { 0 < (spans.old.room).shared }
     requires free { set.contains spans.old.live (span_of_slot slot) ≡ false }
-    requires chunk { MatchOption new_chunk (IsSome (map.get spans.old.held slot.object))
+    requires chunk { MatchOption new_chunk (IsHeldFor true spans.old.held slot.object)
         (λ _. map.get spans.old.held slot.object ≡ None) }
     ensures held { spans.new.held
         ≡ with_new_chunk spans.old.held slot.object memory_type (Kind.FreeListChunk slot.chunk) new_chunk }

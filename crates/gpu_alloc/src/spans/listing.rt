@@ -19,9 +19,10 @@ impl<A: Allocator> Spans<A> {
         ensures once { IfOk result (λ rows. IsDistinct nat_eq (keys_of rows.items)) }
     {
         let mut rows = Vec::new(alloc);
-        for (name, row) in self.objects.iter() {
+        for (name, row) in self.chunks.iter() {
             rows.push((*name, *row))?;
         }
+        self.own.list_objects(&mut rows)?;
         Ok(rows)
     }
 
@@ -36,6 +37,7 @@ impl<A: Allocator> Spans<A> {
         for (_, row) in self.spans.iter() {
             rows.push(*row)?;
         }
+        self.own.list_spans(&mut rows)?;
         Ok(rows)
     }
 }

@@ -1,4 +1,4 @@
-use Rattle.std.proofs.Common.{ℕ, ◌-◌, ◌^◌}
+use Rattle.std.proofs.Common.{◌-◌, ◌^◌}
 use Rattle.gpu_desk.specs.Walk.{behind}
 use Rattle.gpu_report.proofs.Keys.{AreLive, Lists}
 use Rattle.gpu_report.proofs.desk.keyed_blocks.Given as goal

@@ -1,4 +1,4 @@
-use Rattle.std.proofs.Common.{subst, List, ℕ, None}
+use Rattle.std.proofs.Common.{subst, List, ℕ}
 use Rattle.gpu_report.proofs.GoingOn.{goes_on, row_more}
 use Rattle.gpu_report.specs.Text.{kind_text}
 use Rattle.gpu_report.specs.Writing.{GoesOn}

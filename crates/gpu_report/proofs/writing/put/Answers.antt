@@ -1,7 +1,6 @@
-use Rattle.std.proofs.Common.{ℕ, ◌≡◌, ◌+◌, ◌-◌, ◌^◌, ◌<◌, ◌≤◌, ◌++◌, [], ◌∷◌, length, get_or, min, take, sym, ◌∙◌, subst, arith}
+use Rattle.std.proofs.Common.{◌-◌, ◌^◌, ◌≤◌, length, get_or, sym, arith}
 use Rattle.std.proofs.lemmas.List.{take_more}
 use Rattle.gpu_report.proofs.GoingOn.{goes_on, byte_fits, byte_passes}
-use Rattle.gpu_report.specs.Writing.{GoesOn}
 use Rattle.gpu_report.proofs.writing.put.Goals as goal
 use Rattle.gpu_report.proofs.writing.put.Goals.{then-end-text, else-end-text}
 

@@ -1,9 +1,10 @@
 use Rattle.std.proofs.Common.{◌≡◌, sym, ap, ◌∙◌}
 use Rattle.std.specs.FinMap as finite
 use Rattle.std.specs.FinSet as set_of
+use Rattle.std.specs.Ordering.{nat_cmp}
 use Rattle.gpu_alloc_base.specs.Accounts.{account}
 use Rattle.gpu_alloc.specs.Spans.{span_at, without_old}
-use Rattle.gpu_alloc_block.specs.State.{Span, span_of}
+use Rattle.gpu_alloc_block.specs.State.{HeldObject, Span, is_shared, span_of}
 use Rattle.gpu_alloc.proofs.Buddies.Returns.{Given, given_back, agrees_before, counted_first, IsReturned, back}
 use Rattle.gpu_alloc.proofs.Soundness.{sound_is}
 use Rattle.gpu_alloc.proofs.allocator.GpuAllocator.dealloc_in_chunk.Given.{Over}
@@ -21,9 +22,21 @@ given : (g : Over) (c : goal.After-new-2 g)
     c.index_mut.result.now c.index_mut-2.result.now c.new.result c.args.block
 given g c =
     let owned = rw (← c.self.view_is) at c.requires.owned in
-    let place = sym c.remove-removed.ensures.place ∙ ap (finite.get c.self.inside.spans.places) (asked_span g c) in
-    given_back _ _ _ _ _ _ _ _ _ _ _ c.args.block c.remove-removed.result.span c.self.invariant owned c.requires.shared c.memory_type-memory_type.ensures c.index_mut.ensures.value
-    c.heap_index-heap.ensures c.index_mut-2.ensures.value (c.remove-removed.ensures.span ∙ asked_span g c) place (c.new.ensures ∙ c.leaf_in.ensures)
+    let place = sym c.remove-span.ensures.place ∙ ap (finite.get c.self.inside.spans.places) (asked_span g c) in
+    given_back _ _ _ _ _ _ _ _ _ _ _ c.args.block c.remove-span.result c.self.invariant owned c.requires.shared c.memory_type-memory_type.ensures c.index_mut.ensures.value
+    c.heap_index-heap.ensures c.index_mut-2.ensures.value (c.remove-span.ensures.span ∙ asked_span g c) place (c.new.ensures ∙ c.leaf_in.ensures)
+
+pub remove-span-requires-clause-chunk : goal.remove-span-requires-clause-chunk
+remove-span-requires-clause-chunk g c =
+    let owned = rw (← c.self.view_is) at c.requires.owned in
+    let name = c.object-object.ensures ∙ c.into_memory-memory.ensures in
+    (owned.held.0, ap (finite.get c.self.inside.spans.held) name ∙ owned.held.1, ap is_shared (owned.held.3 ∙ c.requires.shared))
+
+pub let_go-requires : goal.let_go-requires
+let_go-requires g c asked =
+    let owned = rw (← c.self.view_is) at c.requires.owned in
+    let name = c.object-object.ensures ∙ c.into_memory-memory.ensures in
+    (owned.held.0, ap (λ (m : finite.FinMap nat_cmp HeldObject). finite.get m c.object-object.result) c.remove-span.ensures.held ∙ ap (finite.get c.self.inside.spans.held) name ∙ owned.held.1, ap is_shared (owned.held.3 ∙ c.requires.shared))
 
 pub give_back-gone-requires-clause-live : goal.give_back-gone-requires-clause-live
 give_back-gone-requires-clause-live g c = (given g c).live
@@ -46,9 +59,9 @@ given_after : (g : Over) (c : goal.After-let_go g)
     c.index_mut.result.now c.index_mut-2.result.now c.new.result c.args.block
 given_after g c =
     let owned = rw (← c.self.view_is) at c.requires.owned in
-    let place = sym c.remove-removed.ensures.place ∙ ap (finite.get c.self.inside.spans.places) (removed_span g c) in
-    given_back _ _ _ _ _ _ _ _ _ _ _ c.args.block c.remove-removed.result.span c.self.invariant owned c.requires.shared c.memory_type-memory_type.ensures c.index_mut.ensures.value
-    c.heap_index-heap.ensures c.index_mut-2.ensures.value (c.remove-removed.ensures.span ∙ removed_span g c) place (c.new.ensures ∙ c.leaf_in.ensures)
+    let place = sym c.remove-span.ensures.place ∙ ap (finite.get c.self.inside.spans.places) (removed_span g c) in
+    given_back _ _ _ _ _ _ _ _ _ _ _ c.args.block c.remove-span.result c.self.invariant owned c.requires.shared c.memory_type-memory_type.ensures c.index_mut.ensures.value
+    c.heap_index-heap.ensures c.index_mut-2.ensures.value (c.remove-span.ensures.span ∙ removed_span g c) place (c.new.ensures ∙ c.leaf_in.ensures)
 
 returned_by : (g : Over) (c : goal.After-let_go g) → IsReturned (given_after g c) (account c.give_back-gone.new.buddy c.give_back-gone.new.heap c.give_back-gone.new.allocations_remains) c.let_go.new.self
     (g.D.ObjectDevice.properties c.args.device.now) (g.D.ObjectDevice.properties c.give_back-gone.new.device) (g.D.ObjectDevice.objects c.args.device.now) (g.D.ObjectDevice.objects c.give_back-gone.new.device)
@@ -64,9 +77,9 @@ returned_by g c =
       agrees = agrees;
       properties = c.give_back-gone.ensures.properties;
       told = c.give_back-gone.ensures.told;
-      held = c.let_go.ensures.held ∙ ap (λ held. without_old held c.object-object.result asked) c.remove-removed.ensures.held ∙ ap (λ n. without_old c.self.inside.spans.held n asked) name;
-      live = c.let_go.ensures.live ∙ c.remove-removed.ensures.live ∙ ap (set_of.remove c.self.inside.spans.live) (removed_span g c);
-      places = c.let_go.ensures.places ∙ c.remove-removed.ensures.places ∙ ap (finite.remove c.self.inside.spans.places) (removed_span g c);
+      held = c.let_go.ensures.held ∙ ap (λ held. without_old held c.object-object.result asked) c.remove-span.ensures.held ∙ ap (λ n. without_old c.self.inside.spans.held n asked) name;
+      live = c.let_go.ensures.live ∙ c.remove-span.ensures.live ∙ ap (set_of.remove c.self.inside.spans.live) (removed_span g c);
+      places = c.let_go.ensures.places ∙ c.remove-span.ensures.places ∙ ap (finite.remove c.self.inside.spans.places) (removed_span g c);
     })
 
 pub invariant_of-self : goal.invariant_of-self

@@ -1,12 +1,12 @@
-use Rattle.std.proofs.Common.{◌≡◌, ◌+◌, ◌∷◌, [], option_map, refl, sym, ap, ◌∙◌, arith, subst}
+use Rattle.std.proofs.Common.{◌≡◌, ◌+◌, ◌∷◌, [], refl, sym, ap, ◌∙◌, arith, subst}
 use Rattle.std.proofs.Math.ListN.{set}
 use Rattle.std.specs.FinMap as finite
 use Rattle.std.specs.FinSet as set_of
 use Rattle.gpu_alloc_types.specs.Device.Event.{Deallocated}
 use Rattle.gpu_alloc_block.specs.Agreement.{Agrees}
 use Rattle.gpu_alloc.specs.Inside.{state_in}
-use Rattle.gpu_alloc.specs.Spans.{held_of, span_at}
-use Rattle.gpu_alloc_block.specs.State.{State, Span, span_of}
+use Rattle.gpu_alloc.specs.Own.{own_held, own_span}
+use Rattle.gpu_alloc_block.specs.State.{State, Span, is_shared, span_of}
 use Rattle.gpu_alloc_base.specs.declared.heap.Heap.{Heap}
 use Rattle.gpu_alloc.proofs.Agreeing.{agrees_returned}
 use Rattle.gpu_alloc.proofs.Consistency.{covers, fits_again}
@@ -17,29 +17,31 @@ use Rattle.gpu_alloc.proofs.Returns.{returned, goes_with, let_go, state_returned
 use Rattle.gpu_alloc.proofs.allocator.GpuAllocator.dealloc_object.Given.{Over}
 use Rattle.gpu_alloc.proofs.allocator.GpuAllocator.dealloc_object.Goals as goal
 
+pub remove_own-row-requires : goal.remove_own-row-requires
+remove_own-row-requires g c =
+    let owned = rw (← c.self.view_is) at c.requires.owned in
+    let name = c.object.ensures ∙ c.into_memory-memory.ensures in
+    (owned.held.0, ap (finite.get c.self.inside.spans.held) name ∙ owned.held.1, ap is_shared owned.held.3 ∙ c.requires.own)
+
 pub dealloc-requires : goal.dealloc-requires
 dealloc-requires g c =
-    let found = sym c.remove-removed.ensures.object ∙ ap (option_map held_of) c.unwrap-object.ensures in
-    omega (arith, covers _ _ _ _ c.self.invariant.books refl c.object.result (held_of c.unwrap-object.result) found c.index_mut.result.now _ c.heap_index-heap.ensures c.index_mut.ensures.value)
+    omega (arith, covers _ _ _ _ c.self.invariant.books refl c.object.result (own_held c.remove_own-row.result) c.remove_own-row.ensures.row.is_held c.index_mut.result.now _ c.heap_index-heap.ensures c.index_mut.ensures.value)
 
 pub overflow_add-self : goal.overflow_add-self
 overflow_add-self g c =
-    let found = sym c.remove-removed.ensures.object ∙ ap (option_map held_of) c.unwrap-object.ensures in
-    omega (arith, fits_again _ _ _ _ c.self.invariant.books refl c.object.result (held_of c.unwrap-object.result) found)
+    omega (arith, fits_again _ _ _ _ c.self.invariant.books refl c.object.result (own_held c.remove_own-row.result) c.remove_own-row.ensures.row.is_held)
 
 pub invariant_of-self : goal.invariant_of-self
 invariant_of-self g c =
     let at = c.index_mut.ensures.value in
     let owned = rw (← c.self.view_is) at c.requires.owned in
-    let found = sym c.remove-removed.ensures.object ∙ ap (option_map held_of) c.unwrap-object.ensures in
     let name = c.object.ensures ∙ c.into_memory-memory.ensures in
-    let span : ◌≡◌ {A = Span} (span_at c.object.result c.offset-offset.result c.size-size.result) (span_of c.args.block) =
-    λ k. record { object = name k; offset = c.offset-offset.ensures k; size = c.size-size.ensures k } in
-    let fewer = let_go c.self.inside.limits _ _ _ _ c.remove-removed.new.self _ c.args.block _ _ _ c.unwrap-object.result c.self.invariant.books owned c.requires.own name
-    c.offset-offset.ensures c.size-size.ensures found c.remove-removed.ensures.held c.remove-removed.ensures.live in
+    let span : ◌≡◌ {A = Span} (own_span c.remove_own-row.result) (span_of c.args.block) = sym (c.remove_own-row.ensures.row.alone (span_of c.args.block) owned.live (sym name)) in
+    let fewer = let_go c.self.inside.limits _ _ _ _ c.remove_own-row.new.self _ c.args.block _ _ c.self.invariant.books owned c.requires.own name
+    c.remove_own-row.ensures.row.is_held c.remove_own-row.ensures.held (c.remove_own-row.ensures.live ∙ ap (set_of.remove c.self.inside.spans.live) span) in
     rw (properties_kept c.self.inside.limits c.self.inside.heaps.items c.heap_index-heap.result c.dealloc.new.self c.index_mut.result.now at (ap (λ (h : Heap). h.size) c.dealloc.ensures))
-    (consistent-gone _ _ _ _ _ c.self.inside.spans _ c.self.invariant refl c.remove-removed.new.self (held_of c.unwrap-object.result) (span_of c.args.block) fewer.0 fewer.1
-    (c.remove-removed.ensures.places ∙ ap (finite.remove c.self.inside.spans.places) span) c.index_mut.result.now _ _ c.heap_index-heap.ensures at c.dealloc.ensures)
+    (consistent-gone _ _ _ _ _ c.self.inside.spans _ c.self.invariant refl c.remove_own-row.new.self (own_held c.remove_own-row.result) (span_of c.args.block) fewer.0 fewer.1
+    c.remove_own-row.ensures.places c.index_mut.result.now _ _ c.heap_index-heap.ensures at c.dealloc.ensures)
 
 -- What is known at the end: the state before, and the state that is left.
 
@@ -47,14 +49,14 @@ abbrev before : (g : Over) → goal.After-drop-memory g → State
 before g c = state_in c.self.inside.limits c.self.inside.heaps.items c.self.inside.buddies.items c.self.inside.free_lists.items c.self.inside.spans c.self.inside.allocations_remains
 
 left : (g : Over) (c : goal.After-drop-memory g)
-    → state_in c.self.inside.limits (set c.self.inside.heaps.items c.heap_index-heap.result c.dealloc.new.self) c.self.inside.buddies.items c.self.inside.free_lists.items c.remove-removed.new.self (c.self.inside.allocations_remains + 1)
+    → state_in c.self.inside.limits (set c.self.inside.heaps.items c.heap_index-heap.result c.dealloc.new.self) c.self.inside.buddies.items c.self.inside.free_lists.items c.remove_own-row.new.self (c.self.inside.allocations_remains + 1)
     ≡ returned (before g c) c.args.block
 left g c =
+    let owned = rw (← c.self.view_is) at c.requires.owned in
     let name = c.object.ensures ∙ c.into_memory-memory.ensures in
-    let span : ◌≡◌ {A = Span} (span_at c.object.result c.offset-offset.result c.size-size.result) (span_of c.args.block) =
-    λ k. record { object = name k; offset = c.offset-offset.ensures k; size = c.size-size.ensures k } in
-    state_returned c.self.inside.limits _ c.self.inside.buddies.items c.self.inside.free_lists.items _ _ c.index_mut.result.now c.self.inside.spans c.remove-removed.new.self _ c.args.block c.index_mut.ensures.value (ap (λ (h : Heap). h.size) c.dealloc.ensures) (ap (λ (h : Heap). h.limit) c.dealloc.ensures)
-    (c.remove-removed.ensures.held ∙ ap (finite.remove c.self.inside.spans.held) name) (c.remove-removed.ensures.live ∙ ap (set_of.remove c.self.inside.spans.live) span)
+    let span : ◌≡◌ {A = Span} (own_span c.remove_own-row.result) (span_of c.args.block) = sym (c.remove_own-row.ensures.row.alone (span_of c.args.block) owned.live (sym name)) in
+    state_returned c.self.inside.limits _ c.self.inside.buddies.items c.self.inside.free_lists.items _ _ c.index_mut.result.now c.self.inside.spans c.remove_own-row.new.self _ c.args.block c.index_mut.ensures.value (ap (λ (h : Heap). h.size) c.dealloc.ensures) (ap (λ (h : Heap). h.limit) c.dealloc.ensures)
+    (c.remove_own-row.ensures.held ∙ ap (finite.remove c.self.inside.spans.held) name) (c.remove_own-row.ensures.live ∙ ap (set_of.remove c.self.inside.spans.live) span)
 
 pub returns-clause-freed : goal.returns-clause-freed
 returns-clause-freed g c =

@@ -6,7 +6,7 @@ use Rattle.gpu_alloc_base.specs.Accounts.{account}
 use Rattle.gpu_alloc_freelist.specs.FreeListAllocator as list
 use Rattle.gpu_alloc.specs.Inside.{state_in}
 use Rattle.gpu_alloc_block.specs.State.{State}
-use Rattle.gpu_alloc.proofs.FreeLists.Going.{IsGivenBack, giving_begins, heap_in, stops, stops_consistent, goes, goes_fewer, list_agreed, list_counted_still}
+use Rattle.gpu_alloc.proofs.FreeLists.Going.{IsGivenBack, giving_begins, heap_in, stops, stops_consistent, goes, goes_fewer, goes_held, list_agreed, list_counted_still}
 use Rattle.gpu_alloc.proofs.allocator.GpuAllocator.give_back.Given.{Over}
 use Rattle.gpu_alloc.proofs.allocator.GpuAllocator.give_back.Goals as goal
 
@@ -30,6 +30,12 @@ give_back_first-requires-clause-agrees g c =
 pub give_back_first-requires-clause-counted : goal.give_back_first-requires-clause-counted
 give_back_first-requires-clause-counted g c =
     list_counted_still c.loop-object.invariant.way.2 c.index_mut.result.now c.index_mut-in-loop-object.result.now c.index_mut.ensures.value c.index_mut-in-loop-object.ensures.value
+
+pub let_go-requires : goal.let_go-requires
+let_go-requires g c asked =
+    let gives = c.in-Some.ensures.gives in
+    goes_held c.loop-object.invariant.way.2 c.index_mut.result.now c.index_mut-in-loop-object.result.now c.index_mut.ensures.value c.index_mut-in-loop-object.ensures.value gives.0 c.in-Some.object
+    (account c.give_back_first.new.self c.give_back_first.new.heap c.give_back_first.new.allocations_remains) _ gives.2
 
 pub loop-object-smaller : goal.loop-object-smaller
 loop-object-smaller g c =

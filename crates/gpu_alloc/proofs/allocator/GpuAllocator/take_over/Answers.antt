@@ -18,7 +18,7 @@ use Rattle.gpu_alloc.proofs.allocator.GpuAllocator.take_over.Given.{Over}
 use Rattle.gpu_alloc.proofs.allocator.GpuAllocator.take_over.Goals as goal
 
 pub invariant_of-self : goal.invariant_of-self
-invariant_of-self g c = consistent-room _ _ _ _ _ _ _ _ c.reserve.ensures.kept c.self.invariant
+invariant_of-self g c = consistent-room _ _ _ _ _ _ _ _ c.reserve_own.ensures.kept c.self.invariant
 
 pub index_mut-requires : goal.index_mut-requires
 index_mut-requires g c =
@@ -53,22 +53,22 @@ some g c = subst (λ s. 0 < s.remaining) (sym c.self.view_is) c.requires.remains
 free : (g : Over) (c : goal.After-new g) → finite.get (before g c).held (block g c).object ≡ None
 free g c = ap (λ (s : State). finite.get s.held (block g c).object) c.self.view_is ∙ c.requires.unheld
 
-more : (g : Over) (c : goal.After-new g) → HoldsMore _ _ _ _ c.self.invariant.books refl c.insert-key.new.self (object g c) (span_of (block g c))
+more : (g : Over) (c : goal.After-new g) → HoldsMore _ _ _ _ c.self.invariant.books refl c.insert_own-key.new.self (object g c) (span_of (block g c))
 more g c =
     let known = rw (← c.self.view_is) at c.requires.known in
     let small : c.args.size < 2 ^ 64 = omega (arith, c.requires.ends) in
     record {
       with = record { nonempty = c.requires.nonempty; small = small; known = known; lies = λ own. refl };
       free = free g c;
-      held = c.insert-key.ensures.held ∙ (λ k. finite.insert (c.reserve.ensures.kept k).held (name g c k) (object g c));
-      live = c.insert-key.ensures.live ∙ (λ k. set_of.insert (c.reserve.ensures.kept k).live (record (span_of (block g c)) { object = name g c k }));
+      held = c.insert_own-key.ensures.held ∙ (λ k. finite.insert (c.reserve_own.ensures.kept k).held (name g c k) (object g c));
+      live = c.insert_own-key.ensures.live ∙ (λ k. set_of.insert (c.reserve_own.ensures.kept k).live (record (span_of (block g c)) { object = name g c k }));
     }
 
 state_is : (g : Over) (c : goal.After-new g)
-    → state_in c.self.inside.limits (set c.self.inside.heaps.items c.heap_index-heap.result c.alloc.new.self) c.self.inside.buddies.items c.self.inside.free_lists.items c.insert-key.new.self (c.self.inside.allocations_remains - 1)
+    → state_in c.self.inside.limits (set c.self.inside.heaps.items c.heap_index-heap.result c.alloc.new.self) c.self.inside.buddies.items c.self.inside.free_lists.items c.insert_own-key.new.self (c.self.inside.allocations_remains - 1)
     ≡ holding (before g c) (object g c) (block g c)
 state_is g c =
-    state_held c.self.inside.limits _ c.self.inside.buddies.items c.self.inside.free_lists.items _ _ c.index_mut.result.now c.self.inside.spans c.insert-key.new.self _ (object g c) (block g c) c.index_mut.ensures.value (ap (λ (h : Heap). h.size) c.alloc.ensures) (ap (λ (h : Heap). h.limit) c.alloc.ensures)
+    state_held c.self.inside.limits _ c.self.inside.buddies.items c.self.inside.free_lists.items _ _ c.index_mut.result.now c.self.inside.spans c.insert_own-key.new.self _ (object g c) (block g c) c.index_mut.ensures.value (ap (λ (h : Heap). h.size) c.alloc.ensures) (ap (λ (h : Heap). h.limit) c.alloc.ensures)
     (more g c).held (more g c).live
 
 block_is : (g : Over) (c : goal.After-new g) → c.new.result ≡ block g c
@@ -79,8 +79,8 @@ block_is g c =
 pub invariant_of-self-2 : goal.invariant_of-self-2
 invariant_of-self-2 g c =
     rw (properties_kept c.self.inside.limits c.self.inside.heaps.items c.heap_index-heap.result c.alloc.new.self c.index_mut.result.now c.index_mut.ensures.value (ap (λ (h : Heap). h.size) c.alloc.ensures))
-    (consistent-held _ _ _ _ _ c.self.inside.spans _ c.self.invariant refl c.insert-key.new.self (object g c) (span_of (block g c)) refl (more g c) _
-    (c.insert-key.ensures.places ∙ (λ k. finite.insert (c.reserve.ensures.kept k).places (record (span_of (block g c)) { object = name g c k }) (record { chunk = 0; index = 0 }))) c.index_mut.result.now _ _ (some g c)
+    (consistent-held _ _ _ _ _ c.self.inside.spans _ c.self.invariant refl c.insert_own-key.new.self (object g c) (span_of (block g c)) refl (more g c)
+    (c.insert_own-key.ensures.places ∙ (λ k. (c.reserve_own.ensures.kept k).places)) c.index_mut.result.now _ _ (some g c)
     c.heap_index-heap.ensures c.index_mut.ensures.value c.alloc.ensures (λ asked. absurd (cc)))
 
 pub returns-clause-imported : goal.returns-clause-imported

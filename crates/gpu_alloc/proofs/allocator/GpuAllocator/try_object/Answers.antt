@@ -24,7 +24,6 @@ use Rattle.gpu_alloc.specs.Allocation.{IsAsCounted}
 use Rattle.gpu_alloc.proofs.Consistency.{HoldsMore, heap_there, ledger-room}
 use Rattle.gpu_alloc.proofs.Grants.{asks_own, own_object, state_held, decides_granted}
 use Rattle.gpu_alloc.proofs.HeapLists.{properties_kept, type_heap_is}
-use Rattle.gpu_alloc.proofs.Tables.LiveSpans.{not_live_new}
 use Rattle.gpu_alloc.proofs.OwnObjects.{consistent-room, consistent-held}
 use Rattle.gpu_alloc.proofs.allocator.GpuAllocator.try_object.Given.{Over}
 use Rattle.gpu_alloc_base.proofs.Outcomes.{when_ok}
@@ -49,13 +48,13 @@ state_kept : {A : Type 0} (l : Limits A) (heaps : List Heap) (buddies : List Bud
 state_kept l heaps buddies lists new old remaining kept = ap (λ t. state_in l heaps buddies lists t remaining) kept
 
 pub invariant_of-self : goal.invariant_of-self
-invariant_of-self g c = consistent-room _ _ _ _ _ _ _ _ c.reserve.ensures.kept c.self.invariant
+invariant_of-self g c = consistent-room _ _ _ _ _ _ _ _ c.reserve_own.ensures.kept c.self.invariant
 
 pub invariant_of-self-in-Err-OutOfDeviceMemory : goal.invariant_of-self-in-Err-OutOfDeviceMemory
-invariant_of-self-in-Err-OutOfDeviceMemory g c = consistent-room _ _ _ _ _ _ _ _ c.reserve.ensures.kept c.self.invariant
+invariant_of-self-in-Err-OutOfDeviceMemory g c = consistent-room _ _ _ _ _ _ _ _ c.reserve_own.ensures.kept c.self.invariant
 
 pub invariant_of-self-in-Err-OutOfHostMemory : goal.invariant_of-self-in-Err-OutOfHostMemory
-invariant_of-self-in-Err-OutOfHostMemory g c = consistent-room _ _ _ _ _ _ _ _ c.reserve.ensures.kept c.self.invariant
+invariant_of-self-in-Err-OutOfHostMemory g c = consistent-room _ _ _ _ _ _ _ _ c.reserve_own.ensures.kept c.self.invariant
 
 pub index_mut-requires : goal.index_mut-requires
 index_mut-requires g c =
@@ -87,15 +86,15 @@ free g c =
     let none : g.D.ObjectDevice.objects c.args.device.now c.object.result ≡ None = rw c.object.ensures made.0 in
     ap (λ (s : State). finite.get s.held c.object.result) c.self.view_is ∙ not_held c.args.self.now _ _ _ c.requires.agrees none
 
-more : (g : Over) (c : goal.After-new g) → HoldsMore _ _ _ _ c.self.invariant.books refl c.insert-key.new.self (object g c) (span_at c.object.result 0 c.args.request.size)
+more : (g : Over) (c : goal.After-new g) → HoldsMore _ _ _ _ c.self.invariant.books refl c.insert_own-key.new.self (object g c) (span_at c.object.result 0 c.args.request.size)
 more g c =
     let known = rw (← c.self.view_is) at c.requires.known in
     let small : c.args.request.size < 2 ^ 64 = c.well_formed.1.1.0.1.1.0.1 in
     record {
       with = record { nonempty = c.requires.askable.nonempty; small = small; known = known; lies = λ own. (refl, refl) };
       free = free g c;
-      held = c.insert-key.ensures.held ∙ ap (λ held. finite.insert held c.object.result (object g c)) (held_kept c.reserve.new.self c.self.inside.spans c.reserve.ensures.kept);
-      live = c.insert-key.ensures.live ∙ ap (λ live. set_of.insert live (span_at c.object.result 0 c.args.request.size)) (live_kept c.reserve.new.self c.self.inside.spans c.reserve.ensures.kept);
+      held = c.insert_own-key.ensures.held ∙ ap (λ held. finite.insert held c.object.result (object g c)) (held_kept c.reserve_own.new.self c.self.inside.spans c.reserve_own.ensures.kept);
+      live = c.insert_own-key.ensures.live ∙ ap (λ live. set_of.insert live (span_at c.object.result 0 c.args.request.size)) (live_kept c.reserve_own.new.self c.self.inside.spans c.reserve_own.ensures.kept);
     }
 
 asks : (g : Over) (c : goal.After-new g) → Asks (own_candidate (before g c) c.args.request.size c.args.memory_type)
@@ -110,10 +109,10 @@ fits g c =
     omega (arith, (asks g c).within, of.used, of.limit)
 
 state_is : (g : Over) (c : goal.After-new g)
-    → state_in c.self.inside.limits (set c.self.inside.heaps.items c.heap_index-heap.result c.alloc.new.self) c.self.inside.buddies.items c.self.inside.free_lists.items c.insert-key.new.self (c.self.inside.allocations_remains - 1)
+    → state_in c.self.inside.limits (set c.self.inside.heaps.items c.heap_index-heap.result c.alloc.new.self) c.self.inside.buddies.items c.self.inside.free_lists.items c.insert_own-key.new.self (c.self.inside.allocations_remains - 1)
     ≡ holding (before g c) (own_object c.args.request.size c.args.memory_type) (block g c)
 state_is g c =
-    state_held c.self.inside.limits _ c.self.inside.buddies.items c.self.inside.free_lists.items _ _ c.index_mut.result.now c.self.inside.spans c.insert-key.new.self _ (object g c) (block g c) c.index_mut.ensures.value (ap (λ (h : Heap). h.size) c.alloc.ensures) (ap (λ (h : Heap). h.limit) c.alloc.ensures)
+    state_held c.self.inside.limits _ c.self.inside.buddies.items c.self.inside.free_lists.items _ _ c.index_mut.result.now c.self.inside.spans c.insert_own-key.new.self _ (object g c) (block g c) c.index_mut.ensures.value (ap (λ (h : Heap). h.size) c.alloc.ensures) (ap (λ (h : Heap). h.limit) c.alloc.ensures)
     (more g c).held (more g c).live
 
 block_is : (g : Over) (c : goal.After-new g) → c.new.result ≡ block g c
@@ -122,8 +121,8 @@ block_is g c = c.new.ensures ∙ (λ k. record (block g c) { object = sym c.obje
 pub invariant_of-self-in-Ok : goal.invariant_of-self-in-Ok
 invariant_of-self-in-Ok g c =
     rw (properties_kept c.self.inside.limits c.self.inside.heaps.items c.heap_index-heap.result c.alloc.new.self c.index_mut.result.now c.index_mut.ensures.value (ap (λ (h : Heap). h.size) c.alloc.ensures))
-    (consistent-held _ _ _ _ _ c.self.inside.spans _ c.self.invariant refl c.insert-key.new.self (object g c) (span_at c.object.result 0 c.args.request.size) refl (more g c) _
-    (c.insert-key.ensures.places ∙ ap (λ places. finite.insert places (span_at c.object.result 0 c.args.request.size) (record { chunk = 0; index = 0 })) (places_kept c.reserve.new.self c.self.inside.spans c.reserve.ensures.kept)) c.index_mut.result.now _ _ (positive c.self.inside.allocations_remains c.if-self-eq0.false)
+    (consistent-held _ _ _ _ _ c.self.inside.spans _ c.self.invariant refl c.insert_own-key.new.self (object g c) (span_at c.object.result 0 c.args.request.size) refl (more g c)
+    (c.insert_own-key.ensures.places ∙ places_kept c.reserve_own.new.self c.self.inside.spans c.reserve_own.ensures.kept) c.index_mut.result.now _ _ (positive c.self.inside.allocations_remains c.if-self-eq0.false)
     c.heap_index-heap.ensures c.index_mut.ensures.value c.alloc.ensures (λ asked. fits g c))
 
 pub returns-in-Ok-clause-tries : goal.returns-in-Ok-clause-tries
@@ -149,7 +148,7 @@ returns-in-Ok-clause-objects g c =
 
 pub returns-in-Err-OutOfHostMemory-clause-tries : goal.returns-in-Err-OutOfHostMemory-clause-tries
 returns-in-Err-OutOfHostMemory-clause-tries g c =
-    let same = state_kept c.self.inside.limits c.self.inside.heaps.items c.self.inside.buddies.items c.self.inside.free_lists.items c.reserve.new.self c.self.inside.spans c.self.inside.allocations_remains c.reserve.ensures.kept in
+    let same = state_kept c.self.inside.limits c.self.inside.heaps.items c.self.inside.buddies.items c.self.inside.free_lists.items c.reserve_own.new.self c.self.inside.spans c.self.inside.allocations_remains c.reserve_own.ensures.kept in
     rw (← c.self.view_is) (
       Allocated c.args.request.size c.args.memory_type (flags_of (properties_in c.self.inside.limits c.self.inside.heaps.items)) (Err c.in-Err-OutOfHostMemory.field-0) ∷ [],
       (c.allocate_memory-answer.new.self, rw (← c.flags-flags.ensures) (rw c.in-Err-OutOfHostMemory.is at c.allocate_memory-answer.ensures), refl),
@@ -159,8 +158,8 @@ returns-in-Err-OutOfHostMemory-clause-tries g c =
 -- The device grants nothing: room was made, and the state is the one before.
 
 kept-is_err : (g : Over) (c : goal.Then-is_err g)
-    → state_in c.self.inside.limits c.self.inside.heaps.items c.self.inside.buddies.items c.self.inside.free_lists.items c.reserve.new.self c.self.inside.allocations_remains ≡ c.args.self.now
-kept-is_err g c = state_kept c.self.inside.limits c.self.inside.heaps.items c.self.inside.buddies.items c.self.inside.free_lists.items c.reserve.new.self c.self.inside.spans c.self.inside.allocations_remains c.reserve.ensures.kept ∙ c.self.view_is
+    → state_in c.self.inside.limits c.self.inside.heaps.items c.self.inside.buddies.items c.self.inside.free_lists.items c.reserve_own.new.self c.self.inside.allocations_remains ≡ c.args.self.now
+kept-is_err g c = state_kept c.self.inside.limits c.self.inside.heaps.items c.self.inside.buddies.items c.self.inside.free_lists.items c.reserve_own.new.self c.self.inside.spans c.self.inside.allocations_remains c.reserve_own.ensures.kept ∙ c.self.view_is
 
 pub returns-then-is_err-clause-tries : goal.returns-then-is_err-clause-tries
 returns-then-is_err-clause-tries g c =
@@ -170,7 +169,7 @@ returns-then-is_err-clause-tries g c =
 
 pub returns-in-Err-OutOfDeviceMemory-clause-tries : goal.returns-in-Err-OutOfDeviceMemory-clause-tries
 returns-in-Err-OutOfDeviceMemory-clause-tries g c =
-    let same = state_kept c.self.inside.limits c.self.inside.heaps.items c.self.inside.buddies.items c.self.inside.free_lists.items c.reserve.new.self c.self.inside.spans c.self.inside.allocations_remains c.reserve.ensures.kept in
+    let same = state_kept c.self.inside.limits c.self.inside.heaps.items c.self.inside.buddies.items c.self.inside.free_lists.items c.reserve_own.new.self c.self.inside.spans c.self.inside.allocations_remains c.reserve_own.ensures.kept in
     rw (← c.self.view_is) (
       Allocated c.args.request.size c.args.memory_type (flags_of (properties_in c.self.inside.limits c.self.inside.heaps.items)) (Err c.in-Err-OutOfDeviceMemory.field-0) ∷ [],
       (c.allocate_memory-answer.new.self, rw (← c.flags-flags.ensures) (rw c.in-Err-OutOfDeviceMemory.is at c.allocate_memory-answer.ensures), refl),
@@ -185,19 +184,21 @@ returns-in-Err-OutOfHostMemory-clause-objects g c = g.met.D.ObjectDevice.row _ _
 
 -- The new object's name is free in the table, and so is its span.
 
-no_object : (g : Over) (c : goal.After-insert-arg-1 g) → finite.get c.self.inside.spans.held c.object.result ≡ None
+no_object : (g : Over) (c : goal.After-insert_own-arg-1 g) → finite.get c.self.inside.spans.held c.object.result ≡ None
 no_object g c =
     let made = g.met.D.ObjectDevice.row _ _ _ c.in-Ok.ensures in
     let none : g.D.ObjectDevice.objects c.args.device.now c.object.result ≡ None = rw c.object.ensures made.0 in
     ap (λ (s : State). finite.get s.held c.object.result) c.self.view_is ∙ not_held c.args.self.now _ _ _ c.requires.agrees none
 
-pub insert-key-requires-clause-free : goal.insert-key-requires-clause-free
-insert-key-requires-clause-free g c =
-    ap (λ live. set_of.contains live (span_at c.object.result 0 c.args.request.size)) (live_kept c.reserve.new.self c.self.inside.spans c.reserve.ensures.kept)
-    ∙ not_live_new c.self.inside.spans (span_at c.object.result 0 c.args.request.size) c.self.invariant.books.spans (no_object g c)
+pub insert_own-key-requires-clause-free : goal.insert_own-key-requires-clause-free
+insert_own-key-requires-clause-free g c = ap (λ held. finite.get held c.object.result) (held_kept c.reserve_own.new.self c.self.inside.spans c.reserve_own.ensures.kept) ∙ no_object g c
 
-pub insert-key-requires-clause-object : goal.insert-key-requires-clause-object
-insert-key-requires-clause-object g c = ap (λ held. finite.get held c.object.result) (held_kept c.reserve.new.self c.self.inside.spans c.reserve.ensures.kept) ∙ no_object g c
+pub insert_own-key-requires-clause-unused : goal.insert_own-key-requires-clause-unused
+insert_own-key-requires-clause-unused g c span live same =
+    let was = subst (λ l. IsTrue (set_of.contains l span)) (live_kept c.reserve_own.new.self c.self.inside.spans c.reserve_own.ensures.kept) live in
+    let held = (c.self.invariant.books.spans span was).held in
+    let none = ap (finite.get c.self.inside.spans.held) same ∙ no_object g c in
+    absurd (cc)
 
 pub heap_index-heap-requires : goal.heap_index-heap-requires
 heap_index-heap-requires g c = rw (← c.self.view_is) at c.requires.known
@@ -224,5 +225,5 @@ allocate_memory-answer-requires g c =
 pub overflow_sub-self : goal.overflow_sub-self
 overflow_sub-self g c = positive c.self.inside.allocations_remains c.if-self-eq0.false
 
-pub insert-key-requires-clause-room : goal.insert-key-requires-clause-room
-insert-key-requires-clause-room g c = when_ok _ (sym c.if-is_err.ensures.value) c.reserve.ensures.room
+pub insert_own-key-requires-clause-room : goal.insert_own-key-requires-clause-room
+insert_own-key-requires-clause-room g c = when_ok _ (sym c.if-is_err.ensures.value) c.reserve_own.ensures.room
