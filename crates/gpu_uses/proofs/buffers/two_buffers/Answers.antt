@@ -1,6 +1,7 @@
-use Rattle.std.proofs.Common.{rules}
+use Rattle.std.proofs.Common.{[], ◌∷◌}
 use Rattle.gpu_uses.proofs.buffers.two_buffers.Goals as goal
 
--- the search that runs where there is no answer has the file's own definitions to try too, and stops at a limit
+-- both are in hand, and of those the first goes
 pub dealloc-requires-in-Ok-clause-owned : goal.dealloc-requires-in-Ok-clause-owned
-dealloc-requires-in-Ok-clause-owned g c = search rules
+dealloc-requires-in-Ok-clause-owned g c =
+    (c.dealloc.ensures.removed.first (c.in-Ok.indices ∷ []) (c.in-Ok.ensures.added.all (c.in_ok-vertices.vertices ∷ []) (c.in_ok-vertices.ensures.added.all [] tt))).0
