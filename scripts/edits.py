@@ -1,4 +1,7 @@
-"""What an edit of crates/*/must-fail says: the wrong bodies that it holds, each under a line 'FUNCTION: what it does', and the texts that they stand in."""
+"""What an edit of crates/*/must-fail says: the wrong bodies that it holds, each under a line 'FUNCTION: what it does', and the texts that they stand in.
+
+An edit in must-fail/second holds second wrong bodies of functions that a crate's first edit turns: rt ci tries that one alone, and scripts/refuse_each both.
+"""
 import os
 
 
@@ -7,11 +10,20 @@ def read(path):
         return file.read()
 
 
-def named(root):
-    """Each edit of the repository, as its crate and its own name."""
+def named(root, inside=""):
+    """Each edit of the repository, as its crate and its path in the crate's folder must-fail: the first ones, or those in a folder in that one, as second/."""
     for crate in sorted(os.listdir(f"{root}/crates")):
-        folder = f"{root}/crates/{crate}/must-fail"
-        yield from ((crate, it) for it in (sorted(os.listdir(folder)) if os.path.isdir(folder) else []) if it.endswith(".edit"))
+        folder = f"{root}/crates/{crate}/must-fail/{inside}"
+        yield from ((crate, inside + name) for name in (sorted(os.listdir(folder)) if os.path.isdir(folder) else []) if name.endswith(".edit"))
+
+
+def unfit(root, inside):
+    """Says of each of those edits that cannot be applied why it can't."""
+    for crate, edit in named(root, inside):
+        try:
+            applied(f"{root}/crates/{crate}/must-fail/{edit}", f"{root}/crates/{crate}")
+        except (AssertionError, KeyError, OSError, UnicodeDecodeError) as reason:
+            yield f"{crate}/must-fail/{edit} cannot be applied: {reason}"
 
 
 def applied(edit, crate):

@@ -30,7 +30,7 @@ own_held row = record { memory_type = row.memory_type; counted = row.size; kind 
 
 -- the same as rows of a list
 abbrev pub row_of : OwnRow → HeldRow
-row_of row = record { memory_type = row.memory_type; counted = row.size; kind = cond row.imported Imported Dedicated }
+row_of row = record { memory_type = (own_held row).memory_type; counted = (own_held row).counted; kind = (own_held row).kind }
 
 abbrev pub span_of : OwnRow → LiveSpan
 span_of row = record { object = row.object; offset = row.offset; size = row.size; chunk = 0; index = 0 }

@@ -1,5 +1,5 @@
 -- The table of held objects and live spans.
-use Rattle.std.specs.Prelude.{◌≡◌, ◌≢◌, ℕ, ◌-◌, Bool, true, false, cond, IsTrue, List, [], ◌∷◌, map, min, Option, Some, None}
+use Rattle.std.specs.Prelude.{◌≡◌, ◌≢◌, ℕ, ◌+◌, ◌-◌, ◌≤◌, Bool, true, false, cond, IsTrue, List, [], ◌∷◌, map, min, Option, Some, None}
 use Rattle.std.specs.FinMap as map_of
 use Rattle.std.specs.FinSet as set
 use Rattle.std.specs.Ordering.{nat_cmp}
@@ -21,6 +21,10 @@ pub record Place : Type 0 where
 pub record Room : Type 0 where
   pub own : ℕ
   pub shared : ℕ
+
+-- at most so many fewer fit than before
+abbrev pub LeavesRoom : ℕ → ℕ → Room → Room → Type 0
+LeavesRoom own shared before after = (before.own ≤ after.own + own) × (before.shared ≤ after.shared + shared)
 
 -- the held objects by name, the live spans, where the blocks of shared chunks stand, and for how many more there is room
 pub record Table : Type 0 where

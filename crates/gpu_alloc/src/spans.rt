@@ -7,7 +7,7 @@ ghost use Rattle.std.specs.FinSet as set;
 ghost use Rattle.std.specs.Option.{option_map};
 ghost use Rattle.gpu_alloc.specs.Own.{own_held, own_span, IsRowOf};
 ghost use Rattle.gpu_alloc.specs.Spans.{span_at, span_in, place_in, held_of, objects_in, with_new, without_old};
-ghost use Rattle.gpu_alloc.specs.Spans.{IsHeldAs, IsHeldFor, IsNowhere, IsUnder};
+ghost use Rattle.gpu_alloc.specs.Spans.{IsHeldAs, IsHeldFor, IsNowhere, IsUnder, LeavesRoom};
 ghost use Rattle.gpu_alloc_block.specs.State.{Span, is_shared};
 ghost use Rattle.indexmap.specs.IndexMap.{spare};
 
@@ -154,7 +154,8 @@ fn hold<A: Allocator>(chunks: &mut Chunks<A>, name: u64, new_chunk: Option<HeldR
 /// Takes a chunk off those that are held, where it is asked for.
 #[inline(always)]
 fn let_go<A: Allocator>(chunks: &mut Chunks<A>, name: u64, asked: bool)
-    ensures { objects_in chunks.new.entries ≡ without_old (objects_in chunks.old.entries) name asked }
+    ensures held { objects_in chunks.new.entries ≡ without_old (objects_in chunks.old.entries) name asked }
+    ensures room { spare chunks.old ≤ spare chunks.new }
 {
     if !asked {
         return;
@@ -179,7 +180,7 @@ impl<A: Allocator + Copy> Spans<A> {
 
 impl<A: Allocator> Spans<A> {
     /// How many objects are held. They have to be a number of 32 bits.
-    pub fn len(&self) -> usize
+    pub(crate) fn len(&self) -> usize
         requires { map.len self.now.held < 2 ^ 32 }
         ensures { result ≡ map.len self.now.held }
     {
@@ -208,6 +209,7 @@ impl<A: Allocator> Spans<A> {
         ensures held { self.new.held ≡ map.insert self.old.held row.object (own_held row) }
         ensures live { self.new.live ≡ set.insert self.old.live (own_span row) }
         ensures places { self.new.places ≡ self.old.places }
+        ensures room { LeavesRoom 1 0 self.old.room self.new.room }
     {
         self.own.insert(row)
     }
@@ -222,6 +224,7 @@ impl<A: Allocator> Spans<A> {
         ensures held { self.new.held ≡ map.remove self.old.held object }
         ensures live { self.new.live ≡ set.remove self.old.live (own_span result) }
         ensures places { self.new.places ≡ self.old.places }
+        ensures room { LeavesRoom 0 0 self.old.room self.new.room }
     {
         self.own.remove(key, object)
     }
@@ -262,6 +265,7 @@ impl<A: Allocator> Spans<A> {
         ensures held { self.new.held ≡ with_new self.old.held span.object new_chunk }
         ensures live { self.new.live ≡ set.insert self.old.live (span_in span) }
         ensures places { self.new.places ≡ map.insert self.old.places (span_in span) (place_in span) }
+        ensures room { LeavesRoom 0 1 self.old.room self.new.room }
     {
         hold(&mut self.chunks, span.object, new_chunk);
         self.spans.insert_reserved(span)
@@ -280,6 +284,7 @@ impl<A: Allocator> Spans<A> {
         ensures held { self.new.held ≡ self.old.held }
         ensures live { self.new.live ≡ set.remove self.old.live (span_at object offset size) }
         ensures places { self.new.places ≡ map.remove self.old.places (span_at object offset size) }
+        ensures room { LeavesRoom 0 0 self.old.room self.new.room }
     {
         match key_of(&self.spans, key, object, offset, size) {
             Some(found) => self.spans.remove(found),
@@ -295,6 +300,7 @@ impl<A: Allocator> Spans<A> {
         ensures held { self.new.held ≡ without_old self.old.held chunk asked }
         ensures live { self.new.live ≡ self.old.live }
         ensures places { self.new.places ≡ self.old.places }
+        ensures room { LeavesRoom 0 0 self.old.room self.new.room }
     {
         let_go(&mut self.chunks, chunk, asked);
     }

@@ -18,16 +18,7 @@ use Rattle.gpu_alloc.specs.Spans.{held_of, objects_in, over, span_in, with_new, 
 use Rattle.gpu_alloc.specs.declared.spans.HeldRow.{HeldRow}
 use Rattle.gpu_alloc.specs.declared.spans.LiveSpan.{LiveSpan}
 use Rattle.gpu_alloc.proofs.Tables.Rows.{live_in, once_more, under_live}
-use Rattle.gpu_alloc.proofs.Tables.Unions.{chunk_gone, chunk_is, chunk_put, is_live, no_own, over_same, unheld}
-
-abbrev Held : Type 0
-Held = finite.FinMap nat_cmp HeldObject
-
-abbrev Live : Type 0
-Live = set.FinSet span_cmp
-
-abbrev Entries : Type 0
-Entries = List (ℕ × HeldRow)
+use Rattle.gpu_alloc.proofs.Tables.Unions.{Entries, Held, Live, chunk_gone, chunk_is, chunk_put, is_live, no_own, over_same, unheld}
 
 later_or : (a b : Bool) → b ≡ true → (a || b) ≡ true
 later_or true b e = refl

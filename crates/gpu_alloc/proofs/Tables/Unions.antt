@@ -20,13 +20,13 @@ use Rattle.gpu_alloc.specs.declared.spans.HeldRow.{HeldRow}
 use Rattle.gpu_alloc.specs.declared.spans.LiveSpan.{LiveSpan}
 use Rattle.gpu_alloc.proofs.Tables.Rows.{live_in, live_under, nowhere_dead, under_live}
 
-abbrev Held : Type 0
+abbrev pub Held : Type 0
 Held = finite.FinMap nat_cmp HeldObject
 
-abbrev Live : Type 0
+abbrev pub Live : Type 0
 Live = set.FinSet span_cmp
 
-abbrev Entries : Type 0
+abbrev pub Entries : Type 0
 Entries = List (ℕ × HeldRow)
 
 abbrev pub or_else : {X : Type 0} → Option X → Option X → Option X
