@@ -37,3 +37,7 @@ pub mod Strategies
 pub mod Tables
 pub mod Trials
 pub mod UnderKeys
+pub mod WholeLists
+pub mod WholeOwned
+pub mod WholeParts
+pub mod Wholes

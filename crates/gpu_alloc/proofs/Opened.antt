@@ -26,6 +26,7 @@ use Rattle.gpu_alloc_base.specs.Sizes.{minimal_size, initial_size, starting_size
 use Rattle.gpu_alloc.specs.FirstTypes.{first_type_state, first_types}
 use Rattle.gpu_alloc.specs.Spans.{Table}
 use Rattle.gpu_alloc.specs.Budget.{asked_share}
+use Rattle.gpu_alloc_block.specs.Parts.{IsAt}
 use Rattle.gpu_alloc_block.specs.State.{HeldObject, Span, TypeState, span_cmp, share}
 use Rattle.gpu_alloc_base.specs.declared.config.Config.{Config}
 use Rattle.gpu_alloc_base.specs.declared.heap.Heap.{Heap}
@@ -62,6 +63,17 @@ one_first_more c p buddies t b are count is sound = each_more (λ i x. (x ≡ fi
 
 pub one_first_list_more : (c : Config) (p : Properties) (lists : List Listing) (t : ℕ) (l : Listing) → AreFirstListings c p lists → length lists ≡ t → l ≡ first_listing c p t → IsSoundListing l → AreFirstListings c p (lists ++ l ∷ [])
 one_first_list_more c p lists t l are count is sound = each_more (λ i x. (x ≡ first_listing c p i) × IsSoundListing x) lists l are (is ∙ ap (first_listing c p) (sym count), sound)
+
+-- no list has a chunk or a block
+pub lists_unused : (c : Config) (p : Properties) (lists : List Listing) → AreFirstListings c p lists → (i : ℕ) (l : Listing) → IsAt lists i l → (l.space.chunks ≡ finite.empty) × (l.space.live ≡ set_of.empty)
+lists_unused c p lists are i l at =
+    let is = (subst (λ (o : Option Listing). IfSome o (λ x. (x ≡ first_listing c p i) × IsSoundListing x)) (read_at lists i l at) (are i)).0 in
+    (ap (λ (x : Listing). x.space.chunks) is, ap (λ (x : Listing). x.space.live) is)
+  where
+    read_at : (xs : List Listing) (j : ℕ) (x : Listing) → IsAt xs j x → slice_get xs j ≡ Some x
+    read_at [] j x here = absurd here
+    read_at (y ∷ ys) zero x here = ap Some here
+    read_at (y ∷ ys) (suc j) x here = read_at ys j x here
 
 -- the chunk sizes are the first ones
 types_kept : (types : List TypeState) (buddies : List Buddy) → length types ≤ length buddies → ((i : ℕ) → IfSome (slice_get types i) (λ t. IfSome (slice_get buddies i) (λ b. b.next_chunk ≡ t.next_chunk))) → types_in types buddies ≡ types

@@ -26,6 +26,7 @@ pub mod Sound
 pub mod Spans
 pub mod Types
 pub mod UnderKeys
+pub mod Whole
 pub use Rattle.gpu_alloc_base.specs.Accounts
 pub use Rattle.gpu_alloc_base.specs.AlignMasks
 pub use Rattle.gpu_alloc_base.specs.Case

@@ -44,6 +44,7 @@ use crate::request::is_required;
 use crate::spans::Spans;
 use crate::{Dedicated, MemoryBlock, MemoryForUsage, Request};
 use by_type::{close_buddies, close_free_lists, empty_buddies, empty_free_lists, unused_heaps};
+use gpu_alloc_base::free_list_block::Slot;
 use gpu_alloc_base::heap::Heap;
 use gpu_alloc_base::{AllocationError, Config, buddy_block, free_list_block};
 use gpu_alloc_block::Kind;
@@ -51,8 +52,8 @@ use gpu_alloc_buddy::BuddyAllocator;
 use gpu_alloc_freelist::FreeListAllocator;
 use gpu_alloc_types::{DeviceProperties, MemoryObject, ObjectDevice, OutOfMemory, UsageFlags};
 use gpu_alloc_usage::meaning;
-use growth::{room_in_buddy, room_in_list};
-use rows::{add_leaf, add_slot, new_buddy_chunk, new_list_chunk};
+use growth::room_in_buddy;
+use rows::{add_leaf, new_buddy_chunk};
 use std::alloc::{AllocError, Allocator, Global};
 use std::marker::{Brand, Model};
 use std::sync::ledger::Blank;
@@ -95,12 +96,13 @@ impl<M: MemoryObject, A: Allocator> Model for GpuAllocator<M, A> {
 
     ghost coded = { state_code };
 
-    ghost use Rattle.gpu_alloc.specs.Inside.{state_in, properties_in, IsConsistent};
+    ghost use Rattle.gpu_alloc.specs.Inside.{state_in, properties_in};
+    ghost use Rattle.gpu_alloc.specs.Whole.{whole, IsKept};
 
-    ghost view = { λ a.
-        state_in a.limits a.heaps.items a.buddies.items a.free_lists.items a.spans a.allocations_remains };
+    ghost view = { λ a. state_in a.limits a.heaps.items a.buddies.items a.free_lists.items
+        (whole a.spans a.free_lists.items) a.allocations_remains };
 
-    ghost invariant = { λ a. IsConsistent a.limits.config (properties_in a.limits a.heaps.items) a.heaps.items
+    ghost invariant = { λ a. IsKept a.limits.config (properties_in a.limits a.heaps.items) a.heaps.items
         a.buddies.items a.free_lists.items a.spans a.allocations_remains };
 }
 
@@ -541,21 +543,9 @@ impl<M: MemoryObject, A: Allocator> GpuAllocator<M, A> {
             × TriesBy InFreeList self.old request memory_type es result self.new }
         ensures objects { ObjectsTried self.old result self.new (D.objects device.old) (D.objects device.new) }
     {
-        let own = memory_type as usize;
         let heap = self.limits.heap_index(memory_type);
-        let remained = self.allocations_remains;
-        let first = room_in_list(
-            &mut self.spans,
-            &self.free_lists[own],
-            request,
-            &self.heaps[heap],
-            remained,
-        );
-        if let Some(refusal) = first {
-            return passing(refusal);
-        }
         let flags = self.limits.flags();
-        let answer = self.free_lists[own].alloc(
+        let answer = self.free_lists[memory_type as usize].alloc(
             device,
             request.size,
             request.align_mask,
@@ -563,27 +553,23 @@ impl<M: MemoryObject, A: Allocator> GpuAllocator<M, A> {
             &mut self.heaps[heap],
             &mut self.allocations_remains,
         );
-        match answer {
-            Ok(block) => {
-                let props = self.limits.props(memory_type);
-                let atom = self.limits.atom(memory_type);
-                let (memory, slot, list_key) = free_list_block::into_parts(block);
-                let remains = self.allocations_remains;
-                let new_chunk = new_list_chunk(&self.free_lists[own], slot, remained, remains);
-                let key = add_slot(&mut self.spans, slot, list_key, memory_type, new_chunk);
-                Ok(Some(MemoryBlock::new(
-                    memory,
-                    slot.offset,
-                    slot.size,
-                    memory_type,
-                    props,
-                    atom,
-                    Kind::FreeListChunk(slot.chunk),
-                    key,
-                )))
-            }
-            Err(refusal) => passing(refusal),
-        }
+        let block = match answer {
+            Ok(block) => block,
+            Err(refusal) => return passing(refusal),
+        };
+        let props = self.limits.props(memory_type);
+        let atom = self.limits.atom(memory_type);
+        let (memory, slot, key) = free_list_block::into_parts(block);
+        Ok(Some(MemoryBlock::new(
+            memory,
+            slot.offset,
+            slot.size,
+            memory_type,
+            props,
+            atom,
+            Kind::FreeListChunk(slot.chunk),
+            key,
+        )))
     }
 
     /// The size of a memory type's heap, in bytes.
@@ -679,14 +665,34 @@ impl<M: MemoryObject, A: Allocator> GpuAllocator<M, A> {
         ensures sound { Sound.IsSound self.now }
     {
         self.keeps_sound();
-        self.spans.has(
-            block.key(),
-            block.memory().object(),
-            block.offset(),
-            block.size(),
-            block.memory_type(),
-            block.kind(),
-        )
+        match block.kind() {
+            Kind::FreeListChunk(number) => self.has_in_list(block, number),
+            kind => self.spans.has(
+                block.key(),
+                block.memory().object(),
+                block.offset(),
+                block.size(),
+                block.memory_type(),
+                kind,
+            ),
+        }
+    }
+
+    /// Whether a block of a free list's chunk of this number is live here.
+    fn has_in_list(&self, block: &MemoryBlock<M>, number: u64) -> bool
+        requires { (block.now).kind ≡ Kind.FreeListChunk number }
+        ensures { IsTrue result ↔ IsOwned self.now block.now }
+    {
+        let slot = Slot {
+            object: block.memory().object(),
+            chunk: number,
+            offset: block.offset(),
+            size: block.size(),
+        };
+        match self.free_lists.get(block.memory_type() as usize) {
+            Some(list) => list.is_live(block.key(), slot),
+            None => false,
+        }
     }
 
     /// The largest size of a request, in bytes, as `new` was given it.
@@ -726,15 +732,20 @@ impl<M: MemoryObject, A: Allocator> GpuAllocator<M, A> {
     pub fn held_objects(&self) -> u32
         ensures { result ≡ map.len self.now.held }
     {
-        self.spans.len() as u32
+        let mut count = self.spans.len();
+        for list in self.free_lists.iter() {
+            count += list.chunks().len();
+        }
+        count as u32
     }
 
-    /// Whether an object of this name is held, as a block's own, as an import or as a chunk. A chunk is found in constant
-    /// time, any other object in a time that grows with the number of objects of one block.
+    /// Whether an object of this name is held, as a block's own, as an import or as a chunk. A buddy chunk is found in
+    /// constant time, any other object in a time that grows with the number of objects of one block and of free-list
+    /// chunks.
     pub fn holds(&self, object: u64) -> bool
         ensures { result ≡ is_some (map.get self.now.held object) }
     {
-        self.spans.held(object).is_some()
+        self.held(object).is_some()
     }
 
     /// Ends the allocator, which may hold no object: `held_objects` tells. After all returns

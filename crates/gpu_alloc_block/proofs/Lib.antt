@@ -11,4 +11,5 @@ pub mod Lists
 pub mod LiveSpans
 pub mod Moving
 pub mod Opened
+pub mod Parts
 pub mod Rounded

@@ -9,5 +9,6 @@ pub mod KeptMapping
 pub mod Keyed
 pub mod Lists
 pub mod Mapped
+pub mod Parts
 pub mod Ranges
 pub mod State

@@ -3,10 +3,10 @@ use Rattle.std.specs.Prelude.{◌≡◌, ◌↔◌, ℕ, ◌-◌, ◌<◌, List,
 use Rattle.std.specs.FinMap as map_of
 use Rattle.std.specs.List.{Contains}
 use Rattle.std.specs.Ordering.{nat_cmp}
-use Rattle.slab.specs.Slab.{Slab, get, slab_len}
+use Rattle.slab.specs.Slab.{Slab, entries, get, slab_len}
 use Rattle.gpu_alloc_base.specs.Accounts.{HeldChunks}
 use Rattle.gpu_alloc_base.specs.Chunks.{Chunk}
-use Rattle.gpu_alloc_base.specs.SlabViews.{map_by}
+use Rattle.gpu_alloc_base.specs.SlabViews.{map_by, HasOneKeyEach}
 use Rattle.gpu_alloc_base.specs.declared.region.FreeListRegion.{FreeListRegion}
 use Rattle.gpu_alloc_freelist.specs.declared.freelist.chunks.NumberedChunk.{NumberedChunk}
 use Rattle.gpu_alloc_freelist.specs.declared.freelist.chunks.NumberedKey.{NumberedKey}
@@ -59,3 +59,10 @@ IsFiled {M} rows n = (row : NumberedChunk M) × (get rows n.key ≡ Some row) ×
 pub record AreFiled {M : Type 0} (rows : Slab (NumberedChunk M)) (numbers : List NumberedKey) : Type 0 where
   pub rising : AreNumbered (λ n. n.number) numbers
   pub exact : (n : NumberedKey) → Contains numbers n ↔ IsFiled rows n
+
+-- these are the held chunks, each once, with the keys of their rows
+pub record ListsChunks {M : Type 0} (object : M → ℕ) (held : HeldChunks) (listed : List (ℕ × NumberedChunk M)) : Type 0 where
+  pub rows : Slab (NumberedChunk M)
+  pub are : listed ≡ entries rows
+  pub once : HasOneKeyEach (λ row. row.number) rows
+  pub exact : held ≡ held_in object rows

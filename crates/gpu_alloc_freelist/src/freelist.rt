@@ -18,7 +18,9 @@ ghost use Rattle.gpu_alloc_freelist.specs.FreeListAllocator.{Adds, HoldsNothing,
 ghost use Rattle.gpu_alloc_freelist.specs.FreeListAllocator.{Removes};
 ghost use Rattle.gpu_alloc_base.specs.Accounts.{account, IsCounted, chunks_and_remaining};
 ghost use Rattle.gpu_alloc_base.specs.Case.{Asks, RefusesFirst, RefusesQuestion};
+ghost use Rattle.gpu_alloc_freelist.specs.Chunks.{ListsChunks};
 ghost use Rattle.gpu_alloc_freelist.specs.FreeListInside.{FitsAChunk};
+ghost use Rattle.gpu_alloc_freelist.specs.Live.{ListsSlots};
 ghost use Rattle.gpu_alloc_freelist.specs.FreeListSound.{IsSound, IsSoundSpace};
 ghost use Rattle.gpu_alloc_freelist.specs.FreeListState.{Listing, IsLiveSlot};
 ghost use Rattle.gpu_alloc_base.specs.FreeSpace.{IsMultipleOf};
@@ -32,6 +34,8 @@ mod list;
 mod live;
 mod runs;
 
+pub use chunks::NumberedChunk;
+use gpu_alloc_base::free_list_block::Slot;
 use gpu_alloc_base::heap::Heap;
 use gpu_alloc_base::new_chunk::new_chunk_with_handle;
 use gpu_alloc_base::range_order::put_in_order;
@@ -42,6 +46,7 @@ use gpu_alloc_types::{
     AllocationFlags, FreeRange, MemoryObject, MemoryPropertyFlags, ObjectDevice,
 };
 pub use list::FreeList;
+use slab::Iter;
 use std::alloc::{AllocError, Allocator, Global};
 use std::marker::{Brand, Model};
 use std::sync::ledger::{Blank, Ledger};
@@ -364,6 +369,30 @@ impl<M: MemoryObject, A: Allocator> FreeListAllocator<M, A> {
         heap.dealloc(size);
         *allocations_remains += 1;
         Some(memory.object())
+    }
+
+    /// The held chunks, each once, in no order that is told.
+    pub fn chunks(&self) -> Iter<'_, NumberedChunk<M>>
+        ensures { ListsChunks M.object (self.now).space.chunks result }
+    {
+        self.freelist.chunks()
+    }
+
+    /// The live blocks, each once, in no order that is told, with their keys.
+    pub fn slots(&self) -> Iter<'_, Slot>
+        ensures { ListsSlots (self.now).space.live result }
+    {
+        self.freelist.slots()
+    }
+
+    /// Whether a block is live here: by its object, chunk, offset and size.
+    ///
+    /// The answer is the same whatever the key is. The key that the block carries makes it fast: another one costs a
+    /// search of the live blocks.
+    pub fn is_live(&self, key: usize, slot: Slot) -> bool
+        ensures { IsTrue result ↔ IsLiveSlot (self.now).space slot }
+    {
+        self.freelist.is_live(key, slot)
     }
 
     /// The size of a held chunk, in bytes. It is public for `gpu_alloc`, which counts the chunk as an object.

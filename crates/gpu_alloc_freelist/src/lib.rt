@@ -5,5 +5,5 @@
 mod freelist;
 pub mod laws;
 
-pub use freelist::{FreeList, FreeListAllocator};
+pub use freelist::{FreeList, FreeListAllocator, NumberedChunk};
 pub use gpu_alloc_base::{FreeListBlock, FreeListRegion};

@@ -1,5 +1,5 @@
 -- What a block that a memory type's buddy allocator gives comes to for the whole allocator.
-use Rattle.std.proofs.Common.{◌≡◌, ◌⊎◌, inl, inr, ℕ, ◌+◌, ◌-◌, ◌^◌, ◌<◌, ◌≤◌, false, true, List, Option, Some, None, Ok, IfSome, MatchOption, refl, sym, ◌∙◌, ap, subst, arith}
+use Rattle.std.proofs.Common.{◌≡◌, ◌⊎◌, inl, inr, ℕ, ◌+◌, ◌-◌, ◌^◌, ◌<◌, ◌≤◌, false, List, Option, Some, None, Ok, IfSome, MatchOption, refl, sym, ◌∙◌, ap, subst, arith}
 use Rattle.std.proofs.Math.ListN.{set}
 use Rattle.gpu_alloc_base.proofs.AlignedPowers.{pow-le}
 use Rattle.std.specs.FinMap as finite
@@ -19,7 +19,8 @@ use Rattle.gpu_alloc_freelist.specs.FreeListState.{Listing}
 use Rattle.gpu_alloc.specs.Inside.{state_in, properties_in, chunk_object, with_new_chunk, span_of_leaf, place_of_leaf, IsConsistent}
 use Rattle.gpu_alloc_base.specs.NewChunk.{made}
 use Rattle.gpu_alloc.specs.BuddySharing.{buddy_question, buddy_block, with_span, with_buddy_chunk}
-use Rattle.gpu_alloc.specs.Spans.{Table, IsHeldFor}
+use Rattle.gpu_alloc.specs.Spans.{Table}
+use Rattle.gpu_alloc.proofs.Wholes.{IsHeldAsBuddy}
 use Rattle.gpu_alloc_block.specs.State.{Block, State}
 use Rattle.gpu_alloc_block.specs.declared.block.Kind.TheVariants.{BuddyChunk}
 use Rattle.gpu_alloc_base.specs.declared.buddy_block.Leaf.{Leaf}
@@ -84,14 +85,14 @@ module _ {A : Type 0} {l : Limits A} {heaps : List Heap} {buddies : List Buddy} 
       ap (finite.get t.held) front.object ∙ chunk_found.linked.chunks leaf.chunk front.chunk front.held
 
   -- a chunk that is not new is held
-  pub chunk_is_known : (new_chunk : Option ℕ) → IsTold new_chunk → MatchOption new_chunk (IsHeldFor true t.held leaf.object) (λ _. finite.get t.held leaf.object ≡ None)
+  pub chunk_is_known : (new_chunk : Option ℕ) → IsTold new_chunk → MatchOption new_chunk (IsHeldAsBuddy t leaf.object) (λ _. finite.get t.held leaf.object ≡ None)
   chunk_is_known new_chunk told = elim (answers) [
     | inl gives ↦
         let none = none_new new_chunk remaining after.remaining _ told (ap (λ (a : Account Buddy). a.remaining) gives.state) in
-        subst (λ o. MatchOption o (IsHeldFor true t.held leaf.object) (λ _. finite.get t.held leaf.object ≡ None)) (sym none) (chunk_object b gives.place.chunk, there gives.place, refl)
+        subst (λ o. MatchOption o (IsHeldAsBuddy t leaf.object) (λ _. finite.get t.held leaf.object ≡ None)) (sym none) (chunk_object b gives.place.chunk, there gives.place, refl)
     | inr gives ↦
         let found = some_new new_chunk remaining after.remaining _ told gives.asks.has.remains.objects (ap (λ (a : Account Buddy). a.remaining) gives.state) in
-        subst (λ o. MatchOption o (IsHeldFor true t.held leaf.object) (λ _. finite.get t.held leaf.object ≡ None)) (sym found.1) (not_held_yet (more_in gives.place.free_key).was_free)
+        subst (λ o. MatchOption o (IsHeldAsBuddy t leaf.object) (λ _. finite.get t.held leaf.object ≡ None)) (sym found.1) (not_held_yet (more_in gives.place.free_key).was_free)
   ]
 
   -- The table with the block's span, and its chunk where that is new.

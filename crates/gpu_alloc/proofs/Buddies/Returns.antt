@@ -122,7 +122,7 @@ module _ {A : Type 0} {l : Limits A} {heaps : List Heap} {buddies : List Buddy} 
 
   -- Its chunk.
 
-  object_is : block.object ≡ leaf.object
+  pub object_is : block.object ≡ leaf.object
   object_is = ap (λ (x : Span). x.object) given.span
 
   abbrev chunk_row : HeldObject
@@ -143,6 +143,12 @@ module _ {A : Type 0} {l : Limits A} {heaps : List Heap} {buddies : List Buddy} 
 
   used_now : (IsUnusedChunk (without_leaf b leaf) leaf.chunk → ⊥) → IsUnused (without_span before block) block.object → ⊥
   used_now used unused = used (unused_was before t.places t.room index b serving leaf block given.live given.span (subst (IsUnused (without_span before block)) object_is unused))
+
+  -- where its chunk goes, no other span of it is live
+  pub last_of : IsUnusedChunk (without_leaf b leaf) leaf.chunk → (other : Span) → IsTrue (set_of.contains t.live other) → other.object ≡ leaf.object → other ≡ span_of_leaf leaf
+  last_of unused other was of_it =
+      only_span t.live (span_of_leaf leaf) other
+      (λ left still. unused_is before t.places t.room index b serving leaf block given.live given.span unused left (subst (λ x. IsTrue (set_of.contains (set_of.remove t.live x) left)) (sym given.span) still)) was of_it
 
   abbrev state_with : Buddy → Heap → Table → ℕ → State
   state_with after changed now left = state_in l (set heaps i changed) (set buddies index after) lists now left
@@ -192,8 +198,7 @@ module _ {A : Type 0} {l : Limits A} {heaps : List Heap} {buddies : List Buddy} 
       fewer : HoldsFewer p heaps t remaining given.is.books refl now chunk_row (span_of_leaf leaf)
       fewer = record {
         found = found;
-        last = λ other was of_it. only_span t.live (span_of_leaf leaf) other
-            (λ left still. unused_is before t.places t.room index b serving leaf block given.live given.span unused left (subst (λ x. IsTrue (set_of.contains (set_of.remove t.live x) left)) (sym given.span) still)) was of_it;
+        last = last_of unused;
         held = held;
         live = less.live;
       }

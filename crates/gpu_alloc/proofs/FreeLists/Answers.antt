@@ -1,5 +1,5 @@
 -- What a block that a memory type's free list gives comes to for the whole allocator.
-use Rattle.std.proofs.Common.{IfSome, MatchOption, ◌≡◌, ◌⊎◌, inl, inr, ℕ, ◌+◌, ◌-◌, ◌^◌, ◌<◌, ◌≤◌, false, true, List, Option, Some, None, Ok, refl, sym, ◌∙◌, ap, subst, arith}
+use Rattle.std.proofs.Common.{◌≡◌, ◌⊎◌, inl, inr, ℕ, ◌+◌, ◌-◌, ◌^◌, ◌<◌, ◌≤◌, false, List, length, Option, Some, None, Ok, refl, sym, ◌∙◌, ap, subst, arith}
 use Rattle.std.proofs.Math.ListN.{set}
 use Rattle.std.specs.FinMap as finite
 use Rattle.std.specs.FinSet as set_of
@@ -21,15 +21,16 @@ use Rattle.gpu_alloc_base.proofs.ToldTwice.{asks_is}
 use Rattle.gpu_alloc_freelist.proofs.Spaces.{next_is_new}
 use Rattle.gpu_alloc.proofs.HandedOn.{Given}
 use Rattle.gpu_alloc_types.specs.Flags.{has_bit}
-use Rattle.gpu_alloc.proofs.NewChunkRows.{none_new, some_new}
 use Rattle.gpu_alloc.proofs.NewObjects.{counted_new}
 use Rattle.gpu_alloc_freelist.specs.FreeListSound.{IsSound}
 use Rattle.gpu_alloc_freelist.specs.FreeListState.{Listing}
-use Rattle.gpu_alloc.specs.Inside.{state_in, properties_in, list_object, with_new_chunk, span_of_slot, slot_at, place_of_slot, IsConsistent}
+use Rattle.gpu_alloc.specs.Inside.{state_in, properties_in, list_object, span_of_slot, slot_at, IsConsistent}
 use Rattle.gpu_alloc.specs.FreeListSharing.{list_question, list_block, latest_number, tail_of, with_list_chunk}
 use Rattle.gpu_alloc_base.specs.NewChunk.{ChunkQuestion, made}
 use Rattle.gpu_alloc.specs.BuddySharing.{with_span}
-use Rattle.gpu_alloc.specs.Spans.{Table, IsHeldFor}
+use Rattle.gpu_alloc.specs.Spans.{Table}
+use Rattle.gpu_alloc.specs.Whole.{whole, AreWhole}
+use Rattle.gpu_alloc.proofs.Wholes.{slot_comes, chunk_comes}
 use Rattle.gpu_alloc_block.specs.State.{HeldObject, Block, State}
 use Rattle.gpu_alloc_block.specs.declared.block.Kind.TheVariants.{FreeListChunk}
 use Rattle.gpu_alloc_base.specs.declared.free_list_block.Slot.{Slot}
@@ -47,9 +48,12 @@ use Rattle.gpu_alloc.proofs.FreeLists.Types.{own_listing, serves_own}
 
 -- A request to a free list among the fields, and the block that it gave.
 
-module _ {A : Type 0} {limits : Limits A} {heaps : List Heap} {buddies : List Buddy} {lists : List Listing} {t : Table} {remaining index i : ℕ} {l : Listing} {heap : Heap} {flags : ℕ} {slot : Slot} {q : Properties} {old : ℕ → Option Object}
-    (given : Given limits heaps buddies lists t remaining index i lists l heap flags q old) (new : ℕ → Option Object) (size alignment : ℕ) (es : List Event) (after : Account Listing)
+module _ {A : Type 0} {limits : Limits A} {heaps : List Heap} {buddies : List Buddy} {lists : List Listing} {table : Table} {remaining index i : ℕ} {l : Listing} {heap : Heap} {flags : ℕ} {slot : Slot} {q : Properties} {old : ℕ → Option Object}
+    (given : Given limits heaps buddies lists (whole table lists) remaining index i lists l heap flags q old) (apart : AreWhole table lists) (new : ℕ → Option Object) (size alignment : ℕ) (es : List Event) (after : Account Listing)
     (answers : Answers (list_case (account l heap remaining) size alignment flags) es (Ok slot) after) (objects : ObjectsAfter l (Ok slot) after.allocator old new) (nonempty : 0 < slot.size) where
+  abbrev t : Table
+  t = whole table lists
+
   abbrev before : State
   before = state_in limits heaps buddies lists t remaining
 
@@ -83,40 +87,26 @@ module _ {A : Type 0} {limits : Limits A} {heaps : List Heap} {buddies : List Bu
   abbrev block : Block
   block = list_block before index slot.chunk (span_of_slot slot)
 
-  -- Whether the chunk is new, and how large it is then.
-  abbrev pub IsTold : Option ℕ → Type 0
-  IsTold new_chunk =
-      MatchOption new_chunk (remaining ≤ after.remaining) (λ n. (after.remaining < remaining) × IfSome (finite.get after.allocator.space.chunks slot.chunk) (λ c. c.size ≡ n))
-
   there : (tail : IsTail l.space size alignment slot) → finite.get t.held slot.object ≡ Some (list_object l slot.chunk tail.object.0)
   there tail =
       let own = own_listing limits heaps buddies lists t remaining index l given.is given.known given.at in
       ap (finite.get t.held) tail.object.2 ∙ own.linked.chunks slot.chunk tail.object.0 tail.object.1
 
-  -- a chunk that is not new is held
-  pub chunk_is_known : (new_chunk : Option ℕ) → IsTold new_chunk → MatchOption new_chunk (IsHeldFor true t.held slot.object) (λ _. finite.get t.held slot.object ≡ None)
-  chunk_is_known new_chunk told = elim (answers) [
-    | inl gives ↦
-        let none = none_new new_chunk remaining after.remaining _ told (ap (λ (a : Account Listing). a.remaining) gives.state) in
-        subst (λ o. MatchOption o (IsHeldFor true t.held slot.object) (λ _. finite.get t.held slot.object ≡ None)) (sym none) (list_object l slot.chunk gives.place.object.0, there gives.place, refl)
-    | inr gives ↦
-        let found = some_new new_chunk remaining after.remaining _ told gives.asks.has.remains.objects (ap (λ (a : Account Listing). a.remaining) gives.state) in
-        subst (λ o. MatchOption o (IsHeldFor true t.held slot.object) (λ _. finite.get t.held slot.object ≡ None)) (sym found.1) (not_held_yet (more_in gives.place).was_free)
-  ]
+  inside : index < length lists
+  inside = omega (arith, given.known, given.is.listed.count)
 
-  -- The table with the block's span, and its chunk where that is new.
-  module _ (now : Table) (new_chunk : Option ℕ) (key : ℕ) (sound : IsSound after.allocator) (told : IsTold new_chunk)
-      (held : now.held ≡ with_new_chunk t.held slot.object index (FreeListChunk slot.chunk) new_chunk)
-      (live : now.live ≡ set_of.insert t.live (span_of_slot slot)) (places : now.places ≡ finite.insert t.places (span_of_slot slot) (place_of_slot key)) where
-    more : HasSlotMore t now slot
-    more = record { key = key; free = slot_is_free; live = live; places = places }
+  -- What the fields are with another free list.
+  module _ (sound : IsSound after.allocator) where
+    abbrev now : Account Listing → Table
+    now a = whole table (set lists index a.allocator)
 
     abbrev state_of : Account Listing → State
-    state_of a = state_in limits (set heaps i a.heap) buddies (set lists index a.allocator) now a.remaining
+    state_of a = state_in limits (set heaps i a.heap) buddies (set lists index a.allocator) (now a) a.remaining
 
     -- what is left of it
     pub record IsServed (a : Account Listing) : Type 0 where
-      pub consistent : IsConsistent limits.config (properties_in limits (set heaps i a.heap)) (set heaps i a.heap) buddies (set lists index a.allocator) now a.remaining
+      pub consistent : IsConsistent limits.config (properties_in limits (set heaps i a.heap)) (set heaps i a.heap) buddies (set lists index a.allocator) (now a) a.remaining
+      pub parts : AreWhole table (set lists index a.allocator)
       pub gives : GivesInPlace (list_candidate before size alignment index) es block (state_of a) ⊎ GivesInNewObject (list_candidate before size alignment index) es block (state_of a)
       pub objects_are : ObjectsWith before block (state_of a) old new
 
@@ -126,12 +116,15 @@ module _ {A : Type 0} {limits : Limits A} {heaps : List Heap} {buddies : List Bu
     in_run tail same_objects after_is gives =
         let chunk : Chunk = tail.object.0 in
         let found = tail.object.1 in
-        let none = none_new new_chunk remaining after.remaining _ told (ap (λ (a : Account Listing). a.remaining) after_is) in
-        let same_held : now.held ≡ t.held = held ∙ ap (with_new_chunk t.held slot.object index (FreeListChunk slot.chunk)) none in
+        let list_now : Listing = listing_with_slot l slot in
+        let made = slot_comes table lists apart index l inside given.at serving.of.sound serving.of.for_type.memory_type list_now refl slot chunk found tail.object.2 refl refl in
+        let now_is : Table = whole table (set lists index list_now) in
+        let more : HasSlotMore t now_is slot = record { free = slot_is_free; live = made.live_is; places = refl } in
         let sound_now = subst IsSound (ap (λ (a : Account Listing). a.allocator) after_is) sound in
-        let state = state_with_slot limits heaps buddies lists t remaining index l given.is given.known given.at i heap given.here given.at_heap slot chunk now found tail.object.2 sound_now same_held more in
+        let state = state_with_slot limits heaps buddies lists t remaining index l given.is given.known given.at i heap given.here given.at_heap slot chunk now_is found tail.object.2 sound_now made.held_is more in
         subst IsServed (sym after_is) (record {
-          consistent = consistent_with_slot limits heaps buddies lists t remaining index l given.is given.known given.at i heap given.here given.at_heap slot chunk now found tail.object.2 sound_now same_held more;
+          consistent = consistent_with_slot limits heaps buddies lists t remaining index l given.is given.known given.at i heap given.here given.at_heap slot chunk now_is found tail.object.2 sound_now made.held_is more;
+          parts = made.apart;
           gives = inl (subst (GivesInPlace (list_candidate before size alignment index) es block) (sym state) gives);
           objects_are = rw (there tail) same_objects;
         })
@@ -153,17 +146,21 @@ module _ {A : Type 0} {limits : Limits A} {heaps : List Heap} {buddies : List Bu
         ap (λ (x : Listing). finite.get x.space.chunks slot.chunk) after_list ∙ ap (finite.get (finite.insert l.space.chunks (l.space.latest + 1) chunk)) number
         ∙ own_inserted l.space.chunks (l.space.latest + 1) chunk in
         let row : HeldObject = record { memory_type = index; counted = n; kind = FreeListChunk slot.chunk } in
-        let found = some_new new_chunk remaining after.remaining _ told some (ap (λ (a : Account Listing). a.remaining) after_is) in
-        let is_counted : n ≡ found.0 = subst (λ (o : Option Chunk). IfSome o (λ c. c.size ≡ found.0)) chunk_now found.2 in
-        let held_now = held ∙ ap (with_new_chunk t.held slot.object index (FreeListChunk slot.chunk)) found.1 ∙ ap (λ m. with_new_chunk t.held slot.object index (FreeListChunk slot.chunk) (Some m)) (sym is_counted) in
+        let latest : ℕ = l.space.latest + 1 in
+        let row_is : list_object l latest chunk ≡ row = λ k. record { memory_type = for_type.memory_type k; counted = n; kind = FreeListChunk (sym number k) } in
+        let made = chunk_comes table lists apart index l inside given.at serving.of.sound for_type.memory_type list_now refl slot latest chunk free refl (next_is_new l.space serving.of.sound.space) refl refl in
+        let now_is : Table = whole table (set lists index list_now) in
+        let held_now : now_is.held ≡ finite.insert t.held slot.object row = made.held_is ∙ ap (finite.insert t.held slot.object) row_is in
+        let more : HasSlotMore t now_is slot = record { free = slot_is_free; live = made.live_is; places = refl } in
         let small : n < 2 ^ 64 = (sound.space.sizes slot.chunk chunk chunk_now).1 in
         let sound_now = subst IsSound after_list sound in
-        let state = state_with_list_chunk limits heaps buddies lists t remaining index l given.is given.known given.at i heap given.here given.at_heap slot n now changed number free some small sound_now held_now more refl within in
+        let state = state_with_list_chunk limits heaps buddies lists t remaining index l given.is given.known given.at i heap given.here given.at_heap slot n now_is changed number free some small sound_now held_now more refl within in
         let asked = asked_size limits heaps buddies lists t remaining index l given.is given.known given.at size in
         let state_asked = state ∙ ap (λ m. with_span (with_list_chunk before index slot.object m) (span_of_slot slot)) asked in
         let found_now = ap (λ (x : Held). finite.get x slot.object) held_now ∙ own_inserted t.held slot.object row in
         subst IsServed (sym after_is) (record {
-          consistent = consistent_with_list_chunk limits heaps buddies lists t remaining index l given.is given.known given.at i heap given.here given.at_heap slot n now changed number free some small sound_now held_now more refl within;
+          consistent = consistent_with_list_chunk limits heaps buddies lists t remaining index l given.is given.known given.at i heap given.here given.at_heap slot n now_is changed number free some small sound_now held_now more refl within;
+          parts = made.apart;
           gives = inr (subst (GivesInNewObject (list_candidate before size alignment index) es block) (sym state_asked) gives);
           objects_are = rw free (counted_new before.properties l.memory_type (sees_chunks l) chunk row slot.object _ _ old new chunk_now found_now for_type.memory_type refl (ap (λ bits. has_bit bits 2) for_type.props) one_more);
         })
@@ -193,8 +190,8 @@ module _ {A : Type 0} {limits : Limits A} {heaps : List Heap} {buddies : List Bu
       | inr gives ↦
           let first = gives.place in
           let n : ℕ = chunk_size l size in
-          let whole : n ≡ (list_question before index size).size = ap (λ (x : ChunkQuestion). x.size) asked_is in
-          let span_is : span_of_slot slot ≡ tail_of slot.object (list_question before index size).size size alignment = ap span_of_slot first ∙ ap (λ m. tail_of slot.object m size alignment) whole in
+          let size_is : n ≡ (list_question before index size).size = ap (λ (x : ChunkQuestion). x.size) asked_is in
+          let span_is : span_of_slot slot ≡ tail_of slot.object (list_question before index size).size size alignment = ap span_of_slot first ∙ ap (λ m. tail_of slot.object m size alignment) size_is in
           let chunk_number : slot.chunk ≡ l.space.latest + 1 = ap (λ (x : Slot). x.chunk) first in
           let number : slot.chunk ≡ latest_number before index + 1 = chunk_number ∙ ap (λ m. m + 1) (sym serving.number) in
           let more = more_in first in

@@ -21,6 +21,9 @@ use Rattle.gpu_alloc.specs.Inside.{state_in, properties_in, types_in, list_objec
 use Rattle.gpu_alloc.specs.Release.{GivesBack, LetsGo, without_all, without_objects}
 use Rattle.gpu_alloc.specs.FirstTypes.{first_types}
 use Rattle.gpu_alloc.specs.Spans.{Place, Room, Table, IsHeldFor}
+use Rattle.gpu_alloc.specs.Whole.{parts_of, whole, AreWhole, IsKept, IsPlace}
+use Rattle.gpu_alloc_block.specs.Parts.{Makes}
+use Rattle.gpu_alloc.proofs.Wholes.{chunk_goes}
 use Rattle.gpu_alloc_block.specs.State.{HeldObject, Span, span_cmp, State, total}
 use Rattle.gpu_alloc_block.specs.declared.block.Kind.TheVariants.{BuddyChunk}
 use Rattle.gpu_alloc_base.specs.declared.heap.Heap.{Heap}
@@ -367,3 +370,39 @@ module _ {A : Type 0} {keep_last : Bool} {index i : ℕ} {s : State} {q : Proper
     -- fewer objects are held
     pub goes_fewer : finite.len now.held < finite.len t.held
     goes_fewer = omega (arith, ap (λ (x : Held). finite.len x) held_less, held_fewer l heaps buddies lists t remaining index i fl heap w.consistent w.known at w.here at_heap number chunk there.1 gives.1.0.goes.0)
+
+-- The free lists as parts of the whole, beside the table.
+
+module _ {A : Type 0} {keep_last : Bool} {index i : ℕ} {s : State} {q : Properties} {objects : ℕ → Option Object} {l : Limits A} {heaps : List Heap} {buddies : List Buddy} {lists : List Listing} {table : Table} {remaining : ℕ} {es : List Event}
+    {objects_now : ℕ → Option Object} (w : IsGivingBack keep_last index i s q objects l heaps buddies lists (whole table lists) remaining es objects_now) (apart : AreWhole table lists) (fl : Listing) (heap : Heap) (at : fl ≡ get_or lists index fl)
+    (at_heap : heap ≡ get_or heaps i heap) where
+  -- the chunk that goes
+  pub chunk_went : (es_now : List Event) (object : ℕ) (after : Account Listing) (objects_new : ℕ → Option Object) → GivesFirst keep_last (account fl heap remaining) es_now (Some object) after objects_now objects_new
+      → Makes IsPlace (parts_of table (set lists index after.allocator)) (finite.remove (whole table lists).held object) (whole table lists).live
+  chunk_went es_now object after objects_new gives =
+      let there = found_value _ gives.1.0.goes.0.held in
+      let own = own_listing l heaps buddies lists (whole table lists) remaining index fl w.consistent w.known at in
+      let inside : index < length lists = omega (arith, w.known, w.consistent.listed.count) in
+      let less : Listing = record fl { space = without_chunk fl.space gives.0 } in
+      let is : after.allocator ≡ less = ap (λ (a : Account Listing). a.allocator) gives.1.1.1.1.0 in
+      let named : object ≡ there.0.object = gives.1.1.0 ∙ ap object_in there.1 in
+      subst (λ x. Makes IsPlace (parts_of table (set lists index x)) (finite.remove (whole table lists).held object) (whole table lists).live) (sym is)
+      (subst (λ n. Makes IsPlace (parts_of table (set lists index less)) (finite.remove (whole table lists).held n) (whole table lists).live) (sym named)
+      (chunk_goes table lists apart index fl inside at own.sound own.for_type.memory_type less refl gives.0 there.0 there.1 gives.1.0.goes.0.unused refl refl))
+
+  -- none may go any more
+  module _ (es_now : List Event) (after : Account Listing) (objects_new : ℕ → Option Object) (gives : GivesFirst keep_last (account fl heap remaining) es_now None after objects_now objects_new) where
+    lists_kept : set lists index after.allocator ≡ lists
+    lists_kept = same_set lists index after.allocator fl at (ap (λ (a : Account Listing). a.allocator) gives.1.1.0)
+
+    pub stops_kept : IsKept l.config (properties_in l (set heaps i after.heap)) (set heaps i after.heap) buddies (set lists index after.allocator) table after.remaining
+    stops_kept = record {
+      consistent = subst (λ ls. IsConsistent l.config (properties_in l (set heaps i after.heap)) (set heaps i after.heap) buddies (set lists index after.allocator) (whole table ls) after.remaining) (sym lists_kept)
+          (stops_consistent w fl heap at at_heap es_now after objects_new gives);
+      apart = subst (λ ls. AreWhole table ls) (sym lists_kept) apart;
+    }
+
+    pub stops_whole : IsGivenBack keep_last index s q objects (state_in l (set heaps i after.heap) buddies (set lists index after.allocator) (whole table (set lists index after.allocator)) after.remaining) (es ++ es_now) objects_new
+    stops_whole =
+        subst (λ ls. IsGivenBack keep_last index s q objects (state_in l (set heaps i after.heap) buddies (set lists index after.allocator) (whole table ls) after.remaining) (es ++ es_now) objects_new) (sym lists_kept)
+        (stops w fl heap at at_heap es_now after objects_new gives)

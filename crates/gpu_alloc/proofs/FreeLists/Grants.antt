@@ -12,20 +12,20 @@ use Rattle.gpu_alloc_base.specs.Accounts.{IsCounted}
 use Rattle.gpu_alloc_freelist.specs.FreeListAllocator.{listing_with_slot, chunk_size, next_size}
 use Rattle.gpu_alloc_freelist.specs.FreeListSound.{IsSound}
 use Rattle.gpu_alloc_freelist.specs.FreeListState.{Listing}
-use Rattle.gpu_alloc.specs.Inside.{state_in, properties_in, types_in, lists_in, list_object, span_of_slot, place_of_slot, IsConsistent, IsListOf}
+use Rattle.gpu_alloc.specs.Inside.{state_in, properties_in, types_in, lists_in, list_object, span_of_slot, IsConsistent, IsListOf}
 use Rattle.gpu_alloc.specs.FreeListSharing.{list_question, largest_list_chunk, latest_number, with_next_list, with_list_chunk}
 use Rattle.gpu_alloc.specs.BuddySharing.{with_span}
 use Rattle.gpu_alloc_base.specs.Sizes.{up, doubled_chunk}
 use Rattle.gpu_alloc.specs.FirstTypes.{first_types}
-use Rattle.gpu_alloc.specs.Spans.{Table}
-use Rattle.gpu_alloc_block.specs.State.{HeldObject, TypeState, State}
+use Rattle.gpu_alloc.specs.Spans.{Place, Table}
+use Rattle.gpu_alloc_block.specs.State.{HeldObject, TypeState, State, span_cmp}
 use Rattle.gpu_alloc_block.specs.declared.block.Kind.TheVariants.{BuddyChunk, FreeListChunk}
 use Rattle.gpu_alloc_base.specs.declared.free_list_block.Slot.{Slot}
 use Rattle.gpu_alloc_base.specs.declared.heap.Heap.{Heap}
 use Rattle.gpu_alloc.specs.declared.limits.Limits.{Limits}
 use Rattle.gpu_alloc.specs.declared.request.Request.{Request}
 use Rattle.gpu_alloc.proofs.Consistency.{heap_there, booked-held, booked-span}
-use Rattle.gpu_alloc.proofs.Buddies.HasBuddies.{beside_more, buddies_beside}
+use Rattle.gpu_alloc.proofs.Buddies.HasBuddies.{beside_came, buddies_beside}
 use Rattle.gpu_alloc.proofs.FreeLists.HasLists.{lists_set}
 use Rattle.gpu_alloc.proofs.HeapLists.{properties_kept, state_kept}
 use Rattle.gpu_alloc.proofs.Ledgers.{Held}
@@ -105,7 +105,7 @@ module _ {A : Type 0} (limits : Limits A) (heaps : List Heap) (buddies : List Bu
       }
 
       slot_beside : IsBeside t now slot.object
-      slot_beside = beside_more t now (span_of_slot slot) (λ q other. ap (λ (x : Held). finite.get x q) held) (place_of_slot more.key) more.live more.places
+      slot_beside = beside_came t now (span_of_slot slot) (λ q other. ap (λ (x : Held). finite.get x q) held) (λ other apart. ap (λ (m : finite.FinMap span_cmp Place). finite.get m other) more.places) more.live
 
       found_still : finite.get now.held slot.object ≡ Some (list_object l slot.chunk chunk)
       found_still = ap (λ (x : Held). finite.get x slot.object) held ∙ chunk_held
@@ -154,7 +154,8 @@ module _ {A : Type 0} (limits : Limits A) (heaps : List Heap) (buddies : List Bu
       found_now = ap (λ (x : Held). finite.get x slot.object) held ∙ own_inserted t.held slot.object object_of
 
       chunk_beside : IsBeside t now slot.object
-      chunk_beside = beside_more t now (span_of_slot slot) (λ q other. ap (λ (x : Held). finite.get x q) held ∙ other_inserted t.held slot.object object_of q other) (place_of_slot more.key) more.live more.places
+      chunk_beside =
+          beside_came t now (span_of_slot slot) (λ q other. ap (λ (x : Held). finite.get x q) held ∙ other_inserted t.held slot.object object_of q other) (λ other apart. ap (λ (m : finite.FinMap span_cmp Place). finite.get m other) more.places) more.live
 
       pub consistent_with_list_chunk : IsConsistentWith list_after changed now (remaining - 1)
       consistent_with_list_chunk =

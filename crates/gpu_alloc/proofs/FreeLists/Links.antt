@@ -8,7 +8,7 @@ use Rattle.gpu_alloc_freelist.specs.FreeList.{with_slot, with_chunk, without_chu
 use Rattle.gpu_alloc_freelist.specs.FreeListAllocator.{listing_with_slot, listing_without}
 use Rattle.gpu_alloc_freelist.specs.FreeListSound.{LiesInChunk, IsSound}
 use Rattle.gpu_alloc_freelist.specs.FreeListState.{Space, Listing, IsLiveSlot}
-use Rattle.gpu_alloc.specs.Inside.{IsLiveIn, IsOfObject, IsNumberedChunk, IsListLinked, list_object, span_of_slot, slot_at, place_of_slot}
+use Rattle.gpu_alloc.specs.Inside.{IsLiveIn, IsOfObject, IsNumberedChunk, IsListLinked, list_object, span_of_slot, slot_at}
 use Rattle.gpu_alloc.specs.Spans.{Table}
 use Rattle.gpu_alloc_block.specs.State.{HeldObject, Span}
 use Rattle.gpu_alloc_block.specs.declared.block.Kind.TheVariants.{FreeListChunk}
@@ -54,14 +54,13 @@ list_linked_beside old new l object beside sound before after linked = record {
 
 -- the table with a block's span more, and with one fewer
 pub record HasSlotMore (old new : Table) (slot : Slot) : Type 0 where
-  pub key : ℕ
   pub free : set.contains old.live (span_of_slot slot) ≡ false
   pub live : new.live ≡ set.insert old.live (span_of_slot slot)
-  pub places : new.places ≡ map.insert old.places (span_of_slot slot) (place_of_slot key)
+  pub places : new.places ≡ old.places
 
 pub record HasSlotLess (old new : Table) (slot : Slot) : Type 0 where
   pub live : new.live ≡ set.remove old.live (span_of_slot slot)
-  pub places : new.places ≡ map.remove old.places (span_of_slot slot)
+  pub places : new.places ≡ old.places
 
 -- The blocks and the spans, with one block more.
 module _ (old new : Table) (s : Space) (slot : Slot) (more : HasSlotMore old new slot) where

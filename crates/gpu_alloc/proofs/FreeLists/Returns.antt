@@ -11,14 +11,16 @@ use Rattle.gpu_alloc_freelist.specs.FreeListState.{Listing, IsLiveSlot}
 use Rattle.gpu_alloc.specs.Inside.{state_in, properties_in, types_in, list_object, span_of_slot, slot_at, IsConsistent, IsListOf, IsNumberedChunk}
 use Rattle.gpu_alloc.specs.Release.{AreChunksGone, GoesWith, without_span}
 use Rattle.gpu_alloc.specs.FirstTypes.{first_types}
-use Rattle.gpu_alloc.specs.Spans.{Table}
-use Rattle.gpu_alloc_block.specs.State.{HeldObject, Span, span_of, Block, IsOwned, State}
+use Rattle.gpu_alloc.specs.Spans.{Place, Table}
+use Rattle.gpu_alloc.specs.Whole.{whole, AreWhole, IsKept}
+use Rattle.gpu_alloc.proofs.Wholes.{slot_goes}
+use Rattle.gpu_alloc_block.specs.State.{HeldObject, Span, span_cmp, span_of, Block, IsOwned, State}
 use Rattle.gpu_alloc_block.specs.declared.block.Kind.TheVariants.{FreeListChunk}
 use Rattle.gpu_alloc_base.specs.declared.free_list_block.Slot.{Slot}
 use Rattle.gpu_alloc_base.specs.declared.heap.Heap.{Heap}
 use Rattle.gpu_alloc.specs.declared.limits.Limits.{Limits}
 use Rattle.gpu_alloc.proofs.Consistency.{known_object, booked-span_gone}
-use Rattle.gpu_alloc.proofs.Buddies.HasBuddies.{beside_fewer, buddies_beside}
+use Rattle.gpu_alloc.proofs.Buddies.HasBuddies.{beside_went, buddies_beside}
 use Rattle.gpu_alloc.proofs.FreeLists.HasLists.{lists_set}
 use Rattle.gpu_alloc.proofs.Ledgers.{Held}
 use Rattle.gpu_alloc.proofs.Buddies.Links.{IsBeside}
@@ -54,11 +56,11 @@ listed_block l heaps buddies lists t remaining index number fl slot block is own
       type_known = omega (arith, known, type);
     }
 
--- what the fields are with another free list and another table, and what they stand for
-abbrev pub IsFreed : {A : Type 0} → Limits A → List Heap → List Buddy → List Listing → Table → ℕ → ℕ → Listing → Table → Block → Type 0
-IsFreed l heaps buddies lists t remaining index after now block =
-    IsConsistent l.config (properties_in l heaps) heaps buddies (set lists index after) now remaining
-    × ((state_in l heaps buddies (set lists index after) now remaining ≡ without_span (state_in l heaps buddies lists t remaining) block)
+-- what the fields are with another free list, and what they stand for
+abbrev pub IsFreed : {A : Type 0} → Limits A → List Heap → List Buddy → List Listing → Table → ℕ → ℕ → Listing → Block → Type 0
+IsFreed l heaps buddies lists table remaining index after block =
+    IsKept l.config (properties_in l heaps) heaps buddies (set lists index after) table remaining
+    × ((state_in l heaps buddies (set lists index after) (whole table (set lists index after)) remaining ≡ without_span (state_in l heaps buddies lists (whole table lists) remaining) block)
     × (block.memory_type < length (properties_in l heaps).memory_types))
 
 module _ {A : Type 0} {l : Limits A} {heaps : List Heap} {buddies : List Buddy} {lists : List Listing} {t : Table} {remaining index : ℕ} {fl : Listing} {slot : Slot} {block : Block}
@@ -78,15 +80,15 @@ module _ {A : Type 0} {l : Limits A} {heaps : List Heap} {buddies : List Buddy} 
   found : finite.get t.held slot.object ≡ Some row
   found = ap (finite.get t.held) lies.object ∙ of.linked.chunks slot.chunk lies.chunk lies.held
 
-  module _ (now : Table) (held : now.held ≡ t.held) (live : now.live ≡ set_of.remove t.live (span_of block)) (places : now.places ≡ finite.remove t.places (span_of block)) where
+  module _ (now : Table) (held : now.held ≡ t.held) (live : now.live ≡ set_of.remove t.live (span_of block)) (places : now.places ≡ t.places) where
     found_still : finite.get now.held slot.object ≡ Some row
     found_still = ap (λ (x : Held). finite.get x slot.object) held ∙ found
 
     less : HasSlotLess t now slot
-    less = record { live = live ∙ ap (set_of.remove t.live) given.span; places = places ∙ ap (finite.remove t.places) given.span }
+    less = record { live = live ∙ ap (set_of.remove t.live) given.span; places = places }
 
     beside : IsBeside t now slot.object
-    beside = beside_fewer t now (span_of_slot slot) (λ q other. ap (λ (x : Held). finite.get x q) held) less.live less.places
+    beside = beside_went t now (span_of_slot slot) (λ q other. ap (λ (x : Held). finite.get x q) held) (λ other apart. ap (λ (m : finite.FinMap span_cmp Place). finite.get m other) places) less.live
 
     list_freed : IsSound (listing_without fl slot) → IsListOf l.config p now index (listing_without fl slot)
     list_freed sound = record {
@@ -110,8 +112,19 @@ module _ {A : Type 0} {l : Limits A} {heaps : List Heap} {buddies : List Buddy} 
       types = list_types_kept (types_in (first_types l.config p) buddies) lists index (listing_without fl slot) fl given.at refl refl k;
     }
 
-    pub is_freed : (after : Listing) → after ≡ listing_without fl slot → IsSound after → IsFreed l heaps buddies lists t remaining index after now block
-    is_freed after after_is sound = subst (λ (x : Listing). IsFreed l heaps buddies lists t remaining index x now block) (sym after_is) (consistent_freed (subst IsSound after_is sound), (state_freed, given.type_known))
+module _ {A : Type 0} {l : Limits A} {heaps : List Heap} {buddies : List Buddy} {lists : List Listing} {table : Table} {remaining index : ℕ} {fl : Listing} {slot : Slot} {block : Block}
+    (given : IsListed l heaps buddies lists (whole table lists) remaining index fl slot block) (apart : AreWhole table lists) where
+  pub is_freed : (after : Listing) → after ≡ listing_without fl slot → IsSound after → IsFreed l heaps buddies lists table remaining index after block
+  is_freed after after_is sound =
+      let own = own_listing l heaps buddies lists (whole table lists) remaining index fl given.is given.known given.at in
+      let inside : index < length lists = omega (arith, given.known, given.is.listed.count) in
+      let made = slot_goes table lists apart index fl inside given.at own.sound own.for_type.memory_type (listing_without fl slot) refl slot given.live refl refl in
+      let now = whole table (set lists index (listing_without fl slot)) in
+      let live = made.live_is ∙ ap (set_of.remove (whole table lists).live) (sym given.span) in
+      subst (λ (x : Listing). IsFreed l heaps buddies lists table remaining index x block) (sym after_is) (
+        record { consistent = consistent_freed given now made.held_is live refl (subst IsSound after_is sound); apart = made.apart },
+        (state_freed given now made.held_is live refl, given.type_known),
+      )
 
 -- what goes with a block of a free list: all chunks of its memory type that may go
 pub goes_with_list : (s now : State) (block : Block) (number index : ℕ) (names : List ℕ) → IsOwned s block → block.kind ≡ FreeListChunk number → index ≡ block.memory_type → now ≡ without_span s block

@@ -1,15 +1,14 @@
 -- The parts of the table stay apart as an object of one block, a chunk or a span comes or goes.
-use Rattle.std.proofs.Common.{◌≡◌, ◌≢◌, inl, inr, ℕ, Bool, true, false, cond, ◌||◌, List, MatchOption, Option, Some, None, IsTrue, refl, sym, ◌∙◌, ap, subst}
+use Rattle.std.proofs.Common.{◌≡◌, ◌≢◌, inl, inr, ℕ, Bool, true, false, cond, ◌||◌, MatchOption, Option, Some, None, IsTrue, refl, sym, ◌∙◌, ap, subst}
 use Rattle.std.specs.Cmp.{nat_cmp_total}
 use Rattle.std.specs.FinMap as finite
 use Rattle.std.specs.FinMap.{nat_cmp-IsAntisymmetric}
 use Rattle.std.specs.FinSet as set
-use Rattle.std.specs.Ordering.{nat_cmp}
 use Rattle.slab.specs.Slab.{Slab, get}
 use Rattle.gpu_alloc_base.proofs.ListViews.{same_or_other}
 use Rattle.gpu_alloc_base.proofs.Maps.{inserted_cases, inserted_kept, kept_key, kept_other, other_inserted, own_inserted}
 use Rattle.gpu_alloc_base.proofs.SlabViews.{IsInserted, IsRemoved, once_removed}
-use Rattle.gpu_alloc_block.specs.State.{HeldObject, Span, is_shared, span_cmp}
+use Rattle.gpu_alloc_block.specs.State.{HeldObject, Span, is_shared}
 use Rattle.gpu_alloc_block.proofs.LiveSpans.{live_before, live_other}
 use Rattle.gpu_alloc_block.specs.declared.block.Kind.TheVariants.{Dedicated, Imported}
 use Rattle.gpu_alloc.specs.Own.{OwnTable, own_held}

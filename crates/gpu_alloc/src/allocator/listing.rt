@@ -1,6 +1,6 @@
 //! What an allocator holds and has given out, and what its device offers, for whoever tells of it.
 
-ghost use Rattle.std.specs.Prelude.{◌≡◌, ◌<◌, IfOk, length, map as mapped, nat_eq};
+ghost use Rattle.std.specs.Prelude.{◌≡◌, ◌++◌, ◌<◌, ℕ, List, IfOk, OnOk, length, map as mapped, nat_eq};
 ghost use Rattle.std.specs.List.{IsDistinct};
 ghost use Rattle.std.specs.Map.{keys_of};
 ghost use Rattle.std.specs.FinMap as map;
@@ -10,9 +10,14 @@ ghost use Rattle.gpu_alloc.specs.Budget.{heap_bytes};
 ghost use Rattle.gpu_alloc.specs.Sound as Sound;
 ghost use Rattle.gpu_alloc.specs.Spans.{held_of, objects_in, span_in};
 ghost use Rattle.gpu_alloc.specs.Listing.{AreOfKnownTypes, AreOnce};
+ghost use Rattle.gpu_alloc.specs.Whole.{list_part};
+ghost use Rattle.gpu_alloc_block.specs.Parts.{AreNamed};
+ghost use Rattle.gpu_alloc_freelist.specs.FreeListSound.{IsSound as IsSoundList};
 
 use super::GpuAllocator;
 use crate::spans::{HeldRow, LiveSpan};
+use gpu_alloc_block::Kind;
+use gpu_alloc_freelist::{FreeListAllocator, NumberedChunk};
 use gpu_alloc_types::MemoryObject;
 use std::alloc::{AllocError, Allocator};
 
@@ -39,12 +44,21 @@ impl<M: MemoryObject, A: Allocator> GpuAllocator<M, A> {
         self.heaps[heap as usize].size()
     }
 
-    /// What an object of this name is held as, exactly where it is held. A chunk is found in constant time, any other object
-    /// in a time that grows with the number of objects of one block.
+    /// What an object of this name is held as, exactly where it is held. A buddy chunk is found in constant time, any other
+    /// object in a time that grows with the number of objects of one block and of free-list chunks.
     pub fn held(&self, object: u64) -> Option<HeldRow>
         ensures { option_map held_of result ≡ map.get self.now.held object }
     {
-        self.spans.held(object)
+        if let Some(row) = self.spans.held(object) {
+            return Some(row);
+        }
+        for memory_type in 0..self.type_count() {
+            let list = &self.free_lists[memory_type as usize];
+            if let Some(row) = chunk_of(list, memory_type, object) {
+                return Some(row);
+            }
+        }
+        None
     }
 
     /// The held objects, each once with its name, in no order that is told.
@@ -55,7 +69,12 @@ impl<M: MemoryObject, A: Allocator> GpuAllocator<M, A> {
         ensures once { IfOk result (λ rows. IsDistinct nat_eq (keys_of rows.items)) }
         ensures known { AreOfKnownTypes self.now }
     {
-        self.spans.objects(alloc)
+        let mut rows = self.spans.objects(alloc)?;
+        for memory_type in 0..self.type_count() {
+            let list = &self.free_lists[memory_type as usize];
+            list_chunks(list, memory_type, &mut rows)?;
+        }
+        Ok(rows)
     }
 
     /// The live spans, each once, in no order that is told.
@@ -67,6 +86,85 @@ impl<M: MemoryObject, A: Allocator> GpuAllocator<M, A> {
         ensures sound { Sound.IsSound self.now }
     {
         self.keeps_sound();
-        self.spans.live(alloc)
+        let mut rows = self.spans.live(alloc)?;
+        for list in self.free_lists.iter() {
+            list_slots(list, &mut rows)?;
+        }
+        Ok(rows)
     }
+}
+
+/// What a chunk of a memory type's free list is.
+fn row_of<M: MemoryObject>(chunk: &NumberedChunk<M>, memory_type: u32) -> HeldRow
+    ensures { result ≡ record {
+      memory_type = memory_type;
+      counted = (chunk.now).size;
+      kind = Kind.FreeListChunk (chunk.now).number;
+    } }
+{
+    HeldRow {
+        memory_type,
+        counted: chunk.size(),
+        kind: Kind::FreeListChunk(chunk.number()),
+    }
+}
+
+/// What an object of this name is, exactly where it is a chunk of a memory type's free list. It looks at all of them.
+fn chunk_of<M: MemoryObject, A: Allocator>(
+    list: &FreeListAllocator<M, A>,
+    memory_type: u32,
+    object: u64,
+) -> Option<HeldRow>
+    requires typed { (list.now).memory_type ≡ memory_type }
+    requires named { AreNamed (list.now).space.chunks }
+    ensures { option_map held_of result ≡ map.get (list_part list.now).held object }
+{
+    for (_, chunk) in list.chunks() {
+        if chunk.object() == object {
+            return Some(row_of(chunk, memory_type));
+        }
+    }
+    None
+}
+
+/// Adds to a list what each chunk of a memory type's free list is, each once with its name, in no order that is told.
+///
+/// The only refusal is want of memory. Nothing else changes.
+fn list_chunks<M: MemoryObject, A: Allocator, B: Allocator>(
+    list: &FreeListAllocator<M, A>,
+    memory_type: u32,
+    rows: &mut Vec<(u64, HeldRow), B>,
+) -> Result<(), AllocError>
+    requires typed { (list.now).memory_type ≡ memory_type }
+    requires named { AreNamed (list.now).space.chunks }
+    ensures { OnOk result ((chunks : List (ℕ × HeldRow)) × (rows.new.items ≡ rows.old.items ++ chunks)
+        × ((objects_in chunks ≡ (list_part list.now).held) × IsDistinct nat_eq (keys_of chunks))) }
+{
+    for (_, chunk) in list.chunks() {
+        rows.push((chunk.object(), row_of(chunk, memory_type)))?;
+    }
+    Ok(())
+}
+
+/// Adds to a list the span of each live block of a free list, each once, in no order that is told.
+///
+/// The only refusal is want of memory. Nothing else changes.
+fn list_slots<M: MemoryObject, A: Allocator, B: Allocator>(
+    list: &FreeListAllocator<M, A>,
+    rows: &mut Vec<LiveSpan, B>,
+) -> Result<(), AllocError>
+    requires sound { IsSoundList list.now }
+    ensures { OnOk result ((slots : List LiveSpan) × (rows.new.items ≡ rows.old.items ++ slots)
+        × ((set.from_list (mapped span_in slots) ≡ (list_part list.now).live) × AreOnce (mapped span_in slots))) }
+{
+    for (key, slot) in list.slots() {
+        rows.push(LiveSpan {
+            object: slot.object,
+            offset: slot.offset,
+            size: slot.size,
+            chunk: 0,
+            index: key,
+        })?;
+    }
+    Ok(())
 }

@@ -104,7 +104,7 @@ impl<M: MemoryObject, A: Allocator> GpuAllocator<M, A> {
         self.keeps_sound();
     }
 
-    /// Takes a block's span off the table, and its bytes back into its memory type's free list.
+    /// Takes a block's bytes back into its memory type's free list.
     fn free_block(&mut self, block: MemoryBlock<M>, number: u64)
         requires listed { block.kind ≡ Kind.FreeListChunk number }
         requires owned { IsOwned self.old block }
@@ -120,8 +120,7 @@ impl<M: MemoryObject, A: Allocator> GpuAllocator<M, A> {
             offset,
             size,
         };
-        let list_key = self.spans.remove(key, slot.object, offset, size).index;
-        self.free_lists[memory_type as usize].free(FreeListBlock::new(memory, slot, list_key));
+        self.free_lists[memory_type as usize].free(FreeListBlock::new(memory, slot, key));
     }
 
     /// Gives a memory type's free-list chunks in which no block is live back to the device, the oldest first, but not
@@ -141,13 +140,11 @@ impl<M: MemoryObject, A: Allocator> GpuAllocator<M, A> {
         ensures total { total self.new ≡ total self.old }
     {
         let heap = self.limits.heap_index(memory_type);
-        while let Some(object) = self.free_lists[memory_type as usize].give_back_first(
+        while let Some(_) = self.free_lists[memory_type as usize].give_back_first(
             device,
             keep_last,
             &mut self.heaps[heap],
             &mut self.allocations_remains,
-        ) {
-            self.spans.let_go(object, true);
-        }
+        ) {}
     }
 }

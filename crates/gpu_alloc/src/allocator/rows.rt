@@ -1,18 +1,16 @@
-//! Blocks of shared chunks as rows of the table of spans.
+//! Blocks of buddy chunks as rows of the table of spans.
 
 ghost use Rattle.std.specs.Prelude.{◌≡◌, ◌<◌, ◌≤◌, None, Some, IfSome, IsSome, MatchOption, false, true};
 ghost use Rattle.std.specs.FinMap as map;
 ghost use Rattle.std.specs.FinSet as set;
-ghost use Rattle.gpu_alloc.specs.Inside.{span_of_leaf, place_of_leaf, leaf_at, span_of_slot, place_of_slot};
+ghost use Rattle.gpu_alloc.specs.Inside.{span_of_leaf, place_of_leaf, leaf_at};
 ghost use Rattle.gpu_alloc.specs.Inside.{with_new_chunk};
 ghost use Rattle.gpu_alloc.specs.Spans.{span_in, place_in, IsHeldFor};
 
 use crate::spans::{HeldRow, LiveSpan, Spans};
 use gpu_alloc_base::buddy_block::Leaf;
-use gpu_alloc_base::free_list_block::Slot;
 use gpu_alloc_block::Kind;
 use gpu_alloc_buddy::BuddyAllocator;
-use gpu_alloc_freelist::FreeListAllocator;
 use gpu_alloc_types::MemoryObject;
 use std::alloc::Allocator;
 
@@ -30,25 +28,6 @@ pub(super) fn new_buddy_chunk<M: MemoryObject, A: Allocator>(
 {
     if remains < remained {
         Some(buddy.chunk_size(leaf.chunk))
-    } else {
-        None
-    }
-}
-
-/// The size of the chunk of a free list's block, where it is new: one object fewer may be held than before then.
-#[inline(always)]
-pub(super) fn new_list_chunk<M: MemoryObject, A: Allocator>(
-    list: &FreeListAllocator<M, A>,
-    slot: Slot,
-    remained: u32,
-    remains: u32,
-) -> Option<u64>
-    requires held { IsSome (map.get (list.now).space.chunks slot.chunk) }
-    ensures { MatchOption result (remained ≤ remains) (λ size. (remains < remained)
-        × IfSome (map.get (list.now).space.chunks slot.chunk) (λ chunk. chunk.size ≡ size)) }
-{
-    if remains < remained {
-        Some(list.chunk_size(slot.chunk))
     } else {
         None
     }
@@ -96,36 +75,6 @@ pub(super) fn add_leaf<A: Allocator>(
         index: leaf.index,
     };
     spans.insert(span, chunk_row(memory_type, Kind::BuddyChunk, new_chunk))
-}
-
-/// Adds the span of a free list's block with its key in that list into room that was made, and its chunk, of so many
-/// bytes, where that is new.
-#[inline(always)]
-pub(super) fn add_slot<A: Allocator>(
-    spans: &mut Spans<A>,
-    slot: Slot,
-    list_key: usize,
-    memory_type: u32,
-    new_chunk: Option<u64>,
-) -> usize
-    requires room { 0 < (spans.old.room).shared }
-    requires free { set.contains spans.old.live (span_of_slot slot) ≡ false }
-    requires chunk { MatchOption new_chunk (IsHeldFor true spans.old.held slot.object)
-        (λ _. map.get spans.old.held slot.object ≡ None) }
-    ensures held { spans.new.held
-        ≡ with_new_chunk spans.old.held slot.object memory_type (Kind.FreeListChunk slot.chunk) new_chunk }
-    ensures live { spans.new.live ≡ set.insert spans.old.live (span_of_slot slot) }
-    ensures places { spans.new.places ≡ map.insert spans.old.places (span_of_slot slot) (place_of_slot list_key) }
-{
-    let span = LiveSpan {
-        object: slot.object,
-        offset: slot.offset,
-        size: slot.size,
-        chunk: 0,
-        index: list_key,
-    };
-    let kind = Kind::FreeListChunk(slot.chunk);
-    spans.insert(span, chunk_row(memory_type, kind, new_chunk))
 }
 
 /// A live span's block in its buddy allocator.

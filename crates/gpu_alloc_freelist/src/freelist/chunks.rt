@@ -2,20 +2,46 @@
 
 ghost use Rattle.std.specs.Prelude.{◌≡◌, ◌↔◌, ◌+◌, ◌<◌, ◌≤◌, ℕ, length, slice_get, Some, IfSome, IsOk, IsSome, IsTrue, OnOk};
 ghost use Rattle.std.specs.FinMap as map;
-ghost use Rattle.gpu_alloc_freelist.specs.Chunks.{AreNumbered, IsWholeChunk, chunk_of, keys_in};
+ghost use Rattle.gpu_alloc_freelist.specs.Chunks.{AreNumbered, IsWholeChunk, ListsChunks, chunk_of, keys_in};
 
 use gpu_alloc_base::FreeListRegion;
 use gpu_alloc_types::MemoryObject;
-use slab::Slab;
+use slab::{Iter, Slab};
 use std::alloc::{AllocError, Allocator, Global};
 use std::marker::Model;
 
 /// A held chunk: its number, a handle of its object, and its size in bytes.
 #[derive(Drop)]
-pub(super) struct NumberedChunk<M: MemoryObject> {
+pub struct NumberedChunk<M: MemoryObject> {
     pub(super) number: u64,
     pub(super) memory: M,
     pub(super) size: u64,
+}
+
+impl<M: MemoryObject> NumberedChunk<M> {
+    /// The chunk's number.
+    #[inline(always)]
+    pub fn number(&self) -> u64
+        ensures { result ≡ self.now.number }
+    {
+        self.number
+    }
+
+    /// The name of its object.
+    #[inline(always)]
+    pub fn object(&self) -> u64
+        ensures { result ≡ M.object self.now.memory }
+    {
+        self.memory.object()
+    }
+
+    /// Its size, in bytes.
+    #[inline(always)]
+    pub fn size(&self) -> u64
+        ensures { result ≡ self.now.size }
+    {
+        self.size
+    }
 }
 
 /// A number, and the key of its chunk.
@@ -69,6 +95,13 @@ impl<M: MemoryObject, A: Allocator> Chunks<M, A> {
         ensures { IsTrue result ↔ map.len self.now.held ≡ 0 }
     {
         self.numbers.is_empty()
+    }
+
+    /// The held chunks, each once, in no order that is told.
+    pub(super) fn iter(&self) -> Iter<'_, NumberedChunk<M>>
+        ensures { ListsChunks M.object self.now.held result }
+    {
+        self.rows.iter()
     }
 
     /// Makes room for one more chunk, so that one `push` cannot fail.

@@ -5,7 +5,8 @@ ghost use Rattle.std.specs.Prelude.{IfSome, IfNone, IfOk, IfErr, OnOk, OnErr, Is
 ghost use Rattle.std.specs.FinMap as map;
 ghost use Rattle.std.specs.FinSet as set;
 ghost use Rattle.std.specs.List.{Contains};
-ghost use Rattle.gpu_alloc_freelist.specs.Chunks.{IsWholeChunk};
+ghost use Rattle.gpu_alloc_freelist.specs.Chunks.{IsWholeChunk, ListsChunks};
+ghost use Rattle.gpu_alloc_freelist.specs.Live.{ListsSlots};
 ghost use Rattle.gpu_alloc_freelist.specs.FreeList.{TakesTail, IsFirstToGo, MayGo, HasNumber, HasPlace, with_slot};
 ghost use Rattle.gpu_alloc_freelist.specs.FreeList.{without_slot, with_chunk, without_chunk, first_tail, no_space};
 ghost use Rattle.gpu_alloc_freelist.specs.FreeList.{AddsBlock, LeavesBlocks, RemovesBlock};
@@ -21,10 +22,11 @@ ghost use Rattle.gpu_alloc_base.specs.declared.region.FreeListRegion.{FreeListRe
 use super::chunks::{Chunks, NumberedChunk};
 use super::live::Live;
 use super::runs::{Runs, tail_of};
-use gpu_alloc_base::free_list_block::{into_parts, key_of, slot_of};
+use gpu_alloc_base::free_list_block::{Slot, into_parts, key_of, slot_of};
 use gpu_alloc_base::steps::Steps;
 use gpu_alloc_base::{FreeListBlock, FreeListRegion};
 use gpu_alloc_types::MemoryObject;
+use slab::Iter;
 use std::alloc::{AllocError, Allocator, Global};
 use std::marker::Model;
 use std::sync::ledger::Ledger;
@@ -345,6 +347,27 @@ impl<M: MemoryObject, A: Allocator> FreeList<M, A> {
             ≡ Some (record { object = M.object result.now.memory; size = result.now.size }) }
     {
         self.chunks.get(number)
+    }
+
+    /// The held chunks, each once, in no order that is told.
+    pub(crate) fn chunks(&self) -> Iter<'_, NumberedChunk<M>>
+        ensures { ListsChunks M.object (self.now.space).chunks result }
+    {
+        self.chunks.iter()
+    }
+
+    /// The live blocks, each once, in no order that is told.
+    pub(crate) fn slots(&self) -> Iter<'_, Slot>
+        ensures { ListsSlots (self.now.space).live result }
+    {
+        self.live.iter()
+    }
+
+    /// Whether a block is live, by the key that it carries or by a search.
+    pub(crate) fn is_live(&self, key: usize, slot: Slot) -> bool
+        ensures { IsTrue result ↔ IsLiveSlot self.now.space slot }
+    {
+        self.live.has(key, slot)
     }
 
     /// The allocator of its stores.

@@ -1,11 +1,12 @@
 //! The live blocks of a free list. Each stands under a key that it carries, so that it is found in few steps.
 
-ghost use Rattle.std.specs.Prelude.{◌≡◌, ◌≢◌, ◌+◌, ◌<◌, ◌≤◌, ℕ, Some, false, IsOk, IsTrue, MatchOption, OnOk};
+ghost use Rattle.std.specs.Prelude.{◌≡◌, ◌≢◌, ◌↔◌, ◌+◌, ◌<◌, ◌≤◌, ℕ, Some, false, IsOk, IsTrue, MatchOption, OnOk};
 ghost use Rattle.std.specs.FinSet as set;
 ghost use Rattle.slab.specs.Slab.{get};
+ghost use Rattle.gpu_alloc_freelist.specs.Live.{ListsSlots};
 
 use gpu_alloc_base::free_list_block::Slot;
-use slab::Slab;
+use slab::{Iter, Slab};
 use std::alloc::{AllocError, Allocator, Global};
 use std::marker::Model;
 
@@ -50,6 +51,21 @@ impl<A: Allocator> Live<A> {
         ensures { result ≡ self.now.count }
     {
         self.slots.len()
+    }
+
+    /// The live blocks, each once, in no order that is told, with their keys.
+    pub(super) fn iter(&self) -> Iter<'_, Slot>
+        ensures { ListsSlots self.now.slots result }
+    {
+        self.slots.iter()
+    }
+
+    /// Whether a block is live. The answer is the same whatever the key is. The key that `keep` gave for the block makes
+    /// it fast.
+    pub(super) fn has(&self, key: usize, slot: Slot) -> bool
+        ensures { IsTrue result ↔ IsTrue (set.contains self.now.slots slot) }
+    {
+        key_of(&self.slots, key, slot).is_some()
     }
 
     /// Makes room for one more block, so that one `keep` cannot fail.

@@ -11,8 +11,8 @@ use Rattle.gpu_alloc.proofs.allocator.GpuAllocator.pieces_and_runs.Goals as goal
 pub put_in_order-requires : goal.put_in_order-requires
 put_in_order-requires g c =
     let known = rw (← c.self.view_is) at c.requires in
-    let of_buddy = serves c.self.inside.limits _ _ _ _ _ c.args.memory_type c.index.result.now c.self.invariant known c.index.ensures in
-    let of_list = serves_own c.self.inside.limits _ _ _ _ _ c.args.memory_type c.index-2.result.now c.self.invariant known c.index-2.ensures in
+    let of_buddy = serves c.self.inside.limits _ _ _ _ _ c.args.memory_type c.index.result.now c.self.invariant.consistent known c.index.ensures in
+    let of_list = serves_own c.self.inside.limits _ _ _ _ _ c.args.memory_type c.index-2.result.now c.self.invariant.consistent known c.index-2.ensures in
     let pieces = c.in_ok-ranges.ranges.items in
     let runs = c.in_ok-runs.runs.items in
     let items = c.in_ok-extend_from_slice.ensures.items ∙ ap (λ xs. pieces ++ xs) c.as_slice.ensures.value in
@@ -22,8 +22,8 @@ put_in_order-requires g c =
 pub returns-clause-exact : goal.returns-clause-exact
 returns-clause-exact g c r =
     let known = rw (← c.self.view_is) at c.requires in
-    let of_buddy = serves c.self.inside.limits _ _ _ _ _ c.args.memory_type c.index.result.now c.self.invariant known c.index.ensures in
-    let of_list = serves_own c.self.inside.limits _ _ _ _ _ c.args.memory_type c.index-2.result.now c.self.invariant known c.index-2.ensures in
+    let of_buddy = serves c.self.inside.limits _ _ _ _ _ c.args.memory_type c.index.result.now c.self.invariant.consistent known c.index.ensures in
+    let of_list = serves_own c.self.inside.limits _ _ _ _ _ c.args.memory_type c.index-2.result.now c.self.invariant.consistent known c.index-2.ensures in
     let pieces = c.in_ok-ranges.ranges.items in
     let runs = c.in_ok-runs.runs.items in
     let items = c.in_ok-extend_from_slice.ensures.items ∙ ap (λ xs. pieces ++ xs) c.as_slice.ensures.value in

@@ -10,6 +10,9 @@ use Rattle.gpu_alloc_types.specs.Properties.{Properties}
 use Rattle.gpu_alloc.specs.Candidates.{own_question, own_candidate, whole_block, holding}
 use Rattle.gpu_alloc_base.specs.Case.{Asks}
 use Rattle.gpu_alloc.specs.Inside.{state_in, properties_in}
+use Rattle.gpu_alloc.specs.Whole.{parts_of, whole, IsPlace}
+use Rattle.gpu_alloc_block.specs.Parts.{Makes}
+use Rattle.gpu_alloc.proofs.Wholes.{kept-room, table_object_comes, unheld_then, unused_then}
 use Rattle.gpu_alloc_base.specs.NewChunk.{flags_of, made}
 use Rattle.gpu_alloc.specs.Spans.{Table, span_at}
 use Rattle.gpu_alloc_block.specs.State.{State, HeldObject, Block}
@@ -24,7 +27,7 @@ use Rattle.gpu_alloc.specs.Allocation.{IsAsCounted}
 use Rattle.gpu_alloc.proofs.Consistency.{HoldsMore, heap_there, ledger-room}
 use Rattle.gpu_alloc.proofs.Grants.{asks_own, own_object, state_held, decides_granted}
 use Rattle.gpu_alloc.proofs.HeapLists.{properties_kept, type_heap_is}
-use Rattle.gpu_alloc.proofs.OwnObjects.{consistent-room, consistent-held}
+use Rattle.gpu_alloc.proofs.OwnObjects.{consistent-held}
 use Rattle.gpu_alloc.proofs.allocator.GpuAllocator.try_object.Given.{Over}
 use Rattle.gpu_alloc_base.proofs.Outcomes.{when_ok}
 use Rattle.gpu_alloc.proofs.allocator.GpuAllocator.try_object.Goals as goal
@@ -34,45 +37,36 @@ positive n not_zero = omega arith
 
 -- Room is made, and nothing else changes.
 
-held_kept : (new old : Table) → new ≡ record old { room = new.room } → new.held ≡ old.held
-held_kept new old kept = ap (λ (t : Table). t.held) kept
-
-live_kept : (new old : Table) → new ≡ record old { room = new.room } → new.live ≡ old.live
-live_kept new old kept = ap (λ (t : Table). t.live) kept
-
-places_kept : (new old : Table) → new ≡ record old { room = new.room } → new.places ≡ old.places
-places_kept new old kept = ap (λ (t : Table). t.places) kept
-
 state_kept : {A : Type 0} (l : Limits A) (heaps : List Heap) (buddies : List Buddy) (lists : List Listing) (new old : Table) (remaining : ℕ) → new ≡ record old { room = new.room }
-    → state_in l heaps buddies lists new remaining ≡ state_in l heaps buddies lists old remaining
-state_kept l heaps buddies lists new old remaining kept = ap (λ t. state_in l heaps buddies lists t remaining) kept
+    → state_in l heaps buddies lists (whole new lists) remaining ≡ state_in l heaps buddies lists (whole old lists) remaining
+state_kept l heaps buddies lists new old remaining kept = ap (λ t. state_in l heaps buddies lists (whole t lists) remaining) kept
 
 pub invariant_of-self : goal.invariant_of-self
-invariant_of-self g c = consistent-room _ _ _ _ _ _ _ _ c.reserve_own.ensures.kept c.self.invariant
+invariant_of-self g c = kept-room _ _ _ _ _ _ _ _ c.reserve_own.ensures.kept c.self.invariant
 
 pub invariant_of-self-in-Err-OutOfDeviceMemory : goal.invariant_of-self-in-Err-OutOfDeviceMemory
-invariant_of-self-in-Err-OutOfDeviceMemory g c = consistent-room _ _ _ _ _ _ _ _ c.reserve_own.ensures.kept c.self.invariant
+invariant_of-self-in-Err-OutOfDeviceMemory g c = kept-room _ _ _ _ _ _ _ _ c.reserve_own.ensures.kept c.self.invariant
 
 pub invariant_of-self-in-Err-OutOfHostMemory : goal.invariant_of-self-in-Err-OutOfHostMemory
-invariant_of-self-in-Err-OutOfHostMemory g c = consistent-room _ _ _ _ _ _ _ _ c.reserve_own.ensures.kept c.self.invariant
+invariant_of-self-in-Err-OutOfHostMemory g c = kept-room _ _ _ _ _ _ _ _ c.reserve_own.ensures.kept c.self.invariant
 
 pub index_mut-requires : goal.index_mut-requires
 index_mut-requires g c =
     let known = rw (← c.self.view_is) at c.requires.known in
     let n : vec_len c.self.inside.heaps ≡ length c.self.inside.heaps.items = grind (arith, common_steps) in
-    omega (arith, n, c.heap_index-heap.ensures, heap_there _ _ _ _ c.self.invariant.books refl c.args.memory_type known)
+    omega (arith, n, c.heap_index-heap.ensures, heap_there _ _ _ _ c.self.invariant.consistent.books refl c.args.memory_type known)
 
 -- `small` is what the size's type says, among what the argument `request` is known by
 pub alloc-requires : goal.alloc-requires
 alloc-requires g c =
     let known = rw (← c.self.view_is) at c.requires.known in
     let small : c.args.request.size < 2 ^ 64 = c.well_formed.1.1.0.1.1.0.1 in
-    ledger-room _ _ _ _ c.self.invariant.books refl c.args.memory_type _ _ c.index_mut.result.now known c.heap_index-heap.ensures c.index_mut.ensures.value small
+    ledger-room _ _ _ _ c.self.invariant.consistent.books refl c.args.memory_type _ _ c.index_mut.result.now known c.heap_index-heap.ensures c.index_mut.ensures.value small
 
 -- What is known where the device granted an object: the state before, the new row and block, and what follows from the steps.
 
 abbrev before : (g : Over) → goal.After-new g → State
-before g c = state_in c.self.inside.limits c.self.inside.heaps.items c.self.inside.buddies.items c.self.inside.free_lists.items c.self.inside.spans c.self.inside.allocations_remains
+before g c = state_in c.self.inside.limits c.self.inside.heaps.items c.self.inside.buddies.items c.self.inside.free_lists.items (whole c.self.inside.spans c.self.inside.free_lists.items) c.self.inside.allocations_remains
 
 abbrev object : (g : Over) → goal.After-new g → HeldObject
 object g c = own_object c.args.request.size c.args.memory_type
@@ -86,15 +80,22 @@ free g c =
     let none : g.D.ObjectDevice.objects c.args.device.now c.object.result ≡ None = rw c.object.ensures made.0 in
     ap (λ (s : State). finite.get s.held c.object.result) c.self.view_is ∙ not_held c.args.self.now _ _ _ c.requires.agrees none
 
-more : (g : Over) (c : goal.After-new g) → HoldsMore _ _ _ _ c.self.invariant.books refl c.insert_own-key.new.self (object g c) (span_at c.object.result 0 c.args.request.size)
+came : (g : Over) (c : goal.After-new g)
+    → Makes IsPlace (parts_of c.insert_own-key.new.self c.self.inside.free_lists.items) (finite.insert (before g c).held c.object.result (object g c)) (set_of.insert (before g c).live (span_at c.object.result 0 c.args.request.size))
+came g c =
+    table_object_comes c.self.inside.spans c.self.inside.free_lists.items c.self.invariant.apart c.insert_own-key.new.self (span_at c.object.result 0 c.args.request.size) (object g c) (free g c) (λ number same. absurd (cc))
+    (c.insert_own-key.ensures.held ∙ (λ k. finite.insert (c.reserve_own.ensures.kept k).held c.object.result (object g c)))
+    (c.insert_own-key.ensures.live ∙ (λ k. set_of.insert (c.reserve_own.ensures.kept k).live (span_at c.object.result 0 c.args.request.size)))
+
+more : (g : Over) (c : goal.After-new g) → HoldsMore _ _ _ _ c.self.invariant.consistent.books refl (whole c.insert_own-key.new.self c.self.inside.free_lists.items) (object g c) (span_at c.object.result 0 c.args.request.size)
 more g c =
     let known = rw (← c.self.view_is) at c.requires.known in
     let small : c.args.request.size < 2 ^ 64 = c.well_formed.1.1.0.1.1.0.1 in
     record {
       with = record { nonempty = c.requires.askable.nonempty; small = small; known = known; lies = λ own. (refl, refl) };
       free = free g c;
-      held = c.insert_own-key.ensures.held ∙ ap (λ held. finite.insert held c.object.result (object g c)) (held_kept c.reserve_own.new.self c.self.inside.spans c.reserve_own.ensures.kept);
-      live = c.insert_own-key.ensures.live ∙ ap (λ live. set_of.insert live (span_at c.object.result 0 c.args.request.size)) (live_kept c.reserve_own.new.self c.self.inside.spans c.reserve_own.ensures.kept);
+      held = (came g c).held_is;
+      live = (came g c).live_is;
     }
 
 asks : (g : Over) (c : goal.After-new g) → Asks (own_candidate (before g c) c.args.request.size c.args.memory_type)
@@ -104,15 +105,15 @@ asks g c = asks_own (positive c.self.inside.allocations_remains c.if-self-eq0.fa
 fits : (g : Over) (c : goal.After-new g) → c.index_mut.result.now.used + c.args.request.size ≤ c.index_mut.result.now.limit
 fits g c =
     let known = rw (← c.self.view_is) at c.requires.known in
-    let of = type_heap_is c.self.inside.limits c.self.inside.heaps.items c.self.inside.buddies.items c.self.inside.free_lists.items c.self.inside.spans c.self.inside.allocations_remains c.self.invariant.books c.args.memory_type _ c.index_mut.result.now known
+    let of = type_heap_is c.self.inside.limits c.self.inside.heaps.items c.self.inside.buddies.items c.self.inside.free_lists.items (whole c.self.inside.spans c.self.inside.free_lists.items) c.self.inside.allocations_remains c.self.invariant.consistent.books c.args.memory_type _ c.index_mut.result.now known
     c.heap_index-heap.ensures c.index_mut.ensures.value in
     omega (arith, (asks g c).within, of.used, of.limit)
 
 state_is : (g : Over) (c : goal.After-new g)
-    → state_in c.self.inside.limits (set c.self.inside.heaps.items c.heap_index-heap.result c.alloc.new.self) c.self.inside.buddies.items c.self.inside.free_lists.items c.insert_own-key.new.self (c.self.inside.allocations_remains - 1)
+    → state_in c.self.inside.limits (set c.self.inside.heaps.items c.heap_index-heap.result c.alloc.new.self) c.self.inside.buddies.items c.self.inside.free_lists.items (whole c.insert_own-key.new.self c.self.inside.free_lists.items) (c.self.inside.allocations_remains - 1)
     ≡ holding (before g c) (own_object c.args.request.size c.args.memory_type) (block g c)
 state_is g c =
-    state_held c.self.inside.limits _ c.self.inside.buddies.items c.self.inside.free_lists.items _ _ c.index_mut.result.now c.self.inside.spans c.insert_own-key.new.self _ (object g c) (block g c) c.index_mut.ensures.value (ap (λ (h : Heap). h.size) c.alloc.ensures) (ap (λ (h : Heap). h.limit) c.alloc.ensures)
+    state_held c.self.inside.limits _ c.self.inside.buddies.items c.self.inside.free_lists.items _ _ c.index_mut.result.now (whole c.self.inside.spans c.self.inside.free_lists.items) (whole c.insert_own-key.new.self c.self.inside.free_lists.items) _ (object g c) (block g c) c.index_mut.ensures.value (ap (λ (h : Heap). h.size) c.alloc.ensures) (ap (λ (h : Heap). h.limit) c.alloc.ensures)
     (more g c).held (more g c).live
 
 block_is : (g : Over) (c : goal.After-new g) → c.new.result ≡ block g c
@@ -121,9 +122,12 @@ block_is g c = c.new.ensures ∙ (λ k. record (block g c) { object = sym c.obje
 pub invariant_of-self-in-Ok : goal.invariant_of-self-in-Ok
 invariant_of-self-in-Ok g c =
     rw (properties_kept c.self.inside.limits c.self.inside.heaps.items c.heap_index-heap.result c.alloc.new.self c.index_mut.result.now c.index_mut.ensures.value (ap (λ (h : Heap). h.size) c.alloc.ensures))
-    (consistent-held _ _ _ _ _ c.self.inside.spans _ c.self.invariant refl c.insert_own-key.new.self (object g c) (span_at c.object.result 0 c.args.request.size) refl (more g c)
-    (c.insert_own-key.ensures.places ∙ places_kept c.reserve_own.new.self c.self.inside.spans c.reserve_own.ensures.kept) c.index_mut.result.now _ _ (positive c.self.inside.allocations_remains c.if-self-eq0.false)
-    c.heap_index-heap.ensures c.index_mut.ensures.value c.alloc.ensures (λ asked. fits g c))
+    (record {
+      consistent = consistent-held _ _ _ _ _ (whole c.self.inside.spans c.self.inside.free_lists.items) _ c.self.invariant.consistent refl (whole c.insert_own-key.new.self c.self.inside.free_lists.items) (object g c) (span_at c.object.result 0 c.args.request.size) refl (more g c)
+          (c.insert_own-key.ensures.places ∙ (λ k. (c.reserve_own.ensures.kept k).places)) c.index_mut.result.now _ _ (positive c.self.inside.allocations_remains c.if-self-eq0.false)
+          c.heap_index-heap.ensures c.index_mut.ensures.value c.alloc.ensures (λ asked. fits g c);
+      apart = (came g c).apart;
+    })
 
 pub returns-in-Ok-clause-tries : goal.returns-in-Ok-clause-tries
 returns-in-Ok-clause-tries g c =
@@ -158,7 +162,7 @@ returns-in-Err-OutOfHostMemory-clause-tries g c =
 -- The device grants nothing: room was made, and the state is the one before.
 
 kept-is_err : (g : Over) (c : goal.Then-is_err g)
-    → state_in c.self.inside.limits c.self.inside.heaps.items c.self.inside.buddies.items c.self.inside.free_lists.items c.reserve_own.new.self c.self.inside.allocations_remains ≡ c.args.self.now
+    → state_in c.self.inside.limits c.self.inside.heaps.items c.self.inside.buddies.items c.self.inside.free_lists.items (whole c.reserve_own.new.self c.self.inside.free_lists.items) c.self.inside.allocations_remains ≡ c.args.self.now
 kept-is_err g c = state_kept c.self.inside.limits c.self.inside.heaps.items c.self.inside.buddies.items c.self.inside.free_lists.items c.reserve_own.new.self c.self.inside.spans c.self.inside.allocations_remains c.reserve_own.ensures.kept ∙ c.self.view_is
 
 pub returns-then-is_err-clause-tries : goal.returns-then-is_err-clause-tries
@@ -184,21 +188,17 @@ returns-in-Err-OutOfHostMemory-clause-objects g c = g.met.D.ObjectDevice.row _ _
 
 -- The new object's name is free in the table, and so is its span.
 
-no_object : (g : Over) (c : goal.After-insert_own-arg-1 g) → finite.get c.self.inside.spans.held c.object.result ≡ None
+no_object : (g : Over) (c : goal.After-insert_own-arg-1 g) → finite.get (whole c.self.inside.spans c.self.inside.free_lists.items).held c.object.result ≡ None
 no_object g c =
     let made = g.met.D.ObjectDevice.row _ _ _ c.in-Ok.ensures in
     let none : g.D.ObjectDevice.objects c.args.device.now c.object.result ≡ None = rw c.object.ensures made.0 in
     ap (λ (s : State). finite.get s.held c.object.result) c.self.view_is ∙ not_held c.args.self.now _ _ _ c.requires.agrees none
 
 pub insert_own-key-requires-clause-free : goal.insert_own-key-requires-clause-free
-insert_own-key-requires-clause-free g c = ap (λ held. finite.get held c.object.result) (held_kept c.reserve_own.new.self c.self.inside.spans c.reserve_own.ensures.kept) ∙ no_object g c
+insert_own-key-requires-clause-free g c = unheld_then c.self.inside.spans c.reserve_own.new.self c.self.inside.free_lists.items c.self.invariant.apart c.reserve_own.ensures.kept c.object.result (no_object g c)
 
 pub insert_own-key-requires-clause-unused : goal.insert_own-key-requires-clause-unused
-insert_own-key-requires-clause-unused g c span live same =
-    let was = subst (λ l. IsTrue (set_of.contains l span)) (live_kept c.reserve_own.new.self c.self.inside.spans c.reserve_own.ensures.kept) live in
-    let held = (c.self.invariant.books.spans span was).held in
-    let none = ap (finite.get c.self.inside.spans.held) same ∙ no_object g c in
-    absurd (cc)
+insert_own-key-requires-clause-unused g c = unused_then c.self.inside.spans c.reserve_own.new.self c.self.inside.free_lists.items c.self.invariant.apart c.reserve_own.ensures.kept c.object.result (no_object g c)
 
 pub heap_index-heap-requires : goal.heap_index-heap-requires
 heap_index-heap-requires g c = rw (← c.self.view_is) at c.requires.known

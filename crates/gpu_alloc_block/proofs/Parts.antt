@@ -1,0 +1,5 @@
+-- Several parts as one.
+pub mod ByName
+pub mod Entries
+pub mod Steps
+pub mod Unions
