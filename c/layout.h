@@ -144,6 +144,8 @@ uint32_t wt_layout(uint32_t number);
     ROW(126, offsetof(wt_type_statistics, dedicated))           \
     ROW(127, offsetof(wt_type_statistics, imported))            \
     ROW(128, offsetof(wt_type_statistics, buddy))               \
-    ROW(129, offsetof(wt_type_statistics, free_list))
+    ROW(129, offsetof(wt_type_statistics, free_list))           \
+    ROW(130, WT_WOULD_ASK)                                      \
+    ROW(131, WT_HELD_ONLY)
 
 #endif

@@ -18,7 +18,8 @@
  * - Names of objects rise, and none comes twice. Each object is reported once to be freed, when no block needs it.
  * - After all blocks are freed and wt_cleanup, no object is held.
  * - What was asked for of an optimal block shares no page with a linear one (WT_OPTIMAL), no question passes a heap's
- *   limit, and WT_ALLOCATE_OWN is set exactly where an object will hold one block, of its size.
+ *   limit, and WT_ALLOCATE_OWN is set exactly where an object will hold one block, of its size. A request with
+ *   WT_HELD_ONLY asks nothing, and is served wherever a permitted memory type has a place for it, but for host memory.
  *
  * What the caller owes, and nothing checks:
  * - Pointers are valid; one to 0 elements may be null. Nothing that a call writes overlaps anything else that the
@@ -102,7 +103,10 @@ enum {
     WT_TOO_MANY_REMAINING = 25,        /* together with the held objects not below 2^32 */
     WT_STILL_HELD = 26,                /* an object is held: free all blocks, and call wt_cleanup */
     WT_UNREAD_NAMES = 27,              /* names of objects to free are still to be read by wt_gone */
-    WT_BAD_FLAGS = 28                  /* wt_request.flags has a bit without a name */
+    WT_BAD_FLAGS = 28,                 /* wt_request.flags has a bit without a name */
+
+    /* A refusal. Nothing was changed. */
+    WT_WOULD_ASK = 29                  /* WT_HELD_ONLY, and no object that is held has a place for the block */
 };
 
 /* How a question was answered: wt_question.answer. To an allocation WT_NO_DEVICE_MEMORY means that it goes on to the
@@ -152,6 +156,12 @@ enum { WT_SHARED = 0, WT_PREFERRED = 1, WT_REQUIRED = 2 };
    By that size it gets an object of its own, but such an object has the very size of the request. Where the granularity
    is 1 the flag changes nothing but wt_block.flags. */
 #define WT_OPTIMAL 1u
+
+/* wt_request.flags: the device is asked for nothing (proved). Of the permitted memory types that serve the usage, the
+   first in rank that has a place in a shared object serves, even where a better one would serve by asking. WT_WOULD_ASK
+   where none has one (proved): always with WT_REQUIRED, and where the request is large enough for an object of its own.
+   How many more objects may be held is of no account. */
+#define WT_HELD_ONLY 2u
 
 /* wt_memory_type.props: the lower six bits of VkMemoryType::propertyFlags. Other bits are ignored; leave such
    types out of wt_request.memory_types. Lazily allocated and protected types are never chosen. */
@@ -222,7 +232,7 @@ typedef struct wt_request {
     uint32_t usage;        /* bits WT_USAGE_.. */
     uint32_t memory_types; /* bit i: memory type i is permitted (VkMemoryRequirements::memoryTypeBits) */
     uint32_t dedicated;    /* WT_SHARED, WT_PREFERRED or WT_REQUIRED */
-    uint32_t flags;        /* WT_OPTIMAL or 0 */
+    uint32_t flags;        /* bits: WT_OPTIMAL, WT_HELD_ONLY */
     uint64_t user;         /* a value of the caller's, which stands with the block: any number, a pointer as well */
 } wt_request;
 
@@ -312,10 +322,12 @@ uint32_t wt_close(wt_allocator *a);
    this request is the caller's to free: one whose mapping failed, or one that is not needed any more since another
    call came between. Answers that are left over count nowhere, but have to be answers.
    WT_ASK: *question is the next one, to be answered and appended. It may lie behind the asked ones in their array.
-   Any other status ends the request: WT_OUT_OF_DEVICE_MEMORY to WT_TOO_MANY_OBJECTS; WT_NOT_OPEN, WT_BAD_SIZE,
-   WT_BAD_ALIGNMENT, WT_BAD_USAGE, WT_BAD_DEDICATED, WT_BAD_FLAGS, WT_NO_DEVICE_ADDRESS, WT_BAD_ANSWER, or
-   WT_OTHER_QUESTION, as where another call came between and something else is asked now. Nothing is changed then, and
+   Any other status ends the request: WT_OUT_OF_DEVICE_MEMORY to WT_TOO_MANY_OBJECTS, WT_WOULD_ASK; WT_NOT_OPEN,
+   WT_BAD_SIZE, WT_BAD_ALIGNMENT, WT_BAD_USAGE, WT_BAD_DEDICATED, WT_BAD_FLAGS, WT_NO_DEVICE_ADDRESS, WT_BAD_ANSWER,
+   or WT_OTHER_QUESTION, as where another call came between and something else is asked now. Nothing is changed then, and
    each object that was made for this request is the caller's to free.
+   With WT_HELD_ONLY nothing is asked: WT_ASK, WT_TOO_MANY_OBJECTS and WT_OTHER_QUESTION never come, answers count
+   nowhere, and WT_OUT_OF_DEVICE_MEMORY says that the size is over the limit.
    Of several misuses the first of these is told: closed, usage, dedicated, flags, an answer, and then the others. */
 uint32_t wt_alloc(wt_allocator *a, const wt_request *request, const wt_question *asked, size_t asked_len,
                   wt_block *block, wt_question *question);
@@ -445,6 +457,7 @@ static inline const char *wt_text(uint32_t status) {
     case WT_STILL_HELD: return "Objects are still held";
     case WT_UNREAD_NAMES: return "Names of objects to free are still to be read";
     case WT_BAD_FLAGS: return "The flags have bits without a name";
+    case WT_WOULD_ASK: return "No held object has a place, and nothing may be asked";
     default: return "No such status";
     }
 }

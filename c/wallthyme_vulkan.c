@@ -138,7 +138,8 @@ static inline void leave(wtv_allocator *a)
 static SELDOM VkResult error_of(uint32_t status)
 {
     switch (status) {
-    case WT_OUT_OF_DEVICE_MEMORY: return VK_ERROR_OUT_OF_DEVICE_MEMORY;
+    case WT_OUT_OF_DEVICE_MEMORY:
+    case WT_WOULD_ASK: return VK_ERROR_OUT_OF_DEVICE_MEMORY;
     case WT_OUT_OF_HOST_MEMORY: return VK_ERROR_OUT_OF_HOST_MEMORY;
     case WT_NO_COMPATIBLE_MEMORY_TYPES: return VK_ERROR_FEATURE_NOT_PRESENT;
     case WT_TOO_MANY_OBJECTS:
@@ -453,7 +454,7 @@ VkResult wtv_allocate_for_buffer(wtv_allocator *a, VkBuffer buffer, const wtv_re
 {
     work w = {.buffer = buffer, .result = VK_SUCCESS};
     wtv_request wish = request != NULL ? *request : NO_WISH;
-    if (buffer == VK_NULL_HANDLE || wish.flags != 0)
+    if (buffer == VK_NULL_HANDLE || (wish.flags & ~WT_HELD_ONLY) != 0)
         return VK_ERROR_VALIDATION_FAILED_EXT;
     return allocate_and_bind(a, &w, wish, allocation, block);
 }
@@ -498,10 +499,10 @@ VkResult wtv_create_image(wtv_allocator *a, const VkImageCreateInfo *info, const
     VkImage created;
     if ((info->flags & refused) != 0)
         return VK_ERROR_FEATURE_NOT_PRESENT;
-    if (wish.flags != 0)
+    if ((wish.flags & ~WT_HELD_ONLY) != 0)
         return VK_ERROR_VALIDATION_FAILED_EXT;
     if (info->tiling != VK_IMAGE_TILING_LINEAR)
-        wish.flags = WT_OPTIMAL;
+        wish.flags |= WT_OPTIMAL;
     VkResult result = a->call.create_image(a->device, info, a->callbacks, &created);
     if (result != VK_SUCCESS)
         return result;

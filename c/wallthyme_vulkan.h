@@ -14,8 +14,8 @@
  * Results. A call returns VK_SUCCESS, or an error and then nothing has changed. These mean the same everywhere:
  * - VK_ERROR_OUT_OF_HOST_MEMORY, VK_ERROR_OUT_OF_DEVICE_MEMORY, VK_ERROR_MEMORY_MAP_FAILED, VK_ERROR_DEVICE_LOST: as
  *   the driver returned them. VK_ERROR_OUT_OF_DEVICE_MEMORY also stands for a request that is larger than the device
- *   allows, or than every permitted heap's limit leaves; VK_ERROR_OUT_OF_HOST_MEMORY for memory that this side or the
- *   library lacks.
+ *   allows, or than every permitted heap's limit leaves, or that needs an object with WT_HELD_ONLY;
+ *   VK_ERROR_OUT_OF_HOST_MEMORY for memory that this side or the library lacks.
  * - VK_ERROR_TOO_MANY_OBJECTS: as many memory objects are held as the device allows.
  * - VK_ERROR_FEATURE_NOT_PRESENT: no permitted memory type serves the usage, or the resource is sparse or disjoint.
  * - VK_ERROR_VALIDATION_FAILED_EXT: an argument that the call forbids, as an unknown allocation or a range that passes
@@ -112,7 +112,8 @@ typedef struct wtv_request {
                               library knows remain of it */
     uint32_t dedicated;    /* WT_SHARED, WT_PREFERRED or WT_REQUIRED; raised to what the driver asks for */
     uint32_t flags;        /* for wtv_allocate and wtv_allocate_for_image: WT_OPTIMAL for an image whose tiling is not
-                              linear. Else 0 */
+                              linear. WT_HELD_ONLY: no memory object is made; VK_ERROR_OUT_OF_DEVICE_MEMORY where none
+                              that is held has a place, so always where the driver asks for a dedicated one */
     uint64_t user;         /* a value of the program's, which stands with the block */
     const void *next;      /* chained to VkMemoryAllocateInfo exactly where the object holds this block alone: a
                               priority, an export. It stays the program's. A structure that has to be chained wants

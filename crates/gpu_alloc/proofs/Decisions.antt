@@ -35,7 +35,7 @@ case_refused c es OutOfHostMemory new refused = refused.0
 case_refused c es OutOfDeviceMemory new refused = absurd refused
 case_refused c es NoCompatibleMemoryTypes new refused = absurd refused
 
-decides_refused : (s : State) (r : Request) (hint : Option Dedicated) (t : ℕ) (es : List Event) (e : AllocationError) (new : State) → Decides s r hint t es (Err e) new → new ≡ s
+pub decides_refused : (s : State) (r : Request) (hint : Option Dedicated) (t : ℕ) (es : List Event) (e : AllocationError) (new : State) → Decides s r hint t es (Err e) new → new ≡ s
 decides_refused s r hint t es e new decides =
     let w = strategy s r hint t in
     case_refused (candidate w s r t) es e new decides.1 ∙ before_is w s r t

@@ -262,7 +262,7 @@ pub record IsServedBy (s : State) (r q : Request) : Type 0 where
   pub aligned : (offset : ℕ) → offset % (q.align_mask + 1) ≡ 0 → offset % (r.align_mask + 1) ≡ 0
   pub candidates : candidates_of s q ≡ candidates_of s r
 
-granted_as : (s : State) (r q : Request) (new : State) (b : Block) → IsServedBy s r q → IsGranted s q new b → IsGranted s r new b
+pub granted_as : (s : State) (r q : Request) (new : State) (b : Block) → IsServedBy s r q → IsGranted s q new b → IsGranted s r new b
 unfolding IsCandidate
 granted_as s r q new b serves is = record {
   enough = omega (arith, is.enough, serves.enough);

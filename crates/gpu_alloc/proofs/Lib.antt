@@ -16,6 +16,8 @@ pub mod Granted
 pub mod Grants
 pub mod HandedOn
 pub mod HeapLists
+pub mod HeldGrants
+pub mod HeldOnly
 pub mod Imports
 pub mod InHand
 pub mod InPages

@@ -10,6 +10,7 @@ pub mod FreeBytes
 pub mod FreeListSharing
 pub mod FreeRanges
 pub mod Growth
+pub mod HeldOnly
 pub mod Importing
 pub mod Listing
 pub mod Inside

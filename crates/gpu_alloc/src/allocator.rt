@@ -29,6 +29,7 @@ mod candidates;
 mod choosing;
 mod growth;
 mod heaps;
+mod held_only;
 mod importing;
 mod listing;
 mod optimal;

@@ -11,6 +11,7 @@ mod flags;
 mod freelist;
 mod growths;
 mod handles_and_frames;
+mod held_only;
 mod imports;
 mod offers;
 mod pair;

@@ -1,5 +1,5 @@
 -- What an allocation asks to be made, and so what its found question is for.
-use Rattle.std.proofs.Common.{◌≡◌, ◌≢◌, ◌⊎◌, ◌↔◌, IsTrue, IfOk, inl, inr, ℕ, ◌<◌, Bool, true, false, cond, List, [], ◌∷◌, ◌++◌, length, ◌≤◌, ◌^◌, Option, Some, None, Result, Ok, Err, MatchBool, nat_eq, nat_le, nat_lt, ◌==◌, ◌&&◌, ◌||◌, not, All, arith, refl, sym, ◌∙◌, ap, subst}
+use Rattle.std.proofs.Common.{◌≡◌, ◌⊎◌, ◌↔◌, IsTrue, IfOk, inl, inr, ℕ, ◌<◌, Bool, true, false, cond, List, [], ◌∷◌, ◌++◌, length, ◌≤◌, ◌^◌, Option, Some, None, Result, Ok, Err, MatchBool, nat_eq, nat_le, nat_lt, ◌==◌, ◌&&◌, ◌||◌, not, All, arith, refl, sym, ◌∙◌, ap, subst}
 use Rattle.std.proofs.lemmas.Bool.Decides.{nat_tests}
 use Rattle.std.proofs.lemmas.List.Elements.{All-head, All-tail}
 use Rattle.std.specs.Option.{IfSome}
@@ -32,7 +32,7 @@ use Rattle.gpu_answers.specs.declared.run.Stop.TheVariants.{Open, Strayed}
 use Rattle.gpu_answers.proofs.Asked.{run_stays}
 use Rattle.gpu_alloc.specs.Types.Kind.TheVariants.{Dedicated as DedicatedObject}
 use Rattle.gpu_desk.proofs.Paged.{in_bytes}
-use Rattle.gpu_desk.specs.Wishes.{MayCome, asks_own, goes_by_pages, is_own, plan_for}
+use Rattle.gpu_desk.specs.Wishes.{MayCome, goes_by_pages, is_own, plan_for}
 use Rattle.gpu_desk.specs.Calls.{AllocationDenied, denial_after}
 use Rattle.gpu_desk.specs.Desk.{DeskState}
 use Rattle.gpu_desk.specs.declared.denial.Denial.{Denial}

@@ -1,5 +1,5 @@
 -- Blocks for optimal resources and the pages of their objects.
-use Rattle.std.proofs.Common.{◌≡◌, ◌≢◌, ◌⊎◌, inl, inr, ℕ, ◌+◌, ◌-◌, ◌*◌, ◌/◌, ◌%◌, ◌^◌, ◌==◌, get_or, set, length, ◌<◌, ◌≤◌, Bool, true, false, List, Some, None, refl, sym, ◌∙◌, ap, subst, arith}
+use Rattle.std.proofs.Common.{◌≡◌, ◌≢◌, ◌⊎◌, inl, inr, ℕ, ◌+◌, ◌-◌, ◌*◌, ◌/◌, ◌%◌, ◌^◌, get_or, set, length, ◌<◌, ◌≤◌, Bool, true, false, List, Some, None, refl, sym, ◌∙◌, ap, subst, arith}
 use Rattle.std.proofs.Math.Nat.{add-mul, div-lt_iff_lt-mul, le-div_iff_mul-le, lt-div-mul-add}
 use Rattle.std.proofs.lemmas.List.{get_or-set_same, get_or-set_other, get_or_default}
 use Rattle.std.proofs.lemmas.Nat.{pow_pos}
@@ -15,7 +15,7 @@ use Rattle.gpu_alloc.specs.Allocation.{IsInPages}
 use Rattle.gpu_alloc.specs.Owned.{AreTwo, IsSameBlock}
 use Rattle.gpu_alloc.specs.Request.{IsGranularity}
 use Rattle.gpu_alloc.specs.State.{Block, is_shared, span_of, AreApart}
-use Rattle.gpu_desk.specs.Pages.{ArePaged, IsByteOf, ShareNoPage}
+use Rattle.gpu_desk.specs.Pages.{ArePaged, ShareNoPage}
 use Rattle.gpu_desk.specs.Tags.{tag_at}
 use Rattle.gpu_desk.specs.declared.wish.Tag.{Tag}
 

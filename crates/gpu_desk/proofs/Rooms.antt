@@ -9,7 +9,7 @@ use Rattle.gpu_session.specs.Books.{Books}
 use Rattle.gpu_session.specs.Sound.{IsKept}
 use Rattle.gpu_session.specs.declared.offer.Offer.{Offer}
 use Rattle.gpu_slots.specs.SlotMap.{SlotState}
-use Rattle.gpu_desk.specs.Desk.{DeskState, IsDesk}
+use Rattle.gpu_desk.specs.Desk.{IsDesk}
 use Rattle.gpu_desk.specs.Pages.{ArePaged}
 use Rattle.gpu_desk.specs.declared.wish.Tag.{Tag}
 

@@ -1,11 +1,9 @@
 -- Each block comes exactly once that lives all along.
-use Rattle.std.proofs.Common.{◌≡◌, ◌≢◌, ◌⊎◌, inl, inr, ℕ, ◌+◌, ◌%◌, ◌^◌, ◌<◌, ◌≤◌, ◌==◌, Bool, true, false, cond, List, [], ◌∷◌, filter, All, refl, sym, ◌∙◌, ap, subst, arith}
+use Rattle.std.proofs.Common.{◌≡◌, ◌≢◌, inl, inr, ℕ, ◌+◌, ◌%◌, ◌^◌, ◌<◌, ◌≤◌, ◌==◌, Bool, true, false, cond, List, [], ◌∷◌, filter, All, refl, sym, ◌∙◌, ap, subst, arith}
 use Rattle.std.proofs.lemmas.Bool.Decides.{nat_tests}
 use Rattle.std.proofs.lemmas.List.Elements.{All-head, All-tail}
-use Rattle.std.specs.FinMap as map
-use Rattle.std.specs.Option.{IsSome}
 use Rattle.gpu_desk.specs.Desk.{DeskState}
-use Rattle.gpu_desk.specs.Walk.{behind, ComesOnce, IsLast, IsLiveKey, IsNext, NeverComes, Walks}
+use Rattle.gpu_desk.specs.Walk.{behind, ComesOnce, IsLiveKey, NeverComes, Walks}
 
 same : (a b : ℕ) → a ≡ b → (a == b) ≡ true
 same a b e = grind (arith, nat_tests)

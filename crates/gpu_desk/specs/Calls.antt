@@ -8,6 +8,7 @@ use Rattle.gpu_alloc_types.specs.declared.usage_flags.UsageFlags.{UsageFlags}
 use Rattle.gpu_alloc_types.specs.Properties.{are_non_coherent}
 use Rattle.gpu_alloc.specs.Allocation.{AllocatesBy, IsGranted, IsInPages, Plan}
 use Rattle.gpu_alloc.specs.Budget.{heap_budget, heap_bytes, with_heap_limit}
+use Rattle.gpu_alloc.specs.HeldOnly.{AllocatesHeld}
 use Rattle.gpu_alloc.specs.Importing.{imported_block}
 use Rattle.gpu_alloc.specs.Mapped.{AsksToMap, mapping_of, unmapping}
 use Rattle.gpu_alloc.specs.Ranges.{rounded}
@@ -36,7 +37,7 @@ use Rattle.gpu_slots.specs.SlotMap.{IsGiven, IsGone, SlotState, StaysGone}
 use Rattle.gpu_desk.specs.Desk.{DeskState, OfKey, objects, tag_of}
 use Rattle.gpu_desk.specs.Wishes.{asks_own, is_own, plan_for}
 use Rattle.gpu_desk.specs.declared.denial.Denial.{Denial}
-use Rattle.gpu_desk.specs.declared.denial.Denial.TheVariants.{Open, Strayed, Refused, MapRefused, Fault}
+use Rattle.gpu_desk.specs.declared.denial.Denial.TheVariants.{Open, Strayed, WouldAsk, Refused, MapRefused, Fault}
 use Rattle.gpu_desk.specs.declared.told.Counts.{Counts}
 use Rattle.gpu_desk.specs.declared.told.Grant.{Grant}
 use Rattle.gpu_desk.specs.declared.told.HeapCounts.{HeapCounts}
@@ -165,6 +166,27 @@ fault_of_alloc s r = fault_of_request s.allocator.properties.buffer_device_addre
 unfoldable pub AllocationDenied : DeskState → Request → Wish → List Answered → Denial → Type 0
 AllocationDenied s r w answers d =
     IsFaultOf (fault_of_alloc s r) d ⊎ ((fault_of_alloc s r ≡ None) × RefusesIn s r w answers d)
+
+-- A request is granted from what is held: as it asks, and as the allocator decides it. The device is as it was.
+pub record AllocatedHeld (old : DeskState) (r : Request) (w : Wish) (new : DeskState) (g : Grant) : Type 0 where
+  pub block : Block
+  pub gives : Gives old g block (wished w r.size) new
+  pub as_asked : IsGranted old.allocator r new.allocator block
+  pub shared : is_shared block.kind ≡ true
+  pub pages : w.optimal ≡ true → IsInPages old.granularity r.size block
+  pub decided : AllocatesHeld old.allocator (plan_of old r w) (Ok (Some block)) new.allocator
+  pub unasked : new.device ≡ old.device
+  pub fresh : g.fresh ≡ false
+  pub held : new.allocator.held ≡ old.allocator.held
+
+-- why it is denied then: the first condition that it misses, or want of memory, or no candidate has a place, or the
+-- allocator refuses it
+unfoldable pub HeldDenied : DeskState → Request → Wish → Denial → Type 0
+HeldDenied s r w d =
+    IsFaultOf (fault_of_alloc s r) d
+    ⊎ ((fault_of_alloc s r ≡ None)
+    × (((d ≡ WouldAsk) × AllocatesHeld s.allocator (plan_of s r w) (Ok None) s.allocator)
+    ⊎ ((e : AllocationError) × (d ≡ Refused e) × AllocatesHeld s.allocator (plan_of s r w) (Err e) s.allocator)))
 
 -- An import: the block is the given span of a new object, which the device holds so.
 pub record Imported (old : DeskState) (t object_size offset size : ℕ) (new : DeskState) (g : Grant) : Type 0 where

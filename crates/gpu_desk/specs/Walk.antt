@@ -1,5 +1,5 @@
 -- What a walk over the live blocks meets.
-use Rattle.std.specs.Prelude.{◌≡◌, ◌==◌, ◌+◌, ℕ, List, [], ◌∷◌, All, cond, filter, IsSome}
+use Rattle.std.specs.Prelude.{◌≡◌, ◌==◌, ◌+◌, ℕ, List, [], ◌∷◌, cond, filter, IsSome}
 use Rattle.std.specs.FinMap as map
 use Rattle.gpu_slots.specs.SlotMap.{HasNoneFrom, IsFirstFrom, place_of}
 use Rattle.gpu_desk.specs.Desk.{DeskState}

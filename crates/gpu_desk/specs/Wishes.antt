@@ -1,5 +1,5 @@
 -- How a wish is asked of the allocator, and which of its questions are for an object of the block's own.
-use Rattle.std.specs.Prelude.{◌≡◌, ◌<◌, ◌==◌, ◌&&◌, ℕ, Bool, false, not, cond, length}
+use Rattle.std.specs.Prelude.{◌≡◌, ◌<◌, ◌==◌, ◌&&◌, ℕ, Bool, false, not, cond, length, Option, Some, None}
 use Rattle.gpu_alloc.specs.Allocation.{Plan, plan, plan_in_pages, serves_alone}
 use Rattle.gpu_alloc.specs.State.{State}
 use Rattle.gpu_alloc.specs.declared.request.Request.{Request}
@@ -10,6 +10,10 @@ use Rattle.gpu_desk.specs.declared.wish.Wish.{Wish}
 -- A request goes by whole pages where it is for an optimal resource and a page is of more than a byte.
 abbrev pub goes_by_pages : ℕ → Wish → Bool
 goes_by_pages granularity w = w.optimal && not (granularity == 1)
+
+-- the pages that it goes by, or none
+abbrev pub pages_of : ℕ → Wish → Option ℕ
+pages_of granularity w = cond (goes_by_pages granularity w) (Some granularity) None
 
 -- how the allocator tries it
 abbrev pub plan_for : State → ℕ → Request → Wish → Plan

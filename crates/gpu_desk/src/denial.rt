@@ -31,6 +31,9 @@ pub enum Denial {
     /// An answer is to another question than is asked in its place.
     Strayed,
 
+    /// No held chunk has a place, and the request was to ask for nothing ([`alloc_held`](crate::Desk::alloc_held)).
+    WouldAsk,
+
     /// The allocation is refused.
     Refused(AllocationError),
 

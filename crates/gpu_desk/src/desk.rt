@@ -10,6 +10,7 @@ ghost use Rattle.gpu_desk.specs.Desk.{IsEmpty, IsSound, page_of};
 
 mod counting;
 mod granting;
+mod holding;
 mod mapping;
 mod reading;
 mod walking;

@@ -1,3 +1,4 @@
 pub mod AsBox
 pub mod Same
+pub mod Unasked
 pub mod Walks

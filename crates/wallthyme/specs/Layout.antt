@@ -1,7 +1,7 @@
 -- What the structs of C stand for.
 use Rattle.std.specs.Prelude.{◌+◌, ◌-◌, ◌*◌, ◌^◌, ◌==◌, ◌&&◌, ℕ, Bool, not, nat_lt, List, map, Option, Some, None, bit_and, if◌then◌else◌}
 use Rattle.gpu_alloc_base.specs.declared.config.Config as desk_config
-use Rattle.gpu_alloc_types.specs.Flags.{named_property_bits}
+use Rattle.gpu_alloc_types.specs.Flags.{has_bit, named_property_bits}
 use Rattle.gpu_alloc_types.specs.Properties.{Properties}
 use Rattle.gpu_alloc_types.specs.declared.types.FreeRange.{FreeRange}
 use Rattle.gpu_alloc_types.specs.declared.types.MemoryHeap.{MemoryHeap}
@@ -72,9 +72,13 @@ request_of r = record {
 abbrev pub hint_of : ℕ → Option Dedicated
 hint_of n = if n == number.SHARED then None else (if n == number.PREFERRED then Some Preferred else Some Required)
 
--- a request's wish, where its flags are none or that of an optimal resource; any others are refused
+-- a request's wish, where its flags are those below; any others are refused
 abbrev pub wish_of : Request → Wish
-wish_of r = record { dedicated = hint_of r.dedicated; optimal = r.flags == number.OPTIMAL; user = r.user }
+wish_of r = record { dedicated = hint_of r.dedicated; optimal = has_bit r.flags number.OPTIMAL; user = r.user }
+
+-- it may be served from what is held alone
+abbrev pub is_held_only : Request → Bool
+is_held_only r = has_bit r.flags number.HELD_ONLY
 
 -- the desk's flags among those of a question to make an object
 abbrev pub desk_flags_of : Question → ℕ

@@ -1,3 +1,4 @@
+pub mod Allocating
 pub mod Candidates
 pub mod Handles
 pub mod Layout

@@ -1,5 +1,5 @@
 -- What C hands over that a desk has no word for.
-use Rattle.std.specs.Prelude.{◌≡◌, ◌≢◌, ◌⊎◌, ◌==◌, ◌<◌, ◌≤◌, ◌&&◌, ◌||◌, ℕ, Bool, true, false, nat_lt, IsTrue, List, All, Any}
+use Rattle.std.specs.Prelude.{◌≡◌, ◌≢◌, ◌⊎◌, ◌==◌, ◌+◌, ◌<◌, ◌≤◌, ◌&&◌, ◌||◌, ℕ, Bool, true, false, nat_lt, IsTrue, List, All, Any}
 use Rattle.gpu_alloc_types.specs.Flags.{has_all_bits, named_usage_bits}
 use Rattle.wallthyme.specs.declared.layout.TheConstants as number
 use Rattle.wallthyme.specs.declared.layout.Block.{Block}
@@ -11,12 +11,16 @@ use Rattle.wallthyme.specs.declared.status.TheConstants as status
 abbrev pub IsUsage : ℕ → Type 0
 IsUsage bits = IsTrue (has_all_bits named_usage_bits bits)
 
+-- all flags of a request
+abbrev pub all_flags : ℕ
+all_flags = number.OPTIMAL + number.HELD_ONLY
+
 -- the request has bits or a hint without a name, and the status says which: of usage, hint and flags the first
 abbrev pub IsUnnamed : Request → ℕ → Type 0
 IsUnnamed r told =
     ((told ≡ status.BAD_USAGE) × (IsUsage r.usage → ⊥))
     ⊎ (((told ≡ status.BAD_DEDICATED) × (IsUsage r.usage × (number.REQUIRED < r.dedicated)))
-    ⊎ ((told ≡ status.BAD_FLAGS) × (IsUsage r.usage × ((r.dedicated ≤ number.REQUIRED) × (number.OPTIMAL < r.flags)))))
+    ⊎ ((told ≡ status.BAD_FLAGS) × (IsUsage r.usage × ((r.dedicated ≤ number.REQUIRED) × (all_flags < r.flags)))))
 
 -- there is such a question
 abbrev pub is_question : Question → Bool
@@ -33,7 +37,7 @@ HasNoAnswer asked = Any (λ q. is_answered q ≡ false) asked
 pub record HasNames (r : Request) : Type 0 where
   pub usage : IsUsage r.usage
   pub hint : r.dedicated ≤ number.REQUIRED
-  pub flags : r.flags ≤ number.OPTIMAL
+  pub flags : r.flags ≤ all_flags
 
 -- each is a question with an answer
 abbrev pub AreAnswered : List Question → Type 0

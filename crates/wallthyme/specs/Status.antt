@@ -5,7 +5,7 @@ use Rattle.gpu_alloc_base.specs.declared.error.AllocationError.TheVariants as al
 use Rattle.gpu_alloc_base.specs.declared.error.MapError.{MapError}
 use Rattle.gpu_alloc_base.specs.declared.error.MapError.TheVariants as mapping
 use Rattle.gpu_desk.specs.declared.denial.Denial.{Denial}
-use Rattle.gpu_desk.specs.declared.denial.Denial.TheVariants.{Open, Strayed, Refused, MapRefused, Fault}
+use Rattle.gpu_desk.specs.declared.denial.Denial.TheVariants.{Open, Strayed, WouldAsk, Refused, MapRefused, Fault}
 use Rattle.gpu_desk.specs.declared.denial.OpenError.{OpenError}
 use Rattle.gpu_desk.specs.declared.denial.OpenError.TheVariants.{BadProperties, OutOfHostMemory}
 use Rattle.gpu_session.specs.declared.command.Fault as faults
@@ -45,6 +45,7 @@ status_of_fault fault.NoMemory = status.OUT_OF_HOST_MEMORY
 abbrev pub status_of : Denial → ℕ
 status_of (Open question own) = status.ASK
 status_of Strayed = status.OTHER_QUESTION
+status_of WouldAsk = status.WOULD_ASK
 status_of (Refused refusal) = status_of_refusal refusal
 status_of (MapRefused refusal) = status_of_map_refusal refusal
 status_of (Fault fault) = status_of_fault fault

@@ -1,19 +1,20 @@
 //! The calls that give blocks out and take them back.
 
-ghost use Rattle.std.specs.Prelude.{◌≡◌, ◌≢◌, ◌↔◌, ◌⊎◌, ◌<◌, IsNone, length, map, true};
-ghost use Rattle.gpu_desk.specs.Calls.{AllocationDenied, Allocated, ImportDenied, Imported, IsAsBefore, Keeps, Returns, SetsUser, Told};
+ghost use Rattle.std.specs.Prelude.{◌≡◌, ◌≢◌, ◌↔◌, ◌⊎◌, ◌<◌, IsNone, length, true};
+ghost use Rattle.gpu_desk.specs.Calls.{AllocatedHeld, HeldDenied, ImportDenied, Imported, IsAsBefore, Keeps, Returns, SetsUser, Told};
 ghost use Rattle.gpu_desk.specs.Desk.{IsSound};
+ghost use Rattle.wallthyme.specs.Allocating.{IsAllocated, IsDenied};
 ghost use Rattle.wallthyme.specs.Handles.{KeepsSound, NoBlock, OnDesks, desk_of};
 ghost use Rattle.wallthyme.specs.Malformed.{HasFlags, IsAsked, IsMalformed, IsWellFormed};
 ghost use Rattle.wallthyme.specs.Status.{Asks, Denies};
-ghost use Rattle.wallthyme.specs.Layout.{answered_of, grant_of, is_own, request_of, wish_of};
+ghost use Rattle.wallthyme.specs.Layout.{grant_of, is_held_only, is_own};
 
 use crate::answers::{answers_of, denied_or_asked};
 use crate::handle::Handle;
 use crate::kept::KeptDesk;
 use crate::layout;
 use crate::status::{ASK, NOT_OPEN, OK, OUT_OF_HOST_MEMORY, UNKNOWN_KEY, denied};
-use gpu_desk::{Answered, Desk};
+use gpu_desk::{Answered, Desk, Request, Wish};
 use std::alloc::Global;
 
 #[unsafe(no_mangle)]
@@ -26,14 +27,13 @@ pub extern "C" fn wt_alloc(
     question: &mut layout::Question,
 ) -> u32
     ensures closed { (result ≡ NOT_OPEN) ↔ IsNone (desk_of handle.old) }
-    ensures granted { result ≡ OK → OnDesks (λ old new. Allocated old (request_of request.now)
-        (wish_of request.now) (map answered_of asked.now) new (grant_of block.new)) handle.old handle.new }
-    ensures asks { result ≡ ASK → OnDesks (λ old _. Asks (AllocationDenied old (request_of request.now)
-        (wish_of request.now) (map answered_of asked.now)) question.new) handle.old handle.new }
+    ensures granted { result ≡ OK → OnDesks (IsAllocated request.now asked.now block.new) handle.old handle.new }
+    ensures asks { result ≡ ASK
+        → OnDesks (λ old _. Asks (IsDenied request.now asked.now old) question.new) handle.old handle.new }
     ensures denied { result ≢ OK → result ≢ NOT_OPEN → result ≢ OUT_OF_HOST_MEMORY
-        → IsMalformed request.now asked.now result ⊎ OnDesks (λ old _. Denies (AllocationDenied old
-        (request_of request.now) (wish_of request.now) (map answered_of asked.now)) result)
-        handle.old handle.new }
+        → IsMalformed request.now asked.now result ⊎ OnDesks (λ old _.
+        Denies (IsDenied request.now asked.now old) result) handle.old handle.new }
+    ensures unasked { is_held_only request.now ≡ true → result ≢ ASK }
     ensures formed { (result ≡ OK) ⊎ (result ≡ ASK) → IsWellFormed request.now asked.now }
     ensures flags { result ≡ OK → HasFlags block.new }
     ensures unanswered { result ≡ ASK → IsAsked question.new }
@@ -68,13 +68,11 @@ fn allocate(
     question: &mut layout::Question,
 ) -> u32
     ensures is_open { result ≢ NOT_OPEN }
-    ensures granted { result ≡ OK → Allocated desk.old (request_of request.now) (wish_of request.now)
-        (map answered_of asked.now) desk.new (grant_of block.new) }
-    ensures asks { result ≡ ASK → Asks (AllocationDenied desk.old (request_of request.now) (wish_of request.now)
-        (map answered_of asked.now)) question.new }
+    ensures granted { result ≡ OK → IsAllocated request.now asked.now block.new desk.old desk.new }
+    ensures asks { result ≡ ASK → Asks (IsDenied request.now asked.now desk.old) question.new }
     ensures denied { result ≢ OK → result ≢ OUT_OF_HOST_MEMORY → IsMalformed request.now asked.now result
-        ⊎ Denies (AllocationDenied desk.old (request_of request.now) (wish_of request.now)
-        (map answered_of asked.now)) result }
+        ⊎ Denies (IsDenied request.now asked.now desk.old) result }
+    ensures unasked { is_held_only request.now ≡ true → result ≢ ASK }
     ensures formed { (result ≡ OK) ⊎ (result ≡ ASK) → IsWellFormed request.now asked.now }
     ensures flags { result ≡ OK → HasFlags block.new }
     ensures unanswered { result ≡ ASK → IsAsked question.new }
@@ -83,6 +81,7 @@ fn allocate(
     ensures unchanged { result ≢ OK → IsAsBefore desk.old desk.new }
     ensures keeps { Keeps desk.old desk.new }
 {
+    let is_held_only = request.is_held_only();
     let (request, wish) = match request.to_parts() {
         Ok(parts) => parts,
         Err(status) => return status,
@@ -90,12 +89,34 @@ fn allocate(
     if let Err(status) = answers_of(answers, asked) {
         return status;
     }
+    if is_held_only {
+        return allocate_held(desk, request, wish, block);
+    }
     match desk.alloc(request, wish, answers) {
         Ok(grant) => {
             *block = grant.into();
             OK
         }
         Err(denial) => denied_or_asked(denial, question),
+    }
+}
+
+/// Serves a request from what is held alone.
+fn allocate_held(desk: &mut Desk, request: Request, wish: Wish, block: &mut layout::Block) -> u32
+    ensures is_open { result ≢ NOT_OPEN }
+    ensures granted { result ≡ OK → AllocatedHeld desk.old request wish desk.new (grant_of block.new) }
+    ensures denied { result ≢ OK → Denies (HeldDenied desk.old request wish) result }
+    ensures flags { result ≡ OK → HasFlags block.new }
+    ensures unasked { result ≢ ASK }
+    ensures unchanged { result ≢ OK → IsAsBefore desk.old desk.new }
+    ensures keeps { Keeps desk.old desk.new }
+{
+    match desk.alloc_held(request, wish) {
+        Ok(grant) => {
+            *block = grant.into();
+            OK
+        }
+        Err(denial) => denied(denial),
     }
 }
 

@@ -51,8 +51,11 @@ pub(crate) const REQUIRED: u32 = 2;
 /// the desk's flags.
 pub(crate) const ALLOCATE_OWN: u32 = 0x100;
 
-/// The one bit of [`Request::flags`] and of [`Block::flags`]: the block is for an optimal resource.
+/// A bit of [`Request::flags`], and the one of [`Block::flags`]: the block is for an optimal resource.
 pub(crate) const OPTIMAL: u32 = 1;
+
+/// A bit of [`Request::flags`]: the device is asked for nothing.
+pub(crate) const HELD_ONLY: u32 = 2;
 
 /// `wt_memory_type`.
 #[repr(C)]
@@ -224,7 +227,7 @@ pub(crate) fn usage_of(bits: u32) -> Option<UsageFlags>
 }
 
 impl Request {
-    ghost use Rattle.wallthyme.specs.Layout.{request_of, wish_of};
+    ghost use Rattle.wallthyme.specs.Layout.{is_held_only, request_of, wish_of};
     ghost use Rattle.wallthyme.specs.Malformed.{HasNames, IsUnnamed};
 
     /// What is asked of the desk, with the wish, or the status of bits and hints that it has no word for: of the first of
@@ -247,7 +250,7 @@ impl Request {
             REQUIRED => Some(Dedicated::Required),
             _ => return Err(BAD_DEDICATED),
         };
-        if self.flags > OPTIMAL {
+        if self.flags > OPTIMAL + HELD_ONLY {
             return Err(BAD_FLAGS);
         }
         let request = gpu_desk::Request {
@@ -258,10 +261,17 @@ impl Request {
         };
         let wish = Wish {
             dedicated,
-            optimal: self.flags == OPTIMAL,
+            optimal: self.flags & OPTIMAL != 0,
             user: self.user,
         };
         Ok((request, wish))
+    }
+
+    /// Whether it may be served from what is held alone.
+    pub(crate) fn is_held_only(&self) -> bool
+        ensures { result ≡ is_held_only self.now }
+    {
+        self.flags & HELD_ONLY != 0
     }
 }
 

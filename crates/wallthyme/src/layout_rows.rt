@@ -2,9 +2,9 @@
 
 use crate::handle::Handle;
 use crate::layout::{
-    ALLOCATE, ALLOCATE_OWN, Block, Config, Counts, DEVICE_MAP_FAILED, GRANTED, HeapCounts,
-    KindStatistics, Limits, MAP, MAP_MADE, MemoryType, NO_DEVICE_MEMORY, NO_HOST_MEMORY, OPTIMAL,
-    PREFERRED, Question, REQUIRED, Range, Request, SHARED, TypeStatistics,
+    ALLOCATE, ALLOCATE_OWN, Block, Config, Counts, DEVICE_MAP_FAILED, GRANTED, HELD_ONLY,
+    HeapCounts, KindStatistics, Limits, MAP, MAP_MADE, MemoryType, NO_DEVICE_MEMORY,
+    NO_HOST_MEMORY, OPTIMAL, PREFERRED, Question, REQUIRED, Range, Request, SHARED, TypeStatistics,
 };
 use crate::opening::VERSION;
 use crate::status;
@@ -77,9 +77,9 @@ static PLACES: [u32; 53] = [
     size_of::<HeapCounts>() as u32, 0, 8, 16,
 ];
 
-/// What came later: a status, flags, the offsets of the last fields of `Limits`, `Request`, `Block` and `HeapCounts`,
+/// What came later: statuses, flags, the offsets of the last fields of `Limits`, `Request`, `Block` and `HeapCounts`,
 /// and the size of each struct of statistics, with the offsets of its fields.
-static LATER: [u32; 24] = [
+static LATER: [u32; 26] = [
     status::BAD_FLAGS,
     ALLOCATE_OWN,
     OPTIMAL,
@@ -104,6 +104,8 @@ static LATER: [u32; 24] = [
     56,
     112,
     168,
+    status::WOULD_ASK,
+    HELD_ONLY,
 ];
 
 /// The bits of flags, which stand between the numbers and the places.

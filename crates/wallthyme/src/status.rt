@@ -63,6 +63,8 @@ pub(crate) const UNREAD_NAMES: u32 = 27;
 
 pub(crate) const BAD_FLAGS: u32 = 28;
 
+pub(crate) const WOULD_ASK: u32 = 29;
+
 /// The status of what a desk denies.
 pub(crate) fn denied(denial: Denial) -> u32
     ensures status { result ≡ status_of denial }
@@ -72,6 +74,7 @@ pub(crate) fn denied(denial: Denial) -> u32
     match denial {
         Denial::Open { .. } => ASK,
         Denial::Strayed => OTHER_QUESTION,
+        Denial::WouldAsk => WOULD_ASK,
         Denial::Refused(refusal) => refused(refusal),
         Denial::MapRefused(refusal) => map_refused(refusal),
         Denial::Fault(fault) => misused(fault),

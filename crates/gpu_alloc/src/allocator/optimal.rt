@@ -165,7 +165,7 @@ impl<M: MemoryObject, A: Allocator> GpuAllocator<M, A> {
     /// What a memory type is asked for whole pages. (It stands apart, so that other requests do not pay for it.)
     #[cold]
     #[inline(never)]
-    fn ask_in_pages(
+    pub(super) fn ask_in_pages(
         &self,
         request: &Request,
         hint: Option<Dedicated>,

@@ -7,6 +7,7 @@ ghost use Rattle.gpu_alloc_types.specs.Properties.{IsUsable, properties_of};
 ghost use Rattle.gpu_alloc.specs.Agreement.{Agrees, BlockAgrees};
 ghost use Rattle.gpu_alloc.specs.Importing.{MayBeImported};
 ghost use Rattle.gpu_alloc.specs.Owned.{Leaves};
+ghost use Rattle.gpu_alloc.specs.Request.{IsGranularity};
 ghost use Rattle.gpu_alloc.specs.State.{IsOwned};
 ghost use Rattle.gpu_alloc_tests.specs.Bench.{HasTwoTypes};
 
@@ -142,6 +143,26 @@ impl<A: Allocator + Copy> Bench<A> {
         let block = ask(rt, &mut self.allocator, &mut self.device, request, hint)?;
         keep(rt, &mut self.blocks, block);
         Ok(())
+    }
+
+    /// Takes a block from what is held, with that hint and granularity or none, and keeps it. It tells the block's memory
+    /// type and where it starts, if there was a place.
+    pub(super) fn take_held(
+        &mut self,
+        rt: &impl Abort,
+        request: Request,
+        hint: Option<Dedicated>,
+        granularity: Option<u64>,
+    ) -> Result<Option<(u32, u64)>, AllocationError> {
+        let device = &mut self.device;
+        match ask_held(rt, &mut self.allocator, device, request, hint, granularity)? {
+            Some(block) => {
+                let came = (block.memory_type(), block.offset());
+                keep(rt, &mut self.blocks, block);
+                Ok(Some(came))
+            }
+            None => Ok(None),
+        }
     }
 
     /// Whether the allocator holds an object of this name, and owns the latest block.
@@ -346,6 +367,38 @@ fn ask<M: MemoryObject, D: MemoryDevice<M>, A: Allocator>(
     match hint {
         None => allocator.alloc(device, request),
         Some(hint) => allocator.alloc_with_dedicated(device, request, hint),
+    }
+}
+
+/// Asks for a block of what is held, with that hint and granularity or none.
+fn ask_held<M: MemoryObject, D: MemoryDevice<M>, A: Allocator>(
+    rt: &impl Abort,
+    allocator: &mut GpuAllocator<M, A>,
+    device: &mut D,
+    request: Request,
+    hint: Option<Dedicated>,
+    granularity: Option<u64>,
+) -> Result<Option<MemoryBlock<M>>, AllocationError>
+    requires agrees { Agrees allocator.old (D.properties device.old) (D.objects device.old) }
+    ensures agrees { Agrees allocator.new (D.properties device.new) (D.objects device.new) }
+    ensures leaves { Leaves allocator.old allocator.new }
+{
+    holds(
+        rt,
+        request.is_askable(false),
+        "a request that may not be asked",
+    );
+    has_granularity(rt, granularity);
+    allocator.alloc_held(device, request, hint, granularity)
+}
+
+/// A granularity has to be a power of two of at most 2^32, where there is one.
+fn has_granularity(rt: &impl Abort, granularity: Option<u64>)
+    ensures { IfSome granularity IsGranularity }
+{
+    if let Some(page) = granularity {
+        holds(rt, page.is_power_of_two(), "a granularity of no pages");
+        holds(rt, page <= 1 << 32, "a granularity that is too large");
     }
 }
 

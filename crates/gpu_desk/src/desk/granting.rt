@@ -28,7 +28,7 @@ use std::alloc::AllocError;
 
 /// Whether a request goes by whole pages: for an optimal resource, where a page is of more than a byte.
 #[inline(always)]
-fn goes_by_pages(wish: Wish, granularity: u64) -> bool
+pub(super) fn goes_by_pages(wish: Wish, granularity: u64) -> bool
     ensures { result ≡ goes_by_pages granularity wish }
 {
     wish.optimal && granularity != 1
@@ -119,7 +119,7 @@ pub(super) fn grant_of(block: &MemoryBlock<ObjectName>, key: u64, fresh: bool, t
 }
 
 /// Makes room for one more key, and for its tag. Nothing but the room changes.
-fn make_room(blocks: &mut Blocks, tags: &mut Vec<Tag>) -> Result<(), AllocError>
+pub(super) fn make_room(blocks: &mut Blocks, tags: &mut Vec<Tag>) -> Result<(), AllocError>
     ensures room { OnOk result (0 < blocks.new.room) }
     ensures tag_room { OnOk result (vec_len tags.new < vec_capacity tags.new) }
     ensures kept { blocks.new ≡ record blocks.old { room = blocks.new.room } }
@@ -130,7 +130,7 @@ fn make_room(blocks: &mut Blocks, tags: &mut Vec<Tag>) -> Result<(), AllocError>
 }
 
 /// Keeps a block under a new key with a tag, and tells of it. There has to be room for both.
-fn keep(
+pub(super) fn keep(
     blocks: &mut Blocks,
     tags: &mut Vec<Tag>,
     block: MemoryBlock<ObjectName>,

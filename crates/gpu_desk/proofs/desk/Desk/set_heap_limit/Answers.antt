@@ -1,4 +1,3 @@
-use Rattle.std.proofs.Common.{◌≡◌}
 use Rattle.gpu_desk.proofs.Kept.{limited_is_kept}
 use Rattle.gpu_desk.proofs.desk.Desk.set_heap_limit.Goals as goal
 

@@ -1,8 +1,5 @@
-use Rattle.std.proofs.Common.{◌≡◌, ◌↔◌, IsTrue, Some, None, sym, ◌∙◌, ap, subst}
-use Rattle.gpu_alloc.specs.Allocation.{serves_alone}
+use Rattle.std.proofs.Common.{Some, None, sym, ◌∙◌}
 use Rattle.gpu_alloc.specs.Request.{in_pages}
-use Rattle.gpu_alloc.specs.State.{Block}
-use Rattle.gpu_alloc_block.specs.declared.block.Kind.TheVariants.{Dedicated as DedicatedObject}
 use Rattle.gpu_desk.proofs.OpenQuestions.{alone_then, bytes_then, by_bytes, by_pages, own_by_bytes, own_by_pages}
 use Rattle.gpu_desk.proofs.desk.granting.allocate.Goals as goal
 

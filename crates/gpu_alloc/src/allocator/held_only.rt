@@ -1,0 +1,239 @@
+//! Requests that ask the device for nothing.
+
+ghost use Rattle.std.specs.Prelude.{◌≡◌, ◌<◌, ◌≤◌, ◌↔◌, ℕ, List, length, true, Some, None, Ok, IfOk, IfSome, IsNone, IsTrue, OnErr};
+ghost use Rattle.gpu_alloc_types.specs.Flags.{usage_bits};
+ghost use Rattle.gpu_alloc_usage.specs.Ranking.{implied};
+ghost use Rattle.gpu_alloc_block.specs.Agreement.{Agrees, BlockAgrees, KeepsBlocks};
+ghost use Rattle.gpu_alloc_block.specs.Kept.{LeavesInHand, AddsInHand};
+ghost use Rattle.gpu_alloc_block.specs.State.{is_shared};
+ghost use Rattle.gpu_alloc.specs.Allocation.{IsCandidate, IsGranted, IsInPages, ask, asked_of, candidates_of};
+ghost use Rattle.gpu_alloc.specs.Allocation.{ObjectsTried, fits_a_chunk, plan_with};
+ghost use Rattle.gpu_alloc.specs.HeldOnly.{AllocatesHeld, HasPlaceBy, HasPlaceFor, IsFirstWithPlace, plan_held};
+ghost use Rattle.gpu_alloc.specs.Owned.{Leaves, Adds};
+ghost use Rattle.gpu_alloc.specs.Request.{IsAskable, IsGranularity};
+ghost use Rattle.gpu_alloc.specs.Sound as Sound;
+ghost use Rattle.gpu_alloc.specs.declared.allocator.Strategy.TheVariants.{InBuddyChunk, InFreeList};
+
+use super::{GpuAllocator, Strategy, uncounted};
+use crate::{Dedicated, MemoryBlock, Request};
+use gpu_alloc_base::AllocationError;
+use gpu_alloc_types::{MemoryObject, ObjectDevice, UsageFlags};
+use gpu_alloc_usage::meaning;
+use std::alloc::Allocator;
+use std::marker::Brand;
+use std::sync::ledger::Blank;
+
+impl<M: MemoryObject, A: Allocator> GpuAllocator<M, A> {
+    /// Allocates a block from what is held, and asks the device for nothing: it is as it was. `Ok(None)` where the request
+    /// could only be served by asking.
+    ///
+    /// The request is that of [`alloc`](GpuAllocator::alloc), of `alloc_with_dedicated` where there is a hint, and of
+    /// `alloc_optimal` where there is a granularity, in bytes. The memory types are looked at in rank, and the first that
+    /// has a place in a chunk of its own serves the request, as it would be served there. So a type that those calls would
+    /// ask for a chunk is passed over for a later one that has a place. A type that serves the request by an object of its
+    /// own has none: with `Required` it is `Ok(None)` wherever it is not refused. How many more objects may be held is of
+    /// no account.
+    ///
+    /// The conditions are those of the other calls. The refusals, in the order in which they are tested:
+    /// `OutOfDeviceMemory` where the size is over the limit given to `new`, or whole pages for it would have 2^64 bytes or
+    /// more; `NoCompatibleMemoryTypes` where no memory type among the request's serves its usage; `OutOfHostMemory` where
+    /// the host's memory was refused for a block that has a place. After a refusal and after `Ok(None)` the allocator is
+    /// as before. (The original crate knows no such call.)
+    pub fn alloc_held<D: ObjectDevice<M>>(
+        &mut self,
+        device: &mut D,
+        request: Request,
+        dedicated: Option<Dedicated>,
+        granularity: Option<u64>,
+    ) -> Result<Option<MemoryBlock<M>>, AllocationError>
+        requires askable { IsAskable (self.old.properties).buffer_device_address request }
+        requires granularity { IfSome granularity IsGranularity }
+        requires agrees { Agrees self.old (D.properties device.old) (D.objects device.old) }
+
+        // The answer and the new state are what the decision says, and the device was asked for nothing.
+        ensures decided { AllocatesHeld self.old (plan_held self.old request dedicated granularity) result self.new }
+        ensures unasked { device.new ≡ device.old }
+        ensures agrees { Agrees self.new (D.properties device.new) (D.objects device.new) }
+
+        // What follows from it.
+        ensures held { self.new.held ≡ self.old.held }
+        ensures remaining { self.new.remaining ≡ self.old.remaining }
+        ensures granted { IfOk result (λ served. IfSome served (IsGranted self.old request self.new)) }
+        ensures shared { IfOk result (λ served. IfSome served (λ block. is_shared block.kind ≡ true)) }
+        ensures pages { IfOk result (λ served. IfSome served (λ block.
+            IfSome granularity (λ page. IsInPages page request.size block))) }
+        ensures ready { IfOk result (λ served. IfSome served (λ block.
+            BlockAgrees block (D.properties device.new) (D.objects device.new))) }
+        ensures added { IfOk result (λ served. IfSome served (Adds self.old self.new)) }
+        ensures refused { OnErr result (self.new ≡ self.old) }
+        ensures would_ask { result ≡ Ok None → self.new ≡ self.old }
+        ensures no_place { result ≡ Ok None → (t : ℕ) → IsCandidate self.old request t
+            → HasPlaceFor self.old (plan_held self.old request dedicated granularity).asked t → ⊥ }
+        ensures required { dedicated ≡ Some Dedicated.Required → IfOk result IsNone }
+        ensures leaves { Leaves self.old self.new }
+        ensures keeps { KeepsBlocks self.old (D.properties device.old) (D.objects device.old)
+            self.new (D.properties device.new) (D.objects device.new) }
+        ensures in_hand { LeavesInHand self.old (D.properties device.old) (D.objects device.old)
+            self.new (D.properties device.new) (D.objects device.new) }
+        ensures joins { IfOk result (λ served. IfSome served (AddsInHand self.old
+            (D.properties device.old) (D.objects device.old) self.new (D.properties device.new) (D.objects device.new))) }
+        ensures sound { Sound.IsSound self.new }
+    {
+        self.keeps_sound();
+        let answer = self.allocate_held(device, request, dedicated, granularity);
+        self.keeps_sound();
+        answer
+    }
+
+    fn allocate_held<D: ObjectDevice<M>>(
+        &mut self,
+        device: &mut D,
+        request: Request,
+        hint: Option<Dedicated>,
+        granularity: Option<u64>,
+    ) -> Result<Option<MemoryBlock<M>>, AllocationError>
+        requires askable { IsAskable (self.old.properties).buffer_device_address request }
+        requires granularity { IfSome granularity IsGranularity }
+        requires agrees { Agrees self.old (D.properties device.old) (D.objects device.old) }
+        ensures decided { AllocatesHeld self.old (plan_held self.old request hint granularity) result self.new }
+        ensures unasked { device.new ≡ device.old }
+        ensures objects { ObjectsTried self.old result self.new (D.objects device.old) (D.objects device.new) }
+    {
+        let Some(granularity) = granularity else {
+            return self.take_held(device, &request, hint, &None);
+        };
+        match request.in_pages(granularity) {
+            Some(paged) => self.take_held(device, &request, hint, &Some(paged)),
+            None => Err(AllocationError::OutOfDeviceMemory),
+        }
+    }
+
+    /// Allocates a block from what is held. Where the same request in whole pages is given, that is served. (Of the
+    /// memory type that has a place the block is asked for as any other is, so that other requests do not pay for it.)
+    fn take_held<D: ObjectDevice<M>>(
+        &mut self,
+        device: &mut D,
+        request: &Request,
+        hint: Option<Dedicated>,
+        paged: &Option<Request>,
+    ) -> Result<Option<MemoryBlock<M>>, AllocationError>
+        requires askable { IsAskable (self.old.properties).buffer_device_address request.now }
+        requires pages { IfSome paged.now (IsAskable (self.old.properties).buffer_device_address) }
+        requires agrees { Agrees self.old (D.properties device.old) (D.objects device.old) }
+        ensures decided { AllocatesHeld self.old (plan_with self.old request.now hint paged.now) result self.new }
+        ensures unasked { device.new ≡ device.old }
+        ensures objects { ObjectsTried self.old result self.new (D.objects device.old) (D.objects device.new) }
+    {
+        if request.size > self.max_allocation_size() {
+            return Err(AllocationError::OutOfDeviceMemory);
+        }
+        let usage = meaning(request.usage);
+        if !self.has_candidate(*request, usage) {
+            return Err(AllocationError::NoCompatibleMemoryTypes);
+        }
+        match self.first_with_place(request, hint, paged, usage) {
+            Some(memory_type) => {
+                let only = Request {
+                    memory_types: 1 << memory_type,
+                    ..*request
+                };
+                match self.allocate(device, &only, hint, paged) {
+                    Ok(block) => Ok(Some(block)),
+                    Err(refusal) => Err(refusal),
+                }
+            }
+            None => Ok(None),
+        }
+    }
+
+    /// The first candidate in rank that has a place for what it is asked. None where none has.
+    fn first_with_place(
+        &self,
+        request: &Request,
+        hint: Option<Dedicated>,
+        paged: &Option<Request>,
+        usage: UsageFlags,
+    ) -> Option<u32>
+        requires askable { IsAskable (self.now.properties).buffer_device_address request.now }
+        requires pages { IfSome paged.now (IsAskable (self.now.properties).buffer_device_address) }
+        requires meant { usage_bits usage ≡ implied (usage_bits (request.now).usage) }
+        ensures first { IsFirstWithPlace self.now (asked_of self.now request.now hint paged.now)
+            (candidates_of self.now request.now) result }
+        ensures few { IfSome result (λ t. t < 32) }
+    {
+        for rank in 0..self.ranked(usage).len() {
+            let memory_type = self.ranked(usage)[rank];
+            let permitted = request.memory_types >> memory_type & 1 == 1;
+            if permitted && self.has_place_asked(request, hint, paged, memory_type) {
+                return Some(memory_type);
+            }
+        }
+        None
+    }
+
+    /// Whether a memory type has a place for what it is asked, for whole pages where the same request in them is given.
+    fn has_place_asked(
+        &self,
+        request: &Request,
+        hint: Option<Dedicated>,
+        paged: &Option<Request>,
+        memory_type: u32,
+    ) -> bool
+        requires askable { IsAskable (self.now.properties).buffer_device_address request.now }
+        requires pages { IfSome paged.now (IsAskable (self.now.properties).buffer_device_address) }
+        requires known { memory_type < length (self.now.properties).memory_types }
+        ensures { IsTrue result ↔ HasPlaceFor self.now (asked_of self.now request.now hint paged.now) memory_type }
+    {
+        match paged {
+            None => self.has_place(*request, hint, memory_type),
+            Some(paged) => {
+                let asked = self.ask_in_pages(request, hint, paged, memory_type);
+                self.has_place(asked.request, asked.hint, memory_type)
+            }
+        }
+    }
+
+    /// Whether a memory type has a place for a request, with a hint or none.
+    fn has_place(&self, request: Request, hint: Option<Dedicated>, memory_type: u32) -> bool
+        requires askable { IsAskable (self.now.properties).buffer_device_address request }
+        requires known { memory_type < length (self.now.properties).memory_types }
+        ensures { IsTrue result ↔ HasPlaceFor self.now (ask request hint) memory_type }
+    {
+        match self.strategy(request, hint, memory_type) {
+            Strategy::OwnObject => false,
+            Strategy::InBuddyChunk => self.has_buddy_place(request, memory_type),
+            Strategy::InFreeList => self.has_list_place(request, memory_type),
+        }
+    }
+
+    /// Whether a buddy chunk of a memory type has a place: its allocator does not refuse, though nothing remains.
+    fn has_buddy_place(&self, request: Request, memory_type: u32) -> bool
+        requires askable { IsAskable (self.now.properties).buffer_device_address request }
+        requires known { memory_type < length (self.now.properties).memory_types }
+        ensures { IsTrue result ↔ HasPlaceBy InBuddyChunk self.now request memory_type }
+    {
+        let heap = &self.heaps[self.limits.heap_index(memory_type)];
+        let refusal = uncounted::refuses::<M, A, Brand>(
+            &self.buddies[memory_type as usize],
+            request.size,
+            request.align_mask,
+            heap,
+            0,
+            Blank::new(1),
+        );
+        refusal.is_none()
+    }
+
+    /// Whether a free-list chunk of a memory type has a place: the free list does not refuse, though nothing remains.
+    fn has_list_place(&self, request: Request, memory_type: u32) -> bool
+        requires askable { IsAskable (self.now.properties).buffer_device_address request }
+        requires known { memory_type < length (self.now.properties).memory_types }
+        requires fits { fits_a_chunk self.now request memory_type ≡ true }
+        ensures { IsTrue result ↔ HasPlaceBy InFreeList self.now request memory_type }
+    {
+        let heap = &self.heaps[self.limits.heap_index(memory_type)];
+        let list = &self.free_lists[memory_type as usize];
+        list.refuses(request.size, request.align_mask, heap, 0)
+            .is_none()
+    }
+}

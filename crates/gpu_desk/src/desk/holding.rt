@@ -1,0 +1,110 @@
+//! Blocks from what is held, for which the device is asked nothing.
+
+ghost use Rattle.std.specs.Prelude.{◌≡◌, true, None, Ok, IfErr, IfOk, IfSome, OnErr};
+ghost use Rattle.gpu_alloc_block.specs.Agreement.{Agrees, BlockAgrees, KeepsBlocks};
+ghost use Rattle.gpu_alloc_block.specs.State.{is_shared};
+ghost use Rattle.gpu_alloc.specs.Allocation.{IsGranted, IsInPages};
+ghost use Rattle.gpu_alloc.specs.HeldOnly.{AllocatesHeld};
+ghost use Rattle.gpu_alloc.specs.Owned.{Adds, Leaves};
+ghost use Rattle.gpu_alloc.specs.Request.{IsAskable, IsGranularity};
+ghost use Rattle.gpu_alloc.specs.Sound as allocator_sound;
+ghost use Rattle.gpu_answers.specs.Device.{objects_of};
+ghost use Rattle.gpu_desk.specs.Calls.{AllocatedHeld, HeldDenied, IsAsBefore, Keeps};
+ghost use Rattle.gpu_desk.specs.Wishes.{pages_of, plan_for};
+
+use super::Desk;
+use super::granting::{goes_by_pages, keep, make_room};
+use crate::wish::Tag;
+use crate::{Denial, Fault, Grant, Wish};
+use gpu_alloc::{AllocationError, GpuAllocator, MemoryBlock, Request};
+use gpu_answers::{AnsweredDevice, ObjectName};
+use gpu_session::request_fault;
+
+/// The pages that a request goes by, if it does.
+fn pages_of(wish: Wish, granularity: u64) -> Option<u64>
+    requires page { IsGranularity granularity }
+    ensures is { result ≡ pages_of granularity wish }
+    ensures page { IfSome result IsGranularity }
+{
+    if goes_by_pages(wish, granularity) {
+        Some(granularity)
+    } else {
+        None
+    }
+}
+
+/// Allocates a block from what is held, and by whole pages where it has to.
+fn allocate_held(
+    allocator: &mut GpuAllocator<ObjectName>,
+    device: &mut AnsweredDevice,
+    request: Request,
+    wish: Wish,
+    granularity: u64,
+) -> Result<Option<MemoryBlock<ObjectName>>, AllocationError>
+    requires askable { IsAskable (allocator.old.properties).buffer_device_address request }
+    requires page { IsGranularity granularity }
+    requires agrees { Agrees allocator.old device.old.properties (objects_of device.old) }
+    ensures decided { AllocatesHeld allocator.old (plan_for allocator.old granularity request wish) result allocator.new }
+    ensures unasked { device.new ≡ device.old }
+    ensures agrees { Agrees allocator.new device.new.properties (objects_of device.new) }
+    ensures held { allocator.new.held ≡ allocator.old.held }
+    ensures remaining { allocator.new.remaining ≡ allocator.old.remaining }
+    ensures granted { IfOk result (λ served. IfSome served (IsGranted allocator.old request allocator.new)) }
+    ensures shared { IfOk result (λ served. IfSome served (λ block. is_shared block.kind ≡ true)) }
+    ensures pages { IfOk result (λ served. IfSome served (λ block.
+        wish.optimal ≡ true → IsInPages granularity request.size block)) }
+    ensures ready { IfOk result (λ served. IfSome served (λ block.
+        BlockAgrees block device.new.properties (objects_of device.new))) }
+    ensures added { IfOk result (λ served. IfSome served (Adds allocator.old allocator.new)) }
+    ensures refused { OnErr result (allocator.new ≡ allocator.old) }
+    ensures would_ask { result ≡ Ok None → allocator.new ≡ allocator.old }
+    ensures leaves { Leaves allocator.old allocator.new }
+    ensures keeps { KeepsBlocks allocator.old device.old.properties (objects_of device.old)
+        allocator.new device.new.properties (objects_of device.new) }
+    ensures sound { allocator_sound.IsSound allocator.new }
+{
+    let pages = pages_of(wish, granularity);
+    allocator.alloc_held(device, request, wish.dedicated, pages)
+}
+
+impl Desk {
+    /// Allocates a block as [`alloc`](Desk::alloc) does, but from what is held (`GpuAllocator::alloc_held`): nothing is
+    /// asked, so that no answer is taken and no question is open. The grant's object is not new.
+    ///
+    /// Denied are: a request that is not askable, by the fault that it misses first; `Fault::NoMemory` for want of
+    /// memory for the key; `WouldAsk` where no memory type of the request has a place for it in a held chunk, which is so
+    /// of each that needs an object of its own; and `Refused`, as the allocator refuses. Nothing has changed then.
+    #[tactic(auto, unfolding(crate::specs::Calls::HeldDenied))]
+    pub fn alloc_held(&mut self, request: Request, wish: Wish) -> Result<Grant, Denial>
+        ensures granted { IfOk result (AllocatedHeld self.old request wish self.new) }
+        ensures denied { IfErr result (HeldDenied self.old request wish) }
+        ensures unchanged { OnErr result (IsAsBefore self.old self.new) }
+        ensures keeps { Keeps self.old self.new }
+    {
+        if let Some(fault) = request_fault(request, self.offer.buffer_device_address) {
+            return Err(Denial::Fault(fault));
+        }
+        if make_room(&mut self.blocks, &mut self.tags).is_err() {
+            return Err(Denial::Fault(Fault::NoMemory));
+        }
+        let answer = allocate_held(
+            &mut self.allocator,
+            &mut self.device,
+            request,
+            wish,
+            self.granularity,
+        );
+        match answer {
+            Ok(Some(block)) => {
+                let tag = Tag {
+                    user: wish.user,
+                    asked: request.size,
+                    optimal: wish.optimal,
+                };
+                Ok(keep(&mut self.blocks, &mut self.tags, block, false, tag))
+            }
+            Ok(None) => Err(Denial::WouldAsk),
+            Err(refusal) => Err(Denial::Refused(refusal)),
+        }
+    }
+}
