@@ -324,8 +324,8 @@ uint32_t wt_close(wt_allocator *a);
    WT_ASK: *question is the next one, to be answered and appended. It may lie behind the asked ones in their array.
    Any other status ends the request: WT_OUT_OF_DEVICE_MEMORY to WT_TOO_MANY_OBJECTS, WT_WOULD_ASK; WT_NOT_OPEN,
    WT_BAD_SIZE, WT_BAD_ALIGNMENT, WT_BAD_USAGE, WT_BAD_DEDICATED, WT_BAD_FLAGS, WT_NO_DEVICE_ADDRESS, WT_BAD_ANSWER,
-   or WT_OTHER_QUESTION, as where another call came between and something else is asked now. Nothing is changed then, and
-   each object that was made for this request is the caller's to free.
+   or WT_OTHER_QUESTION, as where another call came between and something else is asked now. Nothing is changed then,
+   and each object that was made for this request is the caller's to free.
    With WT_HELD_ONLY nothing is asked: WT_ASK, WT_TOO_MANY_OBJECTS and WT_OTHER_QUESTION never come, answers count
    nowhere, and WT_OUT_OF_DEVICE_MEMORY says that the size is over the limit.
    Of several misuses the first of these is told: closed, usage, dedicated, flags, an answer, and then the others. */

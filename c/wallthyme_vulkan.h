@@ -113,7 +113,7 @@ typedef struct wtv_request {
     uint32_t dedicated;    /* WT_SHARED, WT_PREFERRED or WT_REQUIRED; raised to what the driver asks for */
     uint32_t flags;        /* for wtv_allocate and wtv_allocate_for_image: WT_OPTIMAL for an image whose tiling is not
                               linear. WT_HELD_ONLY: no memory object is made; VK_ERROR_OUT_OF_DEVICE_MEMORY where none
-                              that is held has a place, so always where the driver asks for a dedicated one */
+                              that is held has a place, so always where the driver requires a dedicated one */
     uint64_t user;         /* a value of the program's, which stands with the block */
     const void *next;      /* chained to VkMemoryAllocateInfo exactly where the object holds this block alone: a
                               priority, an export. It stays the program's. A structure that has to be chained wants

@@ -62,6 +62,13 @@ static uint32_t take_lasting(void) {
     return take(&request);
 }
 
+/* From an object that is held, with no question: want of memory is not told as want of a place. */
+static uint32_t take_held(void) {
+    wt_request request = REQUEST(100, 0, WT_USAGE_UPLOAD, 1u << COHERENT_TYPE, WT_SHARED);
+    request.flags = WT_HELD_ONLY;
+    return take(&request);
+}
+
 static uint32_t import_one(void) {
     uint32_t status = wt_import(&allocator, COHERENT_TYPE, 1000, 0, 1000, &blocks[blocks_len]);
     blocks_len += status == WT_OK;
@@ -99,8 +106,8 @@ static uint32_t tell_statistics(void) {
 
 static uint32_t (*const calls[])(void) = {
     open_it,        take_own,   take_transient, take_transient, take_lasting,     take_lasting,    take_lasting,
-    take_transient, import_one, map_first,      take_own,       tell_free_ranges, tell_candidates, report,
-    tell_statistics,
+    take_transient, take_held,  take_held,      take_held,      take_held,        take_held,       import_one,
+    map_first,      take_own,   tell_free_ranges, tell_candidates, report,       tell_statistics,
 };
 
 /* ---- The rounds ---- */

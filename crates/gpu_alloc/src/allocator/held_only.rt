@@ -1,6 +1,7 @@
 //! Requests that ask the device for nothing.
 
-ghost use Rattle.std.specs.Prelude.{◌≡◌, ◌<◌, ◌≤◌, ◌↔◌, ℕ, List, length, true, Some, None, Ok, IfOk, IfSome, IsNone, IsTrue, OnErr};
+ghost use Rattle.std.specs.Prelude.{◌≡◌, ◌<◌, ◌↔◌, ℕ, length, true, Some, None, Ok};
+ghost use Rattle.std.specs.Prelude.{IfOk, IfSome, IsNone, IsTrue, OnErr};
 ghost use Rattle.gpu_alloc_types.specs.Flags.{usage_bits};
 ghost use Rattle.gpu_alloc_usage.specs.Ranking.{implied};
 ghost use Rattle.gpu_alloc_block.specs.Agreement.{Agrees, BlockAgrees, KeepsBlocks};
@@ -24,21 +25,21 @@ use std::marker::Brand;
 use std::sync::ledger::Blank;
 
 impl<M: MemoryObject, A: Allocator> GpuAllocator<M, A> {
-    /// Allocates a block from what is held, and asks the device for nothing: it is as it was. `Ok(None)` where the request
-    /// could only be served by asking.
+    /// Allocates a block from what is held. The device is asked for nothing, and is as it was. `Ok(None)` where the
+    /// request could only be served by asking.
     ///
     /// The request is that of [`alloc`](GpuAllocator::alloc), of `alloc_with_dedicated` where there is a hint, and of
-    /// `alloc_optimal` where there is a granularity, in bytes. The memory types are looked at in rank, and the first that
-    /// has a place in a chunk of its own serves the request, as it would be served there. So a type that those calls would
-    /// ask for a chunk is passed over for a later one that has a place. A type that serves the request by an object of its
-    /// own has none: with `Required` it is `Ok(None)` wherever it is not refused. How many more objects may be held is of
-    /// no account.
+    /// `alloc_optimal` where there is a granularity, in bytes. The memory types are looked at in rank, and the first
+    /// that has a place in a chunk of its own serves the request, as it would be served there. So a type that those
+    /// calls would ask for a chunk is passed over for a later one that has a place. A type that serves the request by
+    /// an object of its own has none: with `Required` it is `Ok(None)` wherever it is not refused. How many more
+    /// objects may be held is of no account.
     ///
     /// The conditions are those of the other calls. The refusals, in the order in which they are tested:
-    /// `OutOfDeviceMemory` where the size is over the limit given to `new`, or whole pages for it would have 2^64 bytes or
-    /// more; `NoCompatibleMemoryTypes` where no memory type among the request's serves its usage; `OutOfHostMemory` where
-    /// the host's memory was refused for a block that has a place. After a refusal and after `Ok(None)` the allocator is
-    /// as before. (The original crate knows no such call.)
+    /// `OutOfDeviceMemory` where the size is over the limit given to `new`, or whole pages for it would have 2^64
+    /// bytes or more; `NoCompatibleMemoryTypes` where no memory type among the request's serves its usage;
+    /// `OutOfHostMemory` where the host's memory was refused for a block that has a place. After a refusal and after
+    /// `Ok(None)` the allocator is as before. (The original crate knows no such call.)
     pub fn alloc_held<D: ObjectDevice<M>>(
         &mut self,
         device: &mut D,
@@ -75,8 +76,8 @@ impl<M: MemoryObject, A: Allocator> GpuAllocator<M, A> {
             self.new (D.properties device.new) (D.objects device.new) }
         ensures in_hand { LeavesInHand self.old (D.properties device.old) (D.objects device.old)
             self.new (D.properties device.new) (D.objects device.new) }
-        ensures joins { IfOk result (λ served. IfSome served (AddsInHand self.old
-            (D.properties device.old) (D.objects device.old) self.new (D.properties device.new) (D.objects device.new))) }
+        ensures joins { IfOk result (λ served. IfSome served (AddsInHand self.old (D.properties device.old)
+            (D.objects device.old) self.new (D.properties device.new) (D.objects device.new))) }
         ensures sound { Sound.IsSound self.new }
     {
         self.keeps_sound();

@@ -145,8 +145,8 @@ impl<A: Allocator + Copy> Bench<A> {
         Ok(())
     }
 
-    /// Takes a block from what is held, with that hint and granularity or none, and keeps it. It tells the block's memory
-    /// type and where it starts, if there was a place.
+    /// Takes a block from what is held, with that hint and granularity or none, and keeps it. It tells the block's
+    /// memory type and where it starts, if there was a place.
     pub(super) fn take_held(
         &mut self,
         rt: &impl Abort,

@@ -119,7 +119,8 @@ const BOTH_CHUNKS: [Row; 2] = [
     },
 ];
 
-/// Asks for each in turn, and compares what is answered, that the device was asked for nothing, and that as much is held.
+/// Asks for each in turn, and compares what is answered, that the device was asked for nothing, and that as much is
+/// held.
 fn ask_in_turn(rt: &impl Abort, bench: &mut Bench, rows: &[Row]) {
     for row in rows {
         let before = (bench.held(), bench.device.asked(Question::Allocate));

@@ -44,7 +44,8 @@ fn allocate_held(
     requires askable { IsAskable (allocator.old.properties).buffer_device_address request }
     requires page { IsGranularity granularity }
     requires agrees { Agrees allocator.old device.old.properties (objects_of device.old) }
-    ensures decided { AllocatesHeld allocator.old (plan_for allocator.old granularity request wish) result allocator.new }
+    ensures decided { AllocatesHeld allocator.old (plan_for allocator.old granularity request wish)
+        result allocator.new }
     ensures unasked { device.new ≡ device.old }
     ensures agrees { Agrees allocator.new device.new.properties (objects_of device.new) }
     ensures held { allocator.new.held ≡ allocator.old.held }
@@ -72,8 +73,8 @@ impl Desk {
     /// asked, so that no answer is taken and no question is open. The grant's object is not new.
     ///
     /// Denied are: a request that is not askable, by the fault that it misses first; `Fault::NoMemory` for want of
-    /// memory for the key; `WouldAsk` where no memory type of the request has a place for it in a held chunk, which is so
-    /// of each that needs an object of its own; and `Refused`, as the allocator refuses. Nothing has changed then.
+    /// memory for the key; `WouldAsk` where no memory type of the request has a place for it in a held chunk, which is
+    /// so of each that needs an object of its own; and `Refused`, as the allocator refuses. Nothing has changed then.
     #[tactic(auto, unfolding(crate::specs::Calls::HeldDenied))]
     pub fn alloc_held(&mut self, request: Request, wish: Wish) -> Result<Grant, Denial>
         ensures granted { IfOk result (AllocatedHeld self.old request wish self.new) }
