@@ -1,8 +1,10 @@
 """What an edit of crates/*/must-fail says: the wrong bodies that it holds, each under a line 'FUNCTION: what it does', and the texts that they stand in.
 
-An edit in must-fail/second holds second wrong bodies of functions that a crate's first edit turns: rt ci tries that one alone, and scripts/refuse_each both.
+An edit in crates/*/must-fail-second holds second wrong bodies of functions that a crate's first edit turns: rt ci tries that one alone, and scripts/refuse_each both.
 """
 import os
+
+FIRST, SECOND = "must-fail", "must-fail-second"
 
 
 def read(path):
@@ -10,20 +12,20 @@ def read(path):
         return file.read()
 
 
-def named(root, inside=""):
-    """Each edit of the repository, as its crate and its path in the crate's folder must-fail: the first ones, or those in a folder in that one, as second/."""
+def named(root, folder=FIRST):
+    """Each edit of the repository in a crate's folder, as its crate and its name there."""
     for crate in sorted(os.listdir(f"{root}/crates")):
-        folder = f"{root}/crates/{crate}/must-fail/{inside}"
-        yield from ((crate, inside + name) for name in (sorted(os.listdir(folder)) if os.path.isdir(folder) else []) if name.endswith(".edit"))
+        place = f"{root}/crates/{crate}/{folder}"
+        yield from ((crate, name) for name in (sorted(os.listdir(place)) if os.path.isdir(place) else []) if name.endswith(".edit"))
 
 
-def unfit(root, inside):
+def unfit(root, folder):
     """Says of each of those edits that cannot be applied why it can't."""
-    for crate, edit in named(root, inside):
+    for crate, edit in named(root, folder):
         try:
-            applied(f"{root}/crates/{crate}/must-fail/{edit}", f"{root}/crates/{crate}")
+            applied(f"{root}/crates/{crate}/{folder}/{edit}", f"{root}/crates/{crate}")
         except (AssertionError, KeyError, OSError, UnicodeDecodeError) as reason:
-            yield f"{crate}/must-fail/{edit} cannot be applied: {reason}"
+            yield f"{crate}/{folder}/{edit} cannot be applied: {reason}"
 
 
 def applied(edit, crate):
