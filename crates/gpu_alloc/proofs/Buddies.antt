@@ -1,8 +1,6 @@
 -- Each memory type's buddy allocator, as the whole allocator's state tells of it.
 pub mod Answers
 pub mod Grants
-pub mod HasBuddies
-pub mod Links
 pub mod Returns
 pub mod Served
 pub mod Serving

@@ -4,8 +4,6 @@ pub mod Cleanups
 pub mod Going
 pub mod Gone
 pub mod Grants
-pub mod HasLists
-pub mod Links
 pub mod Returns
 pub mod Served
 pub mod Serving

@@ -9,7 +9,7 @@ use Rattle.gpu_alloc_base.specs.Chunks.{Chunk}
 use Rattle.gpu_alloc_base.specs.FreeRuns.{IsFreeRun}
 use Rattle.gpu_alloc_base.specs.FreeSpace.{IsFreePiece}
 use Rattle.gpu_alloc_base.specs.RangeOrder.{same_start, AreInOrder}
-use Rattle.gpu_alloc_block.specs.State.{HeldObject, span_cmp, State}
+use Rattle.gpu_alloc_block.specs.State.{HeldObject, State}
 use Rattle.gpu_alloc_block.specs.declared.block.Kind.{Kind}
 use Rattle.gpu_alloc_block.specs.declared.block.Kind.TheVariants.{BuddyChunk, FreeListChunk}
 use Rattle.gpu_alloc_buddy.specs.Buddy.{IsPieceOf}
@@ -18,7 +18,6 @@ use Rattle.gpu_alloc_freelist.specs.FreeListAllocator.{IsRunOf}
 use Rattle.gpu_alloc_freelist.specs.FreeListState.{Listing, IsFreeIn}
 use Rattle.gpu_alloc.specs.FreeBytes.{IsFreeByte}
 use Rattle.gpu_alloc.specs.FreeRanges.{IsFreePieceOf, IsFreeRunOf, IsFreeRangeOf}
-use Rattle.gpu_alloc.specs.Spans.{Place, Room}
 use Rattle.gpu_alloc_base.proofs.Lists.{contains_head, contains_later, head_is_other}
 use Rattle.gpu_alloc_base.proofs.Maps.{one_value}
 use Rattle.gpu_alloc_base.proofs.RangeOrder.{starts_apart, order_is_distinct}
@@ -27,18 +26,18 @@ use Rattle.gpu_alloc.proofs.FreeLists.Serving.{ServesList, list_chunk_was, free_
 
 -- Free pieces of buddy chunks.
 
-module _ (s : State) (places : map.FinMap span_cmp Place) (room : Room) (index : ℕ) (b : Buddy) (serves : Serves s places room index b) where
+module _ (s : State) (index : ℕ) (b : Buddy) (serves : Serves s index b) where
   piece_is : (r : FreeRange) → IsPieceOf b r → IsFreePieceOf s index r
   piece_is r is = record {
     length = is.length;
     end = is.end;
-    piece = subst (λ n. IsFreePiece (IsFreeByte s index BuddyChunk) n r.start is.length) is.object (piece_in_object s places room index b serves is.key r.start is.length is.chunk is.held is.piece);
+    piece = subst (λ n. IsFreePiece (IsFreeByte s index BuddyChunk) n r.start is.length) is.object (piece_in_object s index b serves is.key r.start is.length is.chunk is.held is.piece);
   }
 
   piece_was : (r : FreeRange) → IsFreePieceOf s index r → IsPieceOf b r
   piece_was r is =
       let free = IsFreeByte s index BuddyChunk in
-      let w = chunk_with s places room index b serves r.object r.start (first_byte free r.object r.start is.length is.piece.place) in
+      let w = chunk_with s index b serves r.object r.start (first_byte free r.object r.start is.length is.piece.place) in
       record {
         key = w.0;
         chunk = w.1;
@@ -46,7 +45,7 @@ module _ (s : State) (places : map.FinMap span_cmp Place) (room : Room) (index :
         object = sym w.2.1;
         length = is.length;
         end = is.end;
-        piece = piece_in_chunk s places room index b serves w.0 r.start is.length w.1 w.2.0 (subst (λ n. IsFreePiece free n r.start is.length) w.2.1 is.piece);
+        piece = piece_in_chunk s index b serves w.0 r.start is.length w.1 w.2.0 (subst (λ n. IsFreePiece free n r.start is.length) w.2.1 is.piece);
       }
 
 -- Free runs of a free list's chunks.
@@ -59,18 +58,18 @@ run_to F G x y to from start end run = record {
   longest = λ start' end' free before after. run.longest start' end' (λ at low high. from at (free at low high)) before after;
 }
 
-module _ (s : State) (places : map.FinMap span_cmp Place) (room : Room) (index : ℕ) (l : Listing) (serves : ServesList s places room index l) where
+module _ (s : State) (index : ℕ) (l : Listing) (serves : ServesList s index l) where
   module _ (number : ℕ) (chunk : Chunk) (held : map.get l.space.chunks number ≡ Some chunk) where
     byte_is : (at : ℕ) → IsFreeIn l.space number at → IsFreeByte s index (FreeListChunk number) chunk.object at
     byte_is at free =
-        let there = free_byte s places room index l serves number at free in
+        let there = free_byte s index l serves number at free in
         let byte = there.1 in
-        let is = list_chunk_was s places room index l serves number there.0 (record { chunk = byte.chunk; held = byte.held; of_type = byte.of_type; of_kind = byte.of_kind }) in
+        let is = list_chunk_was s index l serves number there.0 (record { chunk = byte.chunk; held = byte.held; of_type = byte.of_type; of_kind = byte.of_kind }) in
         let same : ◌≡◌ {A = Chunk} (record { object = there.0; size = byte.chunk.counted }) chunk = one_value _ (record { object = there.0; size = byte.chunk.counted }) chunk is held in
         subst (λ o. IsFreeByte s index (FreeListChunk number) o at) (ap (λ (c : Chunk). c.object) same) byte
 
     byte_was : (at : ℕ) → IsFreeByte s index (FreeListChunk number) chunk.object at → IsFreeIn l.space number at
-    byte_was at byte = free_in s places room index l serves number at (chunk.object, byte)
+    byte_was at byte = free_in s index l serves number at (chunk.object, byte)
 
   run_is : (r : FreeRange) → IsRunOf l.space r → IsFreeRunOf s index r
   run_is r is =
@@ -86,7 +85,7 @@ module _ (s : State) (places : map.FinMap span_cmp Place) (room : Room) (index :
       let byte = is.run.free r.start (omega arith) is.run.nonempty in
       let chunk : Chunk = record { object = r.object; size = byte.chunk.counted } in
       let held : map.get l.space.chunks is.number ≡ Some chunk =
-      list_chunk_was s places room index l serves is.number r.object (record { chunk = byte.chunk; held = byte.held; of_type = byte.of_type; of_kind = byte.of_kind }) in
+      list_chunk_was s index l serves is.number r.object (record { chunk = byte.chunk; held = byte.held; of_type = byte.of_type; of_kind = byte.of_kind }) in
       record {
         number = is.number;
         chunk = chunk;
@@ -115,26 +114,26 @@ distinct_append e (x ∷ xs) ys first second apart =
     ]))
     (distinct_append e xs ys (IsDistinct-tail e x xs first) second (λ a b has_a has_b. apart a b (contains_later x a xs has_a) has_b))
 
-module _ (s : State) (places : map.FinMap span_cmp Place) (room : Room) (index : ℕ) (b : Buddy) (l : Listing) (of_buddy : Serves s places room index b) (of_list : ServesList s places room index l)
+module _ (s : State) (index : ℕ) (b : Buddy) (l : Listing) (of_buddy : Serves s index b) (of_list : ServesList s index l)
     (pieces runs : List FreeRange) (pieces_are : (r : FreeRange) → Contains pieces r ↔ IsPieceOf b r) (runs_are : (r : FreeRange) → Contains runs r ↔ IsRunOf l.space r) where
   -- exactly the free pieces and the free runs
   pub pieces_and_runs : (r : FreeRange) → Contains (pieces ++ runs) r ↔ IsFreeRangeOf s index r
   pieces_and_runs r = (
     (λ has. elim (Contains-append_cases pieces runs r has) [
-      | inl piece ↦ inl (piece_is s places room index b of_buddy r ((pieces_are r).0 piece))
-      | inr run ↦ inr (run_is s places room index l of_list r ((runs_are r).0 run))
+      | inl piece ↦ inl (piece_is s index b of_buddy r ((pieces_are r).0 piece))
+      | inr run ↦ inr (run_is s index l of_list r ((runs_are r).0 run))
     ]),
     (λ is. elim is [
-      | inl piece ↦ Contains-append_left pieces runs r ((pieces_are r).1 (piece_was s places room index b of_buddy r piece))
-      | inr run ↦ Contains-append_right pieces runs r ((runs_are r).1 (run_was s places room index l of_list r run))
+      | inl piece ↦ Contains-append_left pieces runs r ((pieces_are r).1 (piece_was s index b of_buddy r piece))
+      | inr run ↦ Contains-append_right pieces runs r ((runs_are r).1 (run_was s index l of_list r run))
     ]),
   )
 
   -- a piece and a run are of two objects
   two_objects : (r t : FreeRange) → Contains pieces r → Contains runs t → r.object ≢ t.object
   two_objects r t has_r has_t same =
-      let piece = piece_is s places room index b of_buddy r ((pieces_are r).0 has_r) in
-      let run = run_is s places room index l of_list t ((runs_are t).0 has_t) in
+      let piece = piece_is s index b of_buddy r ((pieces_are r).0 has_r) in
+      let run = run_is s index l of_list t ((runs_are t).0 has_t) in
       let first = first_byte (IsFreeByte s index BuddyChunk) r.object r.start piece.length piece.piece.place in
       not_both s index run.number t.object r.start t.start (subst (λ o. IsFreeByte s index BuddyChunk o r.start) same first) (run.run.free t.start (omega arith) run.run.nonempty)
 

@@ -8,7 +8,8 @@ use Rattle.gpu_alloc_base.specs.declared.heap.Heap.{Heap}
 use Rattle.gpu_alloc_buddy.specs.BuddyState.{Buddy}
 use Rattle.gpu_alloc_freelist.specs.FreeListState.{Listing}
 use Rattle.gpu_alloc_block.specs.Agreement.{Agrees}
-use Rattle.gpu_alloc.specs.Inside.{IsConsistent, properties_in, state_in}
+use Rattle.gpu_alloc.specs.Inside.{properties_in, state_in}
+use Rattle.gpu_alloc.proofs.Linked.{IsConsistent}
 use Rattle.gpu_alloc.specs.Spans.{Table}
 use Rattle.gpu_alloc.specs.declared.limits.Limits.{Limits}
 

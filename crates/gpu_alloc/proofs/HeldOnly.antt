@@ -5,7 +5,6 @@ use Rattle.std.proofs.lemmas.Bool.{MatchBool-at_false, cases_eq}
 use Rattle.std.proofs.lemmas.Bool.Decides.{nat_tests}
 use Rattle.std.proofs.lemmas.List.Elements.{Contains-append_cases}
 use Rattle.std.proofs.lemmas.Nat.Bits.{bit_at-pow_other, bit_at-pow_same}
-use Rattle.std.specs.FinMap as map
 use Rattle.std.specs.Option.{is_some}
 use Rattle.std.specs.Prelude.{MatchBool, IsNone, OnErr}
 use Rattle.gpu_alloc_types.specs.Device.{Event}
@@ -18,7 +17,7 @@ use Rattle.gpu_alloc_base.specs.declared.error.AllocationError.{AllocationError}
 use Rattle.gpu_alloc_base.specs.declared.error.AllocationError.TheVariants.{OutOfDeviceMemory, OutOfHostMemory, NoCompatibleMemoryTypes, TooManyObjects}
 use Rattle.gpu_alloc_base.specs.declared.heap.Heap.{Heap}
 use Rattle.gpu_alloc_base.proofs.Lists.{contains_head, contains_later}
-use Rattle.gpu_alloc_block.specs.State.{Block, State, span_cmp}
+use Rattle.gpu_alloc_block.specs.State.{Block, State}
 use Rattle.gpu_alloc_buddy.specs.Buddy as of_buddy
 use Rattle.gpu_alloc_buddy.specs.BuddyState.{Buddy}
 use Rattle.gpu_alloc_freelist.specs.FreeList as lists
@@ -33,7 +32,6 @@ use Rattle.gpu_alloc.specs.Candidates.{candidate}
 use Rattle.gpu_alloc.specs.FreeListSharing.{list_size, list_alignment}
 use Rattle.gpu_alloc.specs.HeldOnly.{AllocatesHeld, HasPlaceBy, HasPlaceFor, IsFirstWithPlace, IsRefused, ServesHeld}
 use Rattle.gpu_alloc.specs.Request.{is_required}
-use Rattle.gpu_alloc.specs.Spans.{Place, Room}
 use Rattle.gpu_alloc.specs.declared.allocator.Ask.{Ask}
 use Rattle.gpu_alloc.specs.declared.allocator.Strategy.{Strategy}
 use Rattle.gpu_alloc.specs.declared.allocator.Strategy.TheVariants.{OwnObject, InBuddyChunk, InFreeList}
@@ -60,30 +58,30 @@ told_by_refusal c spent to from (Some TooManyObjects) shut false is = (λ yes. a
 told_by_refusal c spent to from (Some OutOfHostMemory) never false is = absurd never
 told_by_refusal c spent to from (Some NoCompatibleMemoryTypes) never false is = absurd never
 
-module _ (s : State) (places : map.FinMap span_cmp Place) (room : Room) (index : ℕ) (heap : Heap) (r : Request) (flags : ℕ) (first : Option AllocationError) (told : Bool) (is : is_some first ≡ not told) where
-  pub buddy_place_told : (b : Buddy) → buddies.Serves s places room index b → RefusesFirst (of_buddy.case_of (account b heap 0) (wanted r.size r.align_mask flags)) first → IsTrue told ↔ HasPlaceBy InBuddyChunk s r index
+module _ (s : State) (index : ℕ) (heap : Heap) (r : Request) (flags : ℕ) (first : Option AllocationError) (told : Bool) (is : is_some first ≡ not told) where
+  pub buddy_place_told : (b : Buddy) → buddies.Serves s index b → RefusesFirst (of_buddy.case_of (account b heap 0) (wanted r.size r.align_mask flags)) first → IsTrue told ↔ HasPlaceBy InBuddyChunk s r index
   buddy_place_told b serves refuses =
-      let size : of_buddy.rounded b (wanted r.size r.align_mask flags) ≡ buddy_size s r index = buddies.rounded_is s places room index b serves r flags in
+      let size : of_buddy.rounded b (wanted r.size r.align_mask flags) ≡ buddy_size s r index = buddies.rounded_is s index b serves r flags in
       told_by_refusal (of_buddy.case_of (account b heap 0) (wanted r.size r.align_mask flags)) refl
-      (λ fits place. record { fits = subst of_buddy.Fits size fits; place = buddies.place_is s places room index b serves (buddy_size s r index) (subst (of_buddy.HasPlace b) size place) })
-      (λ has. (subst of_buddy.Fits (sym size) has.fits, subst (of_buddy.HasPlace b) (sym size) (buddies.place_was s places room index b serves (buddy_size s r index) has.place)))
+      (λ fits place. record { fits = subst of_buddy.Fits size fits; place = buddies.place_is s index b serves (buddy_size s r index) (subst (of_buddy.HasPlace b) size place) })
+      (λ has. (subst of_buddy.Fits (sym size) has.fits, subst (of_buddy.HasPlace b) (sym size) (buddies.place_was s index b serves (buddy_size s r index) has.place)))
       first refuses told is
 
-  pub list_place_told : (l : Listing) → free_lists.ServesList s places room index l → RefusesFirst (of_list.case_of (account l heap 0) (wanted r.size r.align_mask flags)) first → IsTrue told ↔ HasPlaceBy InFreeList s r index
+  pub list_place_told : (l : Listing) → free_lists.ServesList s index l → RefusesFirst (of_list.case_of (account l heap 0) (wanted r.size r.align_mask flags)) first → IsTrue told ↔ HasPlaceBy InFreeList s r index
   list_place_told l serves refuses =
-      let size : of_list.rounded l (wanted r.size r.align_mask flags) ≡ list_size s r index = free_lists.rounded_is s places room index l serves r flags in
-      let alignment : of_list.alignment l (wanted r.size r.align_mask flags) ≡ list_alignment s r index = free_lists.alignment_is s places room index l serves r flags in
+      let size : of_list.rounded l (wanted r.size r.align_mask flags) ≡ list_size s r index = free_lists.rounded_is s index l serves r flags in
+      let alignment : of_list.alignment l (wanted r.size r.align_mask flags) ≡ list_alignment s r index = free_lists.alignment_is s index l serves r flags in
       told_by_refusal (of_list.case_of (account l heap 0) (wanted r.size r.align_mask flags)) refl
       (λ fits place. record {
         fits = tt;
-        place = free_lists.place_is s places room index l serves (list_size s r index) (list_alignment s r index)
+        place = free_lists.place_is s index l serves (list_size s r index) (list_alignment s r index)
             (subst (λ n. lists.HasPlace l.space (list_size s r index) n) alignment (subst (λ n. lists.HasPlace l.space n (of_list.alignment l (wanted r.size r.align_mask flags))) size place));
       })
       (λ has. (
         tt,
         subst (λ n. lists.HasPlace l.space n (of_list.alignment l (wanted r.size r.align_mask flags))) (sym size)
             (subst (λ n. lists.HasPlace l.space (list_size s r index) n) (sym alignment)
-            (free_lists.place_was s places room index l serves (list_size s r index) (list_alignment s r index) has.place)),
+            (free_lists.place_was s index l serves (list_size s r index) (list_alignment s r index) has.place)),
       ))
       first refuses told is
 

@@ -22,12 +22,11 @@ pub mod Imports
 pub mod InHand
 pub mod InPages
 pub mod Ledgers
+pub mod Linked
 pub mod LongestRanges
 pub mod MayAsk
-pub mod NewChunkRows
 pub mod NewObjects
 pub mod Opened
-pub mod OwnObjects
 pub mod Owning
 pub mod Pages
 pub mod ReturnedTotals
@@ -39,6 +38,7 @@ pub mod Strategies
 pub mod Tables
 pub mod Trials
 pub mod UnderKeys
+pub mod WholeBuddies
 pub mod WholeLists
 pub mod WholeOwned
 pub mod WholeParts

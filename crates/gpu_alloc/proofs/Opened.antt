@@ -14,13 +14,14 @@ use Rattle.gpu_alloc_types.specs.declared.types.MemoryHeap.{MemoryHeap}
 use Rattle.gpu_alloc_buddy.specs.Buddy as buddy
 use Rattle.gpu_alloc_buddy.specs.BuddySound.{IsSound}
 use Rattle.gpu_alloc_buddy.specs.BuddyState.{Buddy}
-use Rattle.gpu_alloc_base.specs.Leaves.{leaf_cmp}
 use Rattle.gpu_alloc_freelist.specs.FreeListAllocator as list
 use Rattle.gpu_alloc_freelist.specs.FreeListSound.{IsSound as IsSoundListing}
 use Rattle.gpu_alloc_freelist.specs.FreeListState.{Listing}
-use Rattle.gpu_alloc_base.specs.Slots.{slot_cmp}
 use Rattle.gpu_alloc_base.specs.Heap.{unused}
-use Rattle.gpu_alloc.specs.Inside.{IsConsistent, IsBooked, IsBuddyOf, IsListOf, IsKnown, IsLinked, IsListLinked, IsLedger, IsLiveIn, AreSmall, types_in, lists_in}
+use Rattle.gpu_alloc.specs.Inside.{IsBooked, IsBuddyFor, IsKnown, IsLedger, IsListFor, IsLiveIn, AreSmall, types_in, lists_in}
+use Rattle.gpu_alloc.specs.Own.{OwnTable}
+use Rattle.gpu_alloc.specs.Whole.{whole, IsKept}
+use Rattle.gpu_alloc.proofs.Wholes.{apart_unused, nothing_held, nothing_live}
 use Rattle.gpu_alloc.specs.Opening.{first_buddy, AreFirstBuddies, first_listing, AreFirstListings}
 use Rattle.gpu_alloc_base.specs.Sizes.{minimal_size, initial_size, starting_size, final_size}
 use Rattle.gpu_alloc.specs.FirstTypes.{first_type_state, first_types}
@@ -64,16 +65,22 @@ one_first_more c p buddies t b are count is sound = each_more (λ i x. (x ≡ fi
 pub one_first_list_more : (c : Config) (p : Properties) (lists : List Listing) (t : ℕ) (l : Listing) → AreFirstListings c p lists → length lists ≡ t → l ≡ first_listing c p t → IsSoundListing l → AreFirstListings c p (lists ++ l ∷ [])
 one_first_list_more c p lists t l are count is sound = each_more (λ i x. (x ≡ first_listing c p i) × IsSoundListing x) lists l are (is ∙ ap (first_listing c p) (sym count), sound)
 
--- no list has a chunk or a block
+-- none has a chunk or a block
+
+there_at : {X : Type 0} (xs : List X) (j : ℕ) (x : X) → IsAt xs j x → slice_get xs j ≡ Some x
+there_at [] j x here = absurd here
+there_at (y ∷ ys) zero x here = ap Some here
+there_at (y ∷ ys) (suc j) x here = there_at ys j x here
+
+pub buddies_unused : (c : Config) (p : Properties) (buddies : List Buddy) → AreFirstBuddies c p buddies → (i : ℕ) (b : Buddy) → IsAt buddies i b → (b.chunks ≡ finite.empty) × (b.live ≡ set_of.empty)
+buddies_unused c p buddies are i b at =
+    let is = (subst (λ (o : Option Buddy). IfSome o (λ x. (x ≡ first_buddy c p i) × IsSound x)) (there_at buddies i b at) (are i)).0 in
+    (ap (λ (x : Buddy). x.chunks) is, ap (λ (x : Buddy). x.live) is)
+
 pub lists_unused : (c : Config) (p : Properties) (lists : List Listing) → AreFirstListings c p lists → (i : ℕ) (l : Listing) → IsAt lists i l → (l.space.chunks ≡ finite.empty) × (l.space.live ≡ set_of.empty)
 lists_unused c p lists are i l at =
-    let is = (subst (λ (o : Option Listing). IfSome o (λ x. (x ≡ first_listing c p i) × IsSoundListing x)) (read_at lists i l at) (are i)).0 in
+    let is = (subst (λ (o : Option Listing). IfSome o (λ x. (x ≡ first_listing c p i) × IsSoundListing x)) (there_at lists i l at) (are i)).0 in
     (ap (λ (x : Listing). x.space.chunks) is, ap (λ (x : Listing). x.space.live) is)
-  where
-    read_at : (xs : List Listing) (j : ℕ) (x : Listing) → IsAt xs j x → slice_get xs j ≡ Some x
-    read_at [] j x here = absurd here
-    read_at (y ∷ ys) zero x here = ap Some here
-    read_at (y ∷ ys) (suc j) x here = read_at ys j x here
 
 -- the chunk sizes are the first ones
 types_kept : (types : List TypeState) (buddies : List Buddy) → length types ≤ length buddies → ((i : ℕ) → IfSome (slice_get types i) (λ t. IfSome (slice_get buddies i) (λ b. b.next_chunk ≡ t.next_chunk))) → types_in types buddies ≡ types
@@ -160,60 +167,46 @@ module _ (t : Table) (unheld : t.held ≡ finite.empty) (unused_spans : t.live �
       at q None = tt
       at q (Some h) = record { used = sym (nothing (share p q) (finite.entries t.held) empty); within = omega (arith, nothing (asked_share p q) (finite.entries t.held) empty); limited = omega arith }
 
-  -- a buddy allocator with no chunk
-  linked-opened : (b : Buddy) → b.chunks ≡ finite.empty → b.live ≡ set_of.empty → IsLinked t b
-  linked-opened b no_chunks no_leaves = record {
-    chunks = λ key c is. absurd (let none : finite.get b.chunks key ≡ None = ap (λ m. finite.get m key) no_chunks ∙ finite.get-empty nat_cmp key in cc);
-    objects = λ object h is. absurd (let none = no_object object in let held = is.held in cc);
-    leaves = λ leaf is. absurd (let never = ap (λ s. set_of.contains s leaf) no_leaves ∙ set_of.contains-empty leaf_cmp leaf in cc);
-    spans = λ span h is. absurd (no_span span is);
-  }
+-- a memory type's first ones are for it
 
-  of_type-opened : (c : Config) (p : Properties) (i : ℕ) (b : Buddy) → b ≡ first_buddy c p i → IsSound b → IsBuddyOf c p t i b
-  of_type-opened c p i b is sound = record {
-    for_type = record {
-      memory_type = ap (λ (x : Buddy). x.memory_type) is;
-      props = ap (λ (x : Buddy). x.props) is;
-      atom = ap (λ (x : Buddy). x.atom) is;
-      minimal = ap (λ (x : Buddy). x.minimal) is;
-    };
-    sound = sound;
-    linked = linked-opened b (ap (λ (x : Buddy). x.chunks) is) (ap (λ (x : Buddy). x.live) is);
-  }
+buddy_for : (c : Config) (p : Properties) (i : ℕ) (b : Buddy) → b ≡ first_buddy c p i → IsSound b → IsBuddyFor c p i b
+buddy_for c p i b is sound = record {
+  for_type = record {
+    memory_type = ap (λ (x : Buddy). x.memory_type) is;
+    props = ap (λ (x : Buddy). x.props) is;
+    atom = ap (λ (x : Buddy). x.atom) is;
+    minimal = ap (λ (x : Buddy). x.minimal) is;
+  };
+  sound = sound;
+}
 
-  -- a free list with no chunk
-  list_linked-opened : (l : Listing) → l.space.chunks ≡ finite.empty → l.space.live ≡ set_of.empty → IsListLinked t l
-  list_linked-opened l no_chunks no_slots = record {
-    chunks = λ number c is. absurd (let none : finite.get l.space.chunks number ≡ None = ap (λ m. finite.get m number) no_chunks ∙ finite.get-empty nat_cmp number in cc);
-    objects = λ number object h is. absurd (let none = no_object object in let held = is.held in cc);
-    slots = λ slot is. absurd (let never = ap (λ s. set_of.contains s slot) no_slots ∙ set_of.contains-empty slot_cmp slot in cc);
-    spans = λ span number h is. absurd (no_span span is);
-  }
+list_for : (c : Config) (p : Properties) (i : ℕ) (l : Listing) → l ≡ first_listing c p i → IsSoundListing l → IsListFor c p i l
+list_for c p i l is sound = record {
+  for_type = record {
+    memory_type = ap (λ (x : Listing). x.memory_type) is;
+    props = ap (λ (x : Listing). x.props) is;
+    atom = ap (λ (x : Listing). x.atom) is;
+    final_chunk = ap (λ (x : Listing). x.final_chunk) is;
+  };
+  sound = sound;
+}
 
-  list_of_type-opened : (c : Config) (p : Properties) (i : ℕ) (l : Listing) → l ≡ first_listing c p i → IsSoundListing l → IsListOf c p t i l
-  list_of_type-opened c p i l is sound = record {
-    for_type = record {
-      memory_type = ap (λ (x : Listing). x.memory_type) is;
-      props = ap (λ (x : Listing). x.props) is;
-      atom = ap (λ (x : Listing). x.atom) is;
-      final_chunk = ap (λ (x : Listing). x.final_chunk) is;
-    };
-    sound = sound;
-    linked = list_linked-opened l (ap (λ (x : Listing). x.space.chunks) is) (ap (λ (x : Listing). x.space.live) is);
-  }
+pub kept-opened : (c : Config) (p : Properties) (heaps : List Heap) (own : OwnTable) (buddies : List Buddy) (lists : List Listing) (remaining : ℕ) → own.held ≡ finite.empty → own.live ≡ set_of.empty → IsUsable p → remaining < 2 ^ 32
+    → heaps ≡ map (λ h. unused h.size) p.memory_heaps → length buddies ≡ length p.memory_types → AreFirstBuddies c p buddies → length lists ≡ length p.memory_types → AreFirstListings c p lists → IsKept c p heaps buddies lists own remaining
+kept-opened c p heaps own buddies lists remaining held live usable few unused_heaps count are list_count are_lists =
+    let no_buddy = buddies_unused c p buddies are in
+    let no_list = lists_unused c p lists are_lists in
+    record {
+      books = booked-opened (whole own buddies lists) (nothing_held own buddies lists held live no_buddy no_list) (nothing_live own buddies lists held live no_buddy no_list) p heaps remaining usable few unused_heaps;
+      shared = record { count = count; each = λ i. each i (slice_get buddies i) (are i) };
+      listed = record { count = list_count; each = λ i. each_list i (slice_get lists i) (are_lists i) };
+      apart = apart_unused own buddies lists held live no_buddy no_list;
+    }
+  where
+    each : (i : ℕ) (o : Option Buddy) → IfSome o (λ b. (b ≡ first_buddy c p i) × IsSound b) → IfSome o (IsBuddyFor c p i)
+    each i None is = tt
+    each i (Some b) is = buddy_for c p i b is.0 is.1
 
-  pub consistent-opened : (c : Config) (p : Properties) (heaps : List Heap) (buddies : List Buddy) (lists : List Listing) (remaining : ℕ) → IsUsable p → remaining < 2 ^ 32 → heaps ≡ map (λ h. unused h.size) p.memory_heaps
-      → length buddies ≡ length p.memory_types → AreFirstBuddies c p buddies → length lists ≡ length p.memory_types → AreFirstListings c p lists → IsConsistent c p heaps buddies lists t remaining
-  consistent-opened c p heaps buddies lists remaining usable few unused_heaps count are list_count are_lists = record {
-    books = booked-opened p heaps remaining usable few unused_heaps;
-    shared = record { count = count; each = λ i. each i (slice_get buddies i) (are i) };
-    listed = record { count = list_count; each = λ i. each_list i (slice_get lists i) (are_lists i) };
-  }
-    where
-      each : (i : ℕ) (o : Option Buddy) → IfSome o (λ b. (b ≡ first_buddy c p i) × IsSound b) → IfSome o (IsBuddyOf c p t i)
-      each i None is = tt
-      each i (Some b) is = of_type-opened c p i b is.0 is.1
-
-      each_list : (i : ℕ) (o : Option Listing) → IfSome o (λ l. (l ≡ first_listing c p i) × IsSoundListing l) → IfSome o (IsListOf c p t i)
-      each_list i None is = tt
-      each_list i (Some l) is = list_of_type-opened c p i l is.0 is.1
+    each_list : (i : ℕ) (o : Option Listing) → IfSome o (λ l. (l ≡ first_listing c p i) × IsSoundListing l) → IfSome o (IsListFor c p i)
+    each_list i None is = tt
+    each_list i (Some l) is = list_for c p i l is.0 is.1

@@ -11,7 +11,8 @@ use Rattle.gpu_alloc_base.specs.FreeSpace.{IsIn, IsMultipleOf, IsPowerOfTwo}
 use Rattle.gpu_alloc.specs.Atoms.{KeepsAtoms, IsNextListChunk}
 use Rattle.gpu_alloc.specs.FreeListSharing.{IsListChunk, latest_number, next_list_chunk}
 use Rattle.gpu_alloc.specs.FirstTypes.{first_types, first_type_state}
-use Rattle.gpu_alloc.specs.Inside.{state_in, properties_in, types_in, span_of_leaf, leaf_at, span_of_slot, slot_at, IsLiveIn, IsChunkOf, IsNumberedChunk, IsKnown, IsBuddyOf, IsListOf, IsConsistent, offer_of}
+use Rattle.gpu_alloc.specs.Inside.{state_in, properties_in, types_in, span_of_leaf, leaf_at, span_of_slot, slot_at, IsLiveIn, IsChunkOf, IsNumberedChunk, IsKnown, offer_of}
+use Rattle.gpu_alloc.proofs.Linked.{IsBuddyOf, IsListOf, IsConsistent}
 use Rattle.gpu_alloc.specs.Sound.{IsSound, LiesIn, is_list_chunk}
 use Rattle.gpu_alloc.specs.Spans.{Place, Table}
 use Rattle.gpu_alloc_block.specs.State.{HeldObject, Span, State, TypeState, AreApart, is_shared}
@@ -67,7 +68,7 @@ module _ {c : Config} {p : Properties} {t : Table} {b : Buddy} {object : ℕ} {h
   leaf_of : (span : Span) → IsLiveIn t span → span.object ≡ object → (place : Place) × IsLiveLeaf b (leaf_at span place)
   leaf_of span live named =
       let there = is.linked.spans span h live (subst (λ o. IsChunkOf t b.memory_type o h) (sym named) held_as) in
-      (there.0, there.1.1)
+      there
 
   of_chunk : (span : Span) (place : Place) → IsLiveLeaf b (leaf_at span place) → span.object ≡ object → (place.chunk ≡ by_key.0) × (span.offset + span.size ≤ h.counted) × (0 < span.size)
   of_chunk span place live named =
@@ -101,7 +102,7 @@ module _ {c : Config} {p : Properties} {t : Table} {b : Buddy} {object : ℕ} {h
       let leaf = is.sound.space.used by_key.0 (chunk_at object h) by_key.1 in
       let lies = is.sound.space.inside leaf.0 leaf.1.0 in
       let same : lies.chunk ≡ chunk_at object h = one_value _ lies.chunk (chunk_at object h) lies.held (ap (λ k. map.get b.chunks k) leaf.1.1 ∙ by_key.1) in
-      (span_of_leaf leaf.0, (is.linked.leaves leaf.0 leaf.1.0).0, lies.object ∙ ap (λ (x : Chunk). x.object) same)
+      (span_of_leaf leaf.0, is.linked.leaves leaf.0 leaf.1.0, lies.object ∙ ap (λ (x : Chunk). x.object) same)
 
 -- A chunk of a free list.
 

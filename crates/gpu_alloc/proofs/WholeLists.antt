@@ -27,7 +27,7 @@ use Rattle.gpu_alloc_block.proofs.Parts.ByName.{name_there}
 use Rattle.gpu_alloc_block.proofs.Parts.Entries.{item_there, there_entry}
 use Rattle.gpu_alloc_freelist.specs.Chunks.{ListsChunks, chunk_of}
 use Rattle.gpu_alloc_freelist.specs.FreeListSound.{IsSound}
-use Rattle.gpu_alloc_freelist.specs.FreeListState.{Listing, IsLiveSlot}
+use Rattle.gpu_alloc_freelist.specs.FreeListState.{Listing}
 use Rattle.gpu_alloc_freelist.specs.Live.{ListsSlots}
 use Rattle.gpu_alloc_freelist.specs.declared.freelist.chunks.NumberedChunk.{NumberedChunk}
 use Rattle.gpu_alloc.specs.Inside.{list_object, span_of_slot}
@@ -35,8 +35,9 @@ use Rattle.gpu_alloc.specs.Listing.{AreOnce}
 use Rattle.gpu_alloc.specs.Spans.{objects_in, span_in}
 use Rattle.gpu_alloc.specs.Whole.{list_part}
 use Rattle.gpu_alloc.specs.declared.spans.HeldRow.{HeldRow}
-use Rattle.gpu_alloc.specs.declared.spans.LiveSpan.{LiveSpan}
+use Rattle.gpu_alloc_base.specs.declared.buddy_block.Leaf.{Leaf as LiveSpan}
 use Rattle.gpu_alloc.proofs.Tables.Listed.{distinct_named, mapped_twice, once_named, rows_apart}
+use Rattle.gpu_alloc.proofs.Wholes.{one_slot}
 
 -- A free list's chunks.
 
@@ -116,14 +117,6 @@ module _ {M : Type 0} (object : M → ℕ) (l : Listing) (named : AreNamed l.spa
 abbrev pub slot_row : ℕ × Slot → LiveSpan
 slot_row e = record { object = e.1.object; offset = e.1.offset; size = e.1.size; chunk = 0; index = e.0 }
 
--- no two live blocks have one span
-one_span : (l : Listing) → IsSound l → (a b : Slot) → IsLiveSlot l.space a → IsLiveSlot l.space b → ◌≡◌ {A = Span} (span_of_slot a) (span_of_slot b) → a ≡ b
-one_span l sound a b live_a live_b same =
-    let in_a = sound.space.inside a live_a in
-    let in_b = sound.space.inside b live_b in
-    let number = sound.one_object a.chunk b.chunk in_a.chunk in_b.chunk in_a.held in_b.held (sym in_a.object ∙ ap (λ (s : Span). s.object) same ∙ in_b.object) in
-    λ k. record { object = (same k).object; chunk = number k; offset = (same k).offset; size = (same k).size }
-
 module _ (l : Listing) (sound : IsSound l) (listed : List (ℕ × Slot)) (lists : ListsSlots l.space.live listed) where
   under : (e : ℕ × Slot) → Contains listed e → get lists.slots e.0 ≡ Some e.1
   under e has = (Contains-entries lists.slots e.0 e.1).0 (subst (λ (es : List (ℕ × Slot)). Contains es e) lists.are has)
@@ -137,7 +130,7 @@ module _ (l : Listing) (sound : IsSound l) (listed : List (ℕ × Slot)) (lists 
 
   one_row : HasOneKeyEach span_of_slot lists.slots
   one_row i k a b at_i at_k same =
-      lists.once i k a b at_i at_k (one_span l sound a b ((is_live a).1 (i, a, at_i, refl)) ((is_live b).1 (k, b, at_k, refl)) same)
+      lists.once i k a b at_i at_k (one_slot l sound a b ((is_live a).1 (i, a, at_i, refl)) ((is_live b).1 (k, b, at_k, refl)) same)
 
   spans_apart : AreNamedApart (λ (e : ℕ × Slot). span_of_slot e.1) listed
   spans_apart = subst (AreNamedApart (λ (e : ℕ × Slot). span_of_slot e.1)) (sym lists.are) (rows_apart span_of_slot lists.slots one_row)

@@ -1,62 +1,138 @@
--- Whether a block is live here: in a free list by its chunk's number, or in the table.
-use Rattle.std.proofs.Common.{◌≡◌, ◌≢◌, ◌↔◌, ℕ, ◌<◌, ◌≤◌, List, get_or, length, IsTrue, sym, ◌∙◌, ap, arith}
+-- Whether a block is live here: one with an object of its own, in a memory type's buddy allocator, or in its free list.
+use Rattle.std.proofs.Common.{◌≡◌, ◌↔◌, inl, inr, ℕ, zero, suc, ◌+◌, ◌<◌, ◌≤◌, false, List, get_or, length, MatchOption, Option, Some, None, is_some, IsTrue, refl, sym, ◌∙◌, ap, subst, arith}
 use Rattle.std.specs.FinMap as finite
 use Rattle.std.specs.FinSet as set
+use Rattle.gpu_alloc_base.specs.declared.buddy_block.Leaf.{Leaf}
 use Rattle.gpu_alloc_base.specs.declared.heap.Heap.{Heap}
+use Rattle.gpu_alloc_base.proofs.Leaves.{leaf_exact, leaf_total}
+use Rattle.gpu_alloc_base.proofs.Maps.{one_value}
 use Rattle.gpu_alloc_base.proofs.Names.{here}
-use Rattle.gpu_alloc_block.specs.State.{Block, IsOwned, State, span_of}
-use Rattle.gpu_alloc_block.specs.declared.block.Kind.TheVariants.{FreeListChunk}
-use Rattle.gpu_alloc_buddy.specs.BuddyState.{Buddy}
+use Rattle.gpu_alloc_base.proofs.Slots.{slot_exact, slot_total}
+use Rattle.gpu_alloc_block.specs.Parts.{IsAt, Part}
+use Rattle.gpu_alloc_block.specs.State.{Block, HeldObject, IsOwned, Span, State, is_shared, span_of}
+use Rattle.gpu_alloc_block.specs.declared.block.Kind.TheVariants.{BuddyChunk, FreeListChunk}
+use Rattle.gpu_alloc_block.proofs.Parts.ByName.{name_there, name_was, span_row_live, span_row_there}
+use Rattle.gpu_alloc_block.proofs.Parts.Steps.{holds_of, own_part, part_span}
+use Rattle.gpu_alloc_block.proofs.Parts.Unions.{live_of}
+use Rattle.gpu_alloc_buddy.specs.BuddyState.{Buddy, IsLiveSpan, IsNoLiveSpan}
 use Rattle.gpu_alloc_freelist.specs.FreeListState.{Listing, IsLiveSlot}
-use Rattle.gpu_alloc.specs.Inside.{IsListOf, properties_in, slot_at, state_in}
-use Rattle.gpu_alloc.specs.Spans.{Table, IsHeldAs}
-use Rattle.gpu_alloc.specs.Whole.{IsKept, whole}
+use Rattle.gpu_alloc.specs.Inside.{IsBuddyFor, IsListFor, chunk_object, list_object, properties_in, slot_at, span_of_leaf, span_of_slot, state_in}
+use Rattle.gpu_alloc.specs.Own.{OwnTable, IsRowOf, own_held, own_span}
+use Rattle.gpu_alloc.specs.Spans.{span_at}
+use Rattle.gpu_alloc.specs.Whole.{IsKept, IsPlace, buddy_part, list_part, own_part as part_of_own, parts_of, whole}
 use Rattle.gpu_alloc.specs.declared.limits.Limits.{Limits}
-use Rattle.gpu_alloc.proofs.FreeLists.Types.{own_listing}
-use Rattle.gpu_alloc.proofs.Wholes.{held_here, held_whole, live_here, live_whole}
+use Rattle.gpu_alloc.specs.declared.own.OwnRow.{OwnRow}
+use Rattle.gpu_alloc.proofs.WholeParts.{next_buddy, next_list}
+use Rattle.gpu_alloc.proofs.Wholes.{at_buddy, at_list, at_read, held_here, held_whole, live_here, single}
 
-module _ {A : Type 0} (l : Limits A) (heaps : List Heap) (buddies : List Buddy) (lists : List Listing) (t : Table) (remaining : ℕ) (kept : IsKept l.config (properties_in l heaps) heaps buddies lists t remaining) (b : Block) where
+module _ {A : Type 0} (l : Limits A) (heaps : List Heap) (buddies : List Buddy) (lists : List Listing) (own : OwnTable) (remaining : ℕ) (kept : IsKept l.config (properties_in l heaps) heaps buddies lists own remaining) (b : Block) where
   abbrev state : State
-  state = state_in l heaps buddies lists (whole t lists) remaining
+  state = state_in l heaps buddies lists (whole own buddies lists) remaining
+
+  abbrev ps : List Part
+  ps = parts_of own buddies lists
+
+  abbrev Place : ℕ → HeldObject → Type 0
+  Place = IsPlace (length buddies)
+
+  -- not where there is no such memory type
+  pub unknown_unowned : (count : ℕ) → count ≡ length (properties_in l heaps).memory_types → count ≤ b.memory_type → IsOwned state b → ⊥
+  unknown_unowned count counted none owned =
+      let known = (here _ _ (kept.books.known b.object) owned.held.0 owned.held.1).of_type in
+      omega (arith, known, owned.held.2, counted, none)
+
+  -- With an object of its own.
+
+  module _ (kind : is_shared b.kind ≡ false) where
+    pub unheld_unowned : finite.get own.held b.object ≡ None → IsOwned state b → ⊥
+    unheld_unowned none owned = let held = held_here own buddies lists kept.apart b.object owned.held.0 owned.held.1 (ap is_shared owned.held.3 ∙ kind) in absurd (cc)
+
+    pub row_owned : (row : OwnRow) → IsRowOf own.held own.live b.object row
+        → ((◌≡◌ {A = Span} (own_span row) (span_at row.object b.offset b.size)) × (((own_held row).memory_type ≡ b.memory_type) × ((own_held row).kind ≡ b.kind))) ↔ IsOwned state b
+    row_owned row is = (
+      λ yes. record {
+        live = live_of ps zero (part_of_own own) (span_of b) refl (subst (λ (s : Span). IsTrue (set.contains own.live s)) (yes.0 ∙ (λ i. span_at (is.named i) b.offset b.size)) is.is_live);
+        held = (own_held row, held_whole own buddies lists kept.apart b.object (own_held row) is.is_held, yes.1.0, yes.1.1);
+      },
+      λ owned.
+          let held = held_here own buddies lists kept.apart b.object owned.held.0 owned.held.1 (ap is_shared owned.held.3 ∙ kind) in
+          let live = live_here own buddies lists kept.apart (span_of b) owned.held.0 owned.live held in
+          let same = one_value (finite.get own.held b.object) (own_held row) owned.held.0 is.is_held held in (
+            sym (is.alone (span_of b) live refl) ∙ (λ i. span_at (sym is.named i) b.offset b.size),
+            (ap (λ (h : HeldObject). h.memory_type) same ∙ owned.held.2, ap (λ (h : HeldObject). h.kind) same ∙ owned.held.3),
+          ),
+    )
+
+  -- In a buddy allocator.
+
+  module _ (kind : b.kind ≡ BuddyChunk) (bd : Buddy) (inside : b.memory_type < length buddies) (at : bd ≡ get_or buddies b.memory_type bd) where
+    its_buddy : IsBuddyFor l.config (properties_in l heaps) b.memory_type bd
+    its_buddy = next_buddy l heaps buddies lists own remaining kept (length buddies) kept.shared.count b.memory_type bd inside at
+
+    buddy_stands : IsAt ps (suc b.memory_type) (buddy_part bd)
+    buddy_stands = at_buddy own buddies lists kept.apart b.memory_type bd (at_read buddies b.memory_type bd inside at) inside its_buddy.sound its_buddy.for_type.memory_type
+
+    leaf_owned : (leaf : Leaf) → IsLiveSpan bd b.object b.offset b.size leaf → IsOwned state b
+    leaf_owned leaf is =
+        let lies = its_buddy.sound.space.inside leaf is.live in
+        let there = name_there (λ _ c. chunk_object bd c) bd.chunks its_buddy.sound.space.one_object leaf.chunk lies.chunk lies.held in
+        let held = holds_of Place ps kept.apart (suc b.memory_type) (buddy_part bd) lies.chunk.object (chunk_object bd lies.chunk) buddy_stands there in
+        let live = live_of ps (suc b.memory_type) (buddy_part bd) (span_of_leaf leaf) buddy_stands (span_row_live leaf_total leaf_exact span_of_leaf bd.live leaf is.live) in
+        let same : span_of_leaf leaf ≡ span_of b = λ i. record { object = is.of_object i; offset = is.starts i; size = is.of_size i } in
+        record {
+          live = subst (λ (s : Span). IsTrue (set.contains (whole own buddies lists).live s)) same live;
+          held = (chunk_object bd lies.chunk, ap (finite.get (whole own buddies lists).held) (sym is.of_object ∙ lies.object) ∙ held, its_buddy.for_type.memory_type, sym kind);
+        }
+
+    owned_leaf : IsOwned state b → (leaf : Leaf) × IsLiveSpan bd b.object b.offset b.size leaf
+    owned_leaf owned =
+        let held = own_part Place ps kept.apart (single (length buddies)) (suc b.memory_type) (buddy_part bd) b.object owned.held.0 owned.held.1 (inl (owned.held.3 ∙ kind, owned.held.2, inside)) buddy_stands in
+        let has = part_span Place ps kept.apart (suc b.memory_type) (buddy_part bd) (span_of b) owned.held.0 owned.live held buddy_stands in
+        let row = span_row_there leaf_total leaf_exact span_of_leaf bd.live (span_of b) has in (
+          row.0,
+          record { live = row.1; of_object = ap (λ (s : Span). s.object) row.2; starts = ap (λ (s : Span). s.offset) row.2; of_size = ap (λ (s : Span). s.size) row.2 },
+        )
+
+    -- so it is where one of its span is found
+    pub found_owned : (o : Option Leaf) → MatchOption o (IsNoLiveSpan bd b.object b.offset b.size) (IsLiveSpan bd b.object b.offset b.size) → IsTrue (is_some o) ↔ IsOwned state b
+    found_owned None none = (λ no. absurd (cc), λ owned. absurd (let leaf = owned_leaf owned in none leaf.0 leaf.1))
+    found_owned (Some leaf) is = (λ yes. leaf_owned leaf is, λ owned. refl)
 
   -- In a free list.
 
-  module _ (number : ℕ) (kind : b.kind ≡ FreeListChunk number) where
-    module _ (fl : Listing) (inside : b.memory_type < length lists) (at : fl ≡ get_or lists b.memory_type fl) where
-      is_its : IsListOf l.config (properties_in l heaps) (whole t lists) b.memory_type fl
-      is_its = own_listing l _ _ _ _ _ b.memory_type fl kept.consistent (omega (arith, inside, kept.consistent.listed.count)) at
+  module _ (number : ℕ) (kind : b.kind ≡ FreeListChunk number) (fl : Listing) (inside : b.memory_type < length lists) (at : fl ≡ get_or lists b.memory_type fl) where
+    its_list : IsListFor l.config (properties_in l heaps) b.memory_type fl
+    its_list = next_list l heaps buddies lists own remaining kept (length lists) kept.listed.count b.memory_type fl inside at
 
-      pub list_owned : IsLiveSlot fl.space (slot_at (span_of b) number) ↔ IsOwned state b
-      list_owned = (
-        λ live.
-            let lies = is_its.sound.space.inside (slot_at (span_of b) number) live in
-            let held = is_its.linked.chunks number lies.chunk lies.held in
-            record {
-              live = is_its.linked.slots (slot_at (span_of b) number) live;
-              held = (record { memory_type = fl.memory_type; counted = lies.chunk.size; kind = FreeListChunk number }, ap (finite.get (whole t lists).held) lies.object ∙ held, is_its.for_type.memory_type, sym kind);
-            },
-        λ owned. is_its.linked.spans (span_of b) number owned.held.0 owned.live (record {
-          held = owned.held.1;
-          of_kind = owned.held.3 ∙ kind;
-          of_type = owned.held.2 ∙ sym is_its.for_type.memory_type;
-        }),
-      )
+    abbrev place : ℕ
+    place = suc (length buddies + b.memory_type)
 
-  -- and in none where there is no such memory type
-  pub unlisted_unowned : length lists ≤ b.memory_type → IsOwned state b → ⊥
-  unlisted_unowned none owned =
-      let known = (here _ _ (kept.consistent.books.known b.object) owned.held.0 owned.held.1).of_type in
-      omega (arith, known, owned.held.2, kept.consistent.listed.count, none)
+    list_stands : IsAt ps place (list_part fl)
+    list_stands = at_list own buddies lists kept.apart b.memory_type fl (at_read lists b.memory_type fl inside at) its_list.sound its_list.for_type.memory_type
 
-  -- In the table.
+    slot_owned : IsLiveSlot fl.space (slot_at (span_of b) number) → IsOwned state b
+    slot_owned live =
+        let lies = its_list.sound.space.inside (slot_at (span_of b) number) live in
+        let there = name_there (list_object fl) fl.space.chunks its_list.sound.one_object number lies.chunk lies.held in
+        let held = holds_of Place ps kept.apart place (list_part fl) lies.chunk.object (list_object fl number lies.chunk) list_stands there in
+        record {
+          live = live_of ps place (list_part fl) (span_of b) list_stands (span_row_live slot_total slot_exact span_of_slot fl.space.live (slot_at (span_of b) number) live);
+          held = (list_object fl number lies.chunk, ap (finite.get (whole own buddies lists).held) lies.object ∙ held, its_list.for_type.memory_type, sym kind);
+        }
 
-  pub table_owned : ((number : ℕ) → b.kind ≢ FreeListChunk number) → (IsTrue (set.contains t.live (span_of b)) × IsHeldAs t.held b.object b.memory_type b.kind) ↔ IsOwned state b
-  table_owned other = (
-    λ has. record {
-      live = live_whole t lists kept.apart (span_of b) has.0;
-      held = (has.1.0, held_whole t lists kept.apart b.object has.1.0 has.1.1, has.1.2, has.1.3);
-    },
-    λ owned.
-        let held = held_here t lists kept.apart b.object owned.held.0 owned.held.1 (λ number is. other number (sym owned.held.3 ∙ is)) in
-        (live_here t lists kept.apart (span_of b) owned.held.0 owned.live held, (owned.held.0, held, owned.held.2, owned.held.3)),
-  )
+    owned_slot : IsOwned state b → IsLiveSlot fl.space (slot_at (span_of b) number)
+    owned_slot owned =
+        let held = own_part Place ps kept.apart (single (length buddies)) place (list_part fl) b.object owned.held.0 owned.held.1 (inr (number, owned.held.3 ∙ kind, ap (λ n. length buddies + n) owned.held.2)) list_stands in
+        let has = part_span Place ps kept.apart place (list_part fl) (span_of b) owned.held.0 owned.live held list_stands in
+        let row = span_row_there slot_total slot_exact span_of_slot fl.space.live (span_of b) has in
+        let lies = its_list.sound.space.inside row.0 row.1 in
+        let was = name_was (list_object fl) fl.space.chunks its_list.sound.one_object b.object owned.held.0 held in
+        let kinds : FreeListChunk was.0 ≡ FreeListChunk number = ap (λ (h : HeldObject). h.kind) was.4 ∙ owned.held.3 ∙ kind in
+        let key : was.0 ≡ number = cc in
+        let named = sym lies.object ∙ ap (λ (s : Span). s.object) row.2 ∙ sym was.3 in
+        let chunk : row.0.chunk ≡ number = its_list.sound.one_object row.0.chunk was.0 lies.chunk was.1 lies.held was.2 named ∙ key in
+        let same : row.0 ≡ slot_at (span_of b) number = λ i. record { object = (row.2 i).object; chunk = chunk i; offset = (row.2 i).offset; size = (row.2 i).size } in
+        subst (IsLiveSlot fl.space) same row.1
+
+    pub list_owned : IsLiveSlot fl.space (slot_at (span_of b) number) ↔ IsOwned state b
+    list_owned = (slot_owned, owned_slot)

@@ -1,6 +1,7 @@
 -- What parts hold in all, as they are walked one after the other: what was met, and what those that are left hold.
 use Rattle.std.proofs.Common.{◌≡◌, ◌⊎◌, inl, inr, ℕ, zero, suc, ◌+◌, ◌<◌, ◌≤◌, Bool, true, false, ◌||◌, List, [], ◌∷◌, ◌++◌, drop, get_or, map, length, slice_get, IfSome, nat_eq, Option, Some, None, IsTrue, refl, sym, ◌∙◌, ap, subst, arith}
 use Rattle.std.proofs.lemmas.List.{at_drop_all, at_drop_more, length-append, map-append}
+use Rattle.std.proofs.lemmas.Option.{slice_get_read}
 use Rattle.std.specs.Cmp.{nat_cmp_total}
 use Rattle.std.specs.FinMap as finite
 use Rattle.std.specs.FinMap.{nat_cmp-IsAntisymmetric}
@@ -18,19 +19,16 @@ use Rattle.gpu_alloc_block.specs.State.{HeldObject, Span, span_cmp}
 use Rattle.gpu_alloc_block.proofs.LiveSpans.{not_live, span_exact, span_total}
 use Rattle.gpu_alloc_block.proofs.Parts.Entries.{first, second, later_above, t_true, there_entry}
 use Rattle.gpu_alloc_block.proofs.Parts.Unions.{or_else, get_join, held_at, live_at}
-use Rattle.gpu_alloc_types.specs.Properties.{Properties}
-use Rattle.gpu_alloc_base.specs.declared.config.Config.{Config}
 use Rattle.gpu_alloc_base.specs.declared.heap.Heap.{Heap}
 use Rattle.gpu_alloc_buddy.specs.BuddyState.{Buddy}
-use Rattle.gpu_alloc_freelist.specs.FreeListSound.{IsSound as IsSoundList}
 use Rattle.gpu_alloc_freelist.specs.FreeListState.{Listing}
-use Rattle.gpu_alloc.specs.Inside.{HasLists, IsListOf, properties_in}
+use Rattle.gpu_alloc.specs.Inside.{properties_in, IsBuddyFor, IsListFor}
 use Rattle.gpu_alloc.specs.Listing.{AreOnce}
-use Rattle.gpu_alloc.specs.Spans.{Table, objects_in}
-use Rattle.gpu_alloc.specs.Whole.{AreWhole, IsKept, IsPlace, list_part, parts_of, whole}
+use Rattle.gpu_alloc.specs.Own.{OwnTable}
+use Rattle.gpu_alloc.specs.Spans.{objects_in}
+use Rattle.gpu_alloc.specs.Whole.{AreWhole, IsKept, IsPlace, buddy_part, list_part, parts_of, whole}
 use Rattle.gpu_alloc.specs.declared.limits.Limits.{Limits}
 use Rattle.gpu_alloc.specs.declared.spans.HeldRow.{HeldRow}
-use Rattle.gpu_alloc.proofs.FreeLists.Types.{own_listing}
 use Rattle.gpu_alloc.proofs.Tables.Listed.{appended_cases, distinct_append, distinct_named, once_append, spans_append}
 use Rattle.gpu_alloc.proofs.Tables.Unions.{get_over, key_there, objects_append}
 use Rattle.gpu_alloc.proofs.Tables.Unions as tables
@@ -55,33 +53,44 @@ first_holds p ps q h is = get_more p ps q ∙ ap (λ o. or_else o (finite.get (h
 pub rest_holds : (p : Part) (ps : List Part) (q : ℕ) → finite.get p.held q ≡ None → finite.get (held_in (p ∷ ps)) q ≡ finite.get (held_in ps) q
 rest_holds p ps q none = get_more p ps q ∙ ap (λ o. or_else o (finite.get (held_in ps) q)) none
 
--- Free lists by memory type.
+-- Buddy allocators and free lists by memory type.
 
-module _ {A : Type 0} (l : Limits A) (heaps : List Heap) (buddies : List Buddy) (lists : List Listing) (t : Table) (remaining : ℕ) (kept : IsKept l.config (properties_in l heaps) heaps buddies lists t remaining)
+-- all that is left from the buddy allocator of a memory type on
+abbrev pub left_from : List Buddy → List Listing → ℕ → List Part
+left_from buddies lists i = map buddy_part (drop i buddies) ++ map list_part lists
+
+module _ {A : Type 0} (l : Limits A) (heaps : List Heap) (buddies : List Buddy) (lists : List Listing) (own : OwnTable) (remaining : ℕ) (kept : IsKept l.config (properties_in l heaps) heaps buddies lists own remaining)
     (count : ℕ) (counted : count ≡ length (properties_in l heaps).memory_types) (i : ℕ) where
-  module _ (fl : Listing) (inside : i < count) (at : fl ≡ get_or lists i fl) where
+  module _ (b : Buddy) (inside : i < count) (at : b ≡ get_or buddies i b) where
+    buddy_there : slice_get buddies i ≡ Some b
+    buddy_there = slice_get_read buddies (length buddies) i b refl (omega (arith, inside, counted, kept.shared.count)) at
+
     -- the next one is what a memory type's is
-    pub next_list : IsListOf l.config (properties_in l heaps) (whole t lists) i fl
-    next_list = own_listing l _ _ _ _ _ i fl kept.consistent (omega (arith, counted, inside)) at
+    pub next_buddy : IsBuddyFor l.config (properties_in l heaps) i b
+    next_buddy = subst (λ (o : Option Buddy). IfSome o (IsBuddyFor l.config (properties_in l heaps) i)) buddy_there (kept.shared.each i)
 
     -- and the first of those that are left
+    pub next_buddy_left : left_from buddies lists i ≡ buddy_part b ∷ left_from buddies lists (i + 1)
+    next_buddy_left =
+        ap (λ (ps : List Part). ps ++ map list_part lists) (at_drop_more (map buddy_part) buddies i b (omega (arith, kept.shared.count, counted, inside)))
+        ∙ (λ k. buddy_part (sym at k) ∷ left_from buddies lists (i + 1))
+
+  -- after the last of them there are the free lists
+  pub lists_left : count ≤ i → left_from buddies lists i ≡ map list_part (drop 0 lists)
+  lists_left past = ap (λ (ps : List Part). ps ++ map list_part lists) (at_drop_all (map buddy_part) buddies i (omega (arith, kept.shared.count, counted, past)))
+
+  module _ (fl : Listing) (inside : i < count) (at : fl ≡ get_or lists i fl) where
+    list_there : slice_get lists i ≡ Some fl
+    list_there = slice_get_read lists (length lists) i fl refl (omega (arith, inside, counted, kept.listed.count)) at
+
+    pub next_list : IsListFor l.config (properties_in l heaps) i fl
+    next_list = subst (λ (o : Option Listing). IfSome o (IsListFor l.config (properties_in l heaps) i)) list_there (kept.listed.each i)
+
     pub next_left : map list_part (drop i lists) ≡ list_part fl ∷ map list_part (drop (i + 1) lists)
-    next_left = at_drop_more (map list_part) lists i fl (omega (arith, kept.consistent.listed.count, counted, inside)) ∙ (λ k. list_part (sym at k) ∷ map list_part (drop (i + 1) lists))
+    next_left = at_drop_more (map list_part) lists i fl (omega (arith, kept.listed.count, counted, inside)) ∙ (λ k. list_part (sym at k) ∷ map list_part (drop (i + 1) lists))
 
   pub none_left : count ≤ i → map list_part (drop i lists) ≡ []
-  none_left past = at_drop_all (map list_part) lists i (omega (arith, kept.consistent.listed.count, counted, past))
-
--- each free list is sound
-abbrev pub AreSoundLists : List Listing → Type 0
-AreSoundLists [] = Unit {0}
-AreSoundLists (l ∷ ls) = IsSoundList l × AreSoundLists ls
-
-sound_from : (lists : List Listing) (IsOne : ℕ → Listing → Type 0) → ((i : ℕ) → IfSome (slice_get lists i) (IsOne i)) → ((i : ℕ) (l : Listing) → IsOne i l → IsSoundList l) → AreSoundLists lists
-sound_from [] IsOne each sound = tt
-sound_from (l ∷ ls) IsOne each sound = (sound 0 l (each 0), sound_from ls (λ i. IsOne (suc i)) (λ i. each (suc i)) (λ i. sound (suc i)))
-
-pub sound_lists : (c : Config) (p : Properties) (t : Table) (lists : List Listing) → HasLists c p t lists → AreSoundLists lists
-sound_lists c p t lists has = sound_from lists (IsListOf c p t) has.each (λ i l is. is.sound)
+  none_left past = at_drop_all (map list_part) lists i (omega (arith, kept.listed.count, counted, past))
 
 -- No object is held by two of them, and no span is live in two.
 
@@ -164,11 +173,12 @@ pub record AreCounted (all count : ℕ) (ps : List Part) : Type 0 where
   pub exact : count + finite.len (held_in ps) ≡ all
   pub separate : AreSeparate ps
 
--- the table is the first
-pub table_counted : (t : Table) (lists : List Listing) → AreWhole t lists → AreCounted (finite.len (whole t lists).held) (finite.len t.held) (map list_part lists)
-table_counted t lists apart =
-    let parts = separate IsPlace (parts_of t lists) apart in
-    record { exact = sym (join_len t.held (held_in (map list_part lists)) parts.0); separate = parts.2 }
+-- the objects of one block are the first
+pub own_counted : (own : OwnTable) (buddies : List Buddy) (lists : List Listing) → AreWhole own buddies lists
+    → AreCounted (finite.len (whole own buddies lists).held) (finite.len own.held) (left_from buddies lists 0)
+own_counted own buddies lists apart =
+    let parts = separate (IsPlace (length buddies)) (parts_of own buddies lists) apart in
+    record { exact = sym (join_len own.held (held_in (left_from buddies lists 0)) parts.0); separate = parts.2 }
 
 pub counted_next : (all count more : ℕ) (p : Part) (ps : List Part) → AreCounted all count (p ∷ ps) → more ≡ finite.len p.held → AreCounted all (count + more) ps
 counted_next all count more p ps counted is = record {

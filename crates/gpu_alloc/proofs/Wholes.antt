@@ -1,134 +1,73 @@
--- What the table and the free lists hold in all, as one of them changes.
-use Rattle.std.proofs.Common.{◌≡◌, ◌≢◌, Bool, false, true, MatchOption, Option, ℕ, zero, suc, ◌<◌, List, [], ◌∷◌, length, map, get_or, Some, None, IsTrue, refl, sym, ◌∙◌, ap, subst, arith}
+-- What all parts hold, as one of them changes: the objects of one block, or a memory type's buddy allocator or free list.
+use Rattle.std.proofs.Common.{◌≡◌, ◌≢◌, ◌⊎◌, inl, inr, false, true, ℕ, zero, suc, ◌+◌, ◌<◌, List, [], ◌∷◌, ◌++◌, length, map, get_or, slice_get, Some, None, IsTrue, refl, sym, ◌∙◌, ap, subst, arith}
 use Rattle.std.proofs.Math.ListN.{set}
-use Rattle.std.specs.FinMap as finite
-use Rattle.std.specs.FinSet as set_of
+use Rattle.std.proofs.lemmas.List.{length-set}
 use Rattle.std.specs.Cmp.{nat_cmp_total}
+use Rattle.std.specs.FinMap as finite
 use Rattle.std.specs.FinMap.{nat_cmp-IsAntisymmetric}
+use Rattle.std.specs.FinSet as set_of
 use Rattle.std.specs.Ordering.{nat_cmp}
-use Rattle.gpu_alloc_base.proofs.ListViews.{named_absent}
 use Rattle.gpu_alloc_base.specs.Chunks.{Chunk}
+use Rattle.gpu_alloc_base.specs.Leaves.{leaf_cmp}
 use Rattle.gpu_alloc_base.specs.Slots.{slot_cmp}
+use Rattle.gpu_alloc_base.specs.declared.buddy_block.Leaf.{Leaf}
 use Rattle.gpu_alloc_base.specs.declared.free_list_block.Slot.{Slot}
+use Rattle.gpu_alloc_base.proofs.Leaves.{leaf_total, leaf_exact}
+use Rattle.gpu_alloc_base.proofs.ListViews.{named_absent}
 use Rattle.gpu_alloc_base.proofs.Slots.{slot_total, slot_exact}
 use Rattle.gpu_alloc_block.specs.Parts.{Held, Live, Part, Chunks, HasLive, IsAt, Makes, by_name, by_span}
 use Rattle.gpu_alloc_block.specs.State.{HeldObject, Span, is_shared, span_cmp}
-use Rattle.gpu_alloc_block.specs.declared.block.Kind.{Kind}
 use Rattle.gpu_alloc_block.specs.declared.block.Kind.TheVariants.{BuddyChunk, FreeListChunk}
-use Rattle.gpu_alloc_block.proofs.Parts.ByName.{fresh_name, name_comes, name_goes, name_there, span_row_comes, span_row_goes, span_row_there}
-use Rattle.gpu_alloc_block.proofs.Parts.Steps.{holds_of, own_part, part_span, span_comes, object_comes, span_goes, object_goes, last_goes}
-use Rattle.gpu_alloc_block.proofs.Parts.Entries.{there_entry}
-use Rattle.gpu_alloc_block.proofs.Parts.Unions.{none_at, none_of, live_at, live_of}
-use Rattle.gpu_alloc_freelist.specs.FreeListSound.{IsSound}
-use Rattle.gpu_alloc_freelist.specs.FreeListState.{Listing, IsLiveSlot}
-use Rattle.gpu_alloc.specs.Own.{own_held, own_span, IsRowOf}
-use Rattle.gpu_alloc.specs.declared.own.OwnRow.{OwnRow}
-use Rattle.gpu_alloc.specs.Inside.{list_object, span_of_slot, with_new_chunk}
-use Rattle.gpu_alloc.specs.Spans.{IsHeldFor, Table, without_old}
 use Rattle.gpu_alloc_block.proofs.LiveSpans.{not_live, span_exact, span_total}
-use Rattle.gpu_alloc.specs.Whole.{list_part, table_part, parts_of, whole, AreWhole, IsKept, IsPlace}
-use Rattle.gpu_alloc_base.specs.declared.config.Config.{Config}
-use Rattle.gpu_alloc_base.specs.declared.heap.Heap.{Heap}
-use Rattle.gpu_alloc_buddy.specs.BuddyState.{Buddy}
-use Rattle.gpu_alloc_types.specs.Properties.{Properties}
-use Rattle.gpu_alloc.proofs.OwnObjects.{consistent-room}
+use Rattle.gpu_alloc_block.proofs.Parts.ByName.{span_row_there}
+use Rattle.gpu_alloc_block.proofs.Parts.Entries.{there_entry}
+use Rattle.gpu_alloc_block.proofs.Parts.Steps.{holds_of, own_part, part_span, object_comes, last_goes}
+use Rattle.gpu_alloc_block.proofs.Parts.Stores as store
+use Rattle.gpu_alloc_block.proofs.Parts.Unions.{none_at, none_of, live_at}
+use Rattle.gpu_alloc_buddy.specs.BuddySound.{IsSound}
+use Rattle.gpu_alloc_buddy.specs.BuddyState.{Buddy, IsLiveLeaf, space_of}
+use Rattle.gpu_alloc_pairs.proofs.LiveSpans.{one_leaf}
+use Rattle.gpu_alloc_freelist.specs.FreeListSound.{IsSound as IsSoundList}
+use Rattle.gpu_alloc_freelist.specs.FreeListState.{Listing, IsLiveSlot}
+use Rattle.gpu_alloc.specs.Inside.{chunk_object, list_object, span_of_leaf, span_of_slot}
+use Rattle.gpu_alloc.specs.Own.{OwnTable, own_held, own_span, IsRowOf}
+use Rattle.gpu_alloc.specs.declared.own.OwnRow.{OwnRow}
+use Rattle.gpu_alloc.specs.Whole.{own_part as part_of_own, buddy_part, list_part, parts_of, whole, AreWhole, IsPlace}
 
 -- an object has one place
-single : (i j : ℕ) (h : HeldObject) → IsPlace i h → IsPlace j h → i ≡ j
-single zero zero h a b = refl
-single zero (suc j) h a b = absurd (a b.0 b.1)
-single (suc i) zero h a b = absurd (b a.0 a.1)
-single (suc i) (suc j) h a b = ap suc (sym a.2 ∙ b.2)
+pub single : (types i j : ℕ) (h : HeldObject) → IsPlace types i h → IsPlace types j h → i ≡ j
+single types zero zero h a b = refl
+single types zero (suc j) h a (inl b) = let both = ap is_shared (sym b.0) ∙ a in absurd (cc)
+single types zero (suc j) h a (inr b) = let both = ap is_shared (sym b.1) ∙ a in absurd (cc)
+single types (suc i) zero h (inl a) b = let both = ap is_shared (sym a.0) ∙ b in absurd (cc)
+single types (suc i) zero h (inr a) b = let both = ap is_shared (sym a.1) ∙ b in absurd (cc)
+single types (suc i) (suc j) h (inl a) (inl b) = ap suc (sym a.1 ∙ b.1)
+single types (suc i) (suc j) h (inl a) (inr b) = let both : BuddyChunk ≡ FreeListChunk b.0 = sym a.0 ∙ b.1 in absurd (cc)
+single types (suc i) (suc j) h (inr a) (inl b) = let both : BuddyChunk ≡ FreeListChunk a.0 = sym b.0 ∙ a.1 in absurd (cc)
+single types (suc i) (suc j) h (inr a) (inr b) = ap suc (sym a.2 ∙ b.2)
 
--- the object is held as a buddy chunk
-abbrev pub IsHeldAsBuddy : Table → ℕ → Type 0
-IsHeldAsBuddy t object = (h : HeldObject) × (finite.get t.held object ≡ Some h) × (h.kind ≡ BuddyChunk)
+-- Where parts stand.
 
-pub no_number_buddy : (kind : Kind) → kind ≡ BuddyChunk → (number : ℕ) → kind ≢ FreeListChunk number
-no_number_buddy kind is number same = let both : BuddyChunk ≡ FreeListChunk number = sym is ∙ same in absurd (cc)
-
--- The table.
-
-module _ (t : Table) (lists : List Listing) (apart : AreWhole t lists) where
-  -- what it holds, and no other
-  pub held_whole : (object : ℕ) (h : HeldObject) → finite.get t.held object ≡ Some h → finite.get (whole t lists).held object ≡ Some h
-  held_whole object h has = holds_of IsPlace (parts_of t lists) apart zero (table_part t) object h refl has
-
-  pub held_here : (object : ℕ) (h : HeldObject) → finite.get (whole t lists).held object ≡ Some h → ((number : ℕ) → h.kind ≢ FreeListChunk number) → finite.get t.held object ≡ Some h
-  held_here object h is kind = own_part IsPlace (parts_of t lists) apart single zero (table_part t) object h is kind refl
-
-  pub unheld_here : (object : ℕ) → finite.get (whole t lists).held object ≡ None → finite.get t.held object ≡ None
-  unheld_here object none = none_at (parts_of t lists) object none zero (table_part t) refl
-
-  pub live_whole : (span : Span) → IsTrue (set_of.contains t.live span) → IsTrue (set_of.contains (whole t lists).live span)
-  live_whole span live = live_of (parts_of t lists) zero (table_part t) span refl live
-
-  pub live_here : (span : Span) (h : HeldObject) → IsTrue (set_of.contains (whole t lists).live span) → finite.get t.held span.object ≡ Some h → IsTrue (set_of.contains t.live span)
-  live_here span h live has = part_span IsPlace (parts_of t lists) apart zero (table_part t) span h live has refl
-
-  -- Its changes.
-
-  module _ (now : Table) where
-    pub table_span_comes : (span : Span) (h : HeldObject) → finite.get t.held span.object ≡ Some h → now.held ≡ t.held → now.live ≡ set_of.insert t.live span
-        → Makes IsPlace (parts_of now lists) (whole t lists).held (set_of.insert (whole t lists).live span)
-    table_span_comes span h has held live = span_comes IsPlace (parts_of t lists) apart zero (table_part t) (table_part now) refl span h has held live
-
-    pub table_object_comes : (span : Span) (h : HeldObject) → finite.get (whole t lists).held span.object ≡ None → ((number : ℕ) → h.kind ≢ FreeListChunk number)
-        → now.held ≡ finite.insert t.held span.object h → now.live ≡ set_of.insert t.live span
-        → Makes IsPlace (parts_of now lists) (finite.insert (whole t lists).held span.object h) (set_of.insert (whole t lists).live span)
-    table_object_comes span h none kind held live = object_comes IsPlace (parts_of t lists) apart zero (table_part t) (table_part now) refl span h none kind held live
-
-    pub table_span_goes : (span : Span) (h : HeldObject) → finite.get t.held span.object ≡ Some h → now.held ≡ t.held → now.live ≡ set_of.remove t.live span
-        → Makes IsPlace (parts_of now lists) (whole t lists).held (set_of.remove (whole t lists).live span)
-    table_span_goes span h has held live = span_goes IsPlace (parts_of t lists) apart zero (table_part t) (table_part now) refl span h has held live
-
-    pub table_last_goes : (span : Span) (h : HeldObject) → finite.get t.held span.object ≡ Some h → ((other : Span) → IsTrue (set_of.contains t.live other) → other.object ≡ span.object → other ≡ span)
-        → now.held ≡ finite.remove t.held span.object → now.live ≡ set_of.remove t.live span
-        → Makes IsPlace (parts_of now lists) (finite.remove (whole t lists).held span.object) (set_of.remove (whole t lists).live span)
-    table_last_goes span h has last held live = last_goes IsPlace (parts_of t lists) apart zero (table_part t) (table_part now) refl span h has last held live
-
-    -- an object of one block goes
-    pub own_goes : (row : OwnRow) (object : ℕ) → IsRowOf t.held t.live object row → now.held ≡ finite.remove t.held object → now.live ≡ set_of.remove t.live (own_span row)
-        → Makes IsPlace (parts_of now lists) (finite.remove (whole t lists).held object) (set_of.remove (whole t lists).live (own_span row))
-    own_goes row object of held live =
-        subst (λ n. Makes IsPlace (parts_of now lists) (finite.remove (whole t lists).held n) (set_of.remove (whole t lists).live (own_span row))) of.named
-        (table_last_goes (own_span row) (own_held row) (ap (finite.get t.held) of.named ∙ of.is_held) (λ other stood same. of.alone other stood (same ∙ of.named)) (held ∙ ap (finite.remove t.held) (sym of.named)) live)
-
-    -- a block of a buddy chunk comes, and its chunk where that is new
-    pub leaf_comes : (span : Span) (memory_type : ℕ) (new_chunk : Option ℕ) → MatchOption new_chunk (IsHeldAsBuddy (whole t lists) span.object) (λ _. finite.get (whole t lists).held span.object ≡ None)
-        → now.held ≡ with_new_chunk t.held span.object memory_type BuddyChunk new_chunk → now.live ≡ set_of.insert t.live span
-        → Makes IsPlace (parts_of now lists) (with_new_chunk (whole t lists).held span.object memory_type BuddyChunk new_chunk) (set_of.insert (whole t lists).live span)
-    leaf_comes span memory_type None chunk held live = table_span_comes span chunk.0 (held_here span.object chunk.0 chunk.1 (no_number_buddy chunk.0.kind chunk.2)) held live
-    leaf_comes span memory_type (Some size) none held live = table_object_comes span (record { memory_type = memory_type; counted = size; kind = BuddyChunk }) none (λ number same. absurd (cc)) held live
-
-    -- and goes, with its chunk where no other block of it is live
-    pub leaf_goes : (span : Span) (h : HeldObject) (asked : Bool) → finite.get t.held span.object ≡ Some h
-        → (asked ≡ true → (other : Span) → IsTrue (set_of.contains (whole t lists).live other) → other.object ≡ span.object → other ≡ span)
-        → now.held ≡ without_old t.held span.object asked → now.live ≡ set_of.remove t.live span
-        → Makes IsPlace (parts_of now lists) (without_old (whole t lists).held span.object asked) (set_of.remove (whole t lists).live span)
-    leaf_goes span h false has last held live = table_span_goes span h has held live
-    leaf_goes span h true has last held live = table_last_goes span h has (λ other stood. last refl other (live_whole other stood)) held live
-
-  -- the chunk of a block that came from a buddy allocator
-  pub chunk_here : (object : ℕ) (new_chunk : Option ℕ) → MatchOption new_chunk (IsHeldAsBuddy (whole t lists) object) (λ _. finite.get (whole t lists).held object ≡ None)
-      → MatchOption new_chunk (IsHeldFor true t.held object) (λ _. finite.get t.held object ≡ None)
-  chunk_here object None chunk = (chunk.0, held_here object chunk.0 chunk.1 (no_number_buddy chunk.0.kind chunk.2), ap is_shared chunk.2)
-  chunk_here object (Some size) none = unheld_here object none
-
-  -- a span that is not live is not in the table
-  pub dead_here : (span : Span) → set_of.contains (whole t lists).live span ≡ false → set_of.contains t.live span ≡ false
-  dead_here span dead = not_live t.live span (λ live. let there = live_whole span live in let bad : false ≡ true = sym dead ∙ there in absurd (cc))
-
--- an object of one block is no chunk of a free list
-pub no_number : (kind : Kind) → is_shared kind ≡ false → (number : ℕ) → kind ≢ FreeListChunk number
-no_number kind own number same = let both = ap is_shared (sym same) ∙ own in absurd (cc)
-
--- A free list.
-
-at_read : {A : Type 0} (xs : List A) (i : ℕ) (x : A) → i < length xs → x ≡ get_or xs i x → IsAt xs i x
+pub at_read : {A : Type 0} (xs : List A) (i : ℕ) (x : A) → i < length xs → x ≡ get_or xs i x → IsAt xs i x
 at_read [] i x inside at = absurd (omega (arith, inside))
 at_read (y ∷ ys) zero x inside at = sym at
 at_read (y ∷ ys) (suc i) x inside at = at_read ys i x (omega (arith, inside)) at
+
+pub stands_at : {A : Type 0} (xs : List A) (i : ℕ) (x : A) → slice_get xs i ≡ Some x → IsAt xs i x
+stands_at [] i x at = absurd (cc)
+stands_at (y ∷ ys) zero x at = (let same : y ≡ x = cc in same)
+stands_at (y ∷ ys) (suc i) x at = stands_at ys i x at
+
+pub within : {A : Type 0} (xs : List A) (i : ℕ) (x : A) → slice_get xs i ≡ Some x → i < length xs
+within [] i x at = absurd (cc)
+within (y ∷ ys) zero x at = omega arith
+within (y ∷ ys) (suc i) x at = let later = within ys i x at in omega (arith, later)
+
+-- what is read of a place twice is one
+pub one_read : {A : Type 0} (xs : List A) (i : ℕ) (x y : A) → i < length xs → x ≡ get_or xs i x → y ≡ get_or xs i y → x ≡ y
+one_read [] i x y inside a b = absurd (omega (arith, inside))
+one_read (z ∷ zs) zero x y inside a b = a ∙ sym b
+one_read (z ∷ zs) (suc i) x y inside a b = one_read zs i x y (omega (arith, inside)) a b
 
 at_map : {A B : Type 0} (f : A → B) (xs : List A) (i : ℕ) (x : A) → IsAt xs i x → IsAt (map f xs) i (f x)
 at_map f [] i x at = absurd at
@@ -140,8 +79,152 @@ set_map f [] i x = refl
 set_map f (y ∷ ys) zero x = refl
 set_map f (y ∷ ys) (suc i) x = ap (λ zs. f y ∷ zs) (set_map f ys i x)
 
+-- among the first ones, and among those behind them
+
+at_first : {A B : Type 0} (f : A → B) (xs : List A) (ys : List B) (i : ℕ) (x : A) → IsAt xs i x → IsAt (map f xs ++ ys) i (f x)
+at_first f [] ys i x at = absurd at
+at_first f (z ∷ zs) ys zero x at = ap f at
+at_first f (z ∷ zs) ys (suc i) x at = at_first f zs ys i x at
+
+set_first : {A B : Type 0} (f : A → B) (xs : List A) (ys : List B) (i : ℕ) (x new : A) → IsAt xs i x → set (map f xs ++ ys) i (f new) ≡ map f (set xs i new) ++ ys
+set_first f [] ys i x new at = absurd at
+set_first f (z ∷ zs) ys zero x new at = refl
+set_first f (z ∷ zs) ys (suc i) x new at = ap (λ rest. f z ∷ rest) (set_first f zs ys i x new at)
+
+-- the place behind so many
+abbrev behind : {A : Type 0} → List A → ℕ → ℕ
+behind [] i = i
+behind (x ∷ xs) i = suc (behind xs i)
+
+behind_is : {A : Type 0} (xs : List A) (i : ℕ) → behind xs i ≡ length xs + i
+behind_is [] i = omega arith
+behind_is (x ∷ xs) i = omega (arith, behind_is xs i)
+
+stands_behind : {A B : Type 0} (f : A → B) (xs : List A) (ys : List B) (i : ℕ) (y : B) → IsAt ys i y → IsAt (map f xs ++ ys) (behind xs i) y
+stands_behind f [] ys i y at = at
+stands_behind f (z ∷ zs) ys i y at = stands_behind f zs ys i y at
+
+at_later : {A B : Type 0} (f : A → B) (xs : List A) (ys : List B) (i : ℕ) (y : B) → IsAt ys i y → IsAt (map f xs ++ ys) (length xs + i) y
+at_later f xs ys i y at = subst (λ n. IsAt (map f xs ++ ys) n y) (behind_is xs i) (stands_behind f xs ys i y at)
+
+set_behind : {A B : Type 0} (f : A → B) (xs : List A) (ys : List B) (i : ℕ) (new : B) → set (map f xs ++ ys) (behind xs i) new ≡ map f xs ++ set ys i new
+set_behind f [] ys i new = refl
+set_behind f (z ∷ zs) ys i new = ap (λ rest. f z ∷ rest) (set_behind f zs ys i new)
+
+set_later : {A B : Type 0} (f : A → B) (xs : List A) (ys : List B) (i : ℕ) (new : B) → set (map f xs ++ ys) (length xs + i) new ≡ map f xs ++ set ys i new
+set_later f xs ys i new = ap (λ n. set (map f xs ++ ys) n new) (sym (behind_is xs i)) ∙ set_behind f xs ys i new
+
+-- which of both it is
+at_cases : {A B : Type 0} (f : A → B) (xs : List A) (ys : List B) (i : ℕ) (y : B) → IsAt (map f xs ++ ys) i y → ((x : A) × IsAt xs i x × (f x ≡ y)) ⊎ ((j : ℕ) × IsAt ys j y)
+at_cases f [] ys i y at = inr (i, at)
+at_cases f (z ∷ zs) ys zero y at = inl (z, refl, at)
+at_cases f (z ∷ zs) ys (suc i) y at = at_cases f zs ys i y at
+
+at_of_map : {A B : Type 0} (f : A → B) (xs : List A) (i : ℕ) (y : B) → IsAt (map f xs) i y → (x : A) × IsAt xs i x × (f x ≡ y)
+at_of_map f [] i y at = absurd at
+at_of_map f (x ∷ xs) zero y at = (x, refl, at)
+at_of_map f (x ∷ xs) (suc i) y at = at_of_map f xs i y at
+
+-- Objects of one block.
+
+module _ (own : OwnTable) (buddies : List Buddy) (lists : List Listing) (apart : AreWhole own buddies lists) where
+  abbrev ps : List Part
+  ps = parts_of own buddies lists
+
+  abbrev Place : ℕ → HeldObject → Type 0
+  Place = IsPlace (length buddies)
+
+  pub held_whole : (object : ℕ) (h : HeldObject) → finite.get own.held object ≡ Some h → finite.get (whole own buddies lists).held object ≡ Some h
+  held_whole object h has = holds_of Place ps apart zero (part_of_own own) object h refl has
+
+  pub held_here : (object : ℕ) (h : HeldObject) → finite.get (whole own buddies lists).held object ≡ Some h → is_shared h.kind ≡ false → finite.get own.held object ≡ Some h
+  held_here object h is kind = own_part Place ps apart (single (length buddies)) zero (part_of_own own) object h is kind refl
+
+  pub unheld_here : (object : ℕ) → finite.get (whole own buddies lists).held object ≡ None → finite.get own.held object ≡ None
+  unheld_here object none = none_at ps object none zero (part_of_own own) refl
+
+  pub live_here : (span : Span) (h : HeldObject) → IsTrue (set_of.contains (whole own buddies lists).live span) → finite.get own.held span.object ≡ Some h → IsTrue (set_of.contains own.live span)
+  live_here span h live has = part_span Place ps apart zero (part_of_own own) span h live has refl
+
+  pub live_held : (span : Span) → IsTrue (set_of.contains own.live span) → (h : HeldObject) × (finite.get own.held span.object ≡ Some h)
+  live_held span live = apart.inside zero (part_of_own own) span refl live
+
+  module _ (now : OwnTable) where
+    pub own_comes : (span : Span) (h : HeldObject) → finite.get (whole own buddies lists).held span.object ≡ None → is_shared h.kind ≡ false
+        → now.held ≡ finite.insert own.held span.object h → now.live ≡ set_of.insert own.live span
+        → Makes Place (parts_of now buddies lists) (finite.insert (whole own buddies lists).held span.object h) (set_of.insert (whole own buddies lists).live span)
+    own_comes span h none kind held live = object_comes Place ps apart zero (part_of_own own) (part_of_own now) refl span h none kind held live
+
+    pub own_goes : (row : OwnRow) (object : ℕ) → IsRowOf own.held own.live object row → now.held ≡ finite.remove own.held object → now.live ≡ set_of.remove own.live (own_span row)
+        → Makes Place (parts_of now buddies lists) (finite.remove (whole own buddies lists).held object) (set_of.remove (whole own buddies lists).live (own_span row))
+    own_goes row object of held live =
+        subst (λ n. Makes Place (parts_of now buddies lists) (finite.remove (whole own buddies lists).held n) (set_of.remove (whole own buddies lists).live (own_span row))) of.named
+        (last_goes Place ps apart zero (part_of_own own) (part_of_own now) refl (own_span row) (own_held row) (ap (finite.get own.held) of.named ∙ of.is_held) (λ other stood same. of.alone other stood (same ∙ of.named))
+        (held ∙ ap (finite.remove own.held) (sym of.named)) live)
+
+-- Room is made for one more, and nothing else changes.
+
+module _ (own now : OwnTable) (buddies : List Buddy) (lists : List Listing) (apart : AreWhole own buddies lists) (kept : now ≡ record own { room = now.room }) (object : ℕ) (none : finite.get (whole own buddies lists).held object ≡ None) where
+  pub unheld_then : finite.get now.held object ≡ None
+  unheld_then = ap (λ (x : OwnTable). finite.get x.held object) kept ∙ unheld_here own buddies lists apart object none
+
+-- A memory type's buddy allocator.
+
+module _ (own : OwnTable) (buddies : List Buddy) (lists : List Listing) (apart : AreWhole own buddies lists) (index : ℕ) (b : Buddy) (at : IsAt buddies index b) (inside : index < length buddies) (sound : IsSound b) (typed : b.memory_type ≡ index) where
+  abbrev types : ℕ
+  types = length buddies
+
+  abbrev object_in : ℕ → Chunk → HeldObject
+  object_in key c = chunk_object b c
+
+  pub at_buddy : IsAt (parts_of own buddies lists) (suc index) (buddy_part b)
+  at_buddy = at_first buddy_part buddies (map list_part lists) index b at
+
+  one_span : (x y : Leaf) → IsLiveLeaf b x → IsLiveLeaf b y → ◌≡◌ {A = Span} (span_of_leaf x) (span_of_leaf y) → x ≡ y
+  one_span x y live also same = one_leaf (space_of b) sound.space x y live also (ap (λ (s : Span). s.object) same) (ap (λ (s : Span). s.offset) same)
+
+  module _ (new : Buddy) (same : new.memory_type ≡ b.memory_type) where
+    buddy_held_as : (chunks : Chunks) → new.chunks ≡ chunks → (buddy_part new).held ≡ by_name object_in chunks
+    buddy_held_as chunks is = λ k. by_name (λ _ c. record { memory_type = same k; counted = c.size; kind = BuddyChunk }) (is k)
+
+    makes : {held : Held} {live : Live} → Makes (IsPlace types) (set (parts_of own buddies lists) (suc index) (buddy_part new)) held live → Makes (IsPlace (length (set buddies index new))) (parts_of own (set buddies index new) lists) held live
+    makes {held} {live} it =
+        subst (λ n. Makes (IsPlace n) (parts_of own (set buddies index new) lists) held live) (sym (length-set buddies index new))
+        (subst (λ rest. Makes (IsPlace types) (part_of_own own ∷ rest) held live) (set_first buddy_part buddies (map list_part lists) index b new at) it)
+
+    pub leaf_comes : (leaf : Leaf) (c : Chunk) → finite.get b.chunks leaf.chunk ≡ Some c → leaf.object ≡ c.object → new.chunks ≡ b.chunks → new.live ≡ set_of.insert b.live leaf
+        → Makes (IsPlace (length (set buddies index new))) (parts_of own (set buddies index new) lists) (whole own buddies lists).held (set_of.insert (whole own buddies lists).live (span_of_leaf leaf))
+    leaf_comes leaf c is named chunks live =
+        makes (store.row_comes leaf_total leaf_exact span_of_leaf (IsPlace types) (parts_of own buddies lists) apart (suc index) object_in b.chunks b.live sound.space.one_object at_buddy (buddy_part new) leaf leaf.chunk c is named
+        (buddy_held_as b.chunks chunks) (ap (by_span span_of_leaf) live))
+
+    pub buddy_chunk_comes : (leaf : Leaf) (c : Chunk) → finite.get (whole own buddies lists).held leaf.object ≡ None → leaf.object ≡ c.object → finite.get b.chunks leaf.chunk ≡ None
+        → new.chunks ≡ finite.insert b.chunks leaf.chunk c → new.live ≡ set_of.insert b.live leaf
+        → Makes (IsPlace (length (set buddies index new))) (parts_of own (set buddies index new) lists) (finite.insert (whole own buddies lists).held leaf.object (chunk_object b c)) (set_of.insert (whole own buddies lists).live (span_of_leaf leaf))
+    buddy_chunk_comes leaf c none named free chunks live =
+        makes (store.chunk_comes leaf_total leaf_exact span_of_leaf (IsPlace types) (parts_of own buddies lists) apart (suc index) object_in b.chunks b.live sound.space.one_object at_buddy (buddy_part new) leaf leaf.chunk c none named free
+        (inl (refl, typed, inside)) (buddy_held_as _ chunks) (ap (by_span span_of_leaf) live))
+
+    pub leaf_goes : (leaf : Leaf) → IsLiveLeaf b leaf → new.chunks ≡ b.chunks → new.live ≡ set_of.remove b.live leaf
+        → Makes (IsPlace (length (set buddies index new))) (parts_of own (set buddies index new) lists) (whole own buddies lists).held (set_of.remove (whole own buddies lists).live (span_of_leaf leaf))
+    leaf_goes leaf was chunks live =
+        let lies = sound.space.inside leaf was in
+        makes (store.row_goes leaf_total leaf_exact span_of_leaf (IsPlace types) (parts_of own buddies lists) apart (suc index) object_in b.chunks b.live sound.space.one_object at_buddy (buddy_part new) one_span leaf was leaf.chunk lies.chunk lies.held lies.object
+        (ap (by_span span_of_leaf) live) (buddy_held_as b.chunks chunks))
+
+    pub last_leaf_goes : (leaf : Leaf) → IsLiveLeaf b leaf → ((other : Leaf) → IsLiveLeaf b other → other.chunk ≡ leaf.chunk → other ≡ leaf) → new.chunks ≡ finite.remove b.chunks leaf.chunk → new.live ≡ set_of.remove b.live leaf
+        → Makes (IsPlace (length (set buddies index new))) (parts_of own (set buddies index new) lists) (finite.remove (whole own buddies lists).held leaf.object) (set_of.remove (whole own buddies lists).live (span_of_leaf leaf))
+    last_leaf_goes leaf was last chunks live =
+        let lies = sound.space.inside leaf was in
+        makes (store.last_row_goes leaf_total leaf_exact span_of_leaf (IsPlace types) (parts_of own buddies lists) apart (suc index) object_in b.chunks b.live sound.space.one_object at_buddy (buddy_part new) one_span leaf was leaf.chunk lies.chunk lies.held lies.object
+        (ap (by_span span_of_leaf) live)
+        (λ other stood named. let of = sound.space.inside other stood in last other stood (sound.space.one_object other.chunk leaf.chunk of.chunk lies.chunk of.held lies.held (sym of.object ∙ named)))
+        (buddy_held_as _ chunks))
+
+-- A memory type's free list.
+
 -- no two live slots have one span
-one_slot : (l : Listing) → IsSound l → (a b : Slot) → IsLiveSlot l.space a → IsLiveSlot l.space b → ◌≡◌ {A = Span} (span_of_slot a) (span_of_slot b) → a ≡ b
+pub one_slot : (l : Listing) → IsSoundList l → (a b : Slot) → IsLiveSlot l.space a → IsLiveSlot l.space b → ◌≡◌ {A = Span} (span_of_slot a) (span_of_slot b) → a ≡ b
 one_slot l sound a b live_a live_b same =
     let in_a = sound.space.inside a live_a in
     let in_b = sound.space.inside b live_b in
@@ -149,124 +232,93 @@ one_slot l sound a b live_a live_b same =
     let number = sound.one_object a.chunk b.chunk in_a.chunk in_b.chunk in_a.held in_b.held objects in
     λ k. record { object = (same k).object; chunk = number k; offset = (same k).offset; size = (same k).size }
 
-module _ (t : Table) (lists : List Listing) (apart : AreWhole t lists) (index : ℕ) (l : Listing) (inside : index < length lists) (at : l ≡ get_or lists index l) (sound : IsSound l) (typed : l.memory_type ≡ index) where
-  at_list : IsAt (parts_of t lists) (suc index) (list_part l)
-  at_list = at_map list_part lists index l (at_read lists index l inside at)
+module _ (own : OwnTable) (buddies : List Buddy) (lists : List Listing) (apart : AreWhole own buddies lists) (index : ℕ) (l : Listing) (at : IsAt lists index l) (sound : IsSoundList l) (typed : l.memory_type ≡ index) where
+  abbrev types_before : ℕ
+  types_before = length buddies
 
-  -- what it holds, and no other
-  pub chunk_whole : (number : ℕ) (c : Chunk) → finite.get l.space.chunks number ≡ Some c → finite.get (whole t lists).held c.object ≡ Some (list_object l number c)
-  chunk_whole number c is = holds_of IsPlace (parts_of t lists) apart (suc index) (list_part l) c.object (list_object l number c) at_list (name_there (list_object l) l.space.chunks sound.one_object number c is)
-
-  -- Its changes.
+  pub at_list : IsAt (parts_of own buddies lists) (suc (types_before + index)) (list_part l)
+  at_list = at_later buddy_part buddies (map list_part lists) index (list_part l) (at_map list_part lists index l at)
 
   module _ (new : Listing) (same : new.memory_type ≡ l.memory_type) where
-    held_as : (chunks : Chunks) → new.space.chunks ≡ chunks → (list_part new).held ≡ by_name (list_object l) chunks
-    held_as chunks is = λ k. by_name (λ number c. record { memory_type = same k; counted = c.size; kind = FreeListChunk number }) (is k)
+    list_held_as : (chunks : Chunks) → new.space.chunks ≡ chunks → (list_part new).held ≡ by_name (list_object l) chunks
+    list_held_as chunks is = λ k. by_name (λ number c. record { memory_type = same k; counted = c.size; kind = FreeListChunk number }) (is k)
 
-    makes : {held : finite.FinMap _ HeldObject} {live : set_of.FinSet _} → Makes IsPlace (set (parts_of t lists) (suc index) (list_part new)) held live → Makes IsPlace (parts_of t (set lists index new)) held live
-    makes {held} {live} it = subst (λ ps. Makes IsPlace (table_part t ∷ ps) held live) (set_map list_part lists index new) it
+    makes_list : {held : Held} {live : Live} → Makes (IsPlace types_before) (set (parts_of own buddies lists) (suc (types_before + index)) (list_part new)) held live → Makes (IsPlace types_before) (parts_of own buddies (set lists index new)) held live
+    makes_list {held} {live} it =
+        subst (λ rest. Makes (IsPlace types_before) (part_of_own own ∷ rest) held live) (set_later buddy_part buddies (map list_part lists) index (list_part new) ∙ ap (λ ys. map buddy_part buddies ++ ys) (set_map list_part lists index new)) it
 
     pub slot_comes : (slot : Slot) (c : Chunk) → finite.get l.space.chunks slot.chunk ≡ Some c → slot.object ≡ c.object → new.space.chunks ≡ l.space.chunks → new.space.live ≡ set_of.insert l.space.live slot
-        → Makes IsPlace (parts_of t (set lists index new)) (whole t lists).held (set_of.insert (whole t lists).live (span_of_slot slot))
+        → Makes (IsPlace types_before) (parts_of own buddies (set lists index new)) (whole own buddies lists).held (set_of.insert (whole own buddies lists).live (span_of_slot slot))
     slot_comes slot c is named chunks live =
-        let there = name_there (list_object l) l.space.chunks sound.one_object slot.chunk c is in
-        makes (span_comes IsPlace (parts_of t lists) apart (suc index) (list_part l) (list_part new) at_list (span_of_slot slot) (list_object l slot.chunk c) (ap (finite.get (list_part l).held) named ∙ there)
-        (held_as l.space.chunks chunks) (ap (by_span span_of_slot) live ∙ span_row_comes slot_total slot_exact span_of_slot l.space.live slot))
+        makes_list (store.row_comes slot_total slot_exact span_of_slot (IsPlace types_before) (parts_of own buddies lists) apart (suc (types_before + index)) (list_object l) l.space.chunks l.space.live sound.one_object at_list (list_part new) slot slot.chunk c is named
+        (list_held_as l.space.chunks chunks) (ap (by_span span_of_slot) live))
 
-    pub chunk_comes : (slot : Slot) (number : ℕ) (c : Chunk) → finite.get (whole t lists).held slot.object ≡ None → slot.object ≡ c.object → finite.get l.space.chunks number ≡ None
+    pub list_chunk_comes : (slot : Slot) (number : ℕ) (c : Chunk) → finite.get (whole own buddies lists).held slot.object ≡ None → slot.object ≡ c.object → finite.get l.space.chunks number ≡ None
         → new.space.chunks ≡ finite.insert l.space.chunks number c → new.space.live ≡ set_of.insert l.space.live slot
-        → Makes IsPlace (parts_of t (set lists index new)) (finite.insert (whole t lists).held slot.object (list_object l number c)) (set_of.insert (whole t lists).live (span_of_slot slot))
-    chunk_comes slot number c none named free chunks live =
-        let unheld = none_at (parts_of t lists) slot.object none (suc index) (list_part l) at_list in
-        let fresh = fresh_name (list_object l) l.space.chunks sound.one_object slot.object unheld in
-        let comes = name_comes (list_object l) l.space.chunks sound.one_object number c free (λ i a is_a same_name. fresh i a is_a (same_name ∙ sym named)) in
-        makes (object_comes IsPlace (parts_of t lists) apart (suc index) (list_part l) (list_part new) at_list (span_of_slot slot) (list_object l number c) none (number, refl, typed)
-        (held_as _ chunks ∙ comes ∙ ap (λ n. finite.insert (list_part l).held n (list_object l number c)) (sym named))
-        (ap (by_span span_of_slot) live ∙ span_row_comes slot_total slot_exact span_of_slot l.space.live slot))
+        → Makes (IsPlace types_before) (parts_of own buddies (set lists index new)) (finite.insert (whole own buddies lists).held slot.object (list_object l number c)) (set_of.insert (whole own buddies lists).live (span_of_slot slot))
+    list_chunk_comes slot number c none named free chunks live =
+        makes_list (store.chunk_comes slot_total slot_exact span_of_slot (IsPlace types_before) (parts_of own buddies lists) apart (suc (types_before + index)) (list_object l) l.space.chunks l.space.live sound.one_object at_list (list_part new) slot number c none named free
+        (inr (number, refl, ap (λ n. types_before + n) typed)) (list_held_as _ chunks) (ap (by_span span_of_slot) live))
 
     pub slot_goes : (slot : Slot) → IsLiveSlot l.space slot → new.space.chunks ≡ l.space.chunks → new.space.live ≡ set_of.remove l.space.live slot
-        → Makes IsPlace (parts_of t (set lists index new)) (whole t lists).held (set_of.remove (whole t lists).live (span_of_slot slot))
+        → Makes (IsPlace types_before) (parts_of own buddies (set lists index new)) (whole own buddies lists).held (set_of.remove (whole own buddies lists).live (span_of_slot slot))
     slot_goes slot was chunks live =
         let lies = sound.space.inside slot was in
-        let there = name_there (list_object l) l.space.chunks sound.one_object slot.chunk lies.chunk lies.held in
-        makes (span_goes IsPlace (parts_of t lists) apart (suc index) (list_part l) (list_part new) at_list (span_of_slot slot) (list_object l slot.chunk lies.chunk) (ap (finite.get (list_part l).held) lies.object ∙ there)
-        (held_as l.space.chunks chunks) (ap (by_span span_of_slot) live ∙ span_row_goes slot_total slot_exact span_of_slot l.space.live slot (one_slot l sound) was))
+        makes_list (store.row_goes slot_total slot_exact span_of_slot (IsPlace types_before) (parts_of own buddies lists) apart (suc (types_before + index)) (list_object l) l.space.chunks l.space.live sound.one_object at_list (list_part new) (one_slot l sound) slot was slot.chunk lies.chunk lies.held lies.object
+        (ap (by_span span_of_slot) live) (list_held_as l.space.chunks chunks))
 
-    pub chunk_goes : (number : ℕ) (c : Chunk) → finite.get l.space.chunks number ≡ Some c → ((slot : Slot) → IsLiveSlot l.space slot → slot.chunk ≢ number)
+    pub list_chunk_goes : (number : ℕ) (c : Chunk) → finite.get l.space.chunks number ≡ Some c → ((slot : Slot) → IsLiveSlot l.space slot → slot.chunk ≢ number)
         → new.space.chunks ≡ finite.remove l.space.chunks number → new.space.live ≡ l.space.live
-        → Makes IsPlace (parts_of t (set lists index new)) (finite.remove (whole t lists).held c.object) (whole t lists).live
-    chunk_goes number c is unused chunks live =
-        makes (object_goes IsPlace (parts_of t lists) apart (suc index) (list_part l) (list_part new) at_list c.object (list_object l number c) (name_there (list_object l) l.space.chunks sound.one_object number c is)
-        (λ span stood same.
-        let row = span_row_there slot_total slot_exact span_of_slot l.space.live span stood in
-        let lies = sound.space.inside row.0 row.1 in
-        unused row.0 row.1 (sound.one_object row.0.chunk number lies.chunk c lies.held is (sym lies.object ∙ ap (λ (x : Span). x.object) row.2 ∙ same)))
-        (held_as _ chunks ∙ name_goes (list_object l) l.space.chunks sound.one_object number c is)
-        (ap (by_span span_of_slot) live))
-
--- a span in the table is of an object that it holds
-pub live_held : (t : Table) (lists : List Listing) → AreWhole t lists → (span : Span) → IsTrue (set_of.contains t.live span) → (h : HeldObject) × (finite.get t.held span.object ≡ Some h)
-live_held t lists apart span live = apart.inside zero (table_part t) span refl live
-
--- Room is made, and nothing else changes.
-
-module _ (t now : Table) (lists : List Listing) (apart : AreWhole t lists) (kept : now ≡ record t { room = now.room }) (object : ℕ) (none : finite.get (whole t lists).held object ≡ None) where
-  -- what is not held is not in the table
-  pub unheld_then : finite.get now.held object ≡ None
-  unheld_then = ap (λ (x : Table). finite.get x.held object) kept ∙ unheld_here t lists apart object none
-
-  pub unused_then : (span : Span) → IsTrue (set_of.contains now.live span) → span.object ≢ object
-  unused_then span live same =
-      let was = subst (λ (x : Table). IsTrue (set_of.contains x.live span)) kept live in
-      let held = live_held t lists apart span was in
-      let there : finite.get t.held object ≡ Some held.0 = ap (finite.get t.held) (sym same) ∙ held.1 in
-      let here = unheld_here t lists apart object none in
-      absurd (cc)
-
-pub kept-room : (c : Config) (p : Properties) (heaps : List Heap) (buddies : List Buddy) (lists : List Listing) (t now : Table) (remaining : ℕ) → now ≡ record t { room = now.room }
-    → IsKept c p heaps buddies lists t remaining → IsKept c p heaps buddies lists now remaining
-kept-room c p heaps buddies lists t now remaining kept is = record {
-  consistent = consistent-room c p heaps buddies lists (whole t lists) (whole now lists) remaining (ap (λ x. whole x lists) kept) is.consistent;
-  apart = subst (λ x. AreWhole x lists) (sym kept) is.apart;
-}
+        → Makes (IsPlace types_before) (parts_of own buddies (set lists index new)) (finite.remove (whole own buddies lists).held c.object) (whole own buddies lists).live
+    list_chunk_goes number c is unused chunks live =
+        makes_list (store.chunk_goes slot_total slot_exact span_of_slot (IsPlace types_before) (parts_of own buddies lists) apart (suc (types_before + index)) (list_object l) l.space.chunks l.space.live sound.one_object at_list (list_part new) number c is
+        (λ slot stood named. let lies = sound.space.inside slot stood in unused slot stood (sound.one_object slot.chunk number lies.chunk c lies.held is (sym lies.object ∙ named)))
+        (list_held_as _ chunks) (ap (by_span span_of_slot) live))
 
 -- Where nothing is held.
 
-at_of_map : {A B : Type 0} (f : A → B) (xs : List A) (i : ℕ) (y : B) → IsAt (map f xs) i y → (x : A) × IsAt xs i x × (f x ≡ y)
-at_of_map f [] i y at = absurd at
-at_of_map f (x ∷ xs) zero y at = (x, refl, at)
-at_of_map f (x ∷ xs) (suc i) y at = at_of_map f xs i y at
-
-module _ (t : Table) (lists : List Listing) (held : t.held ≡ finite.empty) (live : t.live ≡ set_of.empty) (unused : (i : ℕ) (l : Listing) → IsAt lists i l → (l.space.chunks ≡ finite.empty) × (l.space.live ≡ set_of.empty)) where
-  none_held : (i : ℕ) (p : Part) (object : ℕ) → IsAt (parts_of t lists) i p → finite.get p.held object ≡ None
-  none_held zero p object at = ap (λ (x : Part). finite.get x.held object) (sym at) ∙ ap (λ (m : Held). finite.get m object) held ∙ finite.get-empty nat_cmp object
-  none_held (suc i) p object at =
-      let there = at_of_map list_part lists i p at in
-      let l = there.0 in
-      ap (λ (x : Part). finite.get x.held object) (sym there.2)
-      ∙ named_absent nat_cmp_total nat_cmp-IsAntisymmetric (λ (e : ℕ × Chunk). e.1.object) (λ e. list_object l e.0 e.1) (finite.entries l.space.chunks) object (λ e has same.
-      let is = there_entry l.space.chunks e.0 e.1 has in
-      let none = ap (λ (m : Chunks). finite.get m e.0) (unused i l there.1).0 ∙ finite.get-empty nat_cmp e.0 in
+module _ (own : OwnTable) (buddies : List Buddy) (lists : List Listing) (held : own.held ≡ finite.empty) (live : own.live ≡ set_of.empty) (no_buddy : (i : ℕ) (b : Buddy) → IsAt buddies i b → (b.chunks ≡ finite.empty) × (b.live ≡ set_of.empty))
+    (no_list : (i : ℕ) (l : Listing) → IsAt lists i l → (l.space.chunks ≡ finite.empty) × (l.space.live ≡ set_of.empty)) where
+  no_name : (g : ℕ → Chunk → HeldObject) (chunks : Chunks) → chunks ≡ finite.empty → (object : ℕ) → finite.get (by_name g chunks) object ≡ None
+  no_name g chunks is object =
+      named_absent nat_cmp_total nat_cmp-IsAntisymmetric (λ (e : ℕ × Chunk). e.1.object) (λ e. g e.0 e.1) (finite.entries chunks) object (λ e has same.
+      let at = there_entry chunks e.0 e.1 has in
+      let none = ap (λ (m : Chunks). finite.get m e.0) is ∙ finite.get-empty nat_cmp e.0 in
       absurd (cc))
 
-  none_live : (i : ℕ) (p : Part) (span : Span) → IsAt (parts_of t lists) i p → HasLive p span → ⊥
+  none_held : (i : ℕ) (p : Part) (object : ℕ) → IsAt (parts_of own buddies lists) i p → finite.get p.held object ≡ None
+  none_held zero p object at = ap (λ (x : Part). finite.get x.held object) (sym at) ∙ ap (λ (m : Held). finite.get m object) held ∙ finite.get-empty nat_cmp object
+  none_held (suc i) p object at = elim (at_cases buddy_part buddies (map list_part lists) i p at) [
+    | inl b ↦ ap (λ (x : Part). finite.get x.held object) (sym b.2) ∙ no_name (λ _ c. chunk_object b.0 c) b.0.chunks (no_buddy i b.0 b.1).0 object
+    | inr later ↦
+        let l = at_of_map list_part lists later.0 p later.1 in
+        ap (λ (x : Part). finite.get x.held object) (sym l.2) ∙ no_name (list_object l.0) l.0.space.chunks (no_list later.0 l.0 l.1).0 object
+  ]
+
+  none_live : (i : ℕ) (p : Part) (span : Span) → IsAt (parts_of own buddies lists) i p → HasLive p span → ⊥
   none_live zero p span at has =
       let none = ap (λ (x : Part). set_of.contains x.live span) (sym at) ∙ ap (λ (l : Live). set_of.contains l span) live ∙ set_of.contains-empty span_cmp span in
       let bad : false ≡ true = sym none ∙ has in cc
-  none_live (suc i) p span at has =
-      let there = at_of_map list_part lists i p at in
-      let row = span_row_there slot_total slot_exact span_of_slot there.0.space.live span (subst (λ (x : Part). HasLive x span) (sym there.2) has) in
-      let none = ap (λ (s : set_of.FinSet slot_cmp). set_of.contains s row.0) (unused i there.0 there.1).1 ∙ set_of.contains-empty slot_cmp row.0 in
-      let bad : false ≡ true = sym none ∙ row.1 in cc
+  none_live (suc i) p span at has = elim (at_cases buddy_part buddies (map list_part lists) i p at) [
+    | inl b ↦
+        let row = span_row_there leaf_total leaf_exact span_of_leaf b.0.live span (subst (λ (x : Part). HasLive x span) (sym b.2) has) in
+        let none = ap (λ (s : set_of.FinSet leaf_cmp). set_of.contains s row.0) (no_buddy i b.0 b.1).1 ∙ set_of.contains-empty leaf_cmp row.0 in
+        let bad : false ≡ true = sym none ∙ row.1 in cc
+    | inr later ↦
+        let l = at_of_map list_part lists later.0 p later.1 in
+        let row = span_row_there slot_total slot_exact span_of_slot l.0.space.live span (subst (λ (x : Part). HasLive x span) (sym l.2) has) in
+        let none = ap (λ (s : set_of.FinSet slot_cmp). set_of.contains s row.0) (no_list later.0 l.0 l.1).1 ∙ set_of.contains-empty slot_cmp row.0 in
+        let bad : false ≡ true = sym none ∙ row.1 in cc
+  ]
 
-  pub nothing_held : (whole t lists).held ≡ finite.empty
-  nothing_held = finite.same_map nat_cmp_total nat_cmp-IsAntisymmetric _ _ (λ q. none_of (parts_of t lists) q (λ i p at. none_held i p q at) ∙ sym (finite.get-empty nat_cmp q))
+  pub nothing_held : (whole own buddies lists).held ≡ finite.empty
+  nothing_held = finite.same_map nat_cmp_total nat_cmp-IsAntisymmetric _ _ (λ q. none_of (parts_of own buddies lists) q (λ i p at. none_held i p q at) ∙ sym (finite.get-empty nat_cmp q))
 
-  pub nothing_live : (whole t lists).live ≡ set_of.empty
+  pub nothing_live : (whole own buddies lists).live ≡ set_of.empty
   nothing_live = set_of.same_set span_total span_exact _ _ (λ q.
-      not_live (whole t lists).live q (λ stands. let there = live_at (parts_of t lists) q stands in none_live there.0 there.1 q there.2 there.3) ∙ sym (set_of.contains-empty span_cmp q))
+      not_live (whole own buddies lists).live q (λ stands. let there = live_at (parts_of own buddies lists) q stands in none_live there.0 there.1 q there.2 there.3) ∙ sym (set_of.contains-empty span_cmp q))
 
-  pub apart_unused : AreWhole t lists
+  pub apart_unused : AreWhole own buddies lists
   apart_unused = record {
     placed = λ i p object h at has. absurd (let none = none_held i p object at in cc);
     once = λ i j p q object h k at also has had. absurd (let none = none_held i p object at in cc);

@@ -11,7 +11,6 @@ pub use Rattle.gpu_alloc_base.specs.Codes.{config_code, leaf_code, chunk_code, s
 pub use Rattle.gpu_alloc_buddy.specs.Codes.{buddy_code}
 pub use Rattle.gpu_alloc_freelist.specs.Codes.{space_code, store_code, listing_code}
 use Rattle.gpu_alloc.specs.Own.{OwnTable}
-use Rattle.gpu_alloc.specs.Spans.{Place, Room, Table}
 use Rattle.gpu_alloc_block.specs.declared.block.Kind.{Kind}
 pub use Rattle.gpu_alloc_block.specs.Codes.{kind_code, span_code, mapping_code, block_code}
 use Rattle.gpu_alloc_base.specs.declared.config.Config.{Config}
@@ -47,24 +46,8 @@ state_code =
     })
     (λ _. refl)
 
-abbrev pub place_code : Coded Place
-place_code =
-    code_by (ℕ × ℕ) (coded× coded_ℕ coded_ℕ) (λ p. (p.chunk, p.index)) (λ c. record { chunk = c.0; index = c.1 })
-    (λ _. refl)
-
 abbrev pub own_table_code : Coded OwnTable
 own_table_code =
     code_by (map.FinMap nat_cmp HeldObject × (set.FinSet span_cmp × ℕ))
     (coded× (map.code coded_ℕ held_code) (coded× (set.code span_code) coded_ℕ))
     (λ t. (t.held, (t.live, t.room))) (λ c. record { held = c.0; live = c.1.0; room = c.1.1 }) (λ _. refl)
-
-abbrev pub room_code : Coded Room
-room_code =
-    code_by (ℕ × ℕ) (coded× coded_ℕ coded_ℕ) (λ r. (r.own, r.shared)) (λ c. record { own = c.0; shared = c.1 }) (λ _. refl)
-
-abbrev pub table_code : Coded Table
-table_code =
-    code_by (map.FinMap nat_cmp HeldObject × (set.FinSet span_cmp × (map.FinMap span_cmp Place × Room)))
-    (coded× (map.code coded_ℕ held_code) (coded× (set.code span_code) (coded× (map.code span_code place_code) room_code)))
-    (λ t. (t.held, (t.live, (t.places, t.room))))
-    (λ c. record { held = c.0; live = c.1.0; places = c.1.1.0; room = c.1.1.1 }) (λ _. refl)

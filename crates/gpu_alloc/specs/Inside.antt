@@ -1,13 +1,11 @@
 -- What an allocator's fields stand for, and what they keep.
-use Rattle.std.specs.Prelude.{◌≡◌, ℕ, ◌+◌, ◌<◌, ◌≤◌, ◌^◌, false, List, [], ◌∷◌, map, length, slice_get, sum_by, Option, None, Some}
+use Rattle.std.specs.Prelude.{◌≡◌, ℕ, ◌+◌, ◌<◌, ◌≤◌, ◌^◌, false, List, [], ◌∷◌, map, length, slice_get, sum_by, Some}
 use Rattle.std.specs.Prelude.{IfSome, IsTrue}
 use Rattle.std.specs.FinMap as map_of
 use Rattle.std.specs.FinSet as set
-use Rattle.std.specs.Ordering.{nat_cmp}
 use Rattle.gpu_alloc_types.specs.Properties.{Properties, IsUsable, heap_size, props_at, atom_of}
 use Rattle.gpu_alloc_types.specs.declared.types.MemoryHeap.{MemoryHeap}
 use Rattle.gpu_alloc.specs.declared.limits.Limits.{Limits}
-use Rattle.gpu_alloc_block.specs.declared.block.Kind.{Kind}
 use Rattle.gpu_alloc_block.specs.declared.block.Kind.TheVariants.{BuddyChunk, FreeListChunk}
 use Rattle.gpu_alloc_base.specs.declared.buddy_block.Leaf.{Leaf}
 use Rattle.gpu_alloc_base.specs.declared.config.Config.{Config}
@@ -121,30 +119,19 @@ pub record IsChunkOf (t : Table) (memory_type object : ℕ) (h : HeldObject) : T
 abbrev pub span_of_leaf : Leaf → Span
 span_of_leaf leaf = record { object = leaf.object; offset = leaf.offset; size = leaf.size }
 
-abbrev pub place_of_leaf : Leaf → Place
-place_of_leaf leaf = record { chunk = leaf.chunk; index = leaf.index }
-
 abbrev pub leaf_at : Span → Place → Leaf
 leaf_at span place =
     record { object = span.object; chunk = place.chunk; offset = span.offset; size = span.size; index = place.index }
 
--- the held objects with a block's chunk, where that is a new one of so many bytes
-abbrev pub with_new_chunk : map_of.FinMap nat_cmp HeldObject → (object memory_type : ℕ) → Kind → Option ℕ
-    → map_of.FinMap nat_cmp HeldObject
-with_new_chunk held object t kind None = held
-with_new_chunk held object t kind (Some size) =
-    map_of.insert held object (record { memory_type = t; counted = size; kind = kind })
-
--- Both have the same chunks and the same blocks in them, and the table has each block's place.
+-- Both have the same chunks and the same blocks in them.
 pub record IsLinked (t : Table) (b : Buddy) : Type 0 where
   pub chunks : (key : ℕ) (c : Chunk) → map_of.get b.chunks key ≡ Some c
       → map_of.get t.held c.object ≡ Some (chunk_object b c)
   pub objects : (object : ℕ) (h : HeldObject) → IsChunkOf t b.memory_type object h → (key : ℕ)
       × (map_of.get b.chunks key ≡ Some (record { object = object; size = h.counted }))
   pub leaves : (leaf : Leaf) → IsLiveLeaf b leaf → IsLiveIn t (span_of_leaf leaf)
-      × (map_of.get t.places (span_of_leaf leaf) ≡ Some (place_of_leaf leaf))
   pub spans : (span : Span) (h : HeldObject) → IsLiveIn t span → IsChunkOf t b.memory_type span.object h
-      → (place : Place) × ((map_of.get t.places span ≡ Some place) × IsLiveLeaf b (leaf_at span place))
+      → (place : Place) × IsLiveLeaf b (leaf_at span place)
 
 -- what a memory type's buddy allocator was given
 pub record IsForType (c : Config) (p : Properties) (index : ℕ) (b : Buddy) : Type 0 where
@@ -153,15 +140,15 @@ pub record IsForType (c : Config) (p : Properties) (index : ℕ) (b : Buddy) : T
   pub atom : b.atom ≡ atom_of p index
   pub minimal : b.minimal ≡ minimal_size c (heap_size p index)
 
-pub record IsBuddyOf (c : Config) (p : Properties) (t : Table) (index : ℕ) (b : Buddy) : Type 0 where
+-- and that it is sound
+pub record IsBuddyFor (c : Config) (p : Properties) (index : ℕ) (b : Buddy) : Type 0 where
   pub for_type : IsForType c p index b
   pub sound : IsSound b
-  pub linked : IsLinked t b
 
 -- each memory type has a buddy allocator
-pub record HasBuddies (c : Config) (p : Properties) (t : Table) (buddies : List Buddy) : Type 0 where
+pub record AreBuddies (c : Config) (p : Properties) (buddies : List Buddy) : Type 0 where
   pub count : length buddies ≡ length p.memory_types
-  pub each : (index : ℕ) → IfSome (slice_get buddies index) (IsBuddyOf c p t index)
+  pub each : (index : ℕ) → IfSome (slice_get buddies index) (IsBuddyFor c p index)
 
 -- The table and a free list.
 
@@ -181,10 +168,6 @@ span_of_slot slot = record { object = slot.object; offset = slot.offset; size = 
 abbrev pub slot_at : Span → ℕ → Slot
 slot_at span number = record { object = span.object; chunk = number; offset = span.offset; size = span.size }
 
--- a block of a free list stands under its key there
-abbrev pub place_of_slot : ℕ → Place
-place_of_slot key = record { chunk = 0; index = key }
-
 -- Both have the same chunks under the same numbers, and the same blocks in them.
 pub record IsListLinked (t : Table) (l : Listing) : Type 0 where
   pub chunks : (number : ℕ) (c : Chunk) → map_of.get l.space.chunks number ≡ Some c
@@ -202,15 +185,15 @@ pub record IsListForType (c : Config) (p : Properties) (index : ℕ) (l : Listin
   pub atom : l.atom ≡ atom_of p index
   pub final_chunk : l.final_chunk ≡ final_size c (heap_size p index) (atom_of p index)
 
-pub record IsListOf (c : Config) (p : Properties) (t : Table) (index : ℕ) (l : Listing) : Type 0 where
+-- and that it is sound
+pub record IsListFor (c : Config) (p : Properties) (index : ℕ) (l : Listing) : Type 0 where
   pub for_type : IsListForType c p index l
   pub sound : list.IsSound l
-  pub linked : IsListLinked t l
 
 -- each memory type has a free list
-pub record HasLists (c : Config) (p : Properties) (t : Table) (lists : List Listing) : Type 0 where
+pub record AreLists (c : Config) (p : Properties) (lists : List Listing) : Type 0 where
   pub count : length lists ≡ length p.memory_types
-  pub each : (index : ℕ) → IfSome (slice_get lists index) (IsListOf c p t index)
+  pub each : (index : ℕ) → IfSome (slice_get lists index) (IsListFor c p index)
 
 -- The table, the heaps and the count.
 pub record IsBooked (p : Properties) (heaps : List Heap) (t : Table) (remaining : ℕ) : Type 0 where
@@ -220,9 +203,3 @@ pub record IsBooked (p : Properties) (heaps : List Heap) (t : Table) (remaining 
   pub spans : (span : Span) → IsLiveIn t span → IsOfObject t span
   pub small : AreSmall (map_of.entries t.held)
   pub ledgers : AreLedgers p heaps (map_of.entries t.held)
-
-pub record IsConsistent (c : Config) (p : Properties) (heaps : List Heap) (buddies : List Buddy) (lists : List Listing)
-    (t : Table) (remaining : ℕ) : Type 0 where
-  pub books : IsBooked p heaps t remaining
-  pub shared : HasBuddies c p t buddies
-  pub listed : HasLists c p t lists

@@ -9,7 +9,7 @@ use Rattle.gpu_alloc_block.specs.State.{HeldObject, Span, span_cmp}
 use Rattle.gpu_alloc_block.specs.declared.block.Kind.TheVariants.{Dedicated, Imported}
 use Rattle.gpu_alloc.specs.declared.own.OwnRow.{OwnRow}
 use Rattle.gpu_alloc.specs.declared.spans.HeldRow.{HeldRow}
-use Rattle.gpu_alloc.specs.declared.spans.LiveSpan.{LiveSpan}
+use Rattle.gpu_alloc_base.specs.declared.buddy_block.Leaf.{Leaf as LiveSpan}
 
 -- the objects by name, the spans of their blocks, and for how many more there is room
 pub record OwnTable : Type 0 where

@@ -22,12 +22,11 @@ ghost use Rattle.gpu_alloc.specs.Owned.{HoldsNothing, Leaves, Adds, Removes, Lea
 ghost use Rattle.gpu_alloc.specs.Release.{Frees, ObjectsFreed, Cleans, ObjectsCleaned, IsCleanedUp, GoesBack};
 ghost use Rattle.gpu_alloc.specs.Request.{IsAskable};
 ghost use Rattle.gpu_alloc.specs.Sound as Sound;
-ghost use Rattle.gpu_alloc_block.specs.State.{HeldObject, Span, IsLive, IsOwned, ledger, total};
+ghost use Rattle.gpu_alloc_block.specs.State.{HeldObject, Span, IsLive, IsOwned, is_shared, ledger, total};
 
 mod by_type;
 mod candidates;
 mod choosing;
-mod growth;
 mod heaps;
 mod held_only;
 mod importing;
@@ -35,14 +34,12 @@ mod listing;
 mod optimal;
 mod ranges;
 mod returning;
-mod rows;
 mod serving;
 mod uncounted;
 
 use crate::limits::Limits;
-use crate::own::OwnRow;
+use crate::own::{OwnObjects, OwnRow};
 use crate::request::is_required;
-use crate::spans::Spans;
 use crate::{Dedicated, MemoryBlock, MemoryForUsage, Request};
 use by_type::{close_buddies, close_free_lists, empty_buddies, empty_free_lists, unused_heaps};
 use gpu_alloc_base::free_list_block::Slot;
@@ -53,8 +50,6 @@ use gpu_alloc_buddy::BuddyAllocator;
 use gpu_alloc_freelist::FreeListAllocator;
 use gpu_alloc_types::{DeviceProperties, MemoryObject, ObjectDevice, OutOfMemory, UsageFlags};
 use gpu_alloc_usage::meaning;
-use growth::room_in_buddy;
-use rows::{add_leaf, new_buddy_chunk};
 use std::alloc::{AllocError, Allocator, Global};
 use std::marker::{Brand, Model};
 use std::sync::ledger::Blank;
@@ -85,7 +80,7 @@ pub struct GpuAllocator<M: MemoryObject, A: Allocator = Global> {
     heaps: Vec<Heap, A>,
     buddies: Vec<BuddyAllocator<M, A>, A>,
     free_lists: Vec<FreeListAllocator<M, A>, A>,
-    spans: Spans<A>,
+    own: OwnObjects<A>,
     allocations_remains: u32,
 }
 
@@ -101,10 +96,10 @@ impl<M: MemoryObject, A: Allocator> Model for GpuAllocator<M, A> {
     ghost use Rattle.gpu_alloc.specs.Whole.{whole, IsKept};
 
     ghost view = { λ a. state_in a.limits a.heaps.items a.buddies.items a.free_lists.items
-        (whole a.spans a.free_lists.items) a.allocations_remains };
+        (whole a.own a.buddies.items a.free_lists.items) a.allocations_remains };
 
     ghost invariant = { λ a. IsKept a.limits.config (properties_in a.limits a.heaps.items) a.heaps.items
-        a.buddies.items a.free_lists.items a.spans a.allocations_remains };
+        a.buddies.items a.free_lists.items a.own a.allocations_remains };
 }
 
 impl<M: MemoryObject, A: Allocator + Copy> GpuAllocator<M, A> {
@@ -161,7 +156,7 @@ impl<M: MemoryObject, A: Allocator + Copy> GpuAllocator<M, A> {
             heaps,
             buddies,
             free_lists,
-            spans: Spans::new(alloc),
+            own: OwnObjects::new(alloc),
             allocations_remains: props.max_memory_allocation_count,
         })
     }
@@ -431,7 +426,7 @@ impl<M: MemoryObject, A: Allocator> GpuAllocator<M, A> {
         if self.allocations_remains == 0 {
             return Err(AllocationError::TooManyObjects);
         }
-        if self.spans.reserve_own().is_err() {
+        if self.own.reserve().is_err() {
             return Err(AllocationError::OutOfHostMemory);
         }
         let flags = self.limits.flags();
@@ -445,7 +440,7 @@ impl<M: MemoryObject, A: Allocator> GpuAllocator<M, A> {
                     memory_type,
                     imported: false,
                 };
-                let key = self.spans.insert_own(row);
+                let key = self.own.insert(row);
                 let heap = self.limits.heap_index(memory_type);
                 self.heaps[heap].alloc(row.size);
                 self.allocations_remains -= 1;
@@ -481,22 +476,10 @@ impl<M: MemoryObject, A: Allocator> GpuAllocator<M, A> {
             × TriesBy InBuddyChunk self.old request memory_type es result self.new }
         ensures objects { ObjectsTried self.old result self.new (D.objects device.old) (D.objects device.new) }
     {
-        let own = memory_type as usize;
         let heap = self.limits.heap_index(memory_type);
-        let remained = self.allocations_remains;
-        let first = room_in_buddy(
-            &mut self.spans,
-            &self.buddies[own],
-            request,
-            &self.heaps[heap],
-            remained,
-        );
-        if let Some(refusal) = first {
-            return passing(refusal);
-        }
         let flags = self.limits.flags();
         let answer = uncounted::alloc::<M, A, D, Brand, Brand>(
-            &mut self.buddies[own],
+            &mut self.buddies[memory_type as usize],
             device,
             request.size,
             request.align_mask,
@@ -506,27 +489,23 @@ impl<M: MemoryObject, A: Allocator> GpuAllocator<M, A> {
             Blank::new(1),
             Blank::new(1),
         );
-        match answer {
-            Ok(block) => {
-                let props = self.limits.props(memory_type);
-                let atom = self.limits.atom(memory_type);
-                let (memory, leaf) = buddy_block::into_parts(block);
-                let remains = self.allocations_remains;
-                let new_chunk = new_buddy_chunk(&self.buddies[own], leaf, remained, remains);
-                let key = add_leaf(&mut self.spans, leaf, memory_type, new_chunk);
-                Ok(Some(MemoryBlock::new(
-                    memory,
-                    leaf.offset,
-                    leaf.size,
-                    memory_type,
-                    props,
-                    atom,
-                    Kind::BuddyChunk,
-                    key,
-                )))
-            }
-            Err(refusal) => passing(refusal),
-        }
+        let block = match answer {
+            Ok(block) => block,
+            Err(refusal) => return passing(refusal),
+        };
+        let props = self.limits.props(memory_type);
+        let atom = self.limits.atom(memory_type);
+        let (memory, leaf) = buddy_block::into_parts(block);
+        Ok(Some(MemoryBlock::new(
+            memory,
+            leaf.offset,
+            leaf.size,
+            memory_type,
+            props,
+            atom,
+            Kind::BuddyChunk,
+            leaf.index,
+        )))
     }
 
     /// Tries one memory type for a block of its free list: none where the type is passed.
@@ -667,15 +646,39 @@ impl<M: MemoryObject, A: Allocator> GpuAllocator<M, A> {
     {
         self.keeps_sound();
         match block.kind() {
+            Kind::Dedicated | Kind::Imported => self.has_own(block),
+            Kind::BuddyChunk => self.has_in_chunk(block),
             Kind::FreeListChunk(number) => self.has_in_list(block, number),
-            kind => self.spans.has(
-                block.key(),
-                block.memory().object(),
+        }
+    }
+
+    /// Whether a block with an object of its own is live here.
+    fn has_own(&self, block: &MemoryBlock<M>) -> bool
+        requires { is_shared (block.now).kind ≡ false }
+        ensures { IsTrue result ↔ IsOwned self.now block.now }
+    {
+        match self.own.find(block.key(), block.memory().object()) {
+            Some(row) => row.is(
                 block.offset(),
                 block.size(),
                 block.memory_type(),
-                kind,
+                block.kind(),
             ),
+            None => false,
+        }
+    }
+
+    /// Whether a block of a buddy chunk is live here.
+    fn has_in_chunk(&self, block: &MemoryBlock<M>) -> bool
+        requires { (block.now).kind ≡ Kind.BuddyChunk }
+        ensures { IsTrue result ↔ IsOwned self.now block.now }
+    {
+        let object = block.memory().object();
+        match self.buddies.get(block.memory_type() as usize) {
+            Some(buddy) => buddy
+                .find(block.key(), object, block.offset(), block.size())
+                .is_some(),
+            None => false,
         }
     }
 
@@ -733,16 +736,17 @@ impl<M: MemoryObject, A: Allocator> GpuAllocator<M, A> {
     pub fn held_objects(&self) -> u32
         ensures { result ≡ map.len self.now.held }
     {
-        let mut count = self.spans.len();
+        let mut count = self.own.len();
+        for buddy in self.buddies.iter() {
+            count += buddy.chunks().len();
+        }
         for list in self.free_lists.iter() {
             count += list.chunks().len();
         }
         count as u32
     }
 
-    /// Whether an object of this name is held, as a block's own, as an import or as a chunk. A buddy chunk is found in
-    /// constant time, any other object in a time that grows with the number of objects of one block and of free-list
-    /// chunks.
+    /// Whether an object of this name is held, as a block's own, as an import or as a chunk. It goes over what is held.
     pub fn holds(&self, object: u64) -> bool
         ensures { result ≡ is_some (map.get self.now.held object) }
     {
@@ -759,7 +763,7 @@ impl<M: MemoryObject, A: Allocator> GpuAllocator<M, A> {
             heaps: _,
             buddies,
             free_lists,
-            spans: _,
+            own: _,
             allocations_remains: _,
         } = self;
         close_buddies(buddies);

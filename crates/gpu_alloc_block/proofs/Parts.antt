@@ -2,4 +2,5 @@
 pub mod ByName
 pub mod Entries
 pub mod Steps
+pub mod Stores
 pub mod Unions

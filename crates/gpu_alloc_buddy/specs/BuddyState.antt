@@ -27,6 +27,14 @@ space_of b = record { chunks = b.chunks; live = b.live }
 abbrev pub IsLiveLeaf : Buddy → Leaf → Type 0
 IsLiveLeaf b = space.IsLiveLeaf (space_of b)
 
+-- a live block of this span of an object
+abbrev pub IsLiveSpan : Buddy → ℕ → ℕ → ℕ → Leaf → Type 0
+IsLiveSpan b = space.IsLiveSpan (space_of b)
+
+-- no live block has this span
+abbrev pub IsNoLiveSpan : Buddy → ℕ → ℕ → ℕ → Type 0
+IsNoLiveSpan b = space.IsNoLiveSpan (space_of b)
+
 -- the byte lies in a held chunk, and in no live block
 abbrev pub IsFreeAt : Buddy → ℕ → ℕ → Type 0
 IsFreeAt b = space.IsFreeAt (space_of b)

@@ -1,7 +1,7 @@
 //! The buddy allocator: shared chunks of one memory type, whose blocks are aligned powers of two.
 
 ghost use Rattle.std.specs.Prelude.{◌≡◌, ℕ, ◌+◌, ◌≤◌, ◌<◌, ◌↔◌, ◌^◌, IfOk, IfErr, OnErr, IfSome, Contains, IsSome, IsTrue};
-ghost use Rattle.std.specs.Prelude.{Some, None, max};
+ghost use Rattle.std.specs.Prelude.{MatchOption, OnOk, Some, None, max};
 ghost use Rattle.std.specs.FinMap as map;
 ghost use Rattle.gpu_alloc_types.specs.Flags.{allocation_bits, property_bits, has_bit, with_device_address};
 ghost use Rattle.gpu_alloc_types.specs.Device.{Asked};
@@ -14,25 +14,28 @@ ghost use Rattle.gpu_alloc_buddy.specs.Buddy.{Adds, HoldsNothing, IsPieceOf, Lea
 ghost use Rattle.gpu_alloc_base.specs.Accounts.{account, IsCounted, chunks_and_remaining};
 ghost use Rattle.gpu_alloc_base.specs.Case.{Asks, RefusesFirst, RefusesQuestion};
 ghost use Rattle.gpu_alloc_base.specs.RangeOrder.{AreInOrder};
+ghost use Rattle.gpu_alloc_base.specs.declared.buddy_block.Leaf.{Leaf as LiveLeaf};
 ghost use Rattle.gpu_alloc_base.specs.Wanted.{requested, wanted};
 ghost use Rattle.gpu_alloc_buddy.specs.BuddySound.{IsSound};
-ghost use Rattle.gpu_alloc_buddy.specs.BuddyState.{IsLiveLeaf, space_of};
+ghost use Rattle.gpu_alloc_buddy.specs.BuddyState.{IsLiveLeaf, IsLiveSpan, IsNoLiveSpan, space_of};
 ghost use Rattle.gpu_alloc_buddy.specs.BuddySteps.{AreFewRanges, AreFewReleases, CountsBeginning, CountsHalving};
 ghost use Rattle.gpu_alloc_buddy.specs.BuddySteps.{CountsRefusing, CountsSplits, CountsSteps};
+ghost use Rattle.gpu_alloc_pairs.specs.HeldLists.{AddsLeaves, ListsChunks};
 ghost use Rattle.gpu_alloc_pairs.specs.Store.{CountsLooks, CountsTaking};
 ghost use Rattle.gpu_alloc_base.specs.AlignMasks.{IsAlignMask};
 
-use gpu_alloc_base::buddy_block::into_parts;
+use gpu_alloc_base::buddy_block::{Leaf, into_parts};
 use gpu_alloc_base::heap::Heap;
 use gpu_alloc_base::new_chunk::new_chunk_with_handle;
 use gpu_alloc_base::range_order::put_in_order;
 use gpu_alloc_base::sizes::next_order;
 use gpu_alloc_base::steps::Steps;
 use gpu_alloc_base::{AllocationError, BuddyBlock};
-use gpu_alloc_pairs::{Pairs, bytes};
+use gpu_alloc_pairs::{Chunk, Pairs, bytes};
 use gpu_alloc_types::{
     AllocationFlags, FreeRange, MemoryObject, MemoryPropertyFlags, ObjectDevice,
 };
+use slab::Iter;
 use std::alloc::{AllocError, Allocator, Global};
 use std::marker::Model;
 use std::sync::ledger::Ledger;
@@ -343,6 +346,37 @@ impl<M: MemoryObject, A: Allocator> BuddyAllocator<M, A> {
         heap.dealloc(size);
         *allocations_remains += 1;
         true
+    }
+
+    /// The live block of this span of an object, exactly where there is one. `offset` is where it starts in the object
+    /// and `size` how long it is, in bytes: any two numbers. It is public for `gpu_alloc`, whose blocks carry an index.
+    ///
+    /// The answer is the same whatever `key` is. The block's own index makes it constant time; with another key the time
+    /// grows with the number of pairs of halves of that length. Who knows a live block of this span learns that it is
+    /// the one that is found (`exact`).
+    pub fn find(&self, key: usize, object: u64, offset: u64, size: u64) -> Option<Leaf>
+        ensures found { MatchOption result (IsNoLiveSpan self.now object offset size)
+            (IsLiveSpan self.now object offset size) }
+        ensures exact { (leaf : LiveLeaf) → IsLiveSpan self.now object offset size leaf → result ≡ Some leaf }
+    {
+        self.pairs.find(key, object, offset, size)
+    }
+
+    /// The held chunks, each once, in no order that is told.
+    pub fn chunks(&self) -> Iter<'_, Chunk<M>>
+        ensures { ListsChunks M.object self.now.chunks result }
+    {
+        self.pairs.chunks()
+    }
+
+    /// Adds to a list each live block, once, in no order that is told. It is public for `gpu_alloc`. The time grows with
+    /// the number of pairs of halves.
+    ///
+    /// The only refusal is want of host memory: some of them are then added. Nothing else changes.
+    pub fn list_live<B: Allocator>(&self, leaves: &mut Vec<Leaf, B>) -> Result<(), AllocError>
+        ensures { OnOk result (AddsLeaves self.now.live leaves.old.items leaves.new.items) }
+    {
+        self.pairs.list_live(leaves)
     }
 
     /// The size of a held chunk, in bytes. It is public for `gpu_alloc`, which counts the chunk as an object.

@@ -7,3 +7,4 @@ pub mod laws;
 
 pub use buddy::BuddyAllocator;
 pub use gpu_alloc_base::BuddyBlock;
+pub use gpu_alloc_pairs::Chunk;

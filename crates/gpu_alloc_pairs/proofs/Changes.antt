@@ -15,7 +15,7 @@ use Rattle.gpu_alloc_pairs.proofs.Seen.{get_view, seen_updates}
 use Rattle.gpu_alloc_pairs.proofs.Uses.{freed_entry, none_is_free, other_is_free, side_of_free, use_of_side}
 
 -- the pair that is seen
-is_seen : (o : Option Pair) (e : Entry) → option_map entry_of o ≡ Some e → (p : Pair) × ((o ≡ Some p) × (entry_of p ≡ e))
+pub is_seen : (o : Option Pair) (e : Entry) → option_map entry_of o ≡ Some e → (p : Pair) × ((o ≡ Some p) × (entry_of p ≡ e))
 is_seen None e h = cc
 is_seen (Some p) e h = (p, (refl, cc))
 

@@ -34,7 +34,7 @@ use Rattle.gpu_alloc_pairs.proofs.Trees.{one_half, undivided}
 
 -- Powers and sides, which tell a half by its bytes.
 
-same_order : (k j : ℕ) → 2 ^ k ≡ 2 ^ j → k ≡ j
+pub same_order : (k j : ℕ) → 2 ^ k ≡ 2 ^ j → k ≡ j
 same_order k j same = let a = order-le k j (omega (arith, same)) in let b = order-le j k (omega (arith, same)) in omega arith
 
 -- an even multiple is no odd one

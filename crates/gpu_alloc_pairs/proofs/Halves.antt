@@ -241,7 +241,7 @@ module _ {T : Type 0} where
   ]
 
   -- each entry has a key of its own
-  keys_apart : (first : ℕ) (slots : List (Option T)) → AreNamedApart (λ (e : ℕ × T). e.0) (entries_from first slots)
+  pub keys_apart : (first : ℕ) (slots : List (Option T)) → AreNamedApart (λ (e : ℕ × T). e.0) (entries_from first slots)
   keys_apart first [] = tt
   keys_apart first (None ∷ rest) = keys_apart (first + 1) rest
   keys_apart first (Some row ∷ rest) = (

@@ -1,6 +1,8 @@
+pub mod Blocks
 pub mod Codes
 pub mod Entry
 pub mod Halves
+pub mod HeldLists
 pub mod InHand
 pub mod Length
 pub mod Lengths

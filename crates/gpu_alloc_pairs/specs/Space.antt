@@ -17,6 +17,17 @@ pub record Space : Type 0 where
 abbrev pub IsLiveLeaf : Space → Leaf → Type 0
 IsLiveLeaf s leaf = IsTrue (set.contains s.live leaf)
 
+-- a live block of this span of an object
+pub record IsLiveSpan (s : Space) (object offset size : ℕ) (leaf : Leaf) : Type 0 where
+  pub live : IsLiveLeaf s leaf
+  pub of_object : leaf.object ≡ object
+  pub starts : leaf.offset ≡ offset
+  pub of_size : leaf.size ≡ size
+
+-- no live block has this span
+abbrev pub IsNoLiveSpan : Space → ℕ → ℕ → ℕ → Type 0
+IsNoLiveSpan s object offset size = (leaf : Leaf) → IsLiveSpan s object offset size leaf → ⊥
+
 -- the byte lies in a held chunk, and in no live block
 pub record IsFreeAt (s : Space) (chunk at : ℕ) : Type 0 where
   pub held : Chunk

@@ -6,6 +6,7 @@ ghost use Rattle.gpu_alloc_pairs.specs.Entry.{entry_of, taken_as, with_use};
 ghost use Rattle.gpu_alloc_pairs.specs.Halves.{halves_of_length};
 ghost use Rattle.gpu_alloc_pairs.specs.Length.{AreBounded, Frees, IsInUse, IsReadyHalf, IsUsedAs, Merges, SetsUse};
 ghost use Rattle.gpu_alloc_pairs.specs.Links.{SetsPair, free_of};
+ghost use Rattle.gpu_alloc_pairs.specs.Seen.{seen};
 ghost use Rattle.gpu_alloc_pairs.specs.declared.pair.Side.{Side as SideOf};
 ghost use Rattle.gpu_alloc_pairs.specs.declared.pair.Use.{Use as UseOf};
 
@@ -108,6 +109,14 @@ impl<A: Allocator> Length<A> {
             chunk: pair.chunk,
             offset: pair.offset,
         })
+    }
+
+    /// The pairs as they are stored, by key.
+    #[inline(always)]
+    pub fn pairs(&self) -> &Slab<Pair, A>
+        ensures { seen result.now ≡ self.now }
+    {
+        &self.pairs
     }
 
     /// Takes a free half, as one that a pair divides or as a live block. Only its key and its side matter.

@@ -7,4 +7,4 @@ mod pair;
 mod pairs;
 mod ring;
 
-pub use pairs::{Pairs, bytes};
+pub use pairs::{Chunk, Pairs, bytes};

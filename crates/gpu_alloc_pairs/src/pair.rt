@@ -1,14 +1,15 @@
 //! A pair of halves, as it is stored.
 
-ghost use Rattle.std.specs.Prelude.{◌≡◌, ◌≤◌, ◌<◌, ◌+◌, ◌^◌, ℕ, Some};
-ghost use Rattle.gpu_alloc_pairs.specs.Entry.{entry_of, taken_as, with_use};
+ghost use Rattle.std.specs.Prelude.{◌≡◌, ◌≤◌, ◌<◌, ◌+◌, ◌^◌, ◌↔◌, ℕ, IsTrue, Some};
+ghost use Rattle.gpu_alloc_pairs.specs.Blocks.{HasBlock, IsBlock};
+ghost use Rattle.gpu_alloc_pairs.specs.Entry.{entry_of, half_start, taken_as, use_of, with_use};
 ghost use Rattle.gpu_alloc_pairs.specs.Links.{free_side};
 ghost use Rattle.gpu_alloc_pairs.specs.Pieces.{IsFreePieceOf};
 
 use gpu_alloc_base::Piece;
 
 /// A half of a pair.
-#[derive(Clone, Copy)]
+#[derive(Clone, Copy, PartialEq, Eq)]
 pub enum Side {
     Left,
     Right,
@@ -54,6 +55,19 @@ pub enum State {
         /// The key of the one before.
         prev: usize,
     },
+}
+
+impl State {
+    /// Whether this half is free.
+    #[inline(always)]
+    fn frees(&self, side: Side) -> bool
+        ensures { IsTrue result ↔ free_side self.now ≡ Some side }
+    {
+        match self {
+            State::Exhausted => false,
+            State::Ready { side: free, .. } => *free == side,
+        }
+    }
 }
 
 /// Two halves of a range of a chunk.
@@ -103,14 +117,64 @@ impl Pair {
         let State::Ready { side, .. } = self.state else {
             return None;
         };
-        let start = match side {
-            Side::Left => self.offset,
-            Side::Right => self.offset + (1 << order),
-        };
         Some(Piece {
             chunk: self.chunk,
-            start,
+            start: self.start_of(side, order),
             order,
         })
+    }
+
+    /// Whether a half of 2^order bytes that starts there in the chunk, in bytes, is a live block.
+    #[inline(always)]
+    pub fn has_block(&self, order: u32, start: u64) -> bool
+        requires short { order ≤ 62 }
+        requires bounded { (self.now).offset + 2 ^ order < 2 ^ 64 }
+        ensures { IsTrue result ↔ HasBlock order (entry_of self.now) start }
+    {
+        self.is_block(Side::Left, order, start) || self.is_block(Side::Right, order, start)
+    }
+
+    /// Whether this half, of 2^order bytes, is a live block and starts there.
+    #[inline(always)]
+    fn is_block(&self, side: Side, order: u32, start: u64) -> bool
+        requires short { order ≤ 62 }
+        requires bounded { (self.now).offset + 2 ^ order < 2 ^ 64 }
+        ensures { IsTrue result ↔ IsBlock order (entry_of self.now) start side }
+    {
+        match self.use_of(side) {
+            Use::Taken => self.start_of(side, order) == start,
+            Use::Free | Use::Divided => false,
+        }
+    }
+
+    /// What a half is used for.
+    #[inline(always)]
+    pub fn use_of(&self, side: Side) -> Use
+        ensures { result ≡ use_of (entry_of self.now) side }
+    {
+        let divided = match side {
+            Side::Left => self.left_divided,
+            Side::Right => self.right_divided,
+        };
+        if self.state.frees(side) {
+            Use::Free
+        } else if divided {
+            Use::Divided
+        } else {
+            Use::Taken
+        }
+    }
+
+    /// Where a half of 2^order bytes starts in the chunk, in bytes.
+    #[inline(always)]
+    pub fn start_of(&self, side: Side, order: u32) -> u64
+        requires short { order ≤ 62 }
+        requires bounded { (self.now).offset + 2 ^ order < 2 ^ 64 }
+        ensures { result ≡ half_start (2 ^ order) (self.now).offset side }
+    {
+        match side {
+            Side::Left => self.offset,
+            Side::Right => self.offset + (1 << order),
+        }
     }
 }

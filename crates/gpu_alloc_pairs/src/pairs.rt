@@ -1,24 +1,32 @@
 //! The held chunks of one memory type, and the pairs that divide them.
 
-ghost use Rattle.std.specs.Prelude.{◌≡◌, ℕ, ◌+◌, ◌-◌, ◌*◌, ◌≤◌, ◌<◌, ◌↔◌, ◌^◌, IfOk, IfSome, IfNone, IsSome, IsTrue};
-ghost use Rattle.std.specs.Prelude.{OnOk, Some, None, Contains, map as map_list};
+ghost use Rattle.std.specs.Prelude.{◌≡◌, ◌≢◌, ℕ, ◌+◌, ◌-◌, ◌*◌, ◌≤◌, ◌<◌, ◌↔◌, ◌^◌, ◌++◌, IfOk, IfSome, IfNone};
+ghost use Rattle.std.specs.Prelude.{IsSome, IsTrue, OnOk, Some, None, Contains, MatchOption, map as map_list};
 ghost use Rattle.std.specs.FinMap as map;
 ghost use Rattle.std.specs.FinSet as set;
 ghost use Rattle.gpu_alloc_base.specs.Chunks.{Chunk as HeldChunk};
 ghost use Rattle.gpu_alloc_base.specs.FreeSpace.{IsPowerOfTwo};
-ghost use Rattle.gpu_alloc_pairs.specs.Space.{HasPlace, IsLiveLeaf, IsSoundSpace, IsUnusedChunk, BeginsChunk};
-ghost use Rattle.gpu_alloc_pairs.specs.Space.{with_chunk, with_leaf, without_chunk, without_leaf};
+ghost use Rattle.gpu_alloc_base.specs.declared.buddy_block.Leaf.{Leaf as LiveLeaf};
+ghost use Rattle.gpu_alloc_pairs.specs.Blocks.{AreInChunks, HasSpan, IsInChunk, StandsNowhere, StandsUnder, chunks_in};
+ghost use Rattle.gpu_alloc_pairs.specs.Entry.{entry_of};
+ghost use Rattle.gpu_alloc_pairs.specs.Halves.{half_used, halves_of_length, leaf_of};
+ghost use Rattle.gpu_alloc_pairs.specs.HeldLists.{AddsLeaves, ListsChunks};
+ghost use Rattle.gpu_alloc_pairs.specs.Seen.{seen};
+ghost use Rattle.gpu_alloc_pairs.specs.Space.{BeginsChunk, HasPlace, IsLiveLeaf, IsLiveSpan, IsNoLiveSpan};
+ghost use Rattle.gpu_alloc_pairs.specs.Space.{IsSoundSpace, IsUnusedChunk, with_chunk, with_leaf, without_chunk};
+ghost use Rattle.gpu_alloc_pairs.specs.Space.{without_leaf};
 ghost use Rattle.gpu_alloc_pairs.specs.Store.{AreFew, CountsLooks, CountsSearch, CountsTaking, HasRooms, IsExact, IsUnheld};
 ghost use Rattle.gpu_alloc_pairs.specs.Store.{HasSide, KeepsStore, StartsHalf, TakesPlace, range_of};
+ghost use Rattle.gpu_alloc_pairs.specs.declared.pair.Use.{Use as UseOf};
 
 use crate::length::Length;
 use crate::lengths::{self, Found, Front, Lengths, ORDERS};
-use crate::pair::Side;
+use crate::pair::{Pair, Side, Use};
 use gpu_alloc_base::buddy_block::Leaf;
 use gpu_alloc_base::steps::Steps;
 use gpu_alloc_base::{BuddyBlock, Piece};
 use gpu_alloc_types::{FreeRange, MemoryObject};
-use slab::Slab;
+use slab::{Iter, Slab};
 use std::alloc::{AllocError, Allocator, Global};
 use std::marker::Model;
 use std::sync::ledger::Ledger;
@@ -28,6 +36,25 @@ use std::sync::ledger::Ledger;
 pub struct Chunk<M: MemoryObject> {
     memory: M,
     order: u32,
+}
+
+impl<M: MemoryObject> Chunk<M> {
+    /// The name of its object.
+    #[inline(always)]
+    pub fn object(&self) -> u64
+        ensures { result ≡ M.object self.now.memory }
+    {
+        self.memory.object()
+    }
+
+    /// Its size, in bytes.
+    #[inline(always)]
+    pub fn size(&self) -> u64
+        requires { self.now.order < 64 }
+        ensures { result ≡ 2 ^ self.now.order }
+    {
+        bytes(self.order)
+    }
 }
 
 /// The held chunks of a buddy allocator, and the pairs of halves that divide them. It knows no device: chunks are handed
@@ -189,6 +216,55 @@ impl<M: MemoryObject, A: Allocator> Pairs<M, A> {
         Some((memory, bytes(order)))
     }
 
+    /// The live block of this span of an object, exactly where there is one. `offset` is where it starts in the object
+    /// and `size` how long it is, in bytes: any two numbers. Its `index` is the key of its pair among those of its
+    /// length.
+    ///
+    /// The answer is the same whatever `key` is. The block's index makes it constant time; with another key the time
+    /// grows with the number of pairs of that length.
+    pub fn find(&self, key: usize, object: u64, offset: u64, size: u64) -> Option<Leaf>
+        ensures found { MatchOption result (IsNoLiveSpan (self.now).space object offset size)
+            (IsLiveSpan (self.now).space object offset size) }
+        ensures exact { (leaf : LiveLeaf) → IsLiveSpan (self.now).space object offset size leaf → result ≡ Some leaf }
+    {
+        let lengths = &self.lengths;
+        let Some(order) = half_order(size) else {
+            return None;
+        };
+        let pairs = lengths[order as usize].pairs();
+        let Some(index) = key_of(&self.chunks, pairs, key, order, object, offset) else {
+            return None;
+        };
+        Some(Leaf {
+            object,
+            chunk: pairs[index].chunk,
+            offset,
+            size,
+            index,
+        })
+    }
+
+    /// The held chunks, each once, in no order that is told.
+    pub fn chunks(&self) -> Iter<'_, Chunk<M>>
+        ensures { ListsChunks M.object ((self.now).space).chunks result }
+    {
+        self.chunks.iter()
+    }
+
+    /// Adds to a list each live block, once, in no order that is told. The time grows with the number of pairs.
+    ///
+    /// The only refusal is want of memory: some of them are then added.
+    pub fn list_live<B: Allocator>(&self, leaves: &mut Vec<Leaf, B>) -> Result<(), AllocError>
+        ensures { OnOk result (AddsLeaves ((self.now).space).live leaves.old.items leaves.new.items) }
+    {
+        let chunks = &self.chunks;
+        let lengths = &self.lengths;
+        for order in 0..ORDERS {
+            list_length(chunks, lengths[order as usize].pairs(), order, leaves)?;
+        }
+        Ok(())
+    }
+
     /// The size of a held chunk, in bytes.
     pub fn chunk_size(&self, chunk: usize) -> u64
         requires { IsSome (map.get ((self.now).space).chunks chunk) }
@@ -260,6 +336,122 @@ fn order_of(size: u64) -> u32
     ensures short { result < 64 }
 {
     size.trailing_zeros()
+}
+
+/// The order of a block of this many bytes, where a half can have so many.
+fn half_order(size: u64) -> Option<u32>
+    ensures { MatchOption result ((n : ℕ) → n < 63 → size ≢ 2 ^ n) (λ n. (size ≡ 2 ^ n) × (n < 63)) }
+{
+    if !size.is_power_of_two() {
+        return None;
+    }
+    let order = order_of(size);
+    if order < ORDERS { Some(order) } else { None }
+}
+
+/// The key of the pair that has a block of 2^order bytes: this one where it has, and else the one that a search finds.
+#[inline(always)]
+fn key_of<M: MemoryObject, A: Allocator>(
+    chunks: &Slab<Chunk<M>, A>,
+    pairs: &Slab<Pair, A>,
+    key: usize,
+    order: u32,
+    object: u64,
+    offset: u64,
+) -> Option<usize>
+    requires short { order ≤ 62 }
+    requires placed { AreInChunks chunks.now order pairs.now }
+    ensures { MatchOption result (StandsNowhere (chunks_in M.object chunks.now) pairs.now order object offset)
+        (StandsUnder (chunks_in M.object chunks.now) pairs.now order object offset) }
+{
+    match pairs.get(key) {
+        Some(pair) if is_of(chunks, pair, order, object, offset) => Some(key),
+        _ => search(chunks, pairs, order, object, offset),
+    }
+}
+
+/// The key of the pair that has a block of 2^order bytes, by a search over all pairs of that length.
+fn search<M: MemoryObject, A: Allocator>(
+    chunks: &Slab<Chunk<M>, A>,
+    pairs: &Slab<Pair, A>,
+    order: u32,
+    object: u64,
+    offset: u64,
+) -> Option<usize>
+    requires short { order ≤ 62 }
+    requires placed { AreInChunks chunks.now order pairs.now }
+    ensures { MatchOption result (StandsNowhere (chunks_in M.object chunks.now) pairs.now order object offset)
+        (StandsUnder (chunks_in M.object chunks.now) pairs.now order object offset) }
+{
+    for (key, pair) in pairs.iter() {
+        if is_of(chunks, pair, order, object, offset) {
+            return Some(key);
+        }
+    }
+    None
+}
+
+/// Whether a half of a pair is a live block of 2^order bytes that starts there in a chunk of this object.
+#[inline(always)]
+fn is_of<M: MemoryObject, A: Allocator>(
+    chunks: &Slab<Chunk<M>, A>,
+    pair: &Pair,
+    order: u32,
+    object: u64,
+    offset: u64,
+) -> bool
+    requires short { order ≤ 62 }
+    requires placed { IsInChunk chunks.now order pair.now }
+    ensures { IsTrue result ↔ HasSpan (chunks_in M.object chunks.now) order object offset (entry_of pair.now) }
+{
+    pair.has_block(order, offset) && chunks[pair.chunk].memory.object() == object
+}
+
+/// Adds to a list each live block of 2^order bytes, by the pairs of that length. It fails only for want of memory.
+fn list_length<M: MemoryObject, A: Allocator, B: Allocator>(
+    chunks: &Slab<Chunk<M>, A>,
+    pairs: &Slab<Pair, A>,
+    order: u32,
+    leaves: &mut Vec<Leaf, B>,
+) -> Result<(), AllocError>
+    requires short { order ≤ 62 }
+    requires placed { AreInChunks chunks.now order pairs.now }
+    ensures { OnOk result (leaves.new.items ≡ leaves.old.items
+        ++ map_list (leaf_of (chunks_in M.object chunks.now)) (halves_of_length UseOf.Taken order (seen pairs.now))) }
+{
+    for (key, pair) in pairs.iter() {
+        list_half(chunks, key, pair, Side::Left, order, leaves)?;
+        list_half(chunks, key, pair, Side::Right, order, leaves)?;
+    }
+    Ok(())
+}
+
+/// Adds a half of a pair to a list, where it is a live block of 2^order bytes. It fails only for want of memory.
+#[inline(always)]
+fn list_half<M: MemoryObject, A: Allocator, B: Allocator>(
+    chunks: &Slab<Chunk<M>, A>,
+    key: usize,
+    pair: &Pair,
+    side: Side,
+    order: u32,
+    leaves: &mut Vec<Leaf, B>,
+) -> Result<(), AllocError>
+    requires short { order ≤ 62 }
+    requires placed { IsInChunk chunks.now order pair.now }
+    ensures { OnOk result (leaves.new.items ≡ leaves.old.items
+        ++ map_list (leaf_of (chunks_in M.object chunks.now))
+        (half_used UseOf.Taken order key (entry_of pair.now) side)) }
+{
+    if let Use::Taken = pair.use_of(side) {
+        leaves.push(Leaf {
+            object: chunks[pair.chunk].memory.object(),
+            chunk: pair.chunk,
+            offset: pair.start_of(side, order),
+            size: bytes(order),
+            index: key,
+        })?;
+    }
+    Ok(())
 }
 
 /// Which half of its pair a block of 2^order bytes is that starts there.

@@ -12,7 +12,7 @@ use Rattle.std.specs.FinSet as set
 use Rattle.gpu_alloc.specs.Listing.{AreOnce}
 use Rattle.gpu_alloc.specs.Spans.{span_in}
 use Rattle.gpu_alloc.specs.State.{Span, span_cmp, State, IsLive}
-use Rattle.gpu_alloc.specs.declared.spans.LiveSpan.{LiveSpan}
+use Rattle.gpu_alloc_base.specs.declared.buddy_block.Leaf.{Leaf as LiveSpan}
 use Rattle.gpu_alloc_base.proofs.Lists.{head_is_other}
 use Rattle.gpu_alloc_base.proofs.ListSets.{in_set}
 use Rattle.gpu_alloc_base.proofs.ListViews.{contains_name}

@@ -1,10 +1,9 @@
 -- A memory type's buddy allocator among the allocator's fields, and what a block of one of its chunks leaves there.
-use Rattle.std.proofs.Common.{◌≡◌, ℕ, ◌+◌, ◌-◌, ◌^◌, ◌<◌, ◌≤◌, false, cond, List, length, get_or, Option, Some, None, IfSome, refl, sym, ◌∙◌, ap, subst, arith}
+use Rattle.std.proofs.Common.{◌≡◌, ℕ, ◌+◌, ◌-◌, ◌^◌, ◌<◌, ◌≤◌, List, length, get_or, Option, Some, None, IfSome, refl, sym, ◌∙◌, ap, subst, arith}
 use Rattle.std.proofs.Math.ListN.{set}
 use Rattle.std.proofs.lemmas.List.{length-map, set-get_or}
 use Rattle.std.proofs.lemmas.Nat.{pow_pos}
 use Rattle.std.proofs.lemmas.Option.{slice_get_read}
-use Rattle.std.specs.Cmp.{nat_cmp_total}
 use Rattle.std.specs.FinMap as finite
 use Rattle.std.specs.List.{slice_get}
 use Rattle.gpu_alloc_types.specs.Properties.{Properties, heap_at}
@@ -14,10 +13,12 @@ use Rattle.gpu_alloc_buddy.specs.BuddySound.{IsSound}
 use Rattle.gpu_alloc_buddy.specs.BuddyState.{Buddy, IsLiveLeaf}
 use Rattle.gpu_alloc_base.specs.Chunks.{Chunk}
 use Rattle.gpu_alloc_freelist.specs.FreeListState.{Listing}
-use Rattle.gpu_alloc.specs.Inside.{state_in, properties_in, types_in, lists_in, chunk_object, span_of_leaf, place_of_leaf, IsConsistent, IsForType, IsBuddyOf}
+use Rattle.gpu_alloc.specs.Inside.{state_in, properties_in, types_in, lists_in, chunk_object, span_of_leaf, IsBuddyFor, IsForType}
+use Rattle.gpu_alloc.specs.Own.{OwnTable}
+use Rattle.gpu_alloc.specs.Whole.{IsKept}
+use Rattle.gpu_alloc.proofs.Linked.{IsConsistent, IsBuddyOf, IsRecorded, buddies_for, buddies_set, lists_for}
 use Rattle.gpu_alloc.specs.BuddySharing.{buddy_question, with_span, with_next_chunk, with_buddy_chunk}
 use Rattle.gpu_alloc.specs.FirstTypes.{first_types, first_type_state}
-use Rattle.gpu_alloc.specs.Sound.{is_list_chunk}
 use Rattle.gpu_alloc.specs.Spans.{Table}
 use Rattle.gpu_alloc_block.specs.State.{HeldObject, State}
 use Rattle.gpu_alloc_block.specs.declared.block.Kind.TheVariants.{BuddyChunk}
@@ -25,16 +26,11 @@ use Rattle.gpu_alloc_base.specs.declared.buddy_block.Leaf.{Leaf}
 use Rattle.gpu_alloc_base.specs.declared.heap.Heap.{Heap}
 use Rattle.gpu_alloc.specs.declared.limits.Limits.{Limits}
 use Rattle.gpu_alloc.proofs.Consistency.{heap_there, booked-held, booked-span}
-use Rattle.gpu_alloc.proofs.Buddies.HasBuddies.{beside_more, buddies_set}
-use Rattle.gpu_alloc.proofs.FreeLists.HasLists.{lists_beside}
 use Rattle.gpu_alloc_base.proofs.Leaves.{now_live}
-use Rattle.gpu_alloc_base.proofs.Maps.{other_inserted, name_test, eq-true}
 use Rattle.gpu_alloc.proofs.HeapLists.{properties_kept, state_kept}
-use Rattle.gpu_alloc.proofs.Ledgers.{Held}
-use Rattle.gpu_alloc.proofs.Buddies.Links.{IsBeside, HasLeafMore, linked_with_leaf, linked_with_chunk}
 use Rattle.gpu_alloc.proofs.Buddies.Served.{buddy_counted}
 use Rattle.gpu_alloc.proofs.Buddies.Serving.{Serves, question_is}
-use Rattle.gpu_alloc.proofs.Buddies.States.{next_at, types_set, types_kept, lists_next, lists_next_at}
+use Rattle.gpu_alloc.proofs.Buddies.States.{HasLeafMore, next_at, types_set, types_kept, lists_next, lists_next_at}
 
 -- a live block is not empty
 some_bytes : (b : Buddy) (leaf : Leaf) → IsSound b → IsLiveLeaf b leaf → 0 < leaf.size
@@ -70,7 +66,7 @@ module _ {A : Type 0} (l : Limits A) (heaps : List Heap) (buddies : List Buddy) 
       let given = buddy_of.for_type in
       record { memory_type = memory_type ∙ given.memory_type; props = props ∙ given.props; atom = atom ∙ given.atom; minimal = minimal ∙ given.minimal }
 
-  pub serves : Serves s t.places t.room index b
+  pub serves : Serves s index b
   serves = record {
     of = buddy_of;
     next = lists_next_at (types_in (first_types l.config p) buddies) lists index (omega (arith, known, is.listed.count)) ∙ next_at (first_types l.config p) buddies index b there typed;
@@ -83,14 +79,14 @@ module _ {A : Type 0} (l : Limits A) (heaps : List Heap) (buddies : List Buddy) 
     -- What the buddy allocator asks of its heap.
 
     pub counted_before : IsCounted b.chunks heap remaining
-    counted_before = buddy_counted s t.places t.room index b serves heaps i heap is.books here heap_in at_heap
+    counted_before = buddy_counted s index b serves heaps i heap is.books here heap_in at_heap
 
     -- the fields with another buddy allocator, heap, table and count
     abbrev state_with : Buddy → Heap → Table → ℕ → State
     state_with after changed now left = state_in l (set heaps i changed) (set buddies index after) lists now left
 
-    abbrev IsConsistentWith : Buddy → Heap → Table → ℕ → Type 0
-    IsConsistentWith after changed now left = IsConsistent l.config (properties_in l (set heaps i changed)) (set heaps i changed) (set buddies index after) lists now left
+    abbrev IsRecordedWith : Buddy → Heap → Table → ℕ → Type 0
+    IsRecordedWith after changed now left = IsRecorded l.config (properties_in l (set heaps i changed)) (set heaps i changed) (set buddies index after) lists now left
 
     -- A block more in a held chunk.
 
@@ -99,26 +95,15 @@ module _ {A : Type 0} (l : Limits A) (heaps : List Heap) (buddies : List Buddy) 
       chunk_held : finite.get t.held leaf.object ≡ Some (chunk_object b chunk)
       chunk_held = ap (finite.get t.held) object ∙ buddy_of.linked.chunks leaf.chunk chunk found
 
-      buddy_with_leaf : IsBuddyOf l.config p now index (with_leaf b leaf)
-      buddy_with_leaf = record { for_type = same_for (with_leaf b leaf) refl refl refl refl; sound = sound; linked = linked_with_leaf t now b leaf buddy_of.sound buddy_of.linked chunk found object held more }
+      buddy_with_leaf : IsBuddyFor l.config p index (with_leaf b leaf)
+      buddy_with_leaf = record { for_type = same_for (with_leaf b leaf) refl refl refl refl; sound = sound }
 
-      leaf_beside : IsBeside t now leaf.object
-      leaf_beside = beside_more t now (span_of_leaf leaf) (λ q other. ap (λ (x : Held). finite.get x q) held) (place_of_leaf leaf) more.live more.places
-
-      found_still : finite.get now.held leaf.object ≡ Some (chunk_object b chunk)
-      found_still = ap (λ (x : Held). finite.get x leaf.object) held ∙ chunk_held
-
-      pub consistent_with_leaf : IsConsistentWith (with_leaf b leaf) heap now remaining
-      consistent_with_leaf =
-          subst (λ (hs : List Heap). IsConsistent l.config (properties_in l hs) hs (set buddies index (with_leaf b leaf)) lists now remaining) (sym (same_set heaps i heap heap at_heap refl)) (record {
+      pub recorded_with_leaf : IsRecordedWith (with_leaf b leaf) heap now remaining
+      recorded_with_leaf =
+          subst (λ (hs : List Heap). IsRecorded l.config (properties_in l hs) hs (set buddies index (with_leaf b leaf)) lists now remaining) (sym (same_set heaps i heap heap at_heap refl)) (record {
             books = booked-span p heaps t remaining is.books refl now (chunk_object b chunk) (span_of_leaf leaf) chunk_held refl held (some_bytes (with_leaf b leaf) leaf sound (now_live b.live leaf)) more.live;
-            shared = buddies_set l.config p t now buddies leaf.object leaf_beside is.shared index (with_leaf b leaf)
-                (subst (λ (o : Option HeldObject). IfSome o (λ h. h.memory_type ≡ index)) (sym chunk_held) buddy_of.for_type.memory_type)
-                (subst (λ (o : Option HeldObject). IfSome o (λ h. h.memory_type ≡ index)) (sym found_still) buddy_of.for_type.memory_type)
-                buddy_with_leaf;
-            listed = lists_beside l.config p t now lists leaf.object leaf_beside is.listed
-                (subst (λ (o : Option HeldObject). IfSome o (λ h. is_list_chunk h.kind ≡ false)) (sym chunk_held) refl)
-                (subst (λ (o : Option HeldObject). IfSome o (λ h. is_list_chunk h.kind ≡ false)) (sym found_still) refl);
+            shared = buddies_set l.config p buddies index (with_leaf b leaf) (buddies_for l.config p t buddies is.shared) buddy_with_leaf;
+            listed = lists_for l.config p t lists is.listed;
           })
 
       pub state_with_leaf : state_with (with_leaf b leaf) heap now remaining ≡ with_span s (span_of_leaf leaf)
@@ -128,44 +113,24 @@ module _ {A : Type 0} (l : Limits A) (heaps : List Heap) (buddies : List Buddy) 
 
     -- A chunk more with a block in it.
 
-    module _ (leaf : Leaf) (size : ℕ) (now : Table) (changed : Heap) (none : finite.get b.chunks leaf.chunk ≡ None) (free : finite.get t.held leaf.object ≡ None) (some : 0 < remaining) (small : size < 2 ^ 64)
+    module _ (leaf : Leaf) (size : ℕ) (now : Table) (changed : Heap) (free : finite.get t.held leaf.object ≡ None) (some : 0 < remaining) (small : size < 2 ^ 64)
         (sound : IsSound (with_leaf (with_chunk b leaf size) leaf)) (held : now.held ≡ finite.insert t.held leaf.object (record { memory_type = index; counted = size; kind = BuddyChunk })) (more : HasLeafMore t now leaf)
         (counts : changed ≡ record heap { used = heap.used + size }) (within : heap.used + size ≤ heap.limit) where
       abbrev object_of : HeldObject
       object_of = record { memory_type = index; counted = size; kind = BuddyChunk }
 
-      same_type : object_of ≡ chunk_object b (record { object = leaf.object; size = size })
-      same_type = λ k. record object_of { memory_type = sym buddy_of.for_type.memory_type k }
+      buddy_with_chunk : IsBuddyFor l.config p index (with_leaf (with_chunk b leaf size) leaf)
+      buddy_with_chunk = record { for_type = same_for (with_leaf (with_chunk b leaf size) leaf) refl refl refl refl; sound = sound }
 
-      buddy_with_chunk : IsBuddyOf l.config p now index (with_leaf (with_chunk b leaf size) leaf)
-      buddy_with_chunk = record {
-        for_type = same_for (with_leaf (with_chunk b leaf size) leaf) refl refl refl refl;
-        sound = sound;
-        linked = linked_with_chunk t now b leaf buddy_of.sound buddy_of.linked size none free is.books.spans (held ∙ ap (finite.insert t.held leaf.object) same_type) more;
-      }
-
-      found_now : finite.get now.held leaf.object ≡ Some object_of
-      found_now =
-          ap (λ (x : Held). finite.get x leaf.object) held ∙ finite.get-insert nat_cmp_total t.held leaf.object object_of leaf.object
-          ∙ ap (λ b. cond b (Some object_of) (finite.get t.held leaf.object)) (name_test leaf.object leaf.object ∙ eq-true leaf.object leaf.object refl)
-
-      chunk_beside : IsBeside t now leaf.object
-      chunk_beside = beside_more t now (span_of_leaf leaf) (λ q other. ap (λ (x : Held). finite.get x q) held ∙ other_inserted t.held leaf.object object_of q other) (place_of_leaf leaf) more.live more.places
-
-      pub consistent_with_chunk : IsConsistentWith (with_leaf (with_chunk b leaf size) leaf) changed now (remaining - 1)
-      consistent_with_chunk =
-          subst (λ (q : Properties). IsConsistent l.config q (set heaps i changed) (set buddies index (with_leaf (with_chunk b leaf size) leaf)) lists now (remaining - 1))
+      pub recorded_with_chunk : IsRecordedWith (with_leaf (with_chunk b leaf size) leaf) changed now (remaining - 1)
+      recorded_with_chunk =
+          subst (λ (q : Properties). IsRecorded l.config q (set heaps i changed) (set buddies index (with_leaf (with_chunk b leaf size) leaf)) lists now (remaining - 1))
           (sym (properties_kept l heaps i changed heap at_heap (ap (λ (h : Heap). h.size) counts))) (record {
             books = booked-held p heaps t remaining is.books refl now object_of (span_of_leaf leaf)
                 (record { with = record { nonempty = some_bytes (with_leaf (with_chunk b leaf size) leaf) leaf sound (now_live b.live leaf); small = small; known = known; lies = λ own. absurd (cc) }; free = free; held = held; live = more.live })
                 heap changed i some here at_heap counts (λ asked. within);
-            shared = buddies_set l.config p t now buddies leaf.object chunk_beside is.shared index (with_leaf (with_chunk b leaf size) leaf)
-                (subst (λ (o : Option HeldObject). IfSome o (λ h. h.memory_type ≡ index)) (sym free) tt)
-                (subst (λ (o : Option HeldObject). IfSome o (λ h. h.memory_type ≡ index)) (sym found_now) refl)
-                buddy_with_chunk;
-            listed = lists_beside l.config p t now lists leaf.object chunk_beside is.listed
-                (subst (λ (o : Option HeldObject). IfSome o (λ h. is_list_chunk h.kind ≡ false)) (sym free) tt)
-                (subst (λ (o : Option HeldObject). IfSome o (λ h. is_list_chunk h.kind ≡ false)) (sym found_now) refl);
+            shared = buddies_set l.config p buddies index (with_leaf (with_chunk b leaf size) leaf) (buddies_for l.config p t buddies is.shared) buddy_with_chunk;
+            listed = lists_for l.config p t lists is.listed;
           })
 
       types_now : lists_in (types_in (first_types l.config p) (set buddies index (with_leaf (with_chunk b leaf size) leaf))) lists ≡ with_next_chunk s.types index size
@@ -180,16 +145,16 @@ module _ {A : Type 0} (l : Limits A) (heaps : List Heap) (buddies : List Buddy) 
 
     -- the size of the chunk is the question's
     pub asked_size : (size : ℕ) → chunk_size b size ≡ (buddy_question s index size).size
-    asked_size size = ap (λ q. q.size) (question_is s t.places t.room index b serves size)
+    asked_size size = ap (λ q. q.size) (question_is s index b serves size)
 
-    -- Nothing but the table's room has changed.
+    -- Nothing has changed.
 
     module _ (after : Buddy) (changed : Heap) (left : ℕ) (same_buddy : after ≡ b) (same_heap : changed ≡ heap) (same_count : left ≡ remaining) (now : Table) where
-      pub consistent_refused : IsConsistent l.config p heaps buddies lists now remaining → IsConsistentWith after changed now left
-      consistent_refused whole =
-          subst (λ (hs : List Heap). IsConsistent l.config (properties_in l hs) hs (set buddies index after) lists now left) (sym (same_set heaps i changed heap at_heap same_heap))
-          (subst (λ (bs : List Buddy). IsConsistent l.config p heaps bs lists now left) (sym (same_set buddies index after b at same_buddy))
-          (subst (λ n. IsConsistent l.config p heaps buddies lists now n) (sym same_count) whole))
+      pub kept_refused : (own : OwnTable) → IsKept l.config p heaps buddies lists own remaining → IsKept l.config (properties_in l (set heaps i changed)) (set heaps i changed) (set buddies index after) lists own left
+      kept_refused own kept =
+          subst (λ (hs : List Heap). IsKept l.config (properties_in l hs) hs (set buddies index after) lists own left) (sym (same_set heaps i changed heap at_heap same_heap))
+          (subst (λ (bs : List Buddy). IsKept l.config p heaps bs lists own left) (sym (same_set buddies index after b at same_buddy))
+          (subst (λ n. IsKept l.config p heaps buddies lists own n) (sym same_count) kept))
 
       pub state_refused : now.held ≡ t.held → now.live ≡ t.live → state_with after changed now left ≡ s
       state_refused held live =

@@ -10,12 +10,12 @@ use Rattle.gpu_alloc_base.specs.Accounts.{IsCounted, chunk_bytes}
 use Rattle.gpu_alloc_buddy.specs.Buddy.{IsFront, BeginsChunk, IsUnusedChunk, without_leaf, sees_chunks}
 use Rattle.gpu_alloc_buddy.specs.Buddy as buddy
 use Rattle.gpu_alloc_base.specs.Chunks as chunks
-use Rattle.gpu_alloc_buddy.specs.BuddyState.{Buddy, IsLiveLeaf}
+use Rattle.gpu_alloc_buddy.specs.BuddyState.{Buddy, IsLiveLeaf, space_of}
+use Rattle.gpu_alloc_pairs.proofs.LiveSpans.{one_leaf}
 use Rattle.gpu_alloc_base.specs.Chunks.{Chunk}
-use Rattle.gpu_alloc.specs.Inside.{IsChunkOf, IsBooked, chunk_object, span_of_leaf, place_of_leaf, leaf_at}
+use Rattle.gpu_alloc.specs.Inside.{IsChunkOf, IsBooked, chunk_object, span_of_leaf, leaf_at}
 use Rattle.gpu_alloc.specs.Release.{IsUnused, without_span}
-use Rattle.gpu_alloc.specs.Spans.{Place, Room}
-use Rattle.gpu_alloc_block.specs.State.{HeldObject, Span, span_cmp, span_of, Block, State, IsLive, share}
+use Rattle.gpu_alloc_block.specs.State.{HeldObject, Span, span_of, Block, State, IsLive, share}
 use Rattle.gpu_alloc_base.specs.declared.buddy_block.Leaf.{Leaf}
 use Rattle.gpu_alloc_base.specs.declared.heap.Heap.{Heap}
 use Rattle.gpu_alloc_base.proofs.Leaves.{leaf_removed}
@@ -25,28 +25,26 @@ use Rattle.gpu_alloc_block.proofs.LiveSpans.{live_kept, live_other}
 use Rattle.gpu_alloc.proofs.Buddies.Serving.{table_of, Serves}
 use Rattle.gpu_alloc.proofs.HeapLists.{ledger_at}
 
-module _ (s : State) (places : map.FinMap span_cmp Place) (room : Room) (index : ℕ) (b : Buddy) (serves : Serves s places room index b) where
+module _ (s : State) (index : ℕ) (b : Buddy) (serves : Serves s index b) where
   -- What both tell.
 
   -- a chunk's object is held as one
-  chunk_held : (key : ℕ) (c : Chunk) → map.get b.chunks key ≡ Some c → IsChunkOf (table_of s places room) b.memory_type c.object (chunk_object b c)
+  chunk_held : (key : ℕ) (c : Chunk) → map.get b.chunks key ≡ Some c → IsChunkOf (table_of s) b.memory_type c.object (chunk_object b c)
   chunk_held key c is = record { held = serves.of.linked.chunks key c is; of_kind = refl; of_type = refl }
 
   -- a live span of a chunk's object is a live block of the chunk
   span_is_leaf : (key : ℕ) (c : Chunk) (span : Span) → map.get b.chunks key ≡ Some c → span.object ≡ c.object → IsLive s span
       → (leaf : Leaf) × (span_of_leaf leaf ≡ span) × IsLiveLeaf b leaf × (leaf.chunk ≡ key)
   span_is_leaf key c span is named live =
-      let held = subst (λ o. IsChunkOf (table_of s places room) b.memory_type o (chunk_object b c)) (sym named) (chunk_held key c is) in
+      let held = subst (λ o. IsChunkOf (table_of s) b.memory_type o (chunk_object b c)) (sym named) (chunk_held key c is) in
       let l = serves.of.linked.spans span (chunk_object b c) live held in
-      let lies = serves.of.sound.space.inside (leaf_at span l.0) l.1.1 in
-      (leaf_at span l.0, refl, l.1.1, serves.of.sound.space.one_object l.0.chunk key lies.chunk c lies.held is (sym lies.object ∙ named))
+      let lies = serves.of.sound.space.inside (leaf_at span l.0) l.1 in
+      (leaf_at span l.0, refl, l.1, serves.of.sound.space.one_object l.0.chunk key lies.chunk c lies.held is (sym lies.object ∙ named))
 
   -- live blocks of the same span are one
   one_place : (x y : Leaf) → IsLiveLeaf b x → IsLiveLeaf b y → span_of_leaf x ≡ span_of_leaf y → x ≡ y
   one_place x y live also same =
-      let at = ap (λ (span : Span). map.get places span) same in
-      let place : place_of_leaf x ≡ place_of_leaf y = one_value _ _ _ (serves.of.linked.leaves x live).1 (at ∙ (serves.of.linked.leaves y also).1) in
-      λ i. leaf_at (same i) (place i)
+      one_leaf (space_of b) serves.of.sound.space x y live also (ap (λ (span : Span). span.object) same) (ap (λ (span : Span). span.offset) same)
 
   -- Returns.
 
@@ -66,7 +64,7 @@ module _ (s : State) (places : map.FinMap span_cmp Place) (room : Room) (index :
       let lies = serves.of.sound.space.inside other was.1 in
       let own = serves.of.sound.space.inside leaf live in
       let chunk : lies.chunk ≡ own.chunk = one_value _ lies.chunk own.chunk lies.held (ap (λ k. map.get b.chunks k) named ∙ own.held) in
-      unused (span_of_leaf other) (live_kept s.live (span_of block) (span_of_leaf other) (λ same. was.0 (one_place other leaf was.1 live (same ∙ is))) of.0)
+      unused (span_of_leaf other) (live_kept s.live (span_of block) (span_of_leaf other) (λ same. was.0 (one_place other leaf was.1 live (same ∙ is))) of)
       (lies.object ∙ ap (λ (c : Chunk). c.object) chunk ∙ sym own.object)
 
   -- The device.
@@ -99,7 +97,7 @@ module _ (s : State) (places : map.FinMap span_cmp Place) (room : Room) (index :
 
   -- The ledger and the count.
 
-  pub buddy_counted : (heaps : List Heap) (i : ℕ) (heap : Heap) → IsBooked s.properties heaps (table_of s places room) s.remaining → i ≡ heap_at s.properties index → i < length heaps → heap ≡ get_or heaps i heap
+  pub buddy_counted : (heaps : List Heap) (i : ℕ) (heap : Heap) → IsBooked s.properties heaps (table_of s) s.remaining → i ≡ heap_at s.properties index → i < length heaps → heap ≡ get_or heaps i heap
       → IsCounted b.chunks heap s.remaining
   buddy_counted heaps i heap booked here inside at = record {
     ledger = subst (λ n. chunk_bytes b.chunks ≤ n) (sym (ledger_at s.properties heaps i heap (map.entries s.held) booked.ledgers inside at)) bytes;

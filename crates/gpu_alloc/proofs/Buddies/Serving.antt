@@ -12,27 +12,28 @@ use Rattle.gpu_alloc_buddy.specs.BuddyState.{Buddy, IsFreeAt}
 use Rattle.gpu_alloc_base.specs.Chunks.{Chunk}
 use Rattle.gpu_alloc_base.specs.FreeSpace.{IsPlace, IsFreePiece}
 use Rattle.gpu_alloc.specs.FreeBytes.{IsFreeByte}
-use Rattle.gpu_alloc.specs.Inside.{IsBuddyOf, chunk_object, span_of_leaf, leaf_at}
+use Rattle.gpu_alloc.specs.Inside.{chunk_object, span_of_leaf, leaf_at}
+use Rattle.gpu_alloc.proofs.Linked.{IsBuddyOf}
 use Rattle.gpu_alloc_base.specs.NewChunk.{flags_of}
 use Rattle.gpu_alloc.specs.BuddySharing.{buddy_size, buddy_question, next_chunk_of, HasBuddyPlace, IsPieceFront}
 use Rattle.gpu_alloc.specs.Candidates.{buddy_candidate, candidate}
 use Rattle.gpu_alloc.specs.declared.allocator.Strategy.TheVariants.{InBuddyChunk}
 use Rattle.gpu_alloc_base.proofs.ToldTwice.{IsToldAs}
 use Rattle.gpu_alloc.proofs.HeapLists.{IsHeap}
-use Rattle.gpu_alloc.specs.Spans.{Place, Room, Table}
-use Rattle.gpu_alloc_block.specs.State.{HeldObject, span_cmp, State}
+use Rattle.gpu_alloc.specs.Spans.{Table}
+use Rattle.gpu_alloc_block.specs.State.{HeldObject, State}
 use Rattle.gpu_alloc_block.specs.declared.block.Kind.TheVariants.{BuddyChunk}
 use Rattle.gpu_alloc_base.specs.declared.buddy_block.Leaf.{Leaf}
 use Rattle.gpu_alloc_base.specs.declared.heap.Heap.{Heap}
 use Rattle.gpu_alloc.specs.declared.request.Request.{Request}
 
--- a state's table, with the places of blocks
-abbrev pub table_of : State → map.FinMap span_cmp Place → Room → Table
-table_of s places room = record { held = s.held; live = s.live; places = places; room = room }
+-- what a state holds
+abbrev pub table_of : State → Table
+table_of s = record { held = s.held; live = s.live }
 
 -- the memory type's buddy allocator, whose next chunk is as the state tells
-pub record Serves (s : State) (places : map.FinMap span_cmp Place) (room : Room) (index : ℕ) (b : Buddy) : Type 0 where
-  pub of : IsBuddyOf s.config s.properties (table_of s places room) index b
+pub record Serves (s : State) (index : ℕ) (b : Buddy) : Type 0 where
+  pub of : IsBuddyOf s.config s.properties (table_of s) index b
   pub next : next_chunk_of (slice_get s.types index) ≡ b.next_chunk
 
 -- Two ways to tell of free bytes that tell the same of one object, whatever name each has for it.
@@ -54,7 +55,7 @@ first_byte F x start length place =
     let some : 0 < 2 ^ place.power.0 = pow_pos place.power.0 in
     place.free start (record { from = omega arith; to = omega (arith, some, place.power.1) })
 
-module _ (s : State) (places : map.FinMap span_cmp Place) (room : Room) (index : ℕ) (b : Buddy) (serves : Serves s places room index b) where
+module _ (s : State) (index : ℕ) (b : Buddy) (serves : Serves s index b) where
   -- Bytes and pieces.
 
   pub free_byte : (key at : ℕ) (chunk : Chunk) → map.get b.chunks key ≡ Some chunk → IsFreeAt b key at → IsFreeByte s index BuddyChunk chunk.object at
@@ -73,8 +74,8 @@ module _ (s : State) (places : map.FinMap span_cmp Place) (room : Room) (index :
         unused = λ span live of_it i.
             let there = linked.spans span h live (record { held = subst (λ n. map.get s.held n ≡ Some h) (sym of_it) held; of_kind = refl; of_type = refl }) in
             let leaf : Leaf = leaf_at span there.0 in
-            let lies = sound.space.inside leaf there.1.1 in
-            free.unused leaf there.1.1 (sound.space.one_object leaf.chunk key lies.chunk chunk lies.held is (sym lies.object ∙ of_it)) i;
+            let lies = sound.space.inside leaf there.1 in
+            free.unused leaf there.1 (sound.space.one_object leaf.chunk key lies.chunk chunk lies.held is (sym lies.object ∙ of_it)) i;
       }
 
   pub free_at : (key at : ℕ) (chunk : Chunk) → map.get b.chunks key ≡ Some chunk → IsFreeByte s index BuddyChunk chunk.object at → IsFreeAt b key at
@@ -90,7 +91,7 @@ module _ (s : State) (places : map.FinMap span_cmp Place) (room : Room) (index :
             let lies = serves.of.sound.space.inside leaf live in
             let there : map.get b.chunks key ≡ Some lies.chunk = subst (λ k. map.get b.chunks k ≡ Some lies.chunk) in_chunk lies.held in
             let one : lies.chunk ≡ chunk = cc in
-            free.unused (span_of_leaf leaf) (linked.leaves leaf live).0 (lies.object ∙ ap (λ (c : Chunk). c.object) one) i;
+            free.unused (span_of_leaf leaf) (linked.leaves leaf live) (lies.object ∙ ap (λ (c : Chunk). c.object) one) i;
       }
 
   -- a place or a piece in a chunk is one in its object

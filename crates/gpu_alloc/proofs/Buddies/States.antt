@@ -1,11 +1,19 @@
 -- The chunk sizes of each memory type, as one buddy allocator changes.
-use Rattle.std.proofs.Common.{◌≡◌, ℕ, zero, suc, ◌<◌, List, [], ◌∷◌, length, get_or, Some, slice_get, refl, ◌∙◌, ap, arith}
+use Rattle.std.proofs.Common.{◌≡◌, false, ℕ, zero, suc, ◌<◌, List, [], ◌∷◌, length, get_or, Some, slice_get, refl, ◌∙◌, ap, arith}
 use Rattle.std.proofs.Math.ListN.{set}
+use Rattle.std.specs.FinSet as set_of
+use Rattle.gpu_alloc_base.specs.declared.buddy_block.Leaf.{Leaf}
 use Rattle.gpu_alloc_buddy.specs.BuddyState.{Buddy}
 use Rattle.gpu_alloc_freelist.specs.FreeListState.{Listing}
-use Rattle.gpu_alloc.specs.Inside.{types_in, lists_in}
+use Rattle.gpu_alloc.specs.Inside.{types_in, lists_in, span_of_leaf}
 use Rattle.gpu_alloc.specs.BuddySharing.{next_chunk_of, with_next_chunk}
+use Rattle.gpu_alloc.specs.Spans.{Table}
 use Rattle.gpu_alloc_block.specs.State.{TypeState}
+
+-- what is held with a block's span more, which was not live
+pub record HasLeafMore (old new : Table) (leaf : Leaf) : Type 0 where
+  pub free : set_of.contains old.live (span_of_leaf leaf) ≡ false
+  pub live : new.live ≡ set_of.insert old.live (span_of_leaf leaf)
 
 -- its next chunk will be as large at least
 pub types_set : (types : List TypeState) (buddies : List Buddy) (i : ℕ) (b : Buddy) → i < length buddies → i < length types

@@ -1,5 +1,5 @@
 -- What a block that a memory type's free list gives comes to for the whole allocator.
-use Rattle.std.proofs.Common.{◌≡◌, ◌⊎◌, inl, inr, ℕ, ◌+◌, ◌-◌, ◌^◌, ◌<◌, ◌≤◌, false, List, length, Option, Some, None, Ok, refl, sym, ◌∙◌, ap, subst, arith}
+use Rattle.std.proofs.Common.{◌≡◌, ◌⊎◌, inl, inr, ℕ, ◌+◌, ◌-◌, ◌^◌, ◌<◌, ◌≤◌, false, List, Option, Some, None, Ok, refl, sym, ◌∙◌, ap, subst, arith}
 use Rattle.std.proofs.Math.ListN.{set}
 use Rattle.std.specs.FinMap as finite
 use Rattle.std.specs.FinSet as set_of
@@ -24,13 +24,16 @@ use Rattle.gpu_alloc_types.specs.Flags.{has_bit}
 use Rattle.gpu_alloc.proofs.NewObjects.{counted_new}
 use Rattle.gpu_alloc_freelist.specs.FreeListSound.{IsSound}
 use Rattle.gpu_alloc_freelist.specs.FreeListState.{Listing}
-use Rattle.gpu_alloc.specs.Inside.{state_in, properties_in, list_object, span_of_slot, slot_at, IsConsistent}
+use Rattle.gpu_alloc.specs.Inside.{state_in, properties_in, list_object, span_of_slot, slot_at}
+use Rattle.gpu_alloc.specs.Own.{OwnTable}
+use Rattle.gpu_alloc_block.specs.Parts.{IsAt}
+use Rattle.gpu_alloc.proofs.Linked.{IsRecorded}
 use Rattle.gpu_alloc.specs.FreeListSharing.{list_question, list_block, latest_number, tail_of, with_list_chunk}
 use Rattle.gpu_alloc_base.specs.NewChunk.{ChunkQuestion, made}
 use Rattle.gpu_alloc.specs.BuddySharing.{with_span}
 use Rattle.gpu_alloc.specs.Spans.{Table}
 use Rattle.gpu_alloc.specs.Whole.{whole, AreWhole}
-use Rattle.gpu_alloc.proofs.Wholes.{slot_comes, chunk_comes}
+use Rattle.gpu_alloc.proofs.Wholes.{at_read, slot_comes, list_chunk_comes}
 use Rattle.gpu_alloc_block.specs.State.{HeldObject, Block, State}
 use Rattle.gpu_alloc_block.specs.declared.block.Kind.TheVariants.{FreeListChunk}
 use Rattle.gpu_alloc_base.specs.declared.free_list_block.Slot.{Slot}
@@ -38,8 +41,8 @@ use Rattle.gpu_alloc_base.specs.declared.heap.Heap.{Heap}
 use Rattle.gpu_alloc.specs.declared.limits.Limits.{Limits}
 use Rattle.gpu_alloc.proofs.Agreeing.{not_held}
 use Rattle.gpu_alloc.proofs.Ledgers.{Held}
-use Rattle.gpu_alloc.proofs.FreeLists.Grants.{consistent_with_slot, state_with_slot, consistent_with_list_chunk, state_with_list_chunk, asked_size}
-use Rattle.gpu_alloc.proofs.FreeLists.Links.{HasSlotMore}
+use Rattle.gpu_alloc.proofs.FreeLists.Grants.{recorded_with_slot, state_with_slot, recorded_with_list_chunk, state_with_list_chunk, asked_size}
+use Rattle.gpu_alloc.proofs.FreeLists.States.{HasSlotMore}
 use Rattle.gpu_alloc.proofs.FreeLists.Served.{span_is_slot}
 use Rattle.gpu_alloc.proofs.HeapLists.{type_heap_is}
 use Rattle.gpu_alloc.proofs.FreeLists.Serving.{ServesList, tail_is, question_is, told_with}
@@ -48,16 +51,16 @@ use Rattle.gpu_alloc.proofs.FreeLists.Types.{own_listing, serves_own}
 
 -- A request to a free list among the fields, and the block that it gave.
 
-module _ {A : Type 0} {limits : Limits A} {heaps : List Heap} {buddies : List Buddy} {lists : List Listing} {table : Table} {remaining index i : ℕ} {l : Listing} {heap : Heap} {flags : ℕ} {slot : Slot} {q : Properties} {old : ℕ → Option Object}
-    (given : Given limits heaps buddies lists (whole table lists) remaining index i lists l heap flags q old) (apart : AreWhole table lists) (new : ℕ → Option Object) (size alignment : ℕ) (es : List Event) (after : Account Listing)
+module _ {A : Type 0} {limits : Limits A} {heaps : List Heap} {buddies : List Buddy} {lists : List Listing} {remaining index i : ℕ} {l : Listing} {heap : Heap} {flags : ℕ} {slot : Slot} {q : Properties} {old : ℕ → Option Object}
+    (own : OwnTable) (given : Given limits heaps buddies lists (whole own buddies lists) remaining index i lists l heap flags q old) (apart : AreWhole own buddies lists) (new : ℕ → Option Object) (size alignment : ℕ) (es : List Event) (after : Account Listing)
     (answers : Answers (list_case (account l heap remaining) size alignment flags) es (Ok slot) after) (objects : ObjectsAfter l (Ok slot) after.allocator old new) (nonempty : 0 < slot.size) where
   abbrev t : Table
-  t = whole table lists
+  t = whole own buddies lists
 
   abbrev before : State
   before = state_in limits heaps buddies lists t remaining
 
-  serving : ServesList before t.places t.room index l
+  serving : ServesList before index l
   serving = serves_own limits heaps buddies lists t remaining index l given.is given.known given.at
 
   -- the object of a new chunk is not held
@@ -77,9 +80,9 @@ module _ {A : Type 0} {limits : Limits A} {heaps : List Heap} {buddies : List Bu
     | inl gives ↦
         let tail = gives.place in
         let byte = tail.last.run.free slot.offset (omega (arith, tail.start, tail.last.room.from)) (omega (arith, nonempty, tail.end)) in
-        let own : Slot = slot_at (span_of_slot slot) slot.chunk in
+        let itself : Slot = slot_at (span_of_slot slot) slot.chunk in
         not_live t.live (span_of_slot slot) (λ live.
-        byte.unused own (span_is_slot before t.places t.room index l serving slot.chunk tail.object.0 (span_of_slot slot) tail.object.1 tail.object.2 live) tail.chunk (record { from = omega arith; to = omega (arith, nonempty) }))
+        byte.unused itself (span_is_slot before index l serving slot.chunk tail.object.0 (span_of_slot slot) tail.object.1 tail.object.2 live) tail.chunk (record { from = omega arith; to = omega (arith, nonempty) }))
     | inr gives ↦ not_live_new t (span_of_slot slot) given.is.books.spans (not_held_yet (more_in gives.place).was_free)
   ]
 
@@ -89,24 +92,24 @@ module _ {A : Type 0} {limits : Limits A} {heaps : List Heap} {buddies : List Bu
 
   there : (tail : IsTail l.space size alignment slot) → finite.get t.held slot.object ≡ Some (list_object l slot.chunk tail.object.0)
   there tail =
-      let own = own_listing limits heaps buddies lists t remaining index l given.is given.known given.at in
-      ap (finite.get t.held) tail.object.2 ∙ own.linked.chunks slot.chunk tail.object.0 tail.object.1
+      let of = own_listing limits heaps buddies lists t remaining index l given.is given.known given.at in
+      ap (finite.get t.held) tail.object.2 ∙ of.linked.chunks slot.chunk tail.object.0 tail.object.1
 
-  inside : index < length lists
-  inside = omega (arith, given.known, given.is.listed.count)
+  stands : IsAt lists index l
+  stands = at_read lists index l (omega (arith, given.known, given.is.listed.count)) given.at
 
   -- What the fields are with another free list.
   module _ (sound : IsSound after.allocator) where
     abbrev now : Account Listing → Table
-    now a = whole table (set lists index a.allocator)
+    now a = whole own buddies (set lists index a.allocator)
 
     abbrev state_of : Account Listing → State
     state_of a = state_in limits (set heaps i a.heap) buddies (set lists index a.allocator) (now a) a.remaining
 
     -- what is left of it
     pub record IsServed (a : Account Listing) : Type 0 where
-      pub consistent : IsConsistent limits.config (properties_in limits (set heaps i a.heap)) (set heaps i a.heap) buddies (set lists index a.allocator) (now a) a.remaining
-      pub parts : AreWhole table (set lists index a.allocator)
+      pub recorded : IsRecorded limits.config (properties_in limits (set heaps i a.heap)) (set heaps i a.heap) buddies (set lists index a.allocator) (now a) a.remaining
+      pub parts : AreWhole own buddies (set lists index a.allocator)
       pub gives : GivesInPlace (list_candidate before size alignment index) es block (state_of a) ⊎ GivesInNewObject (list_candidate before size alignment index) es block (state_of a)
       pub objects_are : ObjectsWith before block (state_of a) old new
 
@@ -117,13 +120,13 @@ module _ {A : Type 0} {limits : Limits A} {heaps : List Heap} {buddies : List Bu
         let chunk : Chunk = tail.object.0 in
         let found = tail.object.1 in
         let list_now : Listing = listing_with_slot l slot in
-        let made = slot_comes table lists apart index l inside given.at serving.of.sound serving.of.for_type.memory_type list_now refl slot chunk found tail.object.2 refl refl in
-        let now_is : Table = whole table (set lists index list_now) in
-        let more : HasSlotMore t now_is slot = record { free = slot_is_free; live = made.live_is; places = refl } in
+        let made = slot_comes own buddies lists apart index l stands serving.of.sound serving.of.for_type.memory_type list_now refl slot chunk found tail.object.2 refl refl in
+        let now_is : Table = whole own buddies (set lists index list_now) in
+        let more : HasSlotMore t now_is slot = record { free = slot_is_free; live = made.live_is } in
         let sound_now = subst IsSound (ap (λ (a : Account Listing). a.allocator) after_is) sound in
         let state = state_with_slot limits heaps buddies lists t remaining index l given.is given.known given.at i heap given.here given.at_heap slot chunk now_is found tail.object.2 sound_now made.held_is more in
         subst IsServed (sym after_is) (record {
-          consistent = consistent_with_slot limits heaps buddies lists t remaining index l given.is given.known given.at i heap given.here given.at_heap slot chunk now_is found tail.object.2 sound_now made.held_is more;
+          recorded = recorded_with_slot limits heaps buddies lists t remaining index l given.is given.known given.at i heap given.here given.at_heap slot chunk now_is found tail.object.2 sound_now made.held_is more;
           parts = made.apart;
           gives = inl (subst (GivesInPlace (list_candidate before size alignment index) es block) (sym state) gives);
           objects_are = rw (there tail) same_objects;
@@ -148,10 +151,10 @@ module _ {A : Type 0} {limits : Limits A} {heaps : List Heap} {buddies : List Bu
         let row : HeldObject = record { memory_type = index; counted = n; kind = FreeListChunk slot.chunk } in
         let latest : ℕ = l.space.latest + 1 in
         let row_is : list_object l latest chunk ≡ row = λ k. record { memory_type = for_type.memory_type k; counted = n; kind = FreeListChunk (sym number k) } in
-        let made = chunk_comes table lists apart index l inside given.at serving.of.sound for_type.memory_type list_now refl slot latest chunk free refl (next_is_new l.space serving.of.sound.space) refl refl in
-        let now_is : Table = whole table (set lists index list_now) in
+        let made = list_chunk_comes own buddies lists apart index l stands serving.of.sound for_type.memory_type list_now refl slot latest chunk free refl (next_is_new l.space serving.of.sound.space) refl refl in
+        let now_is : Table = whole own buddies (set lists index list_now) in
         let held_now : now_is.held ≡ finite.insert t.held slot.object row = made.held_is ∙ ap (finite.insert t.held slot.object) row_is in
-        let more : HasSlotMore t now_is slot = record { free = slot_is_free; live = made.live_is; places = refl } in
+        let more : HasSlotMore t now_is slot = record { free = slot_is_free; live = made.live_is } in
         let small : n < 2 ^ 64 = (sound.space.sizes slot.chunk chunk chunk_now).1 in
         let sound_now = subst IsSound after_list sound in
         let state = state_with_list_chunk limits heaps buddies lists t remaining index l given.is given.known given.at i heap given.here given.at_heap slot n now_is changed number free some small sound_now held_now more refl within in
@@ -159,7 +162,7 @@ module _ {A : Type 0} {limits : Limits A} {heaps : List Heap} {buddies : List Bu
         let state_asked = state ∙ ap (λ m. with_span (with_list_chunk before index slot.object m) (span_of_slot slot)) asked in
         let found_now = ap (λ (x : Held). finite.get x slot.object) held_now ∙ own_inserted t.held slot.object row in
         subst IsServed (sym after_is) (record {
-          consistent = consistent_with_list_chunk limits heaps buddies lists t remaining index l given.is given.known given.at i heap given.here given.at_heap slot n now_is changed number free some small sound_now held_now more refl within;
+          recorded = recorded_with_list_chunk limits heaps buddies lists t remaining index l given.is given.known given.at i heap given.here given.at_heap slot n now_is changed number free some small sound_now held_now more refl within;
           parts = made.apart;
           gives = inr (subst (GivesInNewObject (list_candidate before size alignment index) es block) (sym state_asked) gives);
           objects_are = rw free (counted_new before.properties l.memory_type (sees_chunks l) chunk row slot.object _ _ old new chunk_now found_now for_type.memory_type refl (ap (λ bits. has_bit bits 2) for_type.props) one_more);
@@ -167,7 +170,7 @@ module _ {A : Type 0} {limits : Limits A} {heaps : List Heap} {buddies : List Bu
 
     -- what is asked for a new chunk
     asked_is : question l size flags ≡ list_question before index size
-    asked_is = ap (question l size) given.flags_are ∙ question_is before t.places t.room index l serving size
+    asked_is = ap (question l size) given.flags_are ∙ question_is before index l serving size
 
     -- the call's account of a new chunk, with the block as it is
     account_is : slot ≡ first_tail l.space slot.object (chunk_size l size) size alignment
@@ -183,7 +186,7 @@ module _ {A : Type 0} {limits : Limits A} {heaps : List Heap} {buddies : List Bu
           let kept : new ≡ old = rw (tail.object.1) at objects in
           in_run tail kept gives.state (record {
             fits = tt;
-            place = record { number = slot.chunk; is = refl; tail = tail_is before t.places t.room index l serving size alignment slot tail };
+            place = record { number = slot.chunk; is = refl; tail = tail_is before index l serving size alignment slot tail };
             asked = gives.asked;
             state = refl;
           })
@@ -198,7 +201,7 @@ module _ {A : Type 0} {limits : Limits A} {heaps : List Heap} {buddies : List Bu
           let free = not_held_yet more.was_free in
           let after_is = gives.state ∙ account_is first in
           in_new_run chunk_number free gives.asks.has.remains.objects gives.asks.within after_is more (record {
-            asks = asks_is (told_with before t.places t.room index l serving heap size alignment flags (type_heap_is limits heaps buddies lists t remaining given.is.books index i heap given.known given.here given.at_heap) given.flags_are) gives.asks;
+            asks = asks_is (told_with before index l serving heap size alignment flags (type_heap_is limits heaps buddies lists t remaining given.is.books index i heap given.known given.here given.at_heap) given.flags_are) gives.asks;
             place = record { is = (λ k. list_block before index (number k) (span_is k)); was_free = free };
             asked = gives.asked ∙ ap (λ x. made x slot.object) asked_is;
             state = refl;

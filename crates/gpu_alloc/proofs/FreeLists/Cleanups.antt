@@ -13,7 +13,8 @@ use Rattle.gpu_alloc_types.specs.Properties.{Properties}
 use Rattle.gpu_alloc_block.specs.Agreement.{Agrees}
 use Rattle.gpu_alloc_buddy.specs.BuddyState.{Buddy}
 use Rattle.gpu_alloc_freelist.specs.FreeListState.{Listing}
-use Rattle.gpu_alloc.specs.Inside.{state_in, properties_in, IsConsistent}
+use Rattle.gpu_alloc.specs.Inside.{state_in, properties_in}
+use Rattle.gpu_alloc.proofs.Linked.{IsConsistent}
 use Rattle.gpu_alloc.specs.FreeListSharing.{IsListChunk}
 use Rattle.gpu_alloc.specs.Release.{AreChunksGone, AreAllGone, LetsGo, IsCleanedUp, without_all, without_objects}
 use Rattle.gpu_alloc.specs.Sound.{is_list_chunk, HasLiveSpan, IsSound}

@@ -1,10 +1,9 @@
 -- Chunks that go out of a memory type's free list, one by one, in the allocator's fields and in its state.
-use Rattle.std.proofs.Common.{true, ◌≡◌, ◌≢◌, ℕ, ◌+◌, ◌-◌, ◌<◌, Bool, List, [], ◌∷◌, ◌++◌, length, get_or, length-append, map, Option, Some, None, IsTrue, refl, sym, ◌∙◌, inl, inr, ap, subst, arith}
+use Rattle.std.proofs.Common.{◌≡◌, ◌≢◌, ℕ, ◌+◌, ◌-◌, ◌<◌, Bool, List, [], ◌∷◌, ◌++◌, length, get_or, length-append, map, Option, Some, None, refl, sym, ◌∙◌, inl, inr, ap, subst, arith}
 use Rattle.std.proofs.Math.ListN.{set}
 use Rattle.std.proofs.lemmas.List.{map-append, append-nil, get_or-set_same}
 use Rattle.std.proofs.lemmas.Option.{slice_get_read, slice_get_cases}
 use Rattle.std.specs.FinMap as finite
-use Rattle.std.specs.FinSet as set_of
 use Rattle.gpu_alloc_types.specs.Device.{Event, Object, put}
 use Rattle.gpu_alloc_types.specs.Device.Event.{Deallocated}
 use Rattle.gpu_alloc_types.specs.Properties.{Properties, heap_at}
@@ -17,33 +16,30 @@ use Rattle.gpu_alloc_freelist.specs.FreeListAllocator.{account_without_chunk, Gi
 use Rattle.gpu_alloc_freelist.specs.FreeListAllocator as list
 use Rattle.gpu_alloc_freelist.specs.FreeListSound.{IsSound}
 use Rattle.gpu_alloc_freelist.specs.FreeListState.{Listing}
-use Rattle.gpu_alloc.specs.Inside.{state_in, properties_in, types_in, list_object, slot_at, IsLiveIn, IsConsistent, IsListOf, IsNumberedChunk}
+use Rattle.gpu_alloc.specs.Inside.{state_in, properties_in, types_in, list_object, slot_at, IsLiveIn, IsNumberedChunk}
+use Rattle.gpu_alloc.specs.Own.{OwnTable}
+use Rattle.gpu_alloc.proofs.Linked.{IsConsistent, IsListOf, IsRecorded, buddies_for, lists_for, lists_set}
 use Rattle.gpu_alloc.specs.Release.{GivesBack, LetsGo, without_all, without_objects}
 use Rattle.gpu_alloc.specs.FirstTypes.{first_types}
-use Rattle.gpu_alloc.specs.Spans.{Place, Room, Table, IsHeldFor}
-use Rattle.gpu_alloc.specs.Whole.{parts_of, whole, AreWhole, IsKept, IsPlace}
+use Rattle.gpu_alloc.specs.Spans.{Table}
+use Rattle.gpu_alloc.specs.Whole.{parts_of, whole, IsKept, IsPlace}
 use Rattle.gpu_alloc_block.specs.Parts.{Makes}
-use Rattle.gpu_alloc.proofs.Wholes.{chunk_goes}
-use Rattle.gpu_alloc_block.specs.State.{HeldObject, Span, span_cmp, State, total}
-use Rattle.gpu_alloc_block.specs.declared.block.Kind.TheVariants.{BuddyChunk}
+use Rattle.gpu_alloc.proofs.Wholes.{at_read, list_chunk_goes}
+use Rattle.gpu_alloc_block.specs.State.{HeldObject, Span, State, total}
 use Rattle.gpu_alloc_base.specs.declared.heap.Heap.{Heap}
 use Rattle.gpu_alloc.specs.declared.limits.Limits.{Limits}
 use Rattle.gpu_alloc.proofs.Consistency.{heap_there, booked-let_go}
 use Rattle.gpu_alloc_freelist.proofs.ForCallers.{IsOnItsWay, begins, goes_on, ends, held_before}
-use Rattle.gpu_alloc.proofs.Buddies.HasBuddies.{buddies_beside}
-use Rattle.gpu_alloc.proofs.FreeLists.HasLists.{lists_set}
 use Rattle.gpu_alloc.proofs.HeapLists.{properties_kept, state_kept}
 use Rattle.gpu_alloc.proofs.Ledgers.{Held}
 use Rattle.gpu_alloc_base.proofs.Sums.{len_less}
-use Rattle.gpu_alloc.proofs.Buddies.Links.{IsBeside}
 use Rattle.gpu_alloc.proofs.FreeLists.Gone.{gone_is}
-use Rattle.gpu_alloc.proofs.FreeLists.Links.{list_linked_without_chunk}
 use Rattle.gpu_alloc.proofs.FreeLists.Served.{agrees_without_list_chunk, list_agrees, list_counted}
 use Rattle.gpu_alloc.proofs.FreeLists.Serving.{ServesList}
 use Rattle.gpu_alloc.proofs.FreeLists.States.{list_types_kept}
 use Rattle.gpu_alloc.proofs.Buddies.Grants.{same_set}
-use Rattle.gpu_alloc_base.proofs.Maps.{one_value, kept_other, gone, found_value}
-use Rattle.gpu_alloc.proofs.FreeLists.Types.{own_listing, serves_own, same_listing_for, of_type_at, no_buddy_at, none_at}
+use Rattle.gpu_alloc_base.proofs.Maps.{one_value, found_value}
+use Rattle.gpu_alloc.proofs.FreeLists.Types.{own_listing, serves_own, same_listing_for}
 
 -- the state with an object fewer, which went back
 abbrev pub without_object : State → ℕ → State
@@ -78,34 +74,15 @@ module _ {A : Type 0} (l : Limits A) (heaps : List Heap) (buddies : List Buddy) 
   abbrev changed : Heap
   changed = record heap { used = heap.used - chunk.size }
 
-  module _ (now : Table) (held : now.held ≡ finite.remove t.held chunk.object) (live : now.live ≡ t.live) (places : now.places ≡ t.places) where
-    beside : IsBeside t now chunk.object
-    beside = record {
-      held = λ name other. ap (λ (x : Held). finite.get x name) held ∙ kept_other t.held chunk.object name other;
-      live_was = λ span other. subst (λ (x : set_of.FinSet span_cmp). IsTrue (set_of.contains x span)) live;
-      live_is = λ span other. subst (λ (x : set_of.FinSet span_cmp). IsTrue (set_of.contains x span)) (sym live);
-      places = λ span other. ap (λ (m : finite.FinMap span_cmp Place). finite.get m span) places;
-    }
-
-    none_left : finite.get now.held chunk.object ≡ None
-    none_left = ap (λ (x : Held). finite.get x chunk.object) held ∙ gone t.held chunk.object
-
-    list_after : IsSound after → IsListOf l.config p now index after
-    list_after sound = record {
-      for_type = same_listing_for l heaps t index fl after of refl refl refl refl;
-      sound = sound;
-      linked = list_linked_without_chunk t now fl number chunk of.sound of.linked found held live;
-    }
-
-    pub consistent_gone : IsSound after → IsConsistent l.config (properties_in l (set heaps i changed)) (set heaps i changed) buddies (set lists index after) now (remaining + 1)
-    consistent_gone sound =
-        subst (λ (q : Properties). IsConsistent l.config q (set heaps i changed) buddies (set lists index after) now (remaining + 1))
+  module _ (now : Table) (held : now.held ≡ finite.remove t.held chunk.object) (live : now.live ≡ t.live) where
+    pub recorded_gone : IsSound after → IsRecorded l.config (properties_in l (set heaps i changed)) (set heaps i changed) buddies (set lists index after) now (remaining + 1)
+    recorded_gone sound =
+        subst (λ (q : Properties). IsRecorded l.config q (set heaps i changed) buddies (set lists index after) now (remaining + 1))
         (sym (properties_kept l heaps i changed heap at_heap refl)) (record {
           books = booked-let_go p heaps t remaining is.books refl now row chunk.object (record { found = held_row; unused = unused; held = held; live = live })
               heap changed i (here ∙ ap (heap_at p) (sym of.for_type.memory_type)) at_heap refl;
-          shared = buddies_beside l.config p t now buddies chunk.object beside is.shared (no_buddy_at t number chunk.object row held_row refl) (none_at now chunk.object (λ h. h.kind ≢ BuddyChunk) none_left);
-          listed = lists_set l.config p t now lists chunk.object beside is.listed index after
-              (of_type_at t index chunk.object row held_row of.for_type.memory_type) (none_at now chunk.object (λ h. h.memory_type ≡ index) none_left) (list_after sound);
+          shared = buddies_for l.config p t buddies is.shared;
+          listed = lists_set l.config p lists index after (lists_for l.config p t lists is.listed) (record { for_type = same_listing_for l heaps t index fl after of refl refl refl refl; sound = sound });
         })
 
     pub state_gone : state_in l (set heaps i changed) buddies (set lists index after) now (remaining + 1) ≡ without_object (state_in l heaps buddies lists t remaining) chunk.object
@@ -182,9 +159,7 @@ pub record IsGivingBack {A : Type 0} (keep_last : Bool) (index i : ℕ) (s : Sta
   pub heap : Heap
   pub at_heap : heap ≡ get_or heaps i heap
   pub from : Account Listing
-  pub places : finite.FinMap span_cmp Place
-  pub room : Room
-  pub serves : ServesList s places room index from.allocator
+  pub serves : ServesList s index from.allocator
   pub numbers : List ℕ
   pub way : IsOnItsWay keep_last from objects q numbers es (account listing heap remaining) objects_now
   pub lets : LetsGo s (map (object_of from.allocator.space) numbers) es (state_in l heaps buddies lists t remaining)
@@ -212,11 +187,9 @@ giving_begins keep_last l heaps buddies lists t remaining index i q objects is k
       heap = heap.0;
       at_heap = heap.1;
       from = account fl.0 heap.0 remaining;
-      places = t.places;
-      room = t.room;
       serves = serves;
       numbers = [];
-      way = begins of.sound (list_agrees s t.places t.room index fl.0 serves q objects known agrees) (list_counted s t.places t.room index fl.0 serves heaps i heap.0 is.books here inside heap.1);
+      way = begins of.sound (list_agrees s index fl.0 serves q objects known agrees) (list_counted s index fl.0 serves heaps i heap.0 is.books here inside heap.1);
       lets = lets_none s;
       objects_are = refl;
       agrees = agrees;
@@ -264,12 +237,6 @@ module _ {A : Type 0} {keep_last : Bool} {index i : ℕ} {s : State} {q : Proper
         ∙ ap (λ (hs : List Heap). state_in l hs buddies (set lists index fl) t remaining) (same_set heaps i heap heap at_heap refl)
         ∙ ap (λ (ls : List Listing). state_in l heaps buddies ls t remaining) (same_set lists index fl fl at refl)
 
-    pub stops_consistent : IsConsistent l.config (properties_in l (set heaps i after.heap)) (set heaps i after.heap) buddies (set lists index after.allocator) t after.remaining
-    stops_consistent =
-        subst (λ (a : Account Listing). IsConsistent l.config (properties_in l (set heaps i a.heap)) (set heaps i a.heap) buddies (set lists index a.allocator) t a.remaining) (sym gives.1.1.0)
-        (subst (λ (hs : List Heap). IsConsistent l.config (properties_in l hs) hs buddies (set lists index fl) t remaining) (sym (same_set heaps i heap heap at_heap refl))
-        (subst (λ (ls : List Listing). IsConsistent l.config (properties_in l heaps) heaps buddies ls t remaining) (sym (same_set lists index fl fl at refl)) w.consistent))
-
     pub stops : IsGivenBack keep_last index s q objects (state_in l (set heaps i after.heap) buddies (set lists index after.allocator) t after.remaining) (es ++ es_now) objects_new
     stops =
         let none_more : es ≡ es ++ es_now = sym (append-nil es) ∙ ap (λ fs. es ++ fs) (sym gives.1.0) in
@@ -277,23 +244,15 @@ module _ {A : Type 0} {keep_last : Bool} {index i : ℕ} {s : State} {q : Proper
         (subst (λ x. IsGivenBack keep_last index s q objects x (es ++ es_now) objects_now) (sym state_same)
         (subst (λ fs. IsGivenBack keep_last index s q objects (state_in l heaps buddies lists t remaining) fs objects_now) none_more (record {
           names = map (object_of w.from.allocator.space) w.numbers;
-          gives = record { chunks = gone_is s w.places w.room index w.from.allocator w.serves keep_last w.numbers (ends way_here gives.0).0; lets = w.lets; objects = w.objects_are };
+          gives = record { chunks = gone_is s index w.from.allocator w.serves keep_last w.numbers (ends way_here gives.0).0; lets = w.lets; objects = w.objects_are };
           agrees = w.agrees;
           whole = w.whole;
         })))
 
-  -- What goes is held as a chunk.
-  pub goes_held : (es_now : List Event) (object : ℕ) (after : Account Listing) (objects_new : ℕ → Option Object) → GivesFirst keep_last (account fl heap remaining) es_now (Some object) after objects_now objects_new
-      → IsHeldFor true t.held object
-  goes_held es_now object after objects_new gives =
-      let there = found_value _ gives.1.0.goes.0.held in
-      let of = own_listing l heaps buddies lists t remaining index fl w.consistent w.known at in
-      (list_object fl gives.0 there.0, ap (finite.get t.held) (gives.1.1.0 ∙ ap object_in there.1) ∙ of.linked.chunks gives.0 there.0 there.1, refl)
-
   -- One more goes.
 
   module _ (es_now : List Event) (object : ℕ) (after : Account Listing) (objects_new : ℕ → Option Object) (gives : GivesFirst keep_last (account fl heap remaining) es_now (Some object) after objects_now objects_new)
-      (now : Table) (held : now.held ≡ finite.remove t.held object) (live : now.live ≡ t.live) (places : now.places ≡ t.places) where
+      (now : Table) (held : now.held ≡ finite.remove t.held object) (live : now.live ≡ t.live) where
     abbrev number : ℕ
     number = gives.0
 
@@ -329,11 +288,22 @@ module _ {A : Type 0} {keep_last : Bool} {index i : ℕ} {s : State} {q : Proper
     names_more = ap (λ o. names ++ o ∷ []) named_first ∙ sym (map-append (object_of w.from.allocator.space) w.numbers (number ∷ []))
 
     state_less : state_in l (set heaps i less.heap) buddies (set lists index less.allocator) now (remaining + 1) ≡ without_object before chunk.object
-    state_less = state_gone l heaps buddies lists t remaining index i fl heap w.consistent w.known at w.here at_heap number chunk there.1 gives.1.0.goes.0 now held_less live places
+    state_less = state_gone l heaps buddies lists t remaining index i fl heap w.consistent w.known at w.here at_heap number chunk there.1 gives.1.0.goes.0 now held_less live
 
-    goes_less : IsSound less.allocator → IsGivingBack keep_last index i s q objects l (set heaps i less.heap) buddies (set lists index less.allocator) now (remaining + 1) (es ++ Deallocated chunk.object ∷ []) (put objects_now chunk.object None)
-    goes_less sound = record {
-      consistent = consistent_gone l heaps buddies lists t remaining index i fl heap w.consistent w.known at w.here at_heap number chunk there.1 gives.1.0.goes.0 now held_less live places sound;
+    recorded_less : IsSound less.allocator → IsRecorded l.config (properties_in l (set heaps i less.heap)) (set heaps i less.heap) buddies (set lists index less.allocator) now less.remaining
+    recorded_less sound = recorded_gone l heaps buddies lists t remaining index i fl heap w.consistent w.known at w.here at_heap number chunk there.1 gives.1.0.goes.0 now held_less live sound
+
+    pub recorded_then : IsSound after.allocator → IsRecorded l.config (properties_in l (set heaps i after.heap)) (set heaps i after.heap) buddies (set lists index after.allocator) now after.remaining
+    recorded_then sound =
+        subst (λ (a : Account Listing). IsRecorded l.config (properties_in l (set heaps i a.heap)) (set heaps i a.heap) buddies (set lists index a.allocator) now a.remaining) (sym after_is)
+        (recorded_less (subst IsSound (ap (λ (a : Account Listing). a.allocator) after_is) sound))
+
+    abbrev IsConsistentThen : Account Listing → Type 0
+    IsConsistentThen a = IsConsistent l.config (properties_in l (set heaps i a.heap)) (set heaps i a.heap) buddies (set lists index a.allocator) now a.remaining
+
+    goes_less : IsConsistentThen less → IsSound less.allocator → IsGivingBack keep_last index i s q objects l (set heaps i less.heap) buddies (set lists index less.allocator) now (remaining + 1) (es ++ Deallocated chunk.object ∷ []) (put objects_now chunk.object None)
+    goes_less consistent sound = record {
+      consistent = consistent;
       known = w.known;
       here = w.here;
       listing = less.allocator;
@@ -341,8 +311,6 @@ module _ {A : Type 0} {keep_last : Bool} {index i : ℕ} {s : State} {q : Proper
       heap = less.heap;
       at_heap = element_put heaps i less.heap (heap_in w);
       from = w.from;
-      places = w.places;
-      room = w.room;
       serves = w.serves;
       numbers = w.numbers ++ number ∷ [];
       way = goes_on way_here number chunk there.1 gives.1.0 sound.space;
@@ -354,12 +322,12 @@ module _ {A : Type 0} {keep_last : Bool} {index i : ℕ} {s : State} {q : Proper
       whole = ap total state_less ∙ total_gone l heaps buddies lists t remaining index i fl heap w.consistent w.known at w.here at_heap number chunk there.1 gives.1.0.goes.0 ∙ w.whole;
     }
 
-    pub goes : IsSound after.allocator → IsGivingBack keep_last index i s q objects l (set heaps i after.heap) buddies (set lists index after.allocator) now after.remaining (es ++ es_now) objects_new
-    goes sound =
+    pub goes : IsConsistentThen after → IsSound after.allocator → IsGivingBack keep_last index i s q objects l (set heaps i after.heap) buddies (set lists index after.allocator) now after.remaining (es ++ es_now) objects_new
+    goes consistent sound =
         subst (λ (a : Account Listing). IsGivingBack keep_last index i s q objects l (set heaps i a.heap) buddies (set lists index a.allocator) now a.remaining (es ++ es_now) objects_new) (sym after_is)
         (subst (λ fs. IsGivingBack keep_last index i s q objects l (set heaps i less.heap) buddies (set lists index less.allocator) now (remaining + 1) (es ++ fs) objects_new) (sym told)
         (subst (λ f. IsGivingBack keep_last index i s q objects l (set heaps i less.heap) buddies (set lists index less.allocator) now (remaining + 1) (es ++ Deallocated chunk.object ∷ []) f) (sym left)
-        (goes_less (subst IsSound (ap (λ (a : Account Listing). a.allocator) after_is) sound))))
+        (goes_less (subst IsConsistentThen after_is consistent) (subst IsSound (ap (λ (a : Account Listing). a.allocator) after_is) sound))))
       where
         told : es_now ≡ Deallocated chunk.object ∷ []
         told = gives.1.1.1.0 ∙ ap (λ o. Deallocated o ∷ []) named
@@ -371,38 +339,34 @@ module _ {A : Type 0} {keep_last : Bool} {index i : ℕ} {s : State} {q : Proper
     pub goes_fewer : finite.len now.held < finite.len t.held
     goes_fewer = omega (arith, ap (λ (x : Held). finite.len x) held_less, held_fewer l heaps buddies lists t remaining index i fl heap w.consistent w.known at w.here at_heap number chunk there.1 gives.1.0.goes.0)
 
--- The free lists as parts of the whole, beside the table.
+-- The free lists as parts of the whole.
 
-module _ {A : Type 0} {keep_last : Bool} {index i : ℕ} {s : State} {q : Properties} {objects : ℕ → Option Object} {l : Limits A} {heaps : List Heap} {buddies : List Buddy} {lists : List Listing} {table : Table} {remaining : ℕ} {es : List Event}
-    {objects_now : ℕ → Option Object} (w : IsGivingBack keep_last index i s q objects l heaps buddies lists (whole table lists) remaining es objects_now) (apart : AreWhole table lists) (fl : Listing) (heap : Heap) (at : fl ≡ get_or lists index fl)
-    (at_heap : heap ≡ get_or heaps i heap) where
+module _ {A : Type 0} {keep_last : Bool} {index i : ℕ} {s : State} {q : Properties} {objects : ℕ → Option Object} {l : Limits A} {heaps : List Heap} {buddies : List Buddy} {lists : List Listing} {own : OwnTable} {remaining : ℕ} {es : List Event}
+    {objects_now : ℕ → Option Object} (w : IsGivingBack keep_last index i s q objects l heaps buddies lists (whole own buddies lists) remaining es objects_now) (kept : IsKept l.config (properties_in l heaps) heaps buddies lists own remaining)
+    (fl : Listing) (heap : Heap) (at : fl ≡ get_or lists index fl) (at_heap : heap ≡ get_or heaps i heap) where
   -- the chunk that goes
   pub chunk_went : (es_now : List Event) (object : ℕ) (after : Account Listing) (objects_new : ℕ → Option Object) → GivesFirst keep_last (account fl heap remaining) es_now (Some object) after objects_now objects_new
-      → Makes IsPlace (parts_of table (set lists index after.allocator)) (finite.remove (whole table lists).held object) (whole table lists).live
+      → Makes (IsPlace (length buddies)) (parts_of own buddies (set lists index after.allocator)) (finite.remove (whole own buddies lists).held object) (whole own buddies lists).live
   chunk_went es_now object after objects_new gives =
       let there = found_value _ gives.1.0.goes.0.held in
-      let own = own_listing l heaps buddies lists (whole table lists) remaining index fl w.consistent w.known at in
-      let inside : index < length lists = omega (arith, w.known, w.consistent.listed.count) in
+      let of_type = own_listing l heaps buddies lists (whole own buddies lists) remaining index fl w.consistent w.known at in
+      let stands = at_read lists index fl (omega (arith, w.known, w.consistent.listed.count)) at in
       let less : Listing = record fl { space = without_chunk fl.space gives.0 } in
       let is : after.allocator ≡ less = ap (λ (a : Account Listing). a.allocator) gives.1.1.1.1.0 in
       let named : object ≡ there.0.object = gives.1.1.0 ∙ ap object_in there.1 in
-      subst (λ x. Makes IsPlace (parts_of table (set lists index x)) (finite.remove (whole table lists).held object) (whole table lists).live) (sym is)
-      (subst (λ n. Makes IsPlace (parts_of table (set lists index less)) (finite.remove (whole table lists).held n) (whole table lists).live) (sym named)
-      (chunk_goes table lists apart index fl inside at own.sound own.for_type.memory_type less refl gives.0 there.0 there.1 gives.1.0.goes.0.unused refl refl))
+      subst (λ x. Makes (IsPlace (length buddies)) (parts_of own buddies (set lists index x)) (finite.remove (whole own buddies lists).held object) (whole own buddies lists).live) (sym is)
+      (subst (λ n. Makes (IsPlace (length buddies)) (parts_of own buddies (set lists index less)) (finite.remove (whole own buddies lists).held n) (whole own buddies lists).live) (sym named)
+      (list_chunk_goes own buddies lists kept.apart index fl stands of_type.sound of_type.for_type.memory_type less refl gives.0 there.0 there.1 gives.1.0.goes.0.unused refl refl))
 
   -- none may go any more
   module _ (es_now : List Event) (after : Account Listing) (objects_new : ℕ → Option Object) (gives : GivesFirst keep_last (account fl heap remaining) es_now None after objects_now objects_new) where
-    lists_kept : set lists index after.allocator ≡ lists
-    lists_kept = same_set lists index after.allocator fl at (ap (λ (a : Account Listing). a.allocator) gives.1.1.0)
+    pub stops_kept : IsKept l.config (properties_in l (set heaps i after.heap)) (set heaps i after.heap) buddies (set lists index after.allocator) own after.remaining
+    stops_kept =
+        subst (λ (a : Account Listing). IsKept l.config (properties_in l (set heaps i a.heap)) (set heaps i a.heap) buddies (set lists index a.allocator) own a.remaining) (sym gives.1.1.0)
+        (subst (λ (hs : List Heap). IsKept l.config (properties_in l hs) hs buddies (set lists index fl) own remaining) (sym (same_set heaps i heap heap at_heap refl))
+        (subst (λ (ls : List Listing). IsKept l.config (properties_in l heaps) heaps buddies ls own remaining) (sym (same_set lists index fl fl at refl)) kept))
 
-    pub stops_kept : IsKept l.config (properties_in l (set heaps i after.heap)) (set heaps i after.heap) buddies (set lists index after.allocator) table after.remaining
-    stops_kept = record {
-      consistent = subst (λ ls. IsConsistent l.config (properties_in l (set heaps i after.heap)) (set heaps i after.heap) buddies (set lists index after.allocator) (whole table ls) after.remaining) (sym lists_kept)
-          (stops_consistent w fl heap at at_heap es_now after objects_new gives);
-      apart = subst (λ ls. AreWhole table ls) (sym lists_kept) apart;
-    }
-
-    pub stops_whole : IsGivenBack keep_last index s q objects (state_in l (set heaps i after.heap) buddies (set lists index after.allocator) (whole table (set lists index after.allocator)) after.remaining) (es ++ es_now) objects_new
+    pub stops_whole : IsGivenBack keep_last index s q objects (state_in l (set heaps i after.heap) buddies (set lists index after.allocator) (whole own buddies (set lists index after.allocator)) after.remaining) (es ++ es_now) objects_new
     stops_whole =
-        subst (λ ls. IsGivenBack keep_last index s q objects (state_in l (set heaps i after.heap) buddies (set lists index after.allocator) (whole table ls) after.remaining) (es ++ es_now) objects_new) (sym lists_kept)
-        (stops w fl heap at at_heap es_now after objects_new gives)
+        subst (λ ls. IsGivenBack keep_last index s q objects (state_in l (set heaps i after.heap) buddies (set lists index after.allocator) (whole own buddies ls) after.remaining) (es ++ es_now) objects_new)
+        (sym (same_set lists index after.allocator fl at (ap (λ (a : Account Listing). a.allocator) gives.1.1.0))) (stops w fl heap at at_heap es_now after objects_new gives)

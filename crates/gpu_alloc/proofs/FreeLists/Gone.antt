@@ -11,7 +11,6 @@ use Rattle.gpu_alloc_freelist.specs.FreeListState.{Listing}
 use Rattle.gpu_alloc.specs.Inside.{IsNumberedChunk, list_object, span_of_slot, slot_at}
 use Rattle.gpu_alloc.specs.FreeListSharing.{IsListChunk, IsFreeInChunk}
 use Rattle.gpu_alloc.specs.Release.{IsUnused, HasLastRun, MayGo, AreChunksGone, AreAllGone, without_all}
-use Rattle.gpu_alloc.specs.Spans.{Place, Room}
 use Rattle.gpu_alloc_block.specs.State.{HeldObject, Span, span_cmp, State, IsLive}
 use Rattle.gpu_alloc_block.specs.declared.block.Kind.{Kind}
 use Rattle.gpu_alloc_block.specs.declared.block.Kind.TheVariants.{Dedicated, Imported, BuddyChunk, FreeListChunk}
@@ -45,25 +44,25 @@ map_contains f xs y has =
     let within : has.0 < length xs = omega (arith, has.1, length-map xs f) in
     (get_or xs has.0 0, (Contains-get_or xs has.0 0 within, sym (get_or-map f xs has.0 0 y within) ∙ has.2))
 
-module _ (s : State) (places : finite.FinMap span_cmp Place) (room : Room) (index : ℕ) (l : Listing) (serves : ServesList s places room index l) where
+module _ (s : State) (index : ℕ) (l : Listing) (serves : ServesList s index l) where
   -- Chunks that are wholly free.
 
   pub unused_is : (number : ℕ) → list.IsWhollyFree l.space number → IsUnusedChunk s index number
   unused_is number free =
       let there = found_value _ free.held in
-      let own = numbered_held s places room index l serves number there.0 there.1 in (
+      let own = numbered_held s index l serves number there.0 there.1 in (
         there.0.object,
         (
-          list_chunk_is s places room index l serves number there.0 there.1,
+          list_chunk_is s index l serves number there.0 there.1,
           λ span live named.
-              let held = subst (λ o. IsNumberedChunk (table_of s places room) l.memory_type number o (list_object l number there.0)) (sym named) own in
+              let held = subst (λ o. IsNumberedChunk (table_of s) l.memory_type number o (list_object l number there.0)) (sym named) own in
               free.unused (slot_at span number) (serves.of.linked.spans span number (list_object l number there.0) live held) refl,
         ),
       )
 
   pub unused_was : (number : ℕ) → IsUnusedChunk s index number → list.IsWhollyFree l.space number
   unused_was number (object, (chunk, unused)) =
-      let there = list_chunk_was s places room index l serves number object chunk in
+      let there = list_chunk_was s index l serves number object chunk in
       record {
         held = subst IsSome (sym there) refl;
         unused = λ slot live in_chunk.
@@ -75,10 +74,10 @@ module _ (s : State) (places : finite.FinMap span_cmp Place) (room : Room) (inde
   -- the last run
 
   pub last_is : (number : ℕ) → list.HasLastRun l.space number → HasLastRun s index number
-  last_is number (r, (last, in_chunk)) = (r, (last_run_same (same_bytes s places room index l serves) r last, in_chunk))
+  last_is number (r, (last, in_chunk)) = (r, (last_run_same (same_bytes s index l serves) r last, in_chunk))
 
   pub last_was : (number : ℕ) → HasLastRun s index number → list.HasLastRun l.space number
-  last_was number (r, (last, in_chunk)) = (r, (last_run_same (same_back (same_bytes s places room index l serves)) r last, in_chunk))
+  last_was number (r, (last, in_chunk)) = (r, (last_run_same (same_back (same_bytes s index l serves)) r last, in_chunk))
 
   -- Chunks that may go.
 
@@ -92,7 +91,7 @@ module _ (s : State) (places : finite.FinMap span_cmp Place) (room : Room) (inde
 
   -- the object that a number tells
   object_is : (number object : ℕ) → IsListChunk s index number object → object_of l.space number ≡ object
-  object_is number object is = ap object_in (list_chunk_was s places room index l serves number object is)
+  object_is number object is = ap object_in (list_chunk_was s index l serves number object is)
 
   module _ (keep_last : Bool) (numbers : List ℕ) (gone : AreGone l.space keep_last numbers) where
     abbrev objects : List ℕ

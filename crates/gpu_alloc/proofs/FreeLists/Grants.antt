@@ -1,5 +1,5 @@
 -- What a block that a memory type's free list gives leaves in the allocator's fields, in a held chunk or in a new one.
-use Rattle.std.proofs.Common.{◌≡◌, ◌≢◌, inl, ℕ, ◌+◌, ◌-◌, ◌^◌, ◌<◌, ◌≤◌, true, List, length, get_or, Some, None, refl, sym, ◌∙◌, ap, subst, arith}
+use Rattle.std.proofs.Common.{◌≡◌, inl, ℕ, ◌+◌, ◌-◌, ◌^◌, ◌<◌, ◌≤◌, true, List, length, get_or, Some, None, refl, sym, ◌∙◌, ap, subst, arith}
 use Rattle.std.proofs.Math.ListN.{set}
 use Rattle.std.proofs.lemmas.Bool.Decides.{nat_tests}
 use Rattle.std.specs.FinMap as finite
@@ -12,32 +12,31 @@ use Rattle.gpu_alloc_base.specs.Accounts.{IsCounted}
 use Rattle.gpu_alloc_freelist.specs.FreeListAllocator.{listing_with_slot, chunk_size, next_size}
 use Rattle.gpu_alloc_freelist.specs.FreeListSound.{IsSound}
 use Rattle.gpu_alloc_freelist.specs.FreeListState.{Listing}
-use Rattle.gpu_alloc.specs.Inside.{state_in, properties_in, types_in, lists_in, list_object, span_of_slot, IsConsistent, IsListOf}
+use Rattle.gpu_alloc.specs.Inside.{state_in, properties_in, types_in, lists_in, list_object, span_of_slot}
+use Rattle.gpu_alloc.specs.Inside.{IsListFor}
+use Rattle.gpu_alloc.specs.Own.{OwnTable}
+use Rattle.gpu_alloc.specs.Whole.{IsKept}
+use Rattle.gpu_alloc.proofs.Linked.{IsConsistent, IsListOf, IsRecorded, buddies_for, lists_for, lists_set}
 use Rattle.gpu_alloc.specs.FreeListSharing.{list_question, largest_list_chunk, latest_number, with_next_list, with_list_chunk}
 use Rattle.gpu_alloc.specs.BuddySharing.{with_span}
 use Rattle.gpu_alloc_base.specs.Sizes.{up, doubled_chunk}
 use Rattle.gpu_alloc.specs.FirstTypes.{first_types}
-use Rattle.gpu_alloc.specs.Spans.{Place, Table}
-use Rattle.gpu_alloc_block.specs.State.{HeldObject, TypeState, State, span_cmp}
-use Rattle.gpu_alloc_block.specs.declared.block.Kind.TheVariants.{BuddyChunk, FreeListChunk}
+use Rattle.gpu_alloc.specs.Spans.{Table}
+use Rattle.gpu_alloc_block.specs.State.{HeldObject, TypeState, State}
+use Rattle.gpu_alloc_block.specs.declared.block.Kind.TheVariants.{FreeListChunk}
 use Rattle.gpu_alloc_base.specs.declared.free_list_block.Slot.{Slot}
 use Rattle.gpu_alloc_base.specs.declared.heap.Heap.{Heap}
 use Rattle.gpu_alloc.specs.declared.limits.Limits.{Limits}
 use Rattle.gpu_alloc.specs.declared.request.Request.{Request}
 use Rattle.gpu_alloc.proofs.Consistency.{heap_there, booked-held, booked-span}
-use Rattle.gpu_alloc.proofs.Buddies.HasBuddies.{beside_came, buddies_beside}
-use Rattle.gpu_alloc.proofs.FreeLists.HasLists.{lists_set}
 use Rattle.gpu_alloc.proofs.HeapLists.{properties_kept, state_kept}
-use Rattle.gpu_alloc.proofs.Ledgers.{Held}
-use Rattle.gpu_alloc.proofs.Buddies.Links.{IsBeside}
-use Rattle.gpu_alloc.proofs.FreeLists.Links.{HasSlotMore, list_linked_with_slot, list_linked_with_chunk}
+use Rattle.gpu_alloc.proofs.FreeLists.States.{HasSlotMore}
 use Rattle.gpu_alloc.proofs.FreeLists.Served.{list_counted}
 use Rattle.gpu_alloc.proofs.FreeLists.Serving.{ServesList, question_is}
 use Rattle.gpu_alloc.proofs.FreeLists.States.{list_types_set, list_types_kept}
-use Rattle.gpu_alloc_base.proofs.Maps.{own_inserted, other_inserted}
 use Rattle.gpu_alloc_base.proofs.Slots.{slot_inserted}
 use Rattle.gpu_alloc.proofs.Buddies.Grants.{same_set}
-use Rattle.gpu_alloc.proofs.FreeLists.Types.{own_listing, serves_own, same_listing_for, typed_list, of_type_at, no_buddy_at, none_at}
+use Rattle.gpu_alloc.proofs.FreeLists.Types.{own_listing, serves_own, same_listing_for, typed_list}
 
 module _ {A : Type 0} (limits : Limits A) (heaps : List Heap) (buddies : List Buddy) (lists : List Listing) (t : Table) (remaining index : ℕ) (l : Listing)
     (is : IsConsistent limits.config (properties_in limits heaps) heaps buddies lists t remaining) (known : index < length (properties_in limits heaps).memory_types) (at : l ≡ get_or lists index l) where
@@ -60,7 +59,7 @@ module _ {A : Type 0} (limits : Limits A) (heaps : List Heap) (buddies : List Bu
   of : IsListOf limits.config p t index l
   of = own_listing limits heaps buddies lists t remaining index l is known at
 
-  serving : ServesList s t.places t.room index l
+  serving : ServesList s index l
   serving = serves_own limits heaps buddies lists t remaining index l is known at
 
   -- what fits a largest chunk of the memory type fits one of its free list
@@ -72,7 +71,7 @@ module _ {A : Type 0} (limits : Limits A) (heaps : List Heap) (buddies : List Bu
 
   -- the size of the chunk is the question's
   pub asked_size : (size : ℕ) → chunk_size l size ≡ (list_question s index size).size
-  asked_size size = ap (λ q. q.size) (question_is s t.places t.room index l serving size)
+  asked_size size = ap (λ q. q.size) (question_is s index l serving size)
 
   module _ (i : ℕ) (heap : Heap) (here : i ≡ heap_at p index) (at_heap : heap ≡ get_or heaps i heap) where
     heap_in : i < length heaps
@@ -81,14 +80,14 @@ module _ {A : Type 0} (limits : Limits A) (heaps : List Heap) (buddies : List Bu
     -- What the free list asks of its heap.
 
     pub counted_before : IsCounted l.space.chunks heap remaining
-    counted_before = list_counted s t.places t.room index l serving heaps i heap is.books here heap_in at_heap
+    counted_before = list_counted s index l serving heaps i heap is.books here heap_in at_heap
 
     -- the fields with another free list, heap, table and count
     abbrev state_with : Listing → Heap → Table → ℕ → State
     state_with after changed now left = state_in limits (set heaps i changed) buddies (set lists index after) now left
 
-    abbrev IsConsistentWith : Listing → Heap → Table → ℕ → Type 0
-    IsConsistentWith after changed now left = IsConsistent limits.config (properties_in limits (set heaps i changed)) (set heaps i changed) buddies (set lists index after) now left
+    abbrev IsRecordedWith : Listing → Heap → Table → ℕ → Type 0
+    IsRecordedWith after changed now left = IsRecorded limits.config (properties_in limits (set heaps i changed)) (set heaps i changed) buddies (set lists index after) now left
 
     -- A block more in a held chunk.
 
@@ -97,30 +96,15 @@ module _ {A : Type 0} (limits : Limits A) (heaps : List Heap) (buddies : List Bu
       chunk_held : finite.get t.held slot.object ≡ Some (list_object l slot.chunk chunk)
       chunk_held = ap (finite.get t.held) object ∙ of.linked.chunks slot.chunk chunk found
 
-      list_with_slot : IsListOf limits.config p now index (listing_with_slot l slot)
-      list_with_slot = record {
-        for_type = same_listing_for limits heaps t index l (listing_with_slot l slot) of refl refl refl refl;
-        sound = sound;
-        linked = list_linked_with_slot t now l slot of.sound of.linked chunk found object held more;
-      }
+      list_with_slot : IsListFor limits.config p index (listing_with_slot l slot)
+      list_with_slot = record { for_type = same_listing_for limits heaps t index l (listing_with_slot l slot) of refl refl refl refl; sound = sound }
 
-      slot_beside : IsBeside t now slot.object
-      slot_beside = beside_came t now (span_of_slot slot) (λ q other. ap (λ (x : Held). finite.get x q) held) (λ other apart. ap (λ (m : finite.FinMap span_cmp Place). finite.get m other) more.places) more.live
-
-      found_still : finite.get now.held slot.object ≡ Some (list_object l slot.chunk chunk)
-      found_still = ap (λ (x : Held). finite.get x slot.object) held ∙ chunk_held
-
-      pub consistent_with_slot : IsConsistentWith (listing_with_slot l slot) heap now remaining
-      consistent_with_slot =
-          subst (λ (hs : List Heap). IsConsistent limits.config (properties_in limits hs) hs buddies (set lists index (listing_with_slot l slot)) now remaining) (sym (same_set heaps i heap heap at_heap refl)) (record {
+      pub recorded_with_slot : IsRecordedWith (listing_with_slot l slot) heap now remaining
+      recorded_with_slot =
+          subst (λ (hs : List Heap). IsRecorded limits.config (properties_in limits hs) hs buddies (set lists index (listing_with_slot l slot)) now remaining) (sym (same_set heaps i heap heap at_heap refl)) (record {
             books = booked-span p heaps t remaining is.books refl now (list_object l slot.chunk chunk) (span_of_slot slot) chunk_held refl held (sound.space.inside slot ((slot_inserted l.space.live slot slot).1 (inl refl))).nonempty more.live;
-            shared = buddies_beside limits.config p t now buddies slot.object slot_beside is.shared
-                (no_buddy_at t slot.chunk slot.object (list_object l slot.chunk chunk) chunk_held refl)
-                (no_buddy_at now slot.chunk slot.object (list_object l slot.chunk chunk) found_still refl);
-            listed = lists_set limits.config p t now lists slot.object slot_beside is.listed index (listing_with_slot l slot)
-                (of_type_at t index slot.object (list_object l slot.chunk chunk) chunk_held of.for_type.memory_type)
-                (of_type_at now index slot.object (list_object l slot.chunk chunk) found_still of.for_type.memory_type)
-                list_with_slot;
+            shared = buddies_for limits.config p t buddies is.shared;
+            listed = lists_set limits.config p lists index (listing_with_slot l slot) (lists_for limits.config p t lists is.listed) list_with_slot;
           })
 
       pub state_with_slot : state_with (listing_with_slot l slot) heap now remaining ≡ with_span s (span_of_slot slot)
@@ -140,37 +124,18 @@ module _ {A : Type 0} (limits : Limits A) (heaps : List Heap) (buddies : List Bu
       abbrev pub list_after : Listing
       list_after = record l { space = with_slot (with_chunk l.space slot.object size) slot; next_chunk = next_size l size }
 
-      same_type : object_of ≡ list_object l (l.space.latest + 1) (record { object = slot.object; size = size })
-      same_type = λ k. record object_of { memory_type = sym of.for_type.memory_type k; kind = FreeListChunk (number k) }
+      list_with_chunk : IsListFor limits.config p index list_after
+      list_with_chunk = record { for_type = same_listing_for limits heaps t index l list_after of refl refl refl refl; sound = sound }
 
-      list_with_chunk : IsListOf limits.config p now index list_after
-      list_with_chunk = record {
-        for_type = same_listing_for limits heaps t index l list_after of refl refl refl refl;
-        sound = sound;
-        linked = list_linked_with_chunk t now l slot of.sound of.linked size (next_size l size) number free is.books.spans (held ∙ ap (finite.insert t.held slot.object) same_type) more;
-      }
-
-      found_now : finite.get now.held slot.object ≡ Some object_of
-      found_now = ap (λ (x : Held). finite.get x slot.object) held ∙ own_inserted t.held slot.object object_of
-
-      chunk_beside : IsBeside t now slot.object
-      chunk_beside =
-          beside_came t now (span_of_slot slot) (λ q other. ap (λ (x : Held). finite.get x q) held ∙ other_inserted t.held slot.object object_of q other) (λ other apart. ap (λ (m : finite.FinMap span_cmp Place). finite.get m other) more.places) more.live
-
-      pub consistent_with_list_chunk : IsConsistentWith list_after changed now (remaining - 1)
-      consistent_with_list_chunk =
-          subst (λ (q : Properties). IsConsistent limits.config q (set heaps i changed) buddies (set lists index list_after) now (remaining - 1))
+      pub recorded_with_list_chunk : IsRecordedWith list_after changed now (remaining - 1)
+      recorded_with_list_chunk =
+          subst (λ (q : Properties). IsRecorded limits.config q (set heaps i changed) buddies (set lists index list_after) now (remaining - 1))
           (sym (properties_kept limits heaps i changed heap at_heap (ap (λ (h : Heap). h.size) counts))) (record {
             books = booked-held p heaps t remaining is.books refl now object_of (span_of_slot slot)
                 (record { with = record { nonempty = (sound.space.inside slot ((slot_inserted l.space.live slot slot).1 (inl refl))).nonempty; small = small; known = known; lies = λ own. absurd (cc) }; free = free; held = held; live = more.live })
                 heap changed i some here at_heap counts (λ asked. within);
-            shared = buddies_beside limits.config p t now buddies slot.object chunk_beside is.shared
-                (none_at t slot.object (λ h. h.kind ≢ BuddyChunk) free)
-                (no_buddy_at now slot.chunk slot.object object_of found_now refl);
-            listed = lists_set limits.config p t now lists slot.object chunk_beside is.listed index list_after
-                (none_at t slot.object (λ h. h.memory_type ≡ index) free)
-                (of_type_at now index slot.object object_of found_now refl)
-                list_with_chunk;
+            shared = buddies_for limits.config p t buddies is.shared;
+            listed = lists_set limits.config p lists index list_after (lists_for limits.config p t lists is.listed) list_with_chunk;
           })
 
       types_now : lists_in types (set lists index list_after) ≡ with_next_list s.types index (doubled_chunk (largest_list_chunk s index) size)
@@ -187,14 +152,14 @@ module _ {A : Type 0} (limits : Limits A) (heaps : List Heap) (buddies : List Bu
           state_kept limits heaps buddies (set lists index list_after) i changed heap now (remaining - 1) at_heap (ap (λ (h : Heap). h.size) counts) (ap (λ (h : Heap). h.limit) counts)
           ∙ (λ k. record s { held = (held ∙ ap (finite.insert t.held slot.object) object_is) k; live = more.live k; remaining = remaining - 1; types = types_now k })
 
-    -- Nothing but the table's room has changed.
+    -- Nothing has changed.
 
     module _ (after : Listing) (changed : Heap) (left : ℕ) (same_list : after ≡ l) (same_heap : changed ≡ heap) (same_count : left ≡ remaining) (now : Table) where
-      pub consistent_refused : IsConsistent limits.config p heaps buddies lists now remaining → IsConsistentWith after changed now left
-      consistent_refused whole =
-          subst (λ (hs : List Heap). IsConsistent limits.config (properties_in limits hs) hs buddies (set lists index after) now left) (sym (same_set heaps i changed heap at_heap same_heap))
-          (subst (λ (ls : List Listing). IsConsistent limits.config p heaps buddies ls now left) (sym (same_set lists index after l at same_list))
-          (subst (λ n. IsConsistent limits.config p heaps buddies lists now n) (sym same_count) whole))
+      pub kept_refused : (own : OwnTable) → IsKept limits.config p heaps buddies lists own remaining → IsKept limits.config (properties_in limits (set heaps i changed)) (set heaps i changed) buddies (set lists index after) own left
+      kept_refused own kept =
+          subst (λ (hs : List Heap). IsKept limits.config (properties_in limits hs) hs buddies (set lists index after) own left) (sym (same_set heaps i changed heap at_heap same_heap))
+          (subst (λ (ls : List Listing). IsKept limits.config p heaps buddies ls own left) (sym (same_set lists index after l at same_list))
+          (subst (λ n. IsKept limits.config p heaps buddies lists own n) (sym same_count) kept))
 
       pub state_refused : now.held ≡ t.held → now.live ≡ t.live → state_with after changed now left ≡ s
       state_refused held live =

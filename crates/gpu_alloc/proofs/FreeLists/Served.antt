@@ -13,8 +13,7 @@ use Rattle.gpu_alloc_freelist.specs.FreeListAllocator as list
 use Rattle.gpu_alloc_freelist.specs.FreeListState.{Listing, IsLiveSlot}
 use Rattle.gpu_alloc.specs.Inside.{IsNumberedChunk, IsBooked, list_object, slot_at}
 use Rattle.gpu_alloc.specs.FreeListSharing.{list_block}
-use Rattle.gpu_alloc.specs.Spans.{Place, Room}
-use Rattle.gpu_alloc_block.specs.State.{HeldObject, Span, span_cmp, State, IsLive, share}
+use Rattle.gpu_alloc_block.specs.State.{HeldObject, Span, State, IsLive, share}
 use Rattle.gpu_alloc_base.specs.declared.heap.Heap.{Heap}
 use Rattle.gpu_alloc.proofs.Agreeing.{agrees_returned}
 use Rattle.gpu_alloc.proofs.HeapLists.{ledger_at}
@@ -32,13 +31,13 @@ agrees_without_list_chunk s p objects object remaining agrees =
     let now : State = record s { held = map.remove s.held object; remaining = remaining } in
     agrees_returned s now p p objects (put objects object None) (list_block s 0 0 (record { object = object; offset = 0; size = 0 })) agrees refl refl refl refl (λ span live. live)
 
-module _ (s : State) (places : map.FinMap span_cmp Place) (room : Room) (index : ℕ) (l : Listing) (serves : ServesList s places room index l) where
+module _ (s : State) (index : ℕ) (l : Listing) (serves : ServesList s index l) where
   -- What both tell.
 
   -- a live span of a chunk's object is a live block of the chunk
   pub span_is_slot : (number : ℕ) (c : Chunk) (span : Span) → map.get l.space.chunks number ≡ Some c → span.object ≡ c.object → IsLive s span → IsLiveSlot l.space (slot_at span number)
   span_is_slot number c span is named live =
-      serves.of.linked.spans span number (list_object l number c) live (subst (λ o. IsNumberedChunk (table_of s places room) l.memory_type number o (list_object l number c)) (sym named) (numbered_held s places room index l serves number c is))
+      serves.of.linked.spans span number (list_object l number c) live (subst (λ o. IsNumberedChunk (table_of s) l.memory_type number o (list_object l number c)) (sym named) (numbered_held s index l serves number c is))
 
   -- The device.
 
@@ -72,7 +71,7 @@ module _ (s : State) (places : map.FinMap span_cmp Place) (room : Room) (index :
   -- The ledger and the count.
 
   -- the heap's ledger counts each chunk of the free list
-  pub list_counted : (heaps : List Heap) (i : ℕ) (heap : Heap) → IsBooked s.properties heaps (table_of s places room) s.remaining → i ≡ heap_at s.properties index → i < length heaps → heap ≡ get_or heaps i heap
+  pub list_counted : (heaps : List Heap) (i : ℕ) (heap : Heap) → IsBooked s.properties heaps (table_of s) s.remaining → i ≡ heap_at s.properties index → i < length heaps → heap ≡ get_or heaps i heap
       → IsCounted l.space.chunks heap s.remaining
   list_counted heaps i heap booked here inside at = record {
     ledger = subst (λ n. chunk_bytes l.space.chunks ≤ n) (sym (ledger_at s.properties heaps i heap (map.entries s.held) booked.ledgers inside at)) bytes;

@@ -10,7 +10,8 @@ use Rattle.gpu_alloc_freelist.specs.FreeList.{HasPlace, HasNumber, IsTail}
 use Rattle.gpu_alloc_base.specs.Accounts.{account}
 use Rattle.gpu_alloc_freelist.specs.FreeListAllocator.{rounded, alignment, question, case_of, list_case}
 use Rattle.gpu_alloc_freelist.specs.FreeListState.{Listing, IsFreeIn}
-use Rattle.gpu_alloc.specs.Inside.{IsListOf, IsNumberedChunk, list_object, span_of_slot, slot_at}
+use Rattle.gpu_alloc.specs.Inside.{IsNumberedChunk, list_object, span_of_slot, slot_at}
+use Rattle.gpu_alloc.proofs.Linked.{IsListOf}
 use Rattle.gpu_alloc.specs.FreeListSharing.{list_size, list_alignment, list_question, next_list_chunk, latest_number, largest_list_chunk, IsListChunk, IsFreeInChunk, HasListPlace, HasListNumber, IsRunTail}
 use Rattle.gpu_alloc.specs.Candidates.{list_candidate, candidate}
 use Rattle.gpu_alloc.specs.declared.allocator.Strategy.TheVariants.{InFreeList}
@@ -18,8 +19,7 @@ use Rattle.gpu_alloc_base.proofs.ToldTwice.{IsToldAs}
 use Rattle.gpu_alloc.proofs.HeapLists.{IsHeap}
 use Rattle.gpu_alloc_base.specs.NewChunk.{flags_of}
 use Rattle.gpu_alloc_base.specs.Sizes.{up, grown_chunk}
-use Rattle.gpu_alloc.specs.Spans.{Place, Room}
-use Rattle.gpu_alloc_block.specs.State.{span_cmp, State}
+use Rattle.gpu_alloc_block.specs.State.{State}
 use Rattle.gpu_alloc_base.specs.declared.free_list_block.Slot.{Slot}
 use Rattle.gpu_alloc_base.specs.declared.heap.Heap.{Heap}
 use Rattle.gpu_alloc.specs.declared.request.Request.{Request}
@@ -28,16 +28,16 @@ use Rattle.gpu_alloc_base.proofs.SameRuns.{AreSameBytes, same_back, place_same, 
 use Rattle.gpu_alloc.proofs.Buddies.Serving.{table_of}
 
 -- the memory type's free list, whose next chunk and latest number are as the state tells
-pub record ServesList (s : State) (places : map.FinMap span_cmp Place) (room : Room) (index : ℕ) (l : Listing) : Type 0 where
-  pub of : IsListOf s.config s.properties (table_of s places room) index l
+pub record ServesList (s : State) (index : ℕ) (l : Listing) : Type 0 where
+  pub of : IsListOf s.config s.properties (table_of s) index l
   pub next : next_list_chunk s index ≡ l.next_chunk
   pub number : latest_number s index ≡ l.space.latest
 
-module _ (s : State) (places : map.FinMap span_cmp Place) (room : Room) (index : ℕ) (l : Listing) (serves : ServesList s places room index l) where
+module _ (s : State) (index : ℕ) (l : Listing) (serves : ServesList s index l) where
   -- Chunks and bytes.
 
   -- a chunk's object is held as one
-  pub numbered_held : (number : ℕ) (chunk : Chunk) → map.get l.space.chunks number ≡ Some chunk → IsNumberedChunk (table_of s places room) l.memory_type number chunk.object (list_object l number chunk)
+  pub numbered_held : (number : ℕ) (chunk : Chunk) → map.get l.space.chunks number ≡ Some chunk → IsNumberedChunk (table_of s) l.memory_type number chunk.object (list_object l number chunk)
   numbered_held number chunk is = record { held = serves.of.linked.chunks number chunk is; of_kind = refl; of_type = refl }
 
   pub list_chunk_is : (number : ℕ) (chunk : Chunk) → map.get l.space.chunks number ≡ Some chunk → IsListChunk s index number chunk.object
@@ -64,7 +64,7 @@ module _ (s : State) (places : map.FinMap span_cmp Place) (room : Room) (index :
           of_kind = refl;
           inside = free.inside;
           unused = λ span live of_it i.
-              let there = subst (λ o. IsNumberedChunk (table_of s places room) l.memory_type number o (list_object l number free.held)) (sym of_it) own in
+              let there = subst (λ o. IsNumberedChunk (table_of s) l.memory_type number o (list_object l number free.held)) (sym of_it) own in
               free.unused (slot_at span number) (serves.of.linked.spans span number (list_object l number free.held) live there) refl i;
         },
       )

@@ -1,10 +1,13 @@
 -- The chunk sizes and the latest number of each memory type, as one free list changes.
-use Rattle.std.proofs.Common.{◌≡◌, ℕ, zero, suc, ◌+◌, ◌<◌, List, [], ◌∷◌, length, get_or, Some, slice_get, refl, ◌∙◌, ap, arith}
+use Rattle.std.proofs.Common.{◌≡◌, false, ℕ, zero, suc, ◌+◌, ◌<◌, List, [], ◌∷◌, length, get_or, Some, slice_get, refl, ◌∙◌, ap, arith}
 use Rattle.std.proofs.Math.ListN.{set}
+use Rattle.std.specs.FinSet as set_of
+use Rattle.gpu_alloc_base.specs.declared.free_list_block.Slot.{Slot}
 use Rattle.gpu_alloc_buddy.specs.BuddyState.{Buddy}
 use Rattle.gpu_alloc_freelist.specs.FreeListState.{Listing}
-use Rattle.gpu_alloc.specs.Inside.{types_in, lists_in}
+use Rattle.gpu_alloc.specs.Inside.{types_in, lists_in, span_of_slot}
 use Rattle.gpu_alloc.specs.FreeListSharing.{list_chunk_of, number_of, with_next_list}
+use Rattle.gpu_alloc.specs.Spans.{Table}
 use Rattle.gpu_alloc_block.specs.State.{TypeState}
 
 -- As a free list changes.
@@ -52,3 +55,8 @@ types_within [] buddies i within lt = absurd (omega (arith, within))
 types_within (type ∷ types) [] i within lt = absurd (omega (arith, lt))
 types_within (type ∷ types) (b ∷ buddies) zero within lt = omega (arith)
 types_within (type ∷ types) (b ∷ buddies) (suc i) within lt = let rest = types_within types buddies i (omega (arith, within)) (omega (arith, lt)) in omega (arith, rest)
+
+-- what is held with a block's span more, which was not live
+pub record HasSlotMore (old new : Table) (slot : Slot) : Type 0 where
+  pub free : set_of.contains old.live (span_of_slot slot) ≡ false
+  pub live : new.live ≡ set_of.insert old.live (span_of_slot slot)

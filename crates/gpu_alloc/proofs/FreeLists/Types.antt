@@ -6,7 +6,8 @@ use Rattle.std.specs.FinMap as finite
 use Rattle.std.specs.List.{slice_get}
 use Rattle.gpu_alloc_buddy.specs.BuddyState.{Buddy}
 use Rattle.gpu_alloc_freelist.specs.FreeListState.{Listing}
-use Rattle.gpu_alloc.specs.Inside.{state_in, properties_in, types_in, IsConsistent, IsListForType, IsListOf}
+use Rattle.gpu_alloc.specs.Inside.{state_in, properties_in, types_in, IsListForType}
+use Rattle.gpu_alloc.proofs.Linked.{IsConsistent, IsListOf}
 use Rattle.gpu_alloc.specs.FirstTypes.{first_types, first_type_state}
 use Rattle.gpu_alloc.specs.Spans.{Table}
 use Rattle.gpu_alloc_block.specs.State.{HeldObject}
@@ -29,7 +30,7 @@ module _ {A : Type 0} (l : Limits A) (heaps : List Heap) (buddies : List Buddy) 
   pub own_listing : IsListOf l.config (properties_in l heaps) t index fl
   own_listing = subst (λ (o : Option Listing). IfSome o (IsListOf l.config (properties_in l heaps) t index)) there (is.listed.each index)
 
-  pub serves_own : ServesList (state_in l heaps buddies lists t remaining) t.places t.room index fl
+  pub serves_own : ServesList (state_in l heaps buddies lists t remaining) index fl
   serves_own = record {
     of = own_listing;
     next = list_next_at (types_in (first_types l.config (properties_in l heaps)) buddies) lists index fl there typed_list;

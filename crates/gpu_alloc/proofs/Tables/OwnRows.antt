@@ -19,7 +19,7 @@ use Rattle.gpu_alloc.specs.Own.{name_in, own_held, own_span, row_of, span_of, Is
 use Rattle.gpu_alloc.specs.Spans.{objects_in, span_in}
 use Rattle.gpu_alloc.specs.declared.own.OwnRow.{OwnRow}
 use Rattle.gpu_alloc.specs.declared.spans.HeldRow.{HeldRow}
-use Rattle.gpu_alloc.specs.declared.spans.LiveSpan.{LiveSpan}
+use Rattle.gpu_alloc_base.specs.declared.buddy_block.Leaf.{Leaf as LiveSpan}
 use Rattle.gpu_alloc.proofs.Tables.Listed.{distinct_named, mapped_twice, once_named, rows_apart}
 
 abbrev pub held_in : Slab OwnRow → finite.FinMap nat_cmp HeldObject

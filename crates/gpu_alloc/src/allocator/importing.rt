@@ -83,7 +83,7 @@ impl<M: MemoryObject, A: Allocator> GpuAllocator<M, A> {
         ensures refused { OnErr result (self.new ≡ self.old) }
         ensures handed_back { IfErr result (λ handed. handed ≡ memory) }
     {
-        if self.spans.reserve_own().is_err() {
+        if self.own.reserve().is_err() {
             return Err(memory);
         }
         let row = OwnRow {
@@ -93,7 +93,7 @@ impl<M: MemoryObject, A: Allocator> GpuAllocator<M, A> {
             memory_type,
             imported: true,
         };
-        let key = self.spans.insert_own(row);
+        let key = self.own.insert(row);
         let heap = self.limits.heap_index(memory_type);
         self.heaps[heap].alloc(row.size);
         self.allocations_remains -= 1;

@@ -1,6 +1,6 @@
 //! What an allocator holds and has given out, and what its device offers, for whoever tells of it.
 
-ghost use Rattle.std.specs.Prelude.{◌≡◌, ◌++◌, ◌<◌, ℕ, List, IfOk, OnOk, length, map as mapped, nat_eq};
+ghost use Rattle.std.specs.Prelude.{◌≡◌, ◌++◌, ◌<◌, ◌^◌, ℕ, List, IfOk, OnOk, length, map as mapped, nat_eq};
 ghost use Rattle.std.specs.List.{IsDistinct};
 ghost use Rattle.std.specs.Map.{keys_of};
 ghost use Rattle.std.specs.FinMap as map;
@@ -10,13 +10,14 @@ ghost use Rattle.gpu_alloc.specs.Budget.{heap_bytes};
 ghost use Rattle.gpu_alloc.specs.Sound as Sound;
 ghost use Rattle.gpu_alloc.specs.Spans.{held_of, objects_in, span_in};
 ghost use Rattle.gpu_alloc.specs.Listing.{AreOfKnownTypes, AreOnce};
-ghost use Rattle.gpu_alloc.specs.Whole.{list_part};
+ghost use Rattle.gpu_alloc.specs.Whole.{buddy_part, list_part};
 ghost use Rattle.gpu_alloc_block.specs.Parts.{AreNamed};
 ghost use Rattle.gpu_alloc_freelist.specs.FreeListSound.{IsSound as IsSoundList};
 
 use super::GpuAllocator;
 use crate::spans::{HeldRow, LiveSpan};
 use gpu_alloc_block::Kind;
+use gpu_alloc_buddy::{BuddyAllocator, Chunk};
 use gpu_alloc_freelist::{FreeListAllocator, NumberedChunk};
 use gpu_alloc_types::MemoryObject;
 use std::alloc::{AllocError, Allocator};
@@ -44,13 +45,18 @@ impl<M: MemoryObject, A: Allocator> GpuAllocator<M, A> {
         self.heaps[heap as usize].size()
     }
 
-    /// What an object of this name is held as, exactly where it is held. A buddy chunk is found in constant time, any other
-    /// object in a time that grows with the number of objects of one block and of free-list chunks.
+    /// What an object of this name is held as, exactly where it is held. It goes over what is held.
     pub fn held(&self, object: u64) -> Option<HeldRow>
         ensures { option_map held_of result ≡ map.get self.now.held object }
     {
-        if let Some(row) = self.spans.held(object) {
+        if let Some(row) = self.own.held(object) {
             return Some(row);
+        }
+        for memory_type in 0..self.type_count() {
+            let buddy = &self.buddies[memory_type as usize];
+            if let Some(row) = buddy_chunk_of(buddy, memory_type, object) {
+                return Some(row);
+            }
         }
         for memory_type in 0..self.type_count() {
             let list = &self.free_lists[memory_type as usize];
@@ -69,7 +75,12 @@ impl<M: MemoryObject, A: Allocator> GpuAllocator<M, A> {
         ensures once { IfOk result (λ rows. IsDistinct nat_eq (keys_of rows.items)) }
         ensures known { AreOfKnownTypes self.now }
     {
-        let mut rows = self.spans.objects(alloc)?;
+        let mut rows = Vec::new(alloc);
+        self.own.list_objects(&mut rows)?;
+        for memory_type in 0..self.type_count() {
+            let buddy = &self.buddies[memory_type as usize];
+            list_buddy_chunks(buddy, memory_type, &mut rows)?;
+        }
         for memory_type in 0..self.type_count() {
             let list = &self.free_lists[memory_type as usize];
             list_chunks(list, memory_type, &mut rows)?;
@@ -86,12 +97,67 @@ impl<M: MemoryObject, A: Allocator> GpuAllocator<M, A> {
         ensures sound { Sound.IsSound self.now }
     {
         self.keeps_sound();
-        let mut rows = self.spans.live(alloc)?;
+        let mut rows = Vec::new(alloc);
+        self.own.list_spans(&mut rows)?;
+        for buddy in self.buddies.iter() {
+            buddy.list_live(&mut rows)?;
+        }
         for list in self.free_lists.iter() {
             list_slots(list, &mut rows)?;
         }
         Ok(rows)
     }
+}
+
+/// What a chunk of a memory type's buddy allocator is.
+fn buddy_row_of<M: MemoryObject>(chunk: &Chunk<M>, memory_type: u32) -> HeldRow
+    requires { (chunk.now).order < 64 }
+    ensures { result ≡ record { memory_type = memory_type; counted = 2 ^ (chunk.now).order; kind = Kind.BuddyChunk } }
+{
+    HeldRow {
+        memory_type,
+        counted: chunk.size(),
+        kind: Kind::BuddyChunk,
+    }
+}
+
+/// What an object of this name is, exactly where it is a chunk of a memory type's buddy allocator. It looks at all of
+/// them.
+fn buddy_chunk_of<M: MemoryObject, A: Allocator>(
+    buddy: &BuddyAllocator<M, A>,
+    memory_type: u32,
+    object: u64,
+) -> Option<HeldRow>
+    requires typed { (buddy.now).memory_type ≡ memory_type }
+    requires named { AreNamed (buddy.now).chunks }
+    ensures { option_map held_of result ≡ map.get (buddy_part buddy.now).held object }
+{
+    for (_, chunk) in buddy.chunks() {
+        if chunk.object() == object {
+            return Some(buddy_row_of(chunk, memory_type));
+        }
+    }
+    None
+}
+
+/// Adds to a list what each chunk of a memory type's buddy allocator is, each once with its name, in no order that is
+/// told.
+///
+/// The only refusal is want of memory. Nothing else changes.
+fn list_buddy_chunks<M: MemoryObject, A: Allocator, B: Allocator>(
+    buddy: &BuddyAllocator<M, A>,
+    memory_type: u32,
+    rows: &mut Vec<(u64, HeldRow), B>,
+) -> Result<(), AllocError>
+    requires typed { (buddy.now).memory_type ≡ memory_type }
+    requires named { AreNamed (buddy.now).chunks }
+    ensures { OnOk result ((chunks : List (ℕ × HeldRow)) × (rows.new.items ≡ rows.old.items ++ chunks)
+        × ((objects_in chunks ≡ (buddy_part buddy.now).held) × IsDistinct nat_eq (keys_of chunks))) }
+{
+    for (_, chunk) in buddy.chunks() {
+        rows.push((chunk.object(), buddy_row_of(chunk, memory_type)))?;
+    }
+    Ok(())
 }
 
 /// What a chunk of a memory type's free list is.

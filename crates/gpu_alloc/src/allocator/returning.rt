@@ -7,7 +7,6 @@ ghost use Rattle.gpu_alloc.specs.Release.{Frees, ObjectsFreed, GivesBack, withou
 ghost use Rattle.gpu_alloc.specs.Sound as Sound;
 ghost use Rattle.gpu_alloc_block.specs.State.{IsOwned, is_shared, total};
 
-use super::rows::leaf_in;
 use super::{GpuAllocator, uncounted};
 use crate::MemoryBlock;
 use gpu_alloc_base::free_list_block::Slot;
@@ -49,14 +48,14 @@ impl<M: MemoryObject, A: Allocator> GpuAllocator<M, A> {
         let key = block.key();
         let memory = into_memory(block);
         device.deallocate_memory(&memory);
-        let row = self.spans.remove_own(key, memory.object());
+        let row = self.own.remove(key, memory.object());
         let heap = self.limits.heap_index(row.memory_type);
         self.heaps[heap].dealloc(row.size);
         self.allocations_remains += 1;
         self.keeps_sound();
     }
 
-    /// Takes back a block of a buddy chunk. Where it stands there is what the table of spans says.
+    /// Takes back a block of a buddy chunk.
     fn dealloc_in_chunk<D: ObjectDevice<M>>(&mut self, device: &mut D, block: MemoryBlock<M>)
         requires shared { block.kind ≡ Kind.BuddyChunk }
         requires owned { IsOwned self.old block }
@@ -70,17 +69,17 @@ impl<M: MemoryObject, A: Allocator> GpuAllocator<M, A> {
         let (offset, size) = (block.offset(), block.size());
         let memory = into_memory(block);
         let object = memory.object();
-        let span = self.spans.remove(key, object, offset, size);
         let heap = self.limits.heap_index(memory_type);
-        let gone = uncounted::give_back::<M, A, D, Brand>(
+        let found = self.buddies[memory_type as usize].find(key, object, offset, size);
+        let Some(leaf) = found else { unreachable!() };
+        uncounted::give_back::<M, A, D, Brand>(
             &mut self.buddies[memory_type as usize],
             device,
-            BuddyBlock::new(memory, leaf_in(span)),
+            BuddyBlock::new(memory, leaf),
             &mut self.heaps[heap],
             &mut self.allocations_remains,
             Blank::new(1),
         );
-        self.spans.let_go(object, gone);
     }
 
     /// Takes back a block of a free list's chunk of this number.

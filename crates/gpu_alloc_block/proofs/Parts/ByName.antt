@@ -1,5 +1,5 @@
 -- Chunks by key and rows as a part, as one comes or goes.
-use Rattle.std.proofs.Common.{◌≡◌, ◌≢◌, inl, inr, ℕ, IsTrue, Some, None, refl, sym, ◌∙◌, ap, subst}
+use Rattle.std.proofs.Common.{◌≡◌, ◌≢◌, inl, inr, ℕ, true, IsTrue, Some, None, refl, sym, ◌∙◌, ap, subst}
 use Rattle.std.proofs.lemmas.Bool.{cases_eq}
 use Rattle.std.specs.Cmp.{IsTotalOrder, nat_cmp_total}
 use Rattle.std.specs.declared.cmp.Ordering.{Ordering}
@@ -8,9 +8,9 @@ use Rattle.std.specs.FinMap.{IsAntisymmetric, nat_cmp-IsAntisymmetric}
 use Rattle.std.specs.FinSet as set
 use Rattle.gpu_alloc_base.specs.Chunks.{Chunk}
 use Rattle.gpu_alloc_base.proofs.ListSets.{in_inserted, in_removed, same_or_left}
-use Rattle.gpu_alloc_base.proofs.ListViews.{IsMore, IsLess, IsOneToOne, named_there, named_more, named_less, names_more, names_less, in_names}
+use Rattle.gpu_alloc_base.proofs.ListViews.{IsMore, IsLess, IsOneToOne, seek_name, named_there, named_absent, named_more, named_less, names_more, names_less, in_names}
 use Rattle.gpu_alloc_base.proofs.Maps.{one_value, own_inserted, inserted_cases, inserted_kept, kept_key, kept_other}
-use Rattle.gpu_alloc_block.specs.State.{HeldObject, Span}
+use Rattle.gpu_alloc_block.specs.State.{HeldObject, Span, span_cmp}
 use Rattle.gpu_alloc_block.proofs.LiveSpans.{span_total, span_exact}
 use Rattle.gpu_alloc_block.specs.Parts.{Chunks, by_name, by_span, AreNamed}
 use Rattle.gpu_alloc_block.proofs.Parts.Entries.{entry_there, there_entry, item_there}
@@ -51,6 +51,16 @@ once_of m named a b has_a has_b same =
     let value : a.1 ≡ b.1 = one_value (finite.get m b.0) a.1 b.1 (subst (λ n. finite.get m n ≡ Some a.1) key at_a) at_b in
     λ i. (key i, value i)
 
+-- what is held under a name is a chunk's
+pub name_was : (g : ℕ → Chunk → HeldObject) (m : Chunks) → AreNamed m → (name : ℕ) (h : HeldObject) → finite.get (by_name g m) name ≡ Some h → (key : ℕ) × (c : Chunk) × (finite.get m key ≡ Some c) × (c.object ≡ name) × (g key c ≡ h)
+name_was g m named name h is = elim (seek_name nat_cmp_total nat_cmp-IsAntisymmetric (λ (e : Entry). e.1.object) (λ e. g e.0 e.1) (finite.entries m) name) [
+  | inl found ↦
+      let at = there_entry m found.0.0 found.0.1 found.1 in
+      let there = named_there nat_cmp_total nat_cmp-IsAntisymmetric (λ (e : Entry). e.1.object) (λ e. g e.0 e.1) (finite.entries m) found.0 (once_of m named) found.1 in
+      (found.0.0, found.0.1, at, found.2, one_value _ (g found.0.0 found.0.1) h there (ap (finite.get (by_name g m)) found.2 ∙ is))
+  | inr none ↦ absurd (let absent = named_absent nat_cmp_total nat_cmp-IsAntisymmetric (λ (e : Entry). e.1.object) (λ e. g e.0 e.1) (finite.entries m) name none in cc)
+]
+
 -- names stay apart
 
 pub named_after : (m : Chunks) (k : ℕ) (c : Chunk) → AreNamed m → ((i : ℕ) (a : Chunk) → finite.get m i ≡ Some a → a.object ≢ c.object) → AreNamed (finite.insert m k c)
@@ -90,6 +100,10 @@ fresh_name g m named name none i a at is = let there : finite.get (by_name g m) 
 -- Spans.
 
 module _ {K : Type 0} {R : K → K → Ordering} (total : IsTotalOrder R) (exact : IsAntisymmetric R) (span : K → Span) (s : set.FinSet R) where
+  -- a row's span is among them
+  pub span_row_live : (k : K) → IsTrue (set.contains s k) → IsTrue (set.contains (by_span span s) (span k))
+  span_row_live k live = (in_names span_total span_exact span (set.items s) (span k)).1 (k, (item_there total exact s k).0 live, refl)
+
   -- a span is a row's
   pub span_row_there : (q : Span) → IsTrue (set.contains (by_span span s) q) → (k : K) × IsTrue (set.contains s k) × (span k ≡ q)
   span_row_there q live = let row = (in_names span_total span_exact span (set.items s) q).0 live in (row.0, (item_there total exact s row.0).1 row.1, row.2)

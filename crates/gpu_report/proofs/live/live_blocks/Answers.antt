@@ -6,7 +6,7 @@ use Rattle.std.specs.List.Sorted.{IsNonDecreasingBy}
 use Rattle.gpu_alloc.specs.Listing.{AreOnce}
 use Rattle.gpu_alloc.specs.Spans.{span_in}
 use Rattle.gpu_alloc.specs.State.{Span, span_cmp}
-use Rattle.gpu_alloc.specs.declared.spans.LiveSpan.{LiveSpan}
+use Rattle.gpu_alloc_base.specs.declared.buddy_block.Leaf.{Leaf as LiveSpan}
 use Rattle.gpu_alloc_base.proofs.ListViews.{contains_name}
 use Rattle.gpu_report.specs.Live.{span_told}
 use Rattle.gpu_report.specs.declared.live.LiveBlock.{LiveBlock}

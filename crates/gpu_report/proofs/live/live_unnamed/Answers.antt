@@ -7,7 +7,7 @@ use Rattle.std.specs.declared.result.Result.TheVariants.{Ok, Err}
 use Rattle.gpu_alloc.specs.Listing.{AreOnce}
 use Rattle.gpu_alloc.specs.Spans.{span_in}
 use Rattle.gpu_alloc.specs.State.{Span, State, span_cmp}
-use Rattle.gpu_alloc.specs.declared.spans.LiveSpan.{LiveSpan}
+use Rattle.gpu_alloc_base.specs.declared.buddy_block.Leaf.{Leaf as LiveSpan}
 use Rattle.gpu_report.specs.Live.{span_told, AreLive}
 use Rattle.gpu_report.specs.declared.live.LiveBlock.{LiveBlock}
 use Rattle.gpu_report.proofs.Spans.{told_rises}

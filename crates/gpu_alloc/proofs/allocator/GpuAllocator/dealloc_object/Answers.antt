@@ -1,4 +1,4 @@
-use Rattle.std.proofs.Common.{◌≡◌, ◌+◌, ◌∷◌, [], length, refl, sym, ap, ◌∙◌, arith, subst, vec_len}
+use Rattle.std.proofs.Common.{◌≡◌, ◌+◌, ◌∷◌, [], length, refl, sym, ap, ◌∙◌, arith, subst, vec_len, is_some}
 use Rattle.std.proofs.lemmas.Grind.{common_steps}
 use Rattle.std.proofs.Math.ListN.{set}
 use Rattle.std.specs.FinMap as finite
@@ -8,82 +8,82 @@ use Rattle.gpu_alloc_block.specs.Agreement.{Agrees}
 use Rattle.gpu_alloc.specs.Inside.{state_in}
 use Rattle.gpu_alloc.specs.Own.{own_held, own_span}
 use Rattle.gpu_alloc.specs.Whole.{whole}
-use Rattle.gpu_alloc.proofs.Wholes.{held_here, held_whole, live_here, no_number, own_goes}
+use Rattle.gpu_alloc.proofs.Wholes.{held_here, held_whole, live_here, own_goes}
 use Rattle.gpu_alloc_block.specs.State.{State, Span, is_shared, span_of}
 use Rattle.gpu_alloc_base.specs.declared.heap.Heap.{Heap}
 use Rattle.gpu_alloc.proofs.Agreeing.{agrees_returned}
-use Rattle.gpu_alloc.proofs.Consistency.{covers, fits_again, heap_there, known_object}
+use Rattle.gpu_alloc.proofs.Consistency.{booked-gone, covers, fits_again, heap_there, known_object}
 use Rattle.gpu_alloc.proofs.HeapLists.{properties_kept}
 use Rattle.gpu_alloc_block.proofs.LiveSpans.{live_other}
-use Rattle.gpu_alloc.proofs.OwnObjects.{consistent-gone}
 use Rattle.gpu_alloc.proofs.Returns.{returned, goes_with, let_go, state_returned}
 use Rattle.gpu_alloc.proofs.allocator.GpuAllocator.dealloc_object.Given.{Over}
 use Rattle.gpu_alloc.proofs.allocator.GpuAllocator.dealloc_object.Goals as goal
 
-pub remove_own-row-requires : goal.remove_own-row-requires
-remove_own-row-requires g c =
+pub remove-row-requires : goal.remove-row-requires
+remove-row-requires g c =
     let owned = rw (← c.self.view_is) at c.requires.owned in
     let name = c.object.ensures ∙ c.into_memory-memory.ensures in
     let own = ap is_shared owned.held.3 ∙ c.requires.own in
-    (owned.held.0, held_here c.self.inside.spans c.self.inside.free_lists.items c.self.invariant.apart c.object.result owned.held.0 (ap (finite.get (whole c.self.inside.spans c.self.inside.free_lists.items).held) name ∙ owned.held.1) (no_number owned.held.0.kind own), own)
+    record { held = ap is_some (held_here c.self.inside.own c.self.inside.buddies.items c.self.inside.free_lists.items c.self.invariant.apart c.object.result owned.held.0 (ap (finite.get (whole c.self.inside.own c.self.inside.buddies.items c.self.inside.free_lists.items).held) name ∙ owned.held.1) own) }
 
 pub heap_index-heap-requires : goal.heap_index-heap-requires
 heap_index-heap-requires g c =
-    let found = held_whole c.self.inside.spans c.self.inside.free_lists.items c.self.invariant.apart c.object.result (own_held c.remove_own-row.result) c.remove_own-row.ensures.row.is_held in
-    (known_object _ _ _ _ c.self.invariant.consistent.books refl c.object.result (own_held c.remove_own-row.result) found).of_type
+    let found = held_whole c.self.inside.own c.self.inside.buddies.items c.self.inside.free_lists.items c.self.invariant.apart c.object.result (own_held c.remove-row.result) c.remove-row.ensures.row.is_held in
+    (known_object _ _ _ _ c.self.invariant.books refl c.object.result (own_held c.remove-row.result) found).of_type
 
 pub index_mut-requires : goal.index_mut-requires
 index_mut-requires g c =
-    let found = held_whole c.self.inside.spans c.self.inside.free_lists.items c.self.invariant.apart c.object.result (own_held c.remove_own-row.result) c.remove_own-row.ensures.row.is_held in
-    let known = (known_object _ _ _ _ c.self.invariant.consistent.books refl c.object.result (own_held c.remove_own-row.result) found).of_type in
+    let found = held_whole c.self.inside.own c.self.inside.buddies.items c.self.inside.free_lists.items c.self.invariant.apart c.object.result (own_held c.remove-row.result) c.remove-row.ensures.row.is_held in
+    let known = (known_object _ _ _ _ c.self.invariant.books refl c.object.result (own_held c.remove-row.result) found).of_type in
     let n : vec_len c.self.inside.heaps ≡ length c.self.inside.heaps.items = grind (arith, common_steps) in
-    omega (arith, n, c.heap_index-heap.ensures, heap_there _ _ _ _ c.self.invariant.consistent.books refl c.remove_own-row.result.memory_type known)
+    omega (arith, n, c.heap_index-heap.ensures, heap_there _ _ _ _ c.self.invariant.books refl c.remove-row.result.memory_type known)
 
 pub dealloc-requires : goal.dealloc-requires
 dealloc-requires g c =
-    omega (arith, covers _ _ _ _ c.self.invariant.consistent.books refl c.object.result (own_held c.remove_own-row.result) (held_whole c.self.inside.spans c.self.inside.free_lists.items c.self.invariant.apart c.object.result (own_held c.remove_own-row.result) c.remove_own-row.ensures.row.is_held) c.index_mut.result.now _ c.heap_index-heap.ensures c.index_mut.ensures.value)
+    omega (arith, covers _ _ _ _ c.self.invariant.books refl c.object.result (own_held c.remove-row.result) (held_whole c.self.inside.own c.self.inside.buddies.items c.self.inside.free_lists.items c.self.invariant.apart c.object.result (own_held c.remove-row.result) c.remove-row.ensures.row.is_held) c.index_mut.result.now _ c.heap_index-heap.ensures c.index_mut.ensures.value)
 
 pub overflow_add-self : goal.overflow_add-self
 overflow_add-self g c =
-    omega (arith, fits_again _ _ _ _ c.self.invariant.consistent.books refl c.object.result (own_held c.remove_own-row.result) (held_whole c.self.inside.spans c.self.inside.free_lists.items c.self.invariant.apart c.object.result (own_held c.remove_own-row.result) c.remove_own-row.ensures.row.is_held))
+    omega (arith, fits_again _ _ _ _ c.self.invariant.books refl c.object.result (own_held c.remove-row.result) (held_whole c.self.inside.own c.self.inside.buddies.items c.self.inside.free_lists.items c.self.invariant.apart c.object.result (own_held c.remove-row.result) c.remove-row.ensures.row.is_held))
 
 pub invariant_of-self : goal.invariant_of-self
 invariant_of-self g c =
     let at = c.index_mut.ensures.value in
     let owned = rw (← c.self.view_is) at c.requires.owned in
     let name = c.object.ensures ∙ c.into_memory-memory.ensures in
-    let row = c.remove_own-row.ensures.row in
-    let live = live_here c.self.inside.spans c.self.inside.free_lists.items c.self.invariant.apart (span_of c.args.block) (own_held c.remove_own-row.result) owned.live (ap (finite.get c.self.inside.spans.held) (sym name) ∙ row.is_held) in
-    let span : ◌≡◌ {A = Span} (own_span c.remove_own-row.result) (span_of c.args.block) = sym (row.alone (span_of c.args.block) live (sym name)) in
-    let went = own_goes c.self.inside.spans c.self.inside.free_lists.items c.self.invariant.apart c.remove_own-row.new.self c.remove_own-row.result c.object.result row c.remove_own-row.ensures.held c.remove_own-row.ensures.live in
-    let now = whole c.remove_own-row.new.self c.self.inside.free_lists.items in
-    let fewer = let_go c.self.inside.limits _ _ _ _ now _ c.args.block _ _ c.self.invariant.consistent.books owned c.requires.own name
-    (held_whole c.self.inside.spans c.self.inside.free_lists.items c.self.invariant.apart c.object.result (own_held c.remove_own-row.result) row.is_held) went.held_is (went.live_is ∙ ap (set_of.remove (whole c.self.inside.spans c.self.inside.free_lists.items).live) span) in
+    let row = c.remove-row.ensures.row in
+    let live = live_here c.self.inside.own c.self.inside.buddies.items c.self.inside.free_lists.items c.self.invariant.apart (span_of c.args.block) (own_held c.remove-row.result) owned.live (ap (finite.get c.self.inside.own.held) (sym name) ∙ row.is_held) in
+    let span : ◌≡◌ {A = Span} (own_span c.remove-row.result) (span_of c.args.block) = sym (row.alone (span_of c.args.block) live (sym name)) in
+    let went = own_goes c.self.inside.own c.self.inside.buddies.items c.self.inside.free_lists.items c.self.invariant.apart c.remove-row.new.self c.remove-row.result c.object.result row c.remove-row.ensures.held c.remove-row.ensures.live in
+    let now = whole c.remove-row.new.self c.self.inside.buddies.items c.self.inside.free_lists.items in
+    let fewer = let_go c.self.inside.limits _ _ _ _ now _ c.args.block _ _ c.self.invariant.books owned c.requires.own name
+    (held_whole c.self.inside.own c.self.inside.buddies.items c.self.inside.free_lists.items c.self.invariant.apart c.object.result (own_held c.remove-row.result) row.is_held) went.held_is (went.live_is ∙ ap (set_of.remove (whole c.self.inside.own c.self.inside.buddies.items c.self.inside.free_lists.items).live) span) in
     rw (properties_kept c.self.inside.limits c.self.inside.heaps.items c.heap_index-heap.result c.dealloc.new.self c.index_mut.result.now at (ap (λ (h : Heap). h.size) c.dealloc.ensures))
     (record {
-      consistent = consistent-gone _ _ _ _ _ (whole c.self.inside.spans c.self.inside.free_lists.items) _ c.self.invariant.consistent refl now (own_held c.remove_own-row.result) (span_of c.args.block) fewer.0 fewer.1
-          c.remove_own-row.ensures.places c.index_mut.result.now _ _ c.heap_index-heap.ensures at c.dealloc.ensures;
+      books = booked-gone _ _ _ _ c.self.invariant.books refl now (own_held c.remove-row.result) (span_of c.args.block) fewer.1 c.index_mut.result.now _ _ c.heap_index-heap.ensures at c.dealloc.ensures;
+      shared = c.self.invariant.shared;
+      listed = c.self.invariant.listed;
       apart = went.apart;
     })
 
 -- What is known at the end: the state before, and the state that is left.
 
 abbrev before : (g : Over) → goal.After-drop-memory g → State
-before g c = state_in c.self.inside.limits c.self.inside.heaps.items c.self.inside.buddies.items c.self.inside.free_lists.items (whole c.self.inside.spans c.self.inside.free_lists.items) c.self.inside.allocations_remains
+before g c = state_in c.self.inside.limits c.self.inside.heaps.items c.self.inside.buddies.items c.self.inside.free_lists.items (whole c.self.inside.own c.self.inside.buddies.items c.self.inside.free_lists.items) c.self.inside.allocations_remains
 
 left : (g : Over) (c : goal.After-drop-memory g)
-    → state_in c.self.inside.limits (set c.self.inside.heaps.items c.heap_index-heap.result c.dealloc.new.self) c.self.inside.buddies.items c.self.inside.free_lists.items (whole c.remove_own-row.new.self c.self.inside.free_lists.items) (c.self.inside.allocations_remains + 1)
+    → state_in c.self.inside.limits (set c.self.inside.heaps.items c.heap_index-heap.result c.dealloc.new.self) c.self.inside.buddies.items c.self.inside.free_lists.items (whole c.remove-row.new.self c.self.inside.buddies.items c.self.inside.free_lists.items) (c.self.inside.allocations_remains + 1)
     ≡ returned (before g c) c.args.block
 left g c =
     let owned = rw (← c.self.view_is) at c.requires.owned in
     let name = c.object.ensures ∙ c.into_memory-memory.ensures in
-    let row = c.remove_own-row.ensures.row in
-    let live = live_here c.self.inside.spans c.self.inside.free_lists.items c.self.invariant.apart (span_of c.args.block) (own_held c.remove_own-row.result) owned.live (ap (finite.get c.self.inside.spans.held) (sym name) ∙ row.is_held) in
-    let span : ◌≡◌ {A = Span} (own_span c.remove_own-row.result) (span_of c.args.block) = sym (row.alone (span_of c.args.block) live (sym name)) in
-    let went = own_goes c.self.inside.spans c.self.inside.free_lists.items c.self.invariant.apart c.remove_own-row.new.self c.remove_own-row.result c.object.result row c.remove_own-row.ensures.held c.remove_own-row.ensures.live in
-    state_returned c.self.inside.limits _ c.self.inside.buddies.items c.self.inside.free_lists.items _ _ c.index_mut.result.now (whole c.self.inside.spans c.self.inside.free_lists.items) (whole c.remove_own-row.new.self c.self.inside.free_lists.items) _ c.args.block
+    let row = c.remove-row.ensures.row in
+    let live = live_here c.self.inside.own c.self.inside.buddies.items c.self.inside.free_lists.items c.self.invariant.apart (span_of c.args.block) (own_held c.remove-row.result) owned.live (ap (finite.get c.self.inside.own.held) (sym name) ∙ row.is_held) in
+    let span : ◌≡◌ {A = Span} (own_span c.remove-row.result) (span_of c.args.block) = sym (row.alone (span_of c.args.block) live (sym name)) in
+    let went = own_goes c.self.inside.own c.self.inside.buddies.items c.self.inside.free_lists.items c.self.invariant.apart c.remove-row.new.self c.remove-row.result c.object.result row c.remove-row.ensures.held c.remove-row.ensures.live in
+    state_returned c.self.inside.limits _ c.self.inside.buddies.items c.self.inside.free_lists.items _ _ c.index_mut.result.now (whole c.self.inside.own c.self.inside.buddies.items c.self.inside.free_lists.items) (whole c.remove-row.new.self c.self.inside.buddies.items c.self.inside.free_lists.items) _ c.args.block
     c.index_mut.ensures.value (ap (λ (h : Heap). h.size) c.dealloc.ensures) (ap (λ (h : Heap). h.limit) c.dealloc.ensures)
-    (went.held_is ∙ ap (finite.remove (whole c.self.inside.spans c.self.inside.free_lists.items).held) name) (went.live_is ∙ ap (set_of.remove (whole c.self.inside.spans c.self.inside.free_lists.items).live) span)
+    (went.held_is ∙ ap (finite.remove (whole c.self.inside.own c.self.inside.buddies.items c.self.inside.free_lists.items).held) name) (went.live_is ∙ ap (set_of.remove (whole c.self.inside.own c.self.inside.buddies.items c.self.inside.free_lists.items).live) span)
 
 pub returns-clause-freed : goal.returns-clause-freed
 returns-clause-freed g c =

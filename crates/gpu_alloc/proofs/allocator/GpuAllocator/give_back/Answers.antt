@@ -7,7 +7,8 @@ use Rattle.gpu_alloc_freelist.specs.FreeListAllocator as list
 use Rattle.gpu_alloc.specs.Inside.{state_in}
 use Rattle.gpu_alloc.specs.Whole.{whole}
 use Rattle.gpu_alloc_block.specs.State.{State}
-use Rattle.gpu_alloc.proofs.FreeLists.Going.{IsGivenBack, chunk_went, giving_begins, heap_in, stops_kept, stops_whole, goes, goes_fewer, list_agreed, list_counted_still}
+use Rattle.gpu_alloc.proofs.Linked.{consistent, kept_as}
+use Rattle.gpu_alloc.proofs.FreeLists.Going.{IsGivenBack, chunk_went, giving_begins, heap_in, recorded_then, stops_kept, stops_whole, goes, goes_fewer, list_agreed, list_counted_still}
 use Rattle.gpu_alloc.proofs.allocator.GpuAllocator.give_back.Given.{Over}
 use Rattle.gpu_alloc.proofs.allocator.GpuAllocator.give_back.Goals as goal
 
@@ -16,9 +17,9 @@ loop-init g c =
     let known = rw (← c.self.view_is) at c.requires.known in
     let agrees = rw (← c.self.view_is) at c.requires.agrees in
     rw (← c.self.view_is) (record {
-      way = ([], refl, giving_begins c.args.keep_last c.self.inside.limits _ _ _ _ _ _ _ _ _ c.self.invariant.consistent known c.heap_index-heap.ensures agrees);
+      way = ([], refl, giving_begins c.args.keep_last c.self.inside.limits _ _ _ _ _ _ _ _ _ (consistent _ _ _ _ _ _ _ c.self.invariant) known c.heap_index-heap.ensures agrees);
       properties = refl;
-      apart = c.self.invariant.apart;
+      kept = c.self.invariant;
     })
 
 pub index_mut-requires-in-loop : goal.index_mut-requires-in-loop
@@ -37,25 +38,28 @@ pub loop-smaller : goal.loop-smaller
 loop-smaller g c =
     let gives = c.in-Some.ensures.gives in
     let after = account c.give_back_first.new.self c.give_back_first.new.heap c.give_back_first.new.allocations_remains in
-    let went = chunk_went c.loop.invariant.way.2 c.loop.invariant.apart c.index_mut.result.now c.index_mut-in-loop.result.now c.index_mut.ensures.value c.index_mut-in-loop.ensures.value gives.0 c.in-Some.field-0 after _ gives.2 in
+    let went = chunk_went c.loop.invariant.way.2 c.loop.invariant.kept c.index_mut.result.now c.index_mut-in-loop.result.now c.index_mut.ensures.value c.index_mut-in-loop.ensures.value gives.0 c.in-Some.field-0 after _ gives.2 in
     goes_fewer c.loop.invariant.way.2 c.index_mut.result.now c.index_mut-in-loop.result.now c.index_mut.ensures.value c.index_mut-in-loop.ensures.value gives.0 c.in-Some.field-0 after _ gives.2
-    (whole c.loop.self-inside.spans (set c.loop.self-inside.free_lists.items c.args.memory_type c.give_back_first.new.self)) went.held_is went.live_is refl
+    (whole c.loop.self-inside.own c.loop.self-inside.buddies.items (set c.loop.self-inside.free_lists.items c.args.memory_type c.give_back_first.new.self)) went.held_is went.live_is
 
 pub loop-preserved : goal.loop-preserved
 loop-preserved g c =
     let way = c.loop.invariant.way in
     let gives = c.in-Some.ensures.gives in
     let after = account c.give_back_first.new.self c.give_back_first.new.heap c.give_back_first.new.allocations_remains in
-    let went = chunk_went way.2 c.loop.invariant.apart c.index_mut.result.now c.index_mut-in-loop.result.now c.index_mut.ensures.value c.index_mut-in-loop.ensures.value gives.0 c.in-Some.field-0 after _ gives.2 in
+    let went = chunk_went way.2 c.loop.invariant.kept c.index_mut.result.now c.index_mut-in-loop.result.now c.index_mut.ensures.value c.index_mut-in-loop.ensures.value gives.0 c.in-Some.field-0 after _ gives.2 in
+    let now = whole c.loop.self-inside.own c.loop.self-inside.buddies.items (set c.loop.self-inside.free_lists.items c.args.memory_type c.give_back_first.new.self) in
+    let recorded = recorded_then way.2 c.index_mut.result.now c.index_mut-in-loop.result.now c.index_mut.ensures.value c.index_mut-in-loop.ensures.value gives.0 c.in-Some.field-0 after _ gives.2 now went.held_is went.live_is c.in-Some.ensures.sound in
+    let kept = kept_as _ _ _ _ _ _ _ recorded went.apart in
     record {
       way = (
         way.0 ++ gives.0,
         chain_append g.D.ObjectDevice.step way.0 gives.0 _ _ _ way.1 gives.1,
-        goes way.2 c.index_mut.result.now c.index_mut-in-loop.result.now c.index_mut.ensures.value c.index_mut-in-loop.ensures.value gives.0 c.in-Some.field-0 after _ gives.2
-            (whole c.loop.self-inside.spans (set c.loop.self-inside.free_lists.items c.args.memory_type c.give_back_first.new.self)) went.held_is went.live_is refl c.in-Some.ensures.sound,
+        goes way.2 c.index_mut.result.now c.index_mut-in-loop.result.now c.index_mut.ensures.value c.index_mut-in-loop.ensures.value gives.0 c.in-Some.field-0 after _ gives.2 now went.held_is went.live_is
+            (consistent _ _ _ _ _ _ _ kept) c.in-Some.ensures.sound,
       );
       properties = c.in-Some.ensures.properties ∙ c.loop.invariant.properties;
-      apart = went.apart;
+      kept = kept;
     }
 
 -- What is left, once none may go any more.
@@ -63,18 +67,18 @@ loop-preserved g c =
 abbrev left : (g : Over) → goal.In_default g → State
 left g c =
     state_in c.loop.self-inside.limits (set c.loop.self-inside.heaps.items c.heap_index-heap.result c.give_back_first.new.heap) c.loop.self-inside.buddies.items
-    (set c.loop.self-inside.free_lists.items c.args.memory_type c.give_back_first.new.self) (whole c.loop.self-inside.spans (set c.loop.self-inside.free_lists.items c.args.memory_type c.give_back_first.new.self)) c.give_back_first.new.allocations_remains
+    (set c.loop.self-inside.free_lists.items c.args.memory_type c.give_back_first.new.self) (whole c.loop.self-inside.own c.loop.self-inside.buddies.items (set c.loop.self-inside.free_lists.items c.args.memory_type c.give_back_first.new.self)) c.give_back_first.new.allocations_remains
 
 given : (g : Over) (c : goal.In_default g)
     → IsGivenBack c.args.keep_last c.args.memory_type c.args.self.now (g.D.ObjectDevice.properties c.args.device.now) (g.D.ObjectDevice.objects c.args.device.now) (left g c)
     (c.loop.invariant.way.0 ++ c.in_default.ensures.gives.0) (g.D.ObjectDevice.objects c.give_back_first.new.device)
 given g c =
-    stops_whole c.loop.invariant.way.2 c.loop.invariant.apart c.index_mut.result.now c.index_mut-in-loop.result.now c.index_mut.ensures.value c.index_mut-in-loop.ensures.value c.in_default.ensures.gives.0
+    stops_whole c.loop.invariant.way.2 c.loop.invariant.kept c.index_mut.result.now c.index_mut-in-loop.result.now c.index_mut.ensures.value c.index_mut-in-loop.ensures.value c.in_default.ensures.gives.0
     (account c.give_back_first.new.self c.give_back_first.new.heap c.give_back_first.new.allocations_remains) _ c.in_default.ensures.gives.2
 
 pub invariant_of-self : goal.invariant_of-self
 invariant_of-self g c =
-    stops_kept c.loop.invariant.way.2 c.loop.invariant.apart c.index_mut.result.now c.index_mut-in-loop.result.now c.index_mut.ensures.value c.index_mut-in-loop.ensures.value c.in_default.ensures.gives.0
+    stops_kept c.loop.invariant.way.2 c.loop.invariant.kept c.index_mut.result.now c.index_mut-in-loop.result.now c.index_mut.ensures.value c.index_mut-in-loop.ensures.value c.in_default.ensures.gives.0
     (account c.give_back_first.new.self c.give_back_first.new.heap c.give_back_first.new.allocations_remains) _ c.in_default.ensures.gives.2
 
 pub returns-clause-gives : goal.returns-clause-gives

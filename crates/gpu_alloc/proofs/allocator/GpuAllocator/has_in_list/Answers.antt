@@ -1,4 +1,4 @@
-use Rattle.gpu_alloc.proofs.WholeOwned.{list_owned, unlisted_unowned}
+use Rattle.gpu_alloc.proofs.WholeOwned.{list_owned, unknown_unowned}
 use Rattle.gpu_alloc.proofs.allocator.GpuAllocator.has_in_list.Goals as goal
 
 pub returns-in-Some : goal.returns-in-Some
@@ -13,6 +13,5 @@ returns-in-Some g c =
 
 pub returns-in-None : goal.returns-in-None
 returns-in-None g c =
-    let lists = c.self.inside.free_lists.items in
     let found = rw (c.deref.ensures.value, c.memory_type.ensures) at c.in-None.ensures.lookup in
-    (λ no. absurd (cc), λ owned. absurd (unlisted_unowned c.self.inside.limits _ _ lists _ _ c.self.invariant c.args.block.now found.3 (rw (← c.self.view_is) at owned)))
+    (λ no. absurd (cc), λ owned. absurd (unknown_unowned c.self.inside.limits _ _ _ _ _ c.self.invariant c.args.block.now _ c.self.invariant.listed.count found.3 (rw (← c.self.view_is) at owned)))

@@ -3,15 +3,15 @@ use Rattle.gpu_alloc_types.specs.Properties.{Properties, properties_of}
 use Rattle.gpu_alloc_types.specs.declared.types.MemoryType.{MemoryType}
 use Rattle.gpu_alloc_base.specs.declared.heap.Heap.{Heap}
 use Rattle.gpu_alloc_base.specs.Heap.{unused}
-use Rattle.gpu_alloc.specs.Inside.{limit_of, offer_of, types_in, lists_in, IsConsistent}
+use Rattle.gpu_alloc.specs.Inside.{limit_of, offer_of, types_in, lists_in}
 use Rattle.gpu_alloc.specs.Opening.{opened}
 use Rattle.gpu_alloc_usage.specs.Ranking.{IsTable}
 use Rattle.gpu_alloc.specs.FirstTypes.{first_types}
 use Rattle.gpu_alloc.proofs.Closing.{first_chunkless}
 use Rattle.gpu_alloc.proofs.HeapLists.{unused-limits, unused-offers}
-use Rattle.gpu_alloc.proofs.Opened.{consistent-opened, first_types_kept, first_lists_kept, lists_unused}
-use Rattle.gpu_alloc.specs.Whole.{whole}
-use Rattle.gpu_alloc.proofs.Wholes.{apart_unused, nothing_held, nothing_live}
+use Rattle.gpu_alloc.proofs.Opened.{kept-opened, first_types_kept, first_lists_kept, buddies_unused, lists_unused}
+use Rattle.gpu_alloc.specs.Whole.{IsKept}
+use Rattle.gpu_alloc.proofs.Wholes.{nothing_held, nothing_live}
 use Rattle.gpu_alloc.proofs.allocator.GpuAllocator.open.Goals as goal
 
 -- the properties that the fields stand for are those that were given
@@ -31,15 +31,9 @@ invariant_of-result-2 g c =
     -- the count's type, among what the argument `props` is known by
     let few : c.args.props.max_memory_allocation_count < 2 ^ 32 = c.well_formed.1.1.0.1.1.1.1.0.1 in
     let given = properties_is (properties_of c.args.props) _ _ c.in_ok-memory_types.ensures.items c.in_ok-heaps.ensures in
-    let lists = c.in-Ok.free_lists.items in
-    let unused = lists_unused c.args.config (properties_of c.args.props) lists c.in-Ok.ensures.each in
-    let held = nothing_held c.new.result lists c.new.ensures.held c.new.ensures.live unused in
-    let live = nothing_live c.new.result lists c.new.ensures.held c.new.ensures.live unused in
-    record {
-      consistent = subst (λ p. IsConsistent c.args.config p c.in_ok-heaps.heaps.items c.in_ok-buddies.buddies.items lists (whole c.new.result lists) c.args.props.max_memory_allocation_count) (sym given)
-          (consistent-opened (whole c.new.result lists) held live c.args.config (properties_of c.args.props) _ _ _ _ c.requires few c.in_ok-heaps.ensures c.in_ok-buddies.ensures.count c.in_ok-buddies.ensures.each c.in-Ok.ensures.count c.in-Ok.ensures.each);
-      apart = apart_unused c.new.result lists c.new.ensures.held c.new.ensures.live unused;
-    }
+    subst (λ p. IsKept c.args.config p c.in_ok-heaps.heaps.items c.in_ok-buddies.buddies.items c.in-Ok.free_lists.items c.new.result c.args.props.max_memory_allocation_count) (sym given)
+    (kept-opened c.args.config (properties_of c.args.props) c.in_ok-heaps.heaps.items c.new.result c.in_ok-buddies.buddies.items c.in-Ok.free_lists.items c.args.props.max_memory_allocation_count c.new.ensures.held c.new.ensures.live c.requires few c.in_ok-heaps.ensures
+    c.in_ok-buddies.ensures.count c.in_ok-buddies.ensures.each c.in-Ok.ensures.count c.in-Ok.ensures.each)
 
 pub returns : goal.returns
 returns g c =
@@ -50,10 +44,11 @@ returns g c =
     ap (λ q. lists_in (types_in (first_types c.args.config q) c.in_ok-buddies.buddies.items) c.in-Ok.free_lists.items) given
     ∙ ap (λ ts. lists_in ts c.in-Ok.free_lists.items) (first_types_kept c.args.config p _ c.in_ok-buddies.ensures.count c.in_ok-buddies.ensures.each)
     ∙ first_lists_kept c.args.config p _ c.in-Ok.ensures.count c.in-Ok.ensures.each in
-    let unused = lists_unused c.args.config p c.in-Ok.free_lists.items c.in-Ok.ensures.each in
+    let no_buddy = buddies_unused c.args.config p c.in_ok-buddies.buddies.items c.in_ok-buddies.ensures.each in
+    let no_list = lists_unused c.args.config p c.in-Ok.free_lists.items c.in-Ok.ensures.each in
     λ k. record (opened c.args.config p) {
-      held = nothing_held c.new.result c.in-Ok.free_lists.items c.new.ensures.held c.new.ensures.live unused k;
-      live = nothing_live c.new.result c.in-Ok.free_lists.items c.new.ensures.held c.new.ensures.live unused k;
+      held = nothing_held c.new.result c.in_ok-buddies.buddies.items c.in-Ok.free_lists.items c.new.ensures.held c.new.ensures.live no_buddy no_list k;
+      live = nothing_live c.new.result c.in_ok-buddies.buddies.items c.in-Ok.free_lists.items c.new.ensures.held c.new.ensures.live no_buddy no_list k;
       heap_limits = limits k;
       types = types k;
       properties = given k;

@@ -8,6 +8,6 @@ pub returns-clause-few : goal.returns-clause-few
 returns-clause-few g c k d inside =
     let types = c.self.inside.limits.memory_types.items in
     let same = c.types.ensures ∙ c.self.inside.limits.ranked.ranked (usage_bits c.args.usage) in
-    let few = c.self.invariant.consistent.books.usable.types in
+    let few = c.self.invariant.books.usable.types in
     let known = ranking-within (named (usage_bits c.args.usage)) types k d (rw (← same) inside) in
     rw same (omega (arith, known, few))

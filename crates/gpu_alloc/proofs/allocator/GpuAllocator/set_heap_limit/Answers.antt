@@ -5,8 +5,8 @@ use Rattle.gpu_alloc_types.specs.Properties.{Properties}
 use Rattle.gpu_alloc_base.specs.declared.heap.Heap.{Heap}
 use Rattle.gpu_alloc_block.specs.State.{State, heap_limit}
 use Rattle.gpu_alloc.specs.Budget.{heap_bytes, with_heap_limit}
-use Rattle.gpu_alloc.specs.Whole.{whole}
-use Rattle.gpu_alloc.specs.Inside.{limit_of, offer_of, properties_in, state_in, IsConsistent}
+use Rattle.gpu_alloc.specs.Whole.{whole, IsKept}
+use Rattle.gpu_alloc.specs.Inside.{limit_of, offer_of, properties_in, state_in}
 use Rattle.gpu_alloc.proofs.HeapLists.{ledgers_limited, limit_is_set, properties_kept}
 use Rattle.gpu_alloc.proofs.MayAsk.{may_ask_agrees, may_ask_all, may_ask_owned}
 use Rattle.gpu_alloc.proofs.allocator.GpuAllocator.set_heap_limit.Given.{Over}
@@ -16,33 +16,31 @@ use Rattle.gpu_alloc.proofs.allocator.GpuAllocator.set_heap_limit.Goals.{After-k
 pub invariant_of-self : goal.invariant_of-self
 invariant_of-self g c =
     let heaps = c.self.inside.heaps.items in
-    let is = c.self.invariant.consistent in
+    let is = c.self.invariant in
     let known = rw (← c.self.view_is) at c.requires in
     let inside : c.args.heap < length heaps = omega (arith, length-map heaps offer_of) in
-    record {
-      consistent = subst (λ (q : Properties). IsConsistent c.self.inside.limits.config q (set heaps c.args.heap c.set_limit.new.self) c.self.inside.buddies.items c.self.inside.free_lists.items (whole c.self.inside.spans c.self.inside.free_lists.items) c.self.inside.allocations_remains)
-          (sym (properties_kept c.self.inside.limits heaps c.args.heap c.set_limit.new.self c.index_mut.result.now c.index_mut.ensures.value (ap (λ (h : Heap). h.size) c.set_limit.ensures))) (record {
-            books = record {
-              usable = is.books.usable;
-              count = is.books.count;
-              known = is.books.known;
-              spans = is.books.spans;
-              small = is.books.small;
-              ledgers = ledgers_limited (properties_in c.self.inside.limits heaps) heaps c.args.heap c.args.limit c.set_limit.new.self c.index_mut.result.now (finite.entries (whole c.self.inside.spans c.self.inside.free_lists.items).held) is.books.ledgers inside c.index_mut.ensures.value c.set_limit.ensures;
-            };
-            shared = is.shared;
-            listed = is.listed;
-          });
-      apart = c.self.invariant.apart;
-    }
+    subst (λ (q : Properties). IsKept c.self.inside.limits.config q (set heaps c.args.heap c.set_limit.new.self) c.self.inside.buddies.items c.self.inside.free_lists.items c.self.inside.own c.self.inside.allocations_remains)
+    (sym (properties_kept c.self.inside.limits heaps c.args.heap c.set_limit.new.self c.index_mut.result.now c.index_mut.ensures.value (ap (λ (h : Heap). h.size) c.set_limit.ensures))) (record {
+      books = record {
+        usable = is.books.usable;
+        count = is.books.count;
+        known = is.books.known;
+        spans = is.books.spans;
+        small = is.books.small;
+        ledgers = ledgers_limited (properties_in c.self.inside.limits heaps) heaps c.args.heap c.args.limit c.set_limit.new.self c.index_mut.result.now (finite.entries (whole c.self.inside.own c.self.inside.buddies.items c.self.inside.free_lists.items).held) is.books.ledgers inside c.index_mut.ensures.value c.set_limit.ensures;
+      };
+      shared = is.shared;
+      listed = is.listed;
+      apart = is.apart;
+    })
 
-is_set : (g : Over) (c : After-keeps_sound g) → state_in c.self.inside.limits (set c.self.inside.heaps.items c.args.heap c.set_limit.new.self) c.self.inside.buddies.items c.self.inside.free_lists.items (whole c.self.inside.spans c.self.inside.free_lists.items) c.self.inside.allocations_remains
+is_set : (g : Over) (c : After-keeps_sound g) → state_in c.self.inside.limits (set c.self.inside.heaps.items c.args.heap c.set_limit.new.self) c.self.inside.buddies.items c.self.inside.free_lists.items (whole c.self.inside.own c.self.inside.buddies.items c.self.inside.free_lists.items) c.self.inside.allocations_remains
     ≡ with_heap_limit c.args.self.now c.args.heap c.args.limit
 is_set g c =
     let heaps = c.self.inside.heaps.items in
     let known = rw (← c.self.view_is) at c.requires in
     let inside : c.args.heap < length heaps = omega (arith, length-map heaps offer_of) in
-    rw (← c.self.view_is) (limit_is_set c.self.inside.limits heaps c.self.inside.buddies.items c.self.inside.free_lists.items (whole c.self.inside.spans c.self.inside.free_lists.items) c.self.inside.allocations_remains c.self.invariant.consistent.books.ledgers
+    rw (← c.self.view_is) (limit_is_set c.self.inside.limits heaps c.self.inside.buddies.items c.self.inside.free_lists.items (whole c.self.inside.own c.self.inside.buddies.items c.self.inside.free_lists.items) c.self.inside.allocations_remains c.self.invariant.books.ledgers
     c.args.heap c.args.limit c.set_limit.new.self c.index_mut.result.now inside c.index_mut.ensures.value c.set_limit.ensures)
 
 pub returns-clause-set : goal.returns-clause-set

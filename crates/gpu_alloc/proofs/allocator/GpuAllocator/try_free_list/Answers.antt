@@ -3,7 +3,7 @@ use Rattle.std.proofs.Math.ListN.{set}
 use Rattle.gpu_alloc_types.specs.Flags.{allocation_bits}
 use Rattle.gpu_alloc_types.specs.Properties.{Properties}
 use Rattle.gpu_alloc_base.specs.Accounts.{account}
-use Rattle.gpu_alloc.specs.Inside.{state_in, properties_in, span_of_slot}
+use Rattle.gpu_alloc.specs.Inside.{state_in, span_of_slot}
 use Rattle.gpu_alloc_base.specs.Case.{GivesInPlace, GivesInNewObject}
 use Rattle.gpu_alloc.specs.FreeListSharing.{list_block, list_size}
 use Rattle.gpu_alloc.specs.Candidates.{list_candidate}
@@ -12,16 +12,16 @@ use Rattle.gpu_alloc_base.specs.Wanted.{wanted}
 use Rattle.gpu_alloc_block.specs.State.{State, Block}
 use Rattle.gpu_alloc_block.specs.declared.block.Kind.TheVariants.{FreeListChunk}
 use Rattle.gpu_alloc_base.specs.declared.free_list_block.Slot.{Slot}
+use Rattle.gpu_alloc.proofs.Linked.{consistent, kept_as}
 use Rattle.gpu_alloc.proofs.Atoms.{some_atom}
 use Rattle.gpu_alloc.proofs.Consistency.{heap_there}
 use Rattle.gpu_alloc.proofs.FreeLists.Answers.{IsServed, list_served}
-use Rattle.gpu_alloc.proofs.FreeLists.Grants.{fits_list, counted_before, consistent_refused, state_refused}
+use Rattle.gpu_alloc.proofs.FreeLists.Grants.{fits_list, counted_before, kept_refused, state_refused}
 use Rattle.gpu_alloc_base.proofs.ToldTwice.{refused_is}
 use Rattle.gpu_alloc.proofs.FreeLists.Served.{list_agrees}
 use Rattle.gpu_alloc.proofs.FreeLists.Serving.{ServesList, told_of, rounded_is, alignment_is}
 use Rattle.gpu_alloc.proofs.HeapLists.{type_heap_is}
-use Rattle.gpu_alloc.specs.Whole.{AreWhole, whole}
-use Rattle.gpu_alloc.specs.Inside.{IsConsistent}
+use Rattle.gpu_alloc.specs.Whole.{whole}
 use Rattle.gpu_alloc.proofs.Buddies.Grants.{same_set}
 use Rattle.gpu_alloc_freelist.specs.FreeListState.{Listing}
 use Rattle.gpu_alloc.proofs.Trials.{refused_tries, nothing_made}
@@ -37,38 +37,38 @@ some_bytes some enough = omega (arith, some, enough)
 -- The call of the free list.
 
 pub index_mut-requires-2 : goal.index_mut-requires-2
-index_mut-requires-2 g c = below c.heap_index-heap.ensures c.self.inside.heaps.ok.0 (heap_there _ _ _ _ c.self.invariant.consistent.books refl c.args.memory_type (rw (← c.self.view_is) at c.requires.known))
+index_mut-requires-2 g c = below c.heap_index-heap.ensures c.self.inside.heaps.ok.0 (heap_there _ _ _ _ c.self.invariant.books refl c.args.memory_type (rw (← c.self.view_is) at c.requires.known))
 
 pub alloc-answer-requires-clause-fits : goal.alloc-answer-requires-clause-fits
 alloc-answer-requires-clause-fits g c =
     let known = rw (← c.self.view_is) at c.requires.known in
     let fits = rw (← c.self.view_is) at c.requires.fits in
-    fits_list c.self.inside.limits _ _ _ _ _ c.args.memory_type _ c.self.invariant.consistent known c.index_mut.ensures.value c.args.request fits
+    fits_list c.self.inside.limits _ _ _ _ _ c.args.memory_type _ (consistent _ _ _ _ _ _ _ c.self.invariant) known c.index_mut.ensures.value c.args.request fits
 
 pub alloc-answer-requires-clause-agrees : goal.alloc-answer-requires-clause-agrees
 alloc-answer-requires-clause-agrees g c =
     let known = rw (← c.self.view_is) at c.requires.known in
     let agrees = rw (← c.self.view_is) at c.requires.agrees in
-    let serving = serves_own c.self.inside.limits _ _ _ _ _ c.args.memory_type c.index_mut.result.now c.self.invariant.consistent known c.index_mut.ensures.value in
-    list_agrees _ _ _ c.args.memory_type _ serving _ _ known agrees
+    let serving = serves_own c.self.inside.limits _ _ _ _ _ c.args.memory_type c.index_mut.result.now (consistent _ _ _ _ _ _ _ c.self.invariant) known c.index_mut.ensures.value in
+    list_agrees _ c.args.memory_type _ serving _ _ known agrees
 
 pub alloc-answer-requires-clause-counted : goal.alloc-answer-requires-clause-counted
 alloc-answer-requires-clause-counted g c =
     let known = rw (← c.self.view_is) at c.requires.known in
-    counted_before c.self.inside.limits _ _ _ _ _ c.args.memory_type _ c.self.invariant.consistent known c.index_mut.ensures.value _ c.index_mut-2.result.now c.heap_index-heap.ensures c.index_mut-2.ensures.value
+    counted_before c.self.inside.limits _ _ _ _ _ c.args.memory_type _ (consistent _ _ _ _ _ _ _ c.self.invariant) known c.index_mut.ensures.value _ c.index_mut-2.result.now c.heap_index-heap.ensures c.index_mut-2.ensures.value
 
 -- A grant.
 
 given : (g : Over) (c : goal.After-new g)
-    → Given c.self.inside.limits c.self.inside.heaps.items c.self.inside.buddies.items c.self.inside.free_lists.items (whole c.self.inside.spans c.self.inside.free_lists.items) c.self.inside.allocations_remains c.args.memory_type c.heap_index-heap.result
+    → Given c.self.inside.limits c.self.inside.heaps.items c.self.inside.buddies.items c.self.inside.free_lists.items (whole c.self.inside.own c.self.inside.buddies.items c.self.inside.free_lists.items) c.self.inside.allocations_remains c.args.memory_type c.heap_index-heap.result
     c.self.inside.free_lists.items c.index_mut.result.now c.index_mut-2.result.now (allocation_bits c.flags-flags.result) (g.D.ObjectDevice.properties c.args.device.now) (g.D.ObjectDevice.objects c.args.device.now)
 given g c =
     let known = rw (← c.self.view_is) at c.requires.known in
     let agrees = rw (← c.self.view_is) at c.requires.agrees in
-    given_by c.self.inside.limits c.self.invariant.consistent known c.index_mut.ensures.value c.heap_index-heap.ensures c.index_mut-2.ensures.value c.flags-flags.ensures agrees
+    given_by c.self.inside.limits (consistent _ _ _ _ _ _ _ c.self.invariant) known c.index_mut.ensures.value c.heap_index-heap.ensures c.index_mut-2.ensures.value c.flags-flags.ensures agrees
 
 abbrev before : (g : Over) → goal.After-new g → State
-before g c = state_in c.self.inside.limits c.self.inside.heaps.items c.self.inside.buddies.items c.self.inside.free_lists.items (whole c.self.inside.spans c.self.inside.free_lists.items) c.self.inside.allocations_remains
+before g c = state_in c.self.inside.limits c.self.inside.heaps.items c.self.inside.buddies.items c.self.inside.free_lists.items (whole c.self.inside.own c.self.inside.buddies.items c.self.inside.free_lists.items) c.self.inside.allocations_remains
 
 abbrev block : (g : Over) → goal.After-new g → Block
 block g c = list_block (before g c) c.args.memory_type c.in-Ok.block.chunk (span_of_slot c.in-Ok.block)
@@ -79,29 +79,29 @@ block_is g c =
     let object = c.into_parts-memory.ensures.handle in
     c.new.ensures ∙ (λ k. record (block g c) { object = object k; offset = (slot k).offset; size = (slot k).size; props = c.props-props.ensures k; atom = c.atom-atom.ensures k; kind = FreeListChunk (slot k).chunk })
 
-serves_now : (g : Over) (c : goal.After-new g) → ServesList (before g c) (whole c.self.inside.spans c.self.inside.free_lists.items).places (whole c.self.inside.spans c.self.inside.free_lists.items).room c.args.memory_type c.index_mut.result.now
-serves_now g c = serves_own c.self.inside.limits _ _ _ _ _ c.args.memory_type c.index_mut.result.now c.self.invariant.consistent (given g c).known c.index_mut.ensures.value
+serves_now : (g : Over) (c : goal.After-new g) → ServesList (before g c) c.args.memory_type c.index_mut.result.now
+serves_now g c = serves_own c.self.inside.limits _ _ _ _ _ c.args.memory_type c.index_mut.result.now (consistent _ _ _ _ _ _ _ c.self.invariant) (given g c).known c.index_mut.ensures.value
 
 abbrev after : (g : Over) → goal.After-new g → State
 after g c =
     let lists = set c.self.inside.free_lists.items c.args.memory_type c.alloc-answer.new.self in
-    state_in c.self.inside.limits (set c.self.inside.heaps.items c.heap_index-heap.result c.alloc-answer.new.heap) c.self.inside.buddies.items lists (whole c.self.inside.spans lists) c.alloc-answer.new.allocations_remains
+    state_in c.self.inside.limits (set c.self.inside.heaps.items c.heap_index-heap.result c.alloc-answer.new.heap) c.self.inside.buddies.items lists (whole c.self.inside.own c.self.inside.buddies.items lists) c.alloc-answer.new.allocations_remains
 
 is : (g : Over) (c : goal.After-new g)
-    → IsServed (given g c) c.self.invariant.apart _ _ _ c.in-Ok.ensures.allocates.0 _ c.in-Ok.ensures.allocates.2 c.in-Ok.ensures.objects (some_bytes c.requires.askable.nonempty c.in-Ok.ensures.granted.enough) c.in-Ok.ensures.sound
+    → IsServed c.self.inside.own (given g c) c.self.invariant.apart _ _ _ c.in-Ok.ensures.allocates.0 _ c.in-Ok.ensures.allocates.2 c.in-Ok.ensures.objects (some_bytes c.requires.askable.nonempty c.in-Ok.ensures.granted.enough) c.in-Ok.ensures.sound
     (account c.alloc-answer.new.self c.alloc-answer.new.heap c.alloc-answer.new.allocations_remains)
-is g c = list_served (given g c) c.self.invariant.apart _ _ _ c.in-Ok.ensures.allocates.0 _ c.in-Ok.ensures.allocates.2 c.in-Ok.ensures.objects (some_bytes c.requires.askable.nonempty c.in-Ok.ensures.granted.enough) c.in-Ok.ensures.sound
+is g c = list_served c.self.inside.own (given g c) c.self.invariant.apart _ _ _ c.in-Ok.ensures.allocates.0 _ c.in-Ok.ensures.allocates.2 c.in-Ok.ensures.objects (some_bytes c.requires.askable.nonempty c.in-Ok.ensures.granted.enough) c.in-Ok.ensures.sound
 
 pub invariant_of-self-2 : goal.invariant_of-self-2
-invariant_of-self-2 g c = let served = is g c in record { consistent = served.consistent; apart = served.parts }
+invariant_of-self-2 g c = let served = is g c in kept_as _ _ _ _ _ _ _ served.recorded served.parts
 
 pub returns-clause-tries : goal.returns-clause-tries
 returns-clause-tries g c =
     let told = c.in-Ok.ensures.allocates in
     let w = wanted c.args.request.size c.args.request.align_mask (allocation_bits c.flags-flags.result) in
     let gives : ℕ → ℕ → Type 0 = λ n m. GivesInPlace (list_candidate (before g c) n m c.args.memory_type) told.0 (block g c) (after g c) ⊎ GivesInNewObject (list_candidate (before g c) n m c.args.memory_type) told.0 (block g c) (after g c) in
-    let sized = subst (gives (list_size (before g c) c.args.request c.args.memory_type)) (alignment_is _ _ _ c.args.memory_type _ (serves_now g c) c.args.request (allocation_bits c.flags-flags.result))
-    (subst (λ n. gives n (alignment c.index_mut.result.now w)) (rounded_is _ _ _ c.args.memory_type _ (serves_now g c) c.args.request (allocation_bits c.flags-flags.result)) (is g c).gives) in
+    let sized = subst (gives (list_size (before g c) c.args.request c.args.memory_type)) (alignment_is _ c.args.memory_type _ (serves_now g c) c.args.request (allocation_bits c.flags-flags.result))
+    (subst (λ n. gives n (alignment c.index_mut.result.now w)) (rounded_is _ c.args.memory_type _ (serves_now g c) c.args.request (allocation_bits c.flags-flags.result)) (is g c).gives) in
     rw (← c.self.view_is, block_is g c) (told.0, told.1, sized)
 
 pub returns-clause-objects : goal.returns-clause-objects
@@ -115,32 +115,27 @@ pub invariant_of-self : goal.invariant_of-self
 invariant_of-self g c =
     let known = rw (← c.self.view_is) at c.requires.known in
     let same = c.in-Err.ensures.refused in
-    let spans = c.self.inside.spans in
     let lists = c.self.inside.free_lists.items in
-    let kept = same_set lists c.args.memory_type c.alloc-answer.new.self c.index_mut.result.now c.index_mut.ensures.value same.0 in
-    record {
-      consistent = consistent_refused c.self.inside.limits _ _ _ _ _ c.args.memory_type c.index_mut.result.now c.self.invariant.consistent known c.index_mut.ensures.value c.heap_index-heap.result c.index_mut-2.result.now c.heap_index-heap.ensures
-          c.index_mut-2.ensures.value _ _ _ same.0 same.1.0 same.1.1 (whole spans (set lists c.args.memory_type c.alloc-answer.new.self))
-          (subst (λ (ls : List Listing). IsConsistent c.self.inside.limits.config (properties_in c.self.inside.limits c.self.inside.heaps.items) c.self.inside.heaps.items c.self.inside.buddies.items lists (whole spans ls) c.self.inside.allocations_remains) (sym kept) c.self.invariant.consistent);
-      apart = subst (λ (ls : List Listing). AreWhole spans ls) (sym kept) c.self.invariant.apart;
-    }
+    let t = whole c.self.inside.own c.self.inside.buddies.items lists in
+    kept_refused c.self.inside.limits _ _ _ _ _ c.args.memory_type c.index_mut.result.now (consistent _ _ _ _ _ _ _ c.self.invariant) known c.index_mut.ensures.value c.heap_index-heap.result c.index_mut-2.result.now c.heap_index-heap.ensures
+    c.index_mut-2.ensures.value _ _ _ same.0 same.1.0 same.1.1 t c.self.inside.own c.self.invariant
 
 pub returns-in-Err : goal.returns-in-Err
 returns-in-Err g c =
     let known = rw (← c.self.view_is) at c.requires.known in
-    let serving = serves_own c.self.inside.limits _ _ _ _ _ c.args.memory_type c.index_mut.result.now c.self.invariant.consistent known c.index_mut.ensures.value in
+    let serving = serves_own c.self.inside.limits _ _ _ _ _ c.args.memory_type c.index_mut.result.now (consistent _ _ _ _ _ _ _ c.self.invariant) known c.index_mut.ensures.value in
     let same = c.in-Err.ensures.refused in
     let told = c.in-Err.ensures.allocates in
     let lists = c.self.inside.free_lists.items in
     let kept = same_set lists c.args.memory_type c.alloc-answer.new.self c.index_mut.result.now c.index_mut.ensures.value same.0 in
-    let left = state_refused c.self.inside.limits _ _ _ _ _ c.args.memory_type c.index_mut.result.now c.self.invariant.consistent known c.index_mut.ensures.value c.heap_index-heap.result c.index_mut-2.result.now c.heap_index-heap.ensures
-    c.index_mut-2.ensures.value _ _ _ same.0 same.1.0 same.1.1 (whole c.self.inside.spans (set lists c.args.memory_type c.alloc-answer.new.self)) (ap (λ (ls : List Listing). (whole c.self.inside.spans ls).held) kept) (ap (λ (ls : List Listing). (whole c.self.inside.spans ls).live) kept) in
-    let s : State = state_in c.self.inside.limits c.self.inside.heaps.items c.self.inside.buddies.items c.self.inside.free_lists.items (whole c.self.inside.spans c.self.inside.free_lists.items) c.self.inside.allocations_remains in
+    let left = state_refused c.self.inside.limits _ _ _ _ _ c.args.memory_type c.index_mut.result.now (consistent _ _ _ _ _ _ _ c.self.invariant) known c.index_mut.ensures.value c.heap_index-heap.result c.index_mut-2.result.now c.heap_index-heap.ensures
+    c.index_mut-2.ensures.value _ _ _ same.0 same.1.0 same.1.1 (whole c.self.inside.own c.self.inside.buddies.items (set lists c.args.memory_type c.alloc-answer.new.self)) (ap (λ (ls : List Listing). (whole c.self.inside.own c.self.inside.buddies.items ls).held) kept) (ap (λ (ls : List Listing). (whole c.self.inside.own c.self.inside.buddies.items ls).live) kept) in
+    let s : State = state_in c.self.inside.limits c.self.inside.heaps.items c.self.inside.buddies.items c.self.inside.free_lists.items (whole c.self.inside.own c.self.inside.buddies.items c.self.inside.free_lists.items) c.self.inside.allocations_remains in
     rw (c.passing.ensures, ← c.self.view_is, left) (record {
       tries = (
         told.0,
         told.1,
-        refused_tries _ told.0 c.in-Err.refusal _ (refused_is (told_of _ _ _ c.args.memory_type _ serving c.index_mut-2.result.now c.args.request _ (type_heap_is c.self.inside.limits _ _ _ _ _ c.self.invariant.consistent.books c.args.memory_type _ c.index_mut-2.result.now known c.heap_index-heap.ensures c.index_mut-2.ensures.value) c.flags-flags.ensures) told.0 c.in-Err.refusal _ told.2),
+        refused_tries _ told.0 c.in-Err.refusal _ (refused_is (told_of _ c.args.memory_type _ serving c.index_mut-2.result.now c.args.request _ (type_heap_is c.self.inside.limits _ _ _ _ _ c.self.invariant.books c.args.memory_type _ c.index_mut-2.result.now known c.heap_index-heap.ensures c.index_mut-2.ensures.value) c.flags-flags.ensures) told.0 c.in-Err.refusal _ told.2),
       );
       objects = nothing_made s c.in-Err.refusal s _ _ c.in-Err.ensures.objects;
     })
@@ -149,7 +144,7 @@ pub heap_index-heap-requires : goal.heap_index-heap-requires
 heap_index-heap-requires g c = rw (← c.self.view_is) at c.requires.known
 
 pub index_mut-requires : goal.index_mut-requires
-index_mut-requires g c = below refl (c.self.inside.free_lists.ok.0 ∙ c.self.invariant.consistent.listed.count) (rw (← c.self.view_is) at c.requires.known)
+index_mut-requires g c = below refl (c.self.inside.free_lists.ok.0 ∙ c.self.invariant.listed.count) (rw (← c.self.view_is) at c.requires.known)
 
 pub alloc-answer-requires-clause-nonempty : goal.alloc-answer-requires-clause-nonempty
 alloc-answer-requires-clause-nonempty g c = c.requires.askable.nonempty
@@ -169,4 +164,4 @@ new-requires g c =
     let small = (c.in-Ok.ensures.sound.space.sizes c.in-Ok.block.chunk inside.0 inside.1).1 in
     let offset = ap (λ (slot : Slot). slot.offset) c.into_parts-memory.ensures.slot in
     let size = ap (λ (slot : Slot). slot.size) c.into_parts-memory.ensures.slot in
-    record { finish = omega (arith, offset, size, inside.2.1, small); some = some_atom _ _ _ c.self.invariant.consistent.books.usable.atom c.atom-atom.ensures }
+    record { finish = omega (arith, offset, size, inside.2.1, small); some = some_atom _ _ _ c.self.invariant.books.usable.atom c.atom-atom.ensures }

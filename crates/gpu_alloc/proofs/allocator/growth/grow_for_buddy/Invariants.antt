@@ -1,6 +1,0 @@
-use Rattle.gpu_alloc.proofs.allocator.growth.grow_for_buddy.Given as goal
-
--- The ledger of counts that nobody reads has the blank's name and parts.
-
-abbrev pub ghosts-refuses : goal.ghosts-refuses
-ghosts-refuses g a = record { name = a.blank.name; parts = a.blank.parts }
