@@ -2,6 +2,7 @@
 //! free space, and new chunks of a device. Users find what is theirs of it in `gpu_alloc`.
 #![tactic(auto)]
 
+pub mod booking;
 pub mod buddy_block;
 mod config;
 mod error;

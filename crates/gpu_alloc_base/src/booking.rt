@@ -1,0 +1,32 @@
+//! How an object is booked that is held, and how it goes off the books: every grant of a new object and every return of
+//! one passes here. It is public for the crates above.
+
+ghost use Rattle.std.specs.Prelude.{◌≡◌, ◌+◌, ◌-◌, ◌<◌, ◌≤◌, ◌^◌};
+
+use crate::heap::Heap;
+
+/// Books an object of so many bytes that is held from now on: its heap's ledger counts it, and one object less may be
+/// held.
+#[inline(always)]
+pub fn hold(heap: &mut Heap, allocations_remains: &mut u32, size: u64)
+    requires room { heap.old.used + size < 2 ^ 128 }
+    requires remains { 0 < allocations_remains.old }
+    ensures ledger { heap.new ≡ record heap.old { used = heap.old.used + size } }
+    ensures count { allocations_remains.new ≡ allocations_remains.old - 1 }
+{
+    heap.alloc(size);
+    *allocations_remains -= 1;
+}
+
+/// Takes an object of so many bytes off the books, which is held no more: its heap's ledger is lowered by them, and one
+/// object more may be held.
+#[inline(always)]
+pub fn let_go(heap: &mut Heap, allocations_remains: &mut u32, size: u64)
+    requires counted { size ≤ heap.old.used }
+    requires fits { allocations_remains.old + 1 < 2 ^ 32 }
+    ensures ledger { heap.new ≡ record heap.old { used = heap.old.used - size } }
+    ensures count { allocations_remains.new ≡ allocations_remains.old + 1 }
+{
+    heap.dealloc(size);
+    *allocations_remains += 1;
+}
