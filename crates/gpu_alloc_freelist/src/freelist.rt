@@ -263,8 +263,9 @@ impl<M: MemoryObject, A: Allocator> FreeListAllocator<M, A> {
     /// has served. `heap` has to count no less than the sum of the held chunks; what remains and the number of held
     /// chunks have to fit 32 bits together. Both is so again after the call.
     ///
-    /// Each other block that a caller has in hand is live still, and may be returned next (`removed`). The settings
-    /// stay (`settings`), and the ledger does not grow (`ledger`).
+    /// One list of numbers tells what was asked of the device and what it has left (`gives`). Each other block that a
+    /// caller has in hand is live still, and may be returned next (`removed`). The settings stay (`settings`), and the
+    /// ledger does not grow (`ledger`).
     pub fn dealloc<D: ObjectDevice<M>>(
         &mut self,
         device: &mut D,
