@@ -4,7 +4,7 @@ use Rattle.std.proofs.lemmas.List.Elements.{Contains-get_or}
 use Rattle.std.specs.FinMap as map
 use Rattle.gpu_alloc_types.specs.Device.{Event}
 use Rattle.gpu_alloc.specs.FreeListSharing.{IsListChunk}
-use Rattle.gpu_alloc.specs.Release.{AreChunksGone, Frees, GoesWith, MayGo, without_all, without_span}
+use Rattle.gpu_alloc.specs.Release.{AreChunksGone, Frees, GoesWith, LetsGo, MayGo, without_all, without_span}
 use Rattle.gpu_alloc_block.specs.State.{Block, HeldObject, IsOwned, State, total}
 use Rattle.gpu_alloc_block.specs.declared.block.Kind.{Kind}
 use Rattle.gpu_alloc_block.specs.declared.block.Kind.TheVariants.{Dedicated, Imported, BuddyChunk, FreeListChunk}
@@ -57,6 +57,9 @@ chunks_once s t keep_last gone chunks =
     let first = may i d (omega (arith, before, within)) in
     let less = chunks.rising i j d first.0 first.0 before within first.1.chunk (subst (IsListChunk s t first.0) (sym same) first.1.chunk) in
     omega (arith, less))
+
+pub chunks_total : (s : State) (t : ℕ) (keep_last : Bool) (gone : List ℕ) (es : List Event) (new : State) → AreChunksGone s t keep_last gone → LetsGo s gone es new → total new ≡ total s
+chunks_total s t keep_last gone es new chunks lets = let once = chunks_once s t keep_last gone chunks in ap total lets.1 ∙ omega (arith, count_gone s.held gone once.0 once.1)
 
 -- What goes with a block.
 

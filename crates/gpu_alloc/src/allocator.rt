@@ -620,7 +620,7 @@ impl<M: MemoryObject, A: Allocator> GpuAllocator<M, A> {
     {
         let count = self.limits.memory_types.len() as u32;
         for memory_type in 0..count {
-            self.give_back(device, memory_type, false);
+            self.clean_list(device, memory_type);
         }
         self.keeps_sound();
     }

@@ -4,16 +4,16 @@ use Rattle.std.proofs.lemmas.Nat.{pow_pos}
 use Rattle.std.specs.FinSet as set
 use Rattle.gpu_alloc_types.specs.Device.{Object, Event}
 use Rattle.gpu_alloc_types.specs.Properties.{Properties}
-use Rattle.gpu_alloc_base.specs.InHand.{Offers}
+use Rattle.gpu_alloc_base.specs.InHand.{LeavesNoRest, Offers}
 use Rattle.gpu_alloc_base.specs.Accounts.{Account}
 use Rattle.gpu_alloc_base.specs.Case.{Answers}
 use Rattle.gpu_alloc_base.specs.Leaves.{leaf_cmp}
 use Rattle.gpu_alloc_base.specs.Wanted.{Wanted}
 use Rattle.gpu_alloc_base.specs.declared.buddy_block.Leaf.{Leaf}
 use Rattle.gpu_alloc_base.specs.declared.error.AllocationError.{AllocationError}
-use Rattle.gpu_alloc_buddy.specs.Buddy.{Adds, Agrees, buddy_case, bytes_of, Frees, HoldsNothing, IsGranted, Leaves, LeavesNoRest, Removes}
-use Rattle.gpu_alloc_buddy.specs.BuddySound.{IsSound}
+use Rattle.gpu_alloc_buddy.specs.Buddy.{Adds, Agrees, buddy_case, bytes_of, Frees, HoldsNothing, IsGranted, Leaves, Removes}
 use Rattle.gpu_alloc_buddy.specs.BuddyState.{Buddy, IsLiveLeaf}
+use Rattle.gpu_alloc_pairs.specs.Space.{IsSoundSpace, Space}
 use Rattle.gpu_alloc_base.proofs.Books.{refused_keeps}
 use Rattle.gpu_alloc_base.proofs.InHand.{leaves_same, none_in, grant_leaves, grant_adds, return_removes, granted_live, no_chunks}
 use Rattle.gpu_alloc_base.proofs.Leaves.{leaf_total, leaf_exact}
@@ -49,13 +49,8 @@ pub frees_remove : (a : Account Buddy) (leaf : Leaf) (es : List Event) (new : Ac
 frees_remove a leaf es new live frees = return_removes leaf_total leaf_exact bytes_of a.allocator.live leaf new.allocator.live (live_less a leaf es new frees) live
 
 -- a chunk is held only for a live block
-pub leaves_no_rest : (b : Buddy) → IsSound b → LeavesNoRest b
-leaves_no_rest b sound = record { held = λ none. no_chunks b.chunks (λ key chunk is. let used = sound.space.used key chunk is in none_in b.live none used.0 used.1.0) }
-
--- the ledger does not grow with a return
-pub frees_used : (a : Account Buddy) (leaf : Leaf) (es : List Event) (new : Account Buddy) → Frees a leaf es new → new.heap.used ≤ a.heap.used
-frees_used a leaf es new (inl stays) = rw (stays.1.1) (omega arith)
-frees_used a leaf es new (inr goes) = rw (goes.1.2.1) (omega arith)
+pub leaves_no_rest : (s : Space) → IsSoundSpace s → LeavesNoRest s.live s.chunks
+leaves_no_rest s sound = record { held = λ none. no_chunks s.chunks (λ key chunk is. let used = sound.used key chunk is in none_in s.live none used.0 used.1.0) }
 
 -- What holds nothing.
 

@@ -8,7 +8,7 @@ ghost use Rattle.gpu_alloc_types.specs.Device.{Asked};
 ghost use Rattle.gpu_alloc_types.specs.declared.types.FreeRange.{FreeRange as Range};
 ghost use Rattle.std.specs.Int.{is_power_of_two};
 ghost use Rattle.gpu_alloc_buddy.specs.Buddy.{Agrees, BeginsChunk, buddy_case, CallAllocates, CallAnswers, case_of};
-ghost use Rattle.gpu_alloc_buddy.specs.Buddy.{chunk_size, Frees, HasPlace, IsGranted, IsUnusedChunk, ObjectsAfter, ObjectsFreed};
+ghost use Rattle.gpu_alloc_buddy.specs.Buddy.{chunk_size, Frees, HasPlace, IsGranted, ObjectsAfter, ObjectsFreed};
 ghost use Rattle.gpu_alloc_buddy.specs.Buddy.{opened, rounded, TakesPlace, without_leaf};
 ghost use Rattle.gpu_alloc_buddy.specs.Buddy.{Adds, HoldsNothing, IsPieceOf, Leaves, LeavesNoRest, Removes};
 ghost use Rattle.gpu_alloc_base.specs.Accounts.{account, IsCounted, chunks_and_remaining};
@@ -303,49 +303,16 @@ impl<M: MemoryObject, A: Allocator> BuddyAllocator<M, A> {
         ensures few { AreFewReleases self.old block releases.old releases.new }
         ensures at_most { releases.new ≤ releases.old + 63 }
     {
-        self.give_back(device, block, heap, allocations_remains, releases);
-    }
-
-    /// Takes a block back as [`dealloc`](BuddyAllocator::dealloc) does, and tells whether its chunk went back to the
-    /// device. It is public for `gpu_alloc`, which takes that object off its books then.
-    pub fn give_back<D: ObjectDevice<M>, L: Ledger>(
-        &mut self,
-        device: &mut D,
-        block: BuddyBlock<M>,
-        heap: &mut Heap,
-        allocations_remains: &mut u32,
-        releases: &mut Steps<L>,
-    ) -> bool
-        requires live { IsLiveLeaf self.old block }
-        requires agrees { Agrees self.old (D.properties device.old) (D.objects device.old) }
-        requires counted { IsCounted self.old.chunks heap.old allocations_remains.old }
-
-        ensures frees { Asked D.step device.old device.new
-            (λ es. Frees (account self.old heap.old allocations_remains.old) block es
-            (account self.new heap.new allocations_remains.new)) }
-        ensures told { IsTrue result ↔ IsUnusedChunk (without_leaf self.old block) block.chunk }
-        ensures objects { ObjectsFreed self.old block (D.objects device.old) (D.objects device.new) }
-        ensures agrees { Agrees self.new (D.properties device.new) (D.objects device.new) }
-        ensures properties { D.properties device.new ≡ D.properties device.old }
-        ensures sound { IsSound self.new }
-        ensures counted { IsCounted self.new.chunks heap.new allocations_remains.new }
-        ensures total { chunks_and_remaining self.new.chunks allocations_remains.new
-            ≡ chunks_and_remaining self.old.chunks allocations_remains.old }
-        ensures released { releases.old < releases.new }
-        ensures few { AreFewReleases self.old block releases.old releases.new }
-        ensures at_most { releases.new ≤ releases.old + 63 }
-    {
         let (_, leaf) = into_parts(block);
         self.pairs.keeps_exact();
         let gone = self.pairs.give_back(leaf, releases);
         self.pairs.keeps_exact();
         let Some((memory, size)) = gone else {
-            return false;
+            return;
         };
         device.deallocate_memory(&memory);
         heap.dealloc(size);
         *allocations_remains += 1;
-        true
     }
 
     /// The live block of this span of an object, exactly where there is one. `offset` is where it starts in the object
@@ -378,14 +345,6 @@ impl<M: MemoryObject, A: Allocator> BuddyAllocator<M, A> {
         ensures { OnOk result (AddsLeaves self.now.live leaves.old.items leaves.new.items) }
     {
         self.pairs.list_live(leaves)
-    }
-
-    /// The size of a held chunk, in bytes. It is public for `gpu_alloc`, which counts the chunk as an object.
-    pub fn chunk_size(&self, chunk: usize) -> u64
-        requires { IsSome (map.get self.now.chunks chunk) }
-        ensures { IfSome (map.get self.now.chunks chunk) (λ c. c.size ≡ result) }
-    {
-        self.pairs.chunk_size(chunk)
     }
 
     /// Ends an allocator that holds no chunk.

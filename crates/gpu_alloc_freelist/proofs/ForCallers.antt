@@ -1,5 +1,5 @@
--- Lemmas for callers: chunks go one by one, until none may.
-use Rattle.std.proofs.Common.{◌≡◌, ◌≢◌, ◌⊎◌, inl, inr, ℕ, ◌+◌, ◌-◌, ◌^◌, ◌<◌, ◌≤◌, Bool, List, [], ◌∷◌, ◌++◌, length, get_or, length-append, Option, Some, None, IfSome, refl, sym, ◌∙◌, ap, subst, arith}
+-- Chunks that go one by one, until none may, and lemmas for callers.
+use Rattle.std.proofs.Common.{◌≡◌, ◌≢◌, ◌⊎◌, inl, inr, ℕ, suc, ◌+◌, ◌-◌, ◌^◌, ◌<◌, ◌≤◌, Bool, List, [], ◌∷◌, ◌++◌, length, get_or, length-append, Option, Some, None, IfSome, IsSome, refl, sym, ◌∙◌, ap, subst, arith}
 use Rattle.std.specs.Prelude as list
 use Rattle.std.specs.Prelude.{sum_by}
 use Rattle.std.specs.FinMap as map
@@ -9,22 +9,31 @@ use Rattle.std.proofs.lemmas.Bool.{cases_eq}
 use Rattle.std.proofs.lemmas.List.{map-append}
 use Rattle.std.proofs.lemmas.List.Elements.{Contains-get_or, Contains-push, Contains-push_cases, Contains-append_left}
 use Rattle.std.proofs.lemmas.List.Quantifiers.{all_pairs_push}
-use Rattle.std.proofs.lemmas.List.Sums.{sum_by-append}
+use Rattle.std.proofs.lemmas.List.Sums.{sum_by-append, sum_by-cons}
 use Rattle.gpu_alloc_types.specs.Device.{Object, Event, HeldWith, put}
 use Rattle.gpu_alloc_types.specs.Device.Event.{Deallocated}
 use Rattle.gpu_alloc_types.specs.Objects.{put-other}
 use Rattle.gpu_alloc_types.specs.Properties.{Properties}
 use Rattle.gpu_alloc_base.specs.Chunks.{IsThere, Chunk, object_in}
-use Rattle.gpu_alloc_freelist.specs.FreeList.{MayGo, IsFirstToGo, without_chunk}
+use Rattle.gpu_alloc_freelist.specs.FreeList.{MayGo, IsFirstToGo, IsWhollyFree, without_chunk}
 use Rattle.gpu_alloc_base.specs.Accounts.{Account, account, IsCounted, chunks_and_remaining}
-use Rattle.gpu_alloc_freelist.specs.FreeListAllocator.{LetsGo, GivesBack, Agrees, size_in, object_of, size_of, without_numbers, without_objects_of, sees_chunks}
-use Rattle.gpu_alloc_freelist.specs.FreeListSound.{IsSound, IsSoundSpace}
+use Rattle.gpu_alloc_freelist.specs.FreeListAllocator.{AreGone, AreRisingNumbers, LetsGo, GivesBack, Agrees, size_in, object_of, size_of, without_numbers, without_objects_of, sees_chunks}
+use Rattle.gpu_alloc_freelist.specs.FreeListSound.{IsSound}
 use Rattle.gpu_alloc_freelist.specs.FreeListState.{Listing, Space}
 use Rattle.gpu_alloc_base.specs.declared.heap.Heap.{Heap}
-use Rattle.gpu_alloc_base.proofs.Lists.{contains_none}
-use Rattle.gpu_alloc_base.proofs.Maps.{gone, kept_other, kept_key}
+use Rattle.gpu_alloc_base.proofs.Lists.{contains_head, contains_later, contains_none}
+use Rattle.gpu_alloc_base.proofs.Maps.{found_value, gone, kept_key, kept_other}
 use Rattle.gpu_alloc_base.proofs.Sums.{sum_by-remove, len_less}
 use Rattle.gpu_alloc_freelist.proofs.GoneChunks.{may_go_before, may_go_then}
+pub use Rattle.gpu_alloc_freelist.proofs.GoneChunks.{sound_without_chunk, sound_without_slot}
+
+-- a chunk less
+abbrev pub account_without_chunk : Account Listing → ℕ → Chunk → Account Listing
+account_without_chunk a n chunk = record {
+  allocator = record a.allocator { space = without_chunk a.allocator.space n };
+  heap = record a.heap { used = a.heap.used - chunk.size };
+  remaining = a.remaining + 1;
+}
 
 -- Lists of numbers, with one more at the end.
 
@@ -115,22 +124,10 @@ module _ {keep_last : Bool} {from a : Account Listing} {objects now : ℕ → Op
   fewer = omega (arith, len_less a.allocator.space.chunks n chunk is)
 
   abbrev next : Account Listing
-  next = record {
-    allocator = record a.allocator { space = without_chunk a.allocator.space n };
-    heap = record a.heap { used = a.heap.used - chunk.size };
-    remaining = a.remaining + 1;
-  }
+  next = account_without_chunk a n chunk
 
-  next_sound : IsSoundSpace (without_chunk a.allocator.space n) → IsSound next.allocator
-  next_sound sound = record {
-    space = sound;
-    one_object = λ k l c d k_is l_is. w.sound.one_object k l c d (kept_key a.allocator.space.chunks n k c k_is).1 (kept_key a.allocator.space.chunks n l d l_is).1;
-    chunks = λ k c at. w.sound.chunks k c (kept_key a.allocator.space.chunks n k c at).1;
-    slots = w.sound.slots;
-    next_chunk = w.sound.next_chunk;
-    final_chunk = w.sound.final_chunk;
-    atom = w.sound.atom;
-  }
+  next_sound : IsSound next.allocator
+  next_sound = sound_without_chunk a.allocator n w.sound first.goes.0
 
   -- it holds the chunk
   abbrev HasChunk : (ℕ → Option Object) → Chunk → Type 0
@@ -157,20 +154,13 @@ module _ {keep_last : Bool} {from a : Account Listing} {objects now : ℕ → Op
     ap (λ xs. xs ++ Deallocated chunk.object ∷ []) w.lets.0
         ∙ ap (λ o. list.map (λ number. Deallocated (object_of from.allocator.space number)) gone_so_far ++ Deallocated o ∷ []) (sym object_is)
         ∙ sym (map-append (λ number. Deallocated (object_of from.allocator.space number)) gone_so_far (n ∷ [])),
-    ap next_of w.lets.1 ∙ (λ i. record {
+    ap (λ x. account_without_chunk x n chunk) w.lets.1 ∙ (λ i. record {
       allocator = record from.allocator { space = record from.allocator.space { chunks = chunks_are i } };
       heap = record from.heap { used = used_is i };
       remaining = remaining_is i;
     }),
   )
     where
-      next_of : Account Listing → Account Listing
-      next_of x = record {
-        allocator = record x.allocator { space = without_chunk x.allocator.space n };
-        heap = record x.heap { used = x.heap.used - chunk.size };
-        remaining = x.remaining + 1;
-      }
-
       chunks_are : map.remove (without_numbers from.allocator.space.chunks gone_so_far) n ≡ without_numbers from.allocator.space.chunks (gone_so_far ++ n ∷ [])
       chunks_are = sym (without_one_more from.allocator.space.chunks gone_so_far n)
 
@@ -180,8 +170,8 @@ module _ {keep_last : Bool} {from a : Account Listing} {objects now : ℕ → Op
       remaining_is : from.remaining + length gone_so_far + 1 ≡ from.remaining + length (gone_so_far ++ n ∷ [])
       remaining_is = omega (arith, length-append gone_so_far (n ∷ []))
 
-  pub goes_on : IsSoundSpace (without_chunk a.allocator.space n) → IsOnItsWay keep_last from objects p (gone_so_far ++ n ∷ []) (es ++ Deallocated chunk.object ∷ []) next (put now chunk.object None)
-  goes_on sound = record {
+  goes_on : IsOnItsWay keep_last from objects p (gone_so_far ++ n ∷ []) (es ++ Deallocated chunk.object ∷ []) next (put now chunk.object None)
+  goes_on = record {
     lets = next_lets;
     objects_are = ap (λ f. put f chunk.object None) w.objects_are ∙ ap (λ o. put (without_objects_of from.allocator.space objects gone_so_far) o None) (sym object_is) ∙ sym (objects_one_more from.allocator.space objects gone_so_far n);
     rising = all_pairs_push (λ a b. a < b) gone_so_far n w.rising (λ k d lt. w.later (get_or gone_so_far k d) n (Contains-get_or gone_so_far k d lt) first.goes);
@@ -200,7 +190,7 @@ module _ {keep_last : Bool} {from a : Account Listing} {objects now : ℕ → Op
           | inl old ↦ w.later e m old b.1
           | inr new ↦ omega (arith, sym new, first.least m b.1, b.0)
         ];
-    sound = next_sound sound;
+    sound = next_sound;
     agrees = next_agrees;
     counted = record {
       ledger = omega (arith, w.counted.ledger, sum_by-remove (λ e. e.1.size) a.allocator.space.chunks n chunk is);
@@ -210,6 +200,55 @@ module _ {keep_last : Bool} {from a : Account Listing} {objects now : ℕ → Op
   }
 
   -- the same of the values that are so
-  pub goes_on_as : (space : Space) (heap : Heap) (objects_now : ℕ → Option Object) → space ≡ without_chunk a.allocator.space n → heap ≡ record a.heap { used = a.heap.used - chunk.size } → objects_now ≡ put now chunk.object None → IsSoundSpace space
+  pub goes_on_as : (space : Space) (heap : Heap) (objects_now : ℕ → Option Object) → space ≡ without_chunk a.allocator.space n → heap ≡ record a.heap { used = a.heap.used - chunk.size } → objects_now ≡ put now chunk.object None
       → IsOnItsWay keep_last from objects p (gone_so_far ++ n ∷ []) (es ++ Deallocated chunk.object ∷ []) (account (record a.allocator { space = space }) heap (a.remaining + 1)) objects_now
-  goes_on_as space heap objects_now space_is heap_is objects_are sound = rw (space_is, heap_is, objects_are) (goes_on (subst IsSoundSpace space_is sound))
+  goes_on_as space heap objects_now space_is heap_is objects_are = rw (space_is, heap_is, objects_are) goes_on
+
+-- For callers: what holds of the account that is left, where it holds of no chunk that goes, and of one more where it holds of the others.
+
+module _ (Goes : Account Listing → List ℕ → Account Listing → Type 0) (none_goes : (a : Account Listing) → Goes a [] a)
+    (one_goes : (a new : Account Listing) (n : ℕ) (chunk : Chunk) (names : List ℕ) → IsSound a.allocator → map.get a.allocator.space.chunks n ≡ Some chunk → IsWhollyFree a.allocator.space n → Goes (account_without_chunk a n chunk) names new
+    → Goes a (chunk.object ∷ names) new) where
+  each_goes : (chunk_of : ℕ → Chunk) (gone : List ℕ) (a new : Account Listing) → IsSound a.allocator → AreRisingNumbers gone
+      → ((n : ℕ) → Contains gone n → (map.get a.allocator.space.chunks n ≡ Some (chunk_of n)) × IsWhollyFree a.allocator.space n)
+      → new ≡ record {
+        allocator = record a.allocator { space = record a.allocator.space { chunks = without_numbers a.allocator.space.chunks gone } };
+        heap = record a.heap { used = a.heap.used - sum_by (λ n. (chunk_of n).size) gone };
+        remaining = a.remaining + length gone;
+      } → Goes a (list.map (λ n. (chunk_of n).object) gone) new
+  each_goes chunk_of [] a new sound rising free is = subst (Goes a []) (sym (is ∙ (λ i. account a.allocator (record a.heap { used = used i }) (remaining i)))) (none_goes a)
+    where
+      used : a.heap.used - 0 ≡ a.heap.used
+      used = omega arith
+
+      remaining : a.remaining + 0 ≡ a.remaining
+      remaining = omega arith
+  each_goes chunk_of (n ∷ others) a new sound rising free is =
+      let first = free n (contains_head n others) in
+      one_goes a new n (chunk_of n) (list.map (λ k. (chunk_of k).object) others) sound first.0 first.1
+      (each_goes chunk_of others (account_without_chunk a n (chunk_of n)) new (sound_without_chunk a.allocator n sound first.1)
+      (λ i j d before within. rising (suc i) (suc j) d (omega (arith, before)) (omega (arith, within)))
+      (λ k has.
+      let later = free k (contains_later n k others has) in
+      let other = kept_other a.allocator.space.chunks n k (λ same. let less : n < get_or others has.0 k = rising 0 (suc has.0) k (omega arith) (omega (arith, has.1)) in omega (arith, less, has.2, same)) in
+      (other ∙ later.0, record { held = subst IsSome (sym other) later.1.held; unused = later.1.unused }))
+      (is ∙ (λ i. record {
+        allocator = record a.allocator { space = record a.allocator.space { chunks = without_numbers (map.remove a.allocator.space.chunks n) others } };
+        heap = record a.heap { used = used i };
+        remaining = remaining i;
+      })))
+    where
+      used : a.heap.used - sum_by (λ k. (chunk_of k).size) (n ∷ others) ≡ a.heap.used - (chunk_of n).size - sum_by (λ k. (chunk_of k).size) others
+      used = omega (arith, sum_by-cons (λ k. (chunk_of k).size) n others)
+
+      remaining : a.remaining + length (n ∷ others) ≡ a.remaining + 1 + length others
+      remaining = omega arith
+
+  pub all_go : (a new : Account Listing) (keep_last : Bool) (gone : List ℕ) (es : List Event) → IsSound a.allocator → AreGone a.allocator.space keep_last gone → LetsGo a gone es new → Goes a (list.map (object_of a.allocator.space) gone) new
+  all_go a new keep_last gone es sound are lets =
+      each_goes (λ n. record { object = object_of a.allocator.space n; size = size_of a.allocator.space n }) gone a new sound are.rising
+      (λ n has.
+      let free = ((are.all n).0 has).0 in
+      let there = found_value _ free.held in
+      (there.1 ∙ sym (ap (λ (o : Option Chunk). Some (record { object = object_in o; size = size_in o })) there.1), free))
+      lets.1

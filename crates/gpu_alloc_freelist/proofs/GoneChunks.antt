@@ -4,14 +4,14 @@ use Rattle.std.specs.FinMap as map
 use Rattle.std.proofs.lemmas.Bool.{cases_lt, cases_eq}
 use Rattle.gpu_alloc_base.specs.Chunks.{Chunk}
 use Rattle.gpu_alloc_freelist.specs.FreeList.{IsWhollyFree, HasLastRun, MayGo, without_chunk, without_slot}
-use Rattle.gpu_alloc_freelist.specs.FreeListSound.{IsSound, IsSoundSpace}
+use Rattle.gpu_alloc_freelist.specs.FreeListSound.{IsSound}
 use Rattle.gpu_alloc_freelist.specs.FreeListState.{Space, Listing, IsFreeIn}
 use Rattle.gpu_alloc_base.specs.FreeRuns.{IsBefore, AreFree, IsFreeRun, IsLastRun}
 use Rattle.gpu_alloc_base.specs.declared.free_list_block.Slot.{Slot}
 use Rattle.gpu_alloc_base.specs.declared.region.FreeListRegion.{FreeListRegion}
 use Rattle.gpu_alloc_base.proofs.Maps.{kept_other, kept_key, one_value, found_value}
 use Rattle.gpu_alloc_base.proofs.Slots.{slot_removed}
-use Rattle.gpu_alloc_freelist.proofs.Spaces.{still_free, was_free}
+use Rattle.gpu_alloc_freelist.proofs.Spaces.{space_without_chunk, space_without_slot, still_free, was_free}
 
 -- Runs, once a chunk is taken out.
 
@@ -117,14 +117,27 @@ module _ (s : Space) (keep_last : Bool) (n : ℕ) where
     λ keeps last. goes.1 keeps (last.0, (was_last s n chunk is some this.0 (this.1 keeps) last.0 last.1.0, last.1.1)),
   )
 
--- A block comes back, and the chunks stay.
+-- The allocator stays sound.
 
-pub sound_without_slot : (l : Listing) (slot : Slot) (space : Space) → IsSound l → space ≡ without_slot l.space slot → IsSoundSpace space → IsSound (record l { space = space })
-sound_without_slot l slot space sound is sound_space = record {
-  space = sound_space;
-  one_object = λ k n c d k_is n_is. sound.one_object k n c d (rw is at k_is) (rw is at n_is);
-  chunks = λ k c at. sound.chunks k c (rw is at at);
-  slots = λ other live. sound.slots other ((slot_removed l.space.live slot other).0 (rw is at live)).1;
+-- with a block less
+pub sound_without_slot : (l : Listing) (slot : Slot) → IsSound l → IsSound (record l { space = without_slot l.space slot })
+sound_without_slot l slot sound = record {
+  space = space_without_slot l.space slot sound.space;
+  one_object = sound.one_object;
+  chunks = sound.chunks;
+  slots = λ other live. sound.slots other ((slot_removed l.space.live slot other).0 live).1;
+  next_chunk = sound.next_chunk;
+  final_chunk = sound.final_chunk;
+  atom = sound.atom;
+}
+
+-- with a chunk less in which nothing is live
+pub sound_without_chunk : (l : Listing) (n : ℕ) → IsSound l → IsWhollyFree l.space n → IsSound (record l { space = without_chunk l.space n })
+sound_without_chunk l n sound free = record {
+  space = space_without_chunk l.space n sound.space free.unused;
+  one_object = λ k m c d k_is m_is. sound.one_object k m c d (kept_key l.space.chunks n k c k_is).1 (kept_key l.space.chunks n m d m_is).1;
+  chunks = λ k c at. sound.chunks k c (kept_key l.space.chunks n k c at).1;
+  slots = sound.slots;
   next_chunk = sound.next_chunk;
   final_chunk = sound.final_chunk;
   atom = sound.atom;

@@ -13,7 +13,7 @@ use Rattle.gpu_alloc_base.specs.Slots.{slot_cmp}
 use Rattle.gpu_alloc_base.specs.Wanted.{Wanted}
 use Rattle.gpu_alloc_base.specs.declared.error.AllocationError.{AllocationError}
 use Rattle.gpu_alloc_base.specs.declared.free_list_block.Slot.{Slot}
-use Rattle.gpu_alloc_freelist.specs.FreeListAllocator.{Adds, Agrees, AreGone, bytes_of, Cleans, Frees, HoldsNothing, IsGranted, KeepsSettings, Leaves, LeavesNoRest, LetsGo, list_case, listing_without, Removes, without_numbers}
+use Rattle.gpu_alloc_freelist.specs.FreeListAllocator.{Adds, Agrees, bytes_of, Cleans, Frees, HoldsNothing, IsGranted, KeepsSettings, Leaves, LeavesNoRest, list_case, Removes, without_numbers}
 use Rattle.gpu_alloc_freelist.specs.FreeListState.{Listing, IsLiveSlot}
 use Rattle.gpu_alloc_base.proofs.Books.{refused_keeps}
 use Rattle.gpu_alloc_base.proofs.InHand.{leaves_same, none_in, grant_leaves, grant_adds, return_removes, granted_live, no_chunks}
@@ -51,12 +51,6 @@ answers_add a new w size alignment flags es (Ok slot) some answers granted =
 answers_add a new w size alignment flags es (Err e) some refused granted = tt
 
 -- A return.
-
--- the block is taken back, and then the chunks go
-pub frees_of : (a : Account Listing) (slot : Slot) (middle : Listing) (gone : List ℕ) (es : List Event) (new : Account Listing) → middle ≡ listing_without a.allocator slot → AreGone middle.space true gone
-    → LetsGo (account middle a.heap a.remaining) gone es new → Frees a slot es new
-frees_of a slot middle gone es new back all lets =
-    (gone, (subst (λ (l : Listing). AreGone l.space true gone) back all, subst (λ (l : Listing). LetsGo (account l a.heap a.remaining) gone es new) back lets))
 
 module _ (a : Account Listing) (slot : Slot) (es : List Event) (new : Account Listing) (frees : Frees a slot es new) where
   pub frees_remove : IsLiveSlot a.allocator.space slot → Removes a.allocator slot new.allocator

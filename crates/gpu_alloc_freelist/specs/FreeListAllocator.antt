@@ -20,8 +20,8 @@ use Rattle.gpu_alloc_base.specs.Chunks.{Chunk, object_in}
 use Rattle.gpu_alloc_base.specs.FreeSpace.{IsIn}
 use Rattle.gpu_alloc_base.specs.InHand as in_hand
 use Rattle.gpu_alloc_base.specs.InHand.{Bytes}
-use Rattle.gpu_alloc_freelist.specs.FreeList.{HasPlace, IsTail, HasNumber, MayGo, IsFirstToGo, with_slot, without_slot}
-use Rattle.gpu_alloc_freelist.specs.FreeList.{without_chunk, with_chunk, first_tail, no_space}
+use Rattle.gpu_alloc_freelist.specs.FreeList.{HasPlace, IsTail, HasNumber, MayGo, with_slot, without_slot}
+use Rattle.gpu_alloc_freelist.specs.FreeList.{with_chunk, first_tail, no_space}
 use Rattle.gpu_alloc_freelist.specs.FreeListState.{Space, Listing, IsLiveSlot, IsFreeIn}
 use Rattle.gpu_alloc_base.specs.FreeRuns.{IsFreeRun}
 use Rattle.gpu_alloc_base.specs.NewChunk.{ChunkQuestion}
@@ -223,38 +223,6 @@ abbrev pub CallGivesBack : {D : Type 0} → (D → Event → D → Type 0) → (
 CallGivesBack step objects old_device new_device keep_last a new =
     (gone : List ℕ) × Asked step old_device new_device
     (λ es. GivesBack keep_last a gone es new (objects old_device) (objects new_device))
-
--- One chunk goes.
-
-abbrev pub account_without_chunk : Account Listing → ℕ → Account Listing
-account_without_chunk a number = record {
-  allocator = record a.allocator { space = without_chunk a.allocator.space number };
-  heap = record a.heap { used = a.heap.used - size_of a.allocator.space number };
-  remaining = a.remaining + 1;
-}
-
--- the first chunk that may go is given back, or none may
-abbrev pub GivesFirst : Bool → Account Listing → List Event → Option ℕ → Account Listing → (ℕ → Option Object)
-    → (ℕ → Option Object) → Type 0
-GivesFirst keep_last a es None new old_objects new_objects =
-    ((number : ℕ) → MayGo a.allocator.space keep_last number → ⊥)
-    × ((es ≡ []) × ((new ≡ a) × (new_objects ≡ old_objects)))
-GivesFirst keep_last a es (Some object) new old_objects new_objects =
-    (number : ℕ) × (IsFirstToGo a.allocator.space keep_last number
-    × ((object ≡ object_of a.allocator.space number)
-    × ((es ≡ Deallocated object ∷ [])
-    × ((new ≡ account_without_chunk a number) × (new_objects ≡ put old_objects object None)))))
-
--- so a call gives it back, and the device is asked so
-abbrev pub CallGivesFirst : {D : Type 0} → (D → Event → D → Type 0) → (D → ℕ → Option Object) → D → D → Bool
-    → Account Listing → Option ℕ → Account Listing → Type 0
-CallGivesFirst step objects old_device new_device keep_last a answer new =
-    Asked step old_device new_device
-    (λ es. GivesFirst keep_last a es answer new (objects old_device) (objects new_device))
-
--- a block less
-abbrev pub listing_without : Listing → Slot → Listing
-listing_without l slot = record l { space = without_slot l.space slot }
 
 -- What is free.
 

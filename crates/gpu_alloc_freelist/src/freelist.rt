@@ -10,9 +10,9 @@ ghost use Rattle.gpu_alloc_types.specs.Device.{Asked};
 ghost use Rattle.gpu_alloc_types.specs.declared.types.FreeRange.{FreeRange as Range};
 ghost use Rattle.gpu_alloc_base.specs.Wanted.{requested, wanted};
 ghost use Rattle.gpu_alloc_freelist.specs.FreeList.{without_slot};
-ghost use Rattle.gpu_alloc_freelist.specs.FreeListAllocator.{Agrees, CallAllocates, CallAnswers, case_of};
-ghost use Rattle.gpu_alloc_freelist.specs.FreeListAllocator.{CallGivesBack, CallGivesFirst, chunk_size, Cleans, Frees};
-ghost use Rattle.gpu_alloc_freelist.specs.FreeListAllocator.{IsGranted, IsRunOf, list_case, listing_without};
+ghost use Rattle.gpu_alloc_freelist.specs.FreeListAllocator.{account_without, Agrees, CallAllocates, CallAnswers, case_of};
+ghost use Rattle.gpu_alloc_freelist.specs.FreeListAllocator.{CallGivesBack, chunk_size, Cleans, Frees};
+ghost use Rattle.gpu_alloc_freelist.specs.FreeListAllocator.{IsGranted, IsRunOf, list_case};
 ghost use Rattle.gpu_alloc_freelist.specs.FreeListAllocator.{ObjectsAfter, ObjectsCleaned, ObjectsFreed, opened};
 ghost use Rattle.gpu_alloc_freelist.specs.FreeListAllocator.{Adds, HoldsNothing, KeepsSettings, Leaves, LeavesNoRest};
 ghost use Rattle.gpu_alloc_freelist.specs.FreeListAllocator.{Removes};
@@ -263,8 +263,9 @@ impl<M: MemoryObject, A: Allocator> FreeListAllocator<M, A> {
     /// has served. `heap` has to count no less than the sum of the held chunks; what remains and the number of held
     /// chunks have to fit 32 bits together. Both is so again after the call.
     ///
-    /// Each other block that a caller has in hand is live still, and may be returned next (`removed`). The settings
-    /// stay (`settings`), and the ledger does not grow (`ledger`).
+    /// One list of numbers tells what was asked of the device and what it has left (`gives`). Each other block that a
+    /// caller has in hand is live still, and may be returned next (`removed`). The settings stay (`settings`), and the
+    /// ledger does not grow (`ledger`).
     pub fn dealloc<D: ObjectDevice<M>>(
         &mut self,
         device: &mut D,
@@ -280,6 +281,9 @@ impl<M: MemoryObject, A: Allocator> FreeListAllocator<M, A> {
             (λ es. Frees (account self.old heap.old allocations_remains.old) block es
             (account self.new heap.new allocations_remains.new)) }
         ensures objects { ObjectsFreed self.old block (D.objects device.old) (D.objects device.new) }
+        ensures gives { CallGivesBack D.step D.objects device.old device.new true
+            (account_without (account self.old heap.old allocations_remains.old) block)
+            (account self.new heap.new allocations_remains.new) }
         ensures agrees { Agrees self.new (D.properties device.new) (D.objects device.new) }
         ensures properties { D.properties device.new ≡ D.properties device.old }
         ensures removed { Removes self.old block self.new }
@@ -290,7 +294,7 @@ impl<M: MemoryObject, A: Allocator> FreeListAllocator<M, A> {
         ensures total { chunks_and_remaining (self.new).space.chunks allocations_remains.new ≡ chunks_and_remaining
             (self.old).space.chunks allocations_remains.old }
     {
-        self.free(block);
+        insert_uncounted::<M, A, Brand>(&mut self.freelist, block, Blank::new(1));
         self.give_back(device, true, heap, allocations_remains);
     }
 
@@ -317,6 +321,9 @@ impl<M: MemoryObject, A: Allocator> FreeListAllocator<M, A> {
             (λ es. Cleans (account self.old heap.old allocations_remains.old) es
             (account self.new heap.new allocations_remains.new)) }
         ensures objects { ObjectsCleaned self.old (D.objects device.old) (D.objects device.new) }
+        ensures gives { CallGivesBack D.step D.objects device.old device.new false
+            (account self.old heap.old allocations_remains.old)
+            (account self.new heap.new allocations_remains.new) }
         ensures agrees { Agrees self.new (D.properties device.new) (D.objects device.new) }
         ensures properties { D.properties device.new ≡ D.properties device.old }
         ensures leaves { Leaves self.old self.new }
@@ -329,46 +336,6 @@ impl<M: MemoryObject, A: Allocator> FreeListAllocator<M, A> {
             (self.old).space.chunks allocations_remains.old }
     {
         self.give_back(device, false, heap, allocations_remains);
-    }
-
-    /// Takes a block back, which has to be live here, and gives no chunk back. It is public for `gpu_alloc`, which lets
-    /// chunks go one by one.
-    pub fn free(&mut self, block: FreeListBlock<M>)
-        requires { IsLiveSlot (self.old).space block }
-        ensures back { self.new ≡ listing_without self.old block }
-        ensures sound { IsSound self.new }
-    {
-        insert_uncounted::<M, A, Brand>(&mut self.freelist, block, Blank::new(1));
-    }
-
-    /// Gives the oldest chunk in which no block is live back to the device, but not the one in which the last run lies
-    /// where this one is kept: the name of its object. None where there is no such chunk. It is public for `gpu_alloc`,
-    /// which takes that object off its books.
-    #[inline(always)]
-    pub fn give_back_first<D: ObjectDevice<M>>(
-        &mut self,
-        device: &mut D,
-        keep_last: bool,
-        heap: &mut Heap,
-        allocations_remains: &mut u32,
-    ) -> Option<u64>
-        requires agrees { Agrees self.old (D.properties device.old) (D.objects device.old) }
-        requires counted { IsCounted (self.old).space.chunks heap.old allocations_remains.old }
-        ensures gives { CallGivesFirst D.step D.objects device.old device.new keep_last
-            (account self.old heap.old allocations_remains.old) result
-            (account self.new heap.new allocations_remains.new) }
-        ensures agrees { Agrees self.new (D.properties device.new) (D.objects device.new) }
-        ensures properties { D.properties device.new ≡ D.properties device.old }
-        ensures sound { IsSound self.new }
-        ensures counted { IsCounted (self.new).space.chunks heap.new allocations_remains.new }
-    {
-        let Some((memory, size, _)) = self.freelist.take_whole(keep_last) else {
-            return None;
-        };
-        device.deallocate_memory(&memory);
-        heap.dealloc(size);
-        *allocations_remains += 1;
-        Some(memory.object())
     }
 
     /// The held chunks, each once, in no order that is told.
@@ -393,14 +360,6 @@ impl<M: MemoryObject, A: Allocator> FreeListAllocator<M, A> {
         ensures { IsTrue result ↔ IsLiveSlot (self.now).space slot }
     {
         self.freelist.is_live(key, slot)
-    }
-
-    /// The size of a held chunk, in bytes. It is public for `gpu_alloc`, which counts the chunk as an object.
-    pub fn chunk_size(&self, number: u64) -> u64
-        requires { IsSome (map.get (self.now).space.chunks number) }
-        ensures { IfSome (map.get (self.now).space.chunks number) (λ c. c.size ≡ result) }
-    {
-        self.freelist.chunk(number).size
     }
 
     /// Ends an allocator that holds no chunk.

@@ -268,14 +268,6 @@ impl<M: MemoryObject, A: Allocator> Pairs<M, A> {
         Ok(())
     }
 
-    /// The size of a held chunk, in bytes.
-    pub fn chunk_size(&self, chunk: usize) -> u64
-        requires { IsSome (map.get ((self.now).space).chunks chunk) }
-        ensures { IfSome (map.get ((self.now).space).chunks chunk) (λ c. c.size ≡ result) }
-    {
-        bytes(self.chunks[chunk].order)
-    }
-
     /// Nothing is done: its contract tells what every store keeps.
     pub fn keeps_exact(&self)
         ensures sound { IsSoundSpace (self.now).space }

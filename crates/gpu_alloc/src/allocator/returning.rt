@@ -3,7 +3,7 @@
 ghost use Rattle.std.specs.Prelude.{◌≡◌, ℕ, ◌<◌, List, length, false};
 ghost use Rattle.gpu_alloc_types.specs.Device.{Event, Chain};
 ghost use Rattle.gpu_alloc_block.specs.Agreement.{Agrees};
-ghost use Rattle.gpu_alloc.specs.Release.{Frees, ObjectsFreed, GivesBack, without_span};
+ghost use Rattle.gpu_alloc.specs.Release.{Frees, ObjectsFreed, GivesBack};
 ghost use Rattle.gpu_alloc.specs.Sound as Sound;
 ghost use Rattle.gpu_alloc_block.specs.State.{IsOwned, is_shared, total};
 
@@ -72,7 +72,7 @@ impl<M: MemoryObject, A: Allocator> GpuAllocator<M, A> {
         let heap = self.limits.heap_index(memory_type);
         let found = self.buddies[memory_type as usize].find(key, object, offset, size);
         let Some(leaf) = found else { unreachable!() };
-        uncounted::give_back::<M, A, D, Brand>(
+        uncounted::dealloc::<M, A, D, Brand>(
             &mut self.buddies[memory_type as usize],
             device,
             BuddyBlock::new(memory, leaf),
@@ -97,19 +97,6 @@ impl<M: MemoryObject, A: Allocator> GpuAllocator<M, A> {
         ensures agrees { Agrees self.new (D.properties device.new) (D.objects device.new) }
         ensures sound { Sound.IsSound self.new }
     {
-        let memory_type = block.memory_type();
-        self.free_block(block, number);
-        self.give_back(device, memory_type, true);
-        self.keeps_sound();
-    }
-
-    /// Takes a block's bytes back into its memory type's free list.
-    fn free_block(&mut self, block: MemoryBlock<M>, number: u64)
-        requires listed { block.kind ≡ Kind.FreeListChunk number }
-        requires owned { IsOwned self.old block }
-        ensures freed { self.new ≡ without_span self.old block }
-        ensures known { block.memory_type < length (self.new.properties).memory_types }
-    {
         let (key, memory_type) = (block.key(), block.memory_type());
         let (offset, size) = (block.offset(), block.size());
         let memory = into_memory(block);
@@ -119,31 +106,29 @@ impl<M: MemoryObject, A: Allocator> GpuAllocator<M, A> {
             offset,
             size,
         };
-        self.free_lists[memory_type as usize].free(FreeListBlock::new(memory, slot, key));
+        let heap = self.limits.heap_index(memory_type);
+        self.free_lists[memory_type as usize].dealloc(
+            device,
+            FreeListBlock::new(memory, slot, key),
+            &mut self.heaps[heap],
+            &mut self.allocations_remains,
+        );
     }
 
-    /// Gives a memory type's free-list chunks in which no block is live back to the device, the oldest first, but not
-    /// the one in which the last run lies where this one is kept.
-    #[inline(always)]
-    pub(super) fn give_back<D: ObjectDevice<M>>(
-        &mut self,
-        device: &mut D,
-        memory_type: u32,
-        keep_last: bool,
-    )
+    /// Gives a memory type's free-list chunks in which no block is live back to the device, the oldest first.
+    pub(super) fn clean_list<D: ObjectDevice<M>>(&mut self, device: &mut D, memory_type: u32)
         requires known { memory_type < length (self.old.properties).memory_types }
         requires agrees { Agrees self.old (D.properties device.old) (D.objects device.old) }
         ensures gives { (gone : List ℕ) × (es : List Event) × Chain D.step device.old es device.new
-            × GivesBack self.old memory_type keep_last gone es self.new (D.objects device.old) (D.objects device.new) }
+            × GivesBack self.old memory_type false gone es self.new (D.objects device.old) (D.objects device.new) }
         ensures agrees { Agrees self.new (D.properties device.new) (D.objects device.new) }
         ensures total { total self.new ≡ total self.old }
     {
         let heap = self.limits.heap_index(memory_type);
-        while let Some(_) = self.free_lists[memory_type as usize].give_back_first(
+        self.free_lists[memory_type as usize].cleanup(
             device,
-            keep_last,
             &mut self.heaps[heap],
             &mut self.allocations_remains,
-        ) {}
+        );
     }
 }

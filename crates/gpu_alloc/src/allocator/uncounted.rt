@@ -8,8 +8,8 @@ ghost use Rattle.gpu_alloc_base.specs.AlignMasks.{IsAlignMask};
 ghost use Rattle.gpu_alloc_base.specs.Case.{RefusesFirst};
 ghost use Rattle.gpu_alloc_base.specs.Steps.{Begins};
 ghost use Rattle.gpu_alloc_base.specs.Wanted.{requested, wanted};
-ghost use Rattle.gpu_alloc_buddy.specs.Buddy.{Agrees, CallAllocates, case_of, Frees, IsGranted, IsUnusedChunk};
-ghost use Rattle.gpu_alloc_buddy.specs.Buddy.{ObjectsAfter, ObjectsFreed, without_leaf};
+ghost use Rattle.gpu_alloc_buddy.specs.Buddy.{Agrees, CallAllocates, case_of, Frees, IsGranted};
+ghost use Rattle.gpu_alloc_buddy.specs.Buddy.{ObjectsAfter, ObjectsFreed};
 ghost use Rattle.gpu_alloc_buddy.specs.BuddySound.{IsSound};
 ghost use Rattle.gpu_alloc_buddy.specs.BuddyState.{IsLiveLeaf};
 
@@ -82,15 +82,15 @@ pub(super) fn alloc<M: MemoryObject, A: Allocator, D: ObjectDevice<M>, L: Ledger
     )
 }
 
-/// Takes a block back, as `BuddyAllocator::give_back` does, and tells whether its chunk went.
-pub(super) fn give_back<M: MemoryObject, A: Allocator, D: ObjectDevice<M>, L: Ledger>(
+/// Takes a block back, as `BuddyAllocator::dealloc` does.
+pub(super) fn dealloc<M: MemoryObject, A: Allocator, D: ObjectDevice<M>, L: Ledger>(
     buddy: &mut BuddyAllocator<M, A>,
     device: &mut D,
     block: BuddyBlock<M>,
     heap: &mut Heap,
     allocations_remains: &mut u32,
     blank: Blank,
-) -> bool
+)
     requires begins { Begins blank L.name L.parts }
     requires live { IsLiveLeaf buddy.old block }
     requires agrees { Agrees buddy.old (D.properties device.old) (D.objects device.old) }
@@ -98,11 +98,10 @@ pub(super) fn give_back<M: MemoryObject, A: Allocator, D: ObjectDevice<M>, L: Le
     ensures frees { Asked D.step device.old device.new
         (λ es. Frees (account buddy.old heap.old allocations_remains.old) block es
         (account buddy.new heap.new allocations_remains.new)) }
-    ensures told { IsTrue result ↔ IsUnusedChunk (without_leaf buddy.old block) block.chunk }
     ensures objects { ObjectsFreed buddy.old block (D.objects device.old) (D.objects device.new) }
     ensures properties { D.properties device.new ≡ D.properties device.old }
     ensures sound { IsSound buddy.new }
 {
     let mut releases = Steps::<L>::new(blank);
-    buddy.give_back(device, block, heap, allocations_remains, &mut releases)
+    buddy.dealloc(device, block, heap, allocations_remains, &mut releases);
 }

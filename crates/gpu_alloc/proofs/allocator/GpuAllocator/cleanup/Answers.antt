@@ -18,11 +18,11 @@ use Rattle.gpu_alloc.proofs.allocator.GpuAllocator.cleanup.Goals as goal
 pub loop-memory_type-preserved : goal.loop-memory_type-preserved
 loop-memory_type-preserved g c =
     let way = c.loop-memory_type.invariant in
-    let gives = c.give_back.ensures.gives in (
+    let gives = c.clean_list.ensures.gives in (
       way.0 ++ gives.0,
       way.1 ++ gives.1,
       chain_append g.D.ObjectDevice.step way.1 gives.1 _ _ _ way.2 gives.2,
-      cleaning_goes_on _ _ _ _ _ _ _ _ c.loop-memory_type.memory_type way.0 gives.0 way.1 gives.1 way.3 gives.3.chunks gives.3.lets gives.3.objects c.give_back.ensures.agrees c.give_back.ensures.total,
+      cleaning_goes_on _ _ _ _ _ _ _ _ c.loop-memory_type.memory_type way.0 gives.0 way.1 gives.1 way.3 gives.3.chunks gives.3.lets gives.3.objects c.clean_list.ensures.agrees c.clean_list.ensures.total,
     )
 
 -- At the end all of all memory types went that may go.

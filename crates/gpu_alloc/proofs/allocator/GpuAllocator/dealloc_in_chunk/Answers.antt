@@ -36,11 +36,11 @@ index_mut-requires-2 g c =
     below c.heap_index-heap.ensures c.self.inside.heaps.ok.0 (heap_there _ _ _ _ c.self.invariant.books refl c.memory_type-memory_type.result (known_type c.self.inside.limits _ _ _ _ _ c.memory_type-memory_type.result c.index.result.now c.args.block
     (consistent _ _ _ _ _ _ _ c.self.invariant) owned c.requires.shared c.memory_type-memory_type.ensures c.index.ensures))
 
-pub give_back-requires-clause-agrees : goal.give_back-requires-clause-agrees
-give_back-requires-clause-agrees g c = let agrees = rw (← c.self.view_is) at c.requires.agrees in agrees_before (given g c) _ _ agrees
+pub dealloc-requires-clause-agrees : goal.dealloc-requires-clause-agrees
+dealloc-requires-clause-agrees g c = let agrees = rw (← c.self.view_is) at c.requires.agrees in agrees_before (given g c) _ _ agrees
 
-pub give_back-requires-clause-counted : goal.give_back-requires-clause-counted
-give_back-requires-clause-counted g c = counted_first (given g c)
+pub dealloc-requires-clause-counted : goal.dealloc-requires-clause-counted
+dealloc-requires-clause-counted g c = counted_first (given g c)
 
 -- What its call did, and what it comes to.
 
@@ -55,22 +55,22 @@ given_after g c =
     given_back c.self.inside.limits _ _ _ _ _ c.memory_type-memory_type.result c.index_mut.result.now c.args.block (consistent _ _ _ _ _ _ _ c.self.invariant) owned c.requires.shared c.memory_type-memory_type.ensures c.index_mut.ensures.value
     c.new.result c.heap_index-heap.result c.index_mut-2.result.now c.heap_index-heap.ensures c.index_mut-2.ensures.value (rw (c.new.ensures, ← name, ← c.offset-offset.ensures, ← c.size-size.ensures, ← same) c.in-Some.ensures.found)
 
-returned_by : (g : Over) (c : goal.After-self-2-1 g) → IsReturned c.self.inside.own (given_after g c) c.self.invariant.apart (account c.give_back.new.buddy c.give_back.new.heap c.give_back.new.allocations_remains) (g.D.ObjectDevice.properties c.args.device.now) (g.D.ObjectDevice.properties c.give_back.new.device) (g.D.ObjectDevice.objects c.args.device.now) (g.D.ObjectDevice.objects c.give_back.new.device) c.give_back.ensures.frees.0 (account c.give_back.new.buddy c.give_back.new.heap c.give_back.new.allocations_remains)
+returned_by : (g : Over) (c : goal.After-self-2-1 g) → IsReturned c.self.inside.own (given_after g c) c.self.invariant.apart (account c.dealloc.new.buddy c.dealloc.new.heap c.dealloc.new.allocations_remains) (g.D.ObjectDevice.properties c.args.device.now) (g.D.ObjectDevice.properties c.dealloc.new.device) (g.D.ObjectDevice.objects c.args.device.now) (g.D.ObjectDevice.objects c.dealloc.new.device) c.dealloc.ensures.frees.0 (account c.dealloc.new.buddy c.dealloc.new.heap c.dealloc.new.allocations_remains)
 returned_by g c =
     let agrees = rw (← c.self.view_is) at c.requires.agrees in
-    back c.self.inside.own (given_after g c) c.self.invariant.apart (account c.give_back.new.buddy c.give_back.new.heap c.give_back.new.allocations_remains) (g.D.ObjectDevice.properties c.args.device.now) (g.D.ObjectDevice.properties c.give_back.new.device) (g.D.ObjectDevice.objects c.args.device.now) (g.D.ObjectDevice.objects c.give_back.new.device) c.give_back.ensures.frees.0 (record {
-      frees = c.give_back.ensures.frees.2;
-      objects = c.give_back.ensures.objects;
-      sound = c.give_back.ensures.sound;
+    back c.self.inside.own (given_after g c) c.self.invariant.apart (account c.dealloc.new.buddy c.dealloc.new.heap c.dealloc.new.allocations_remains) (g.D.ObjectDevice.properties c.args.device.now) (g.D.ObjectDevice.properties c.dealloc.new.device) (g.D.ObjectDevice.objects c.args.device.now) (g.D.ObjectDevice.objects c.dealloc.new.device) c.dealloc.ensures.frees.0 (record {
+      frees = c.dealloc.ensures.frees.2;
+      objects = c.dealloc.ensures.objects;
+      sound = c.dealloc.ensures.sound;
       agrees = agrees;
-      properties = c.give_back.ensures.properties;
+      properties = c.dealloc.ensures.properties;
     })
 
 pub invariant_of-self : goal.invariant_of-self
 invariant_of-self g c = let of = returned_by g c in kept_as _ _ _ _ _ _ _ of.recorded of.parts
 
 pub returns-clause-freed : goal.returns-clause-freed
-returns-clause-freed g c = rw (← c.self.view_is) (c.give_back.ensures.frees.0, c.give_back.ensures.frees.1, (returned_by g c).frees)
+returns-clause-freed g c = rw (← c.self.view_is) (c.dealloc.ensures.frees.0, c.dealloc.ensures.frees.1, (returned_by g c).frees)
 
 pub returns-clause-objects : goal.returns-clause-objects
 returns-clause-objects g c = rw (← c.self.view_is) (returned_by g c).freed

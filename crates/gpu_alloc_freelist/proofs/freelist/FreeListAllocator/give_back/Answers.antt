@@ -29,7 +29,7 @@ loop-memory-preserved g c =
         way.0 ++ c.in-Some.field-0-2 ∷ [],
         way.1 ++ Deallocated (g.M.MemoryObject.object c.in-Some.memory) ∷ [],
         chain_more g.D.ObjectDevice.step way.1 _ _ _ _ way.2 c.deallocate_memory.ensures,
-        goes_on_as {from = account c.args.self.now c.args.heap.now c.args.allocations_remains.now} way.3 c.in-Some.field-0-2 _ c.in-Some.ensures.chunk c.in-Some.ensures.first _ _ _ c.in-Some.ensures.gone c.dealloc.ensures (g.met.D.ObjectDevice.row _ _ _ c.deallocate_memory.ensures) c.in-Some.ensures.sound,
+        goes_on_as {from = account c.args.self.now c.args.heap.now c.args.allocations_remains.now} way.3 c.in-Some.field-0-2 _ c.in-Some.ensures.chunk c.in-Some.ensures.first _ _ _ c.in-Some.ensures.gone c.dealloc.ensures (g.met.D.ObjectDevice.row _ _ _ c.deallocate_memory.ensures),
       );
       properties = g.met.D.ObjectDevice.keeps_properties _ _ _ c.deallocate_memory.ensures ∙ c.loop-memory.invariant.properties;
     }

@@ -1,4 +1,4 @@
-use Rattle.gpu_alloc_freelist.proofs.freelist.FreeListAllocator.free.Given as goal
+use Rattle.gpu_alloc_freelist.proofs.freelist.FreeListAllocator.dealloc.Given as goal
 
 -- the ledger of counts that nobody reads has the blank's name and parts
 abbrev pub ghosts-insert_uncounted : goal.ghosts-insert_uncounted
