@@ -21,6 +21,7 @@ ghost use Rattle.gpu_alloc_block.specs.Ranges.{HasEnd, atom_end, rounded};
 ghost use Rattle.gpu_alloc_block.specs.State.{Block, is_shared};
 
 use crate::kept_mapping::KeptMapping;
+use crate::kept_props::KeptProps;
 use gpu_alloc_base::MapError;
 use gpu_alloc_types::{
     DeviceMapError, MappedMemoryRange, MemoryDevice, MemoryObject, MemoryPropertyFlags,
@@ -73,7 +74,7 @@ pub struct MemoryBlock<M: MemoryObject> {
     offset: u64,
     size: u64,
     memory_type: u32,
-    props: MemoryPropertyFlags,
+    props: KeptProps,
     // The least unit of what has to be flushed of it, in bytes. A block's calls see no properties of the device.
     atom: u64,
     kind: Kind,
@@ -97,7 +98,7 @@ impl<M: MemoryObject> Model for MemoryBlock<M> {
       offset = b.offset;
       size = b.size;
       memory_type = b.memory_type;
-      props = property_bits b.props;
+      props = b.props;
       atom = b.atom;
       kind = b.kind;
       mapping = b.mapping;
@@ -139,7 +140,7 @@ impl<M: MemoryObject> MemoryBlock<M> {
             offset,
             size,
             memory_type,
-            props,
+            props: KeptProps::of(props),
             atom,
             kind,
             mapping: KeptMapping::none(),
@@ -176,7 +177,7 @@ impl<M: MemoryObject> MemoryBlock<M> {
     pub fn props(&self) -> MemoryPropertyFlags
         ensures { property_bits result ≡ self.now.props }
     {
-        self.props
+        self.props.get()
     }
 
     /// The index of its memory type.
@@ -413,7 +414,7 @@ impl<M: MemoryObject> MemoryBlock<M> {
     fn refusal(&self) -> Option<MapError>
         ensures { result ≡ refusal self.now }
     {
-        if !self.props.intersects(MemoryPropertyFlags::HOST_VISIBLE) {
+        if !self.props().intersects(MemoryPropertyFlags::HOST_VISIBLE) {
             Some(MapError::NonHostVisible)
         } else if self.mapping.is_some() {
             Some(MapError::AlreadyMapped)
@@ -591,7 +592,7 @@ impl<M: MemoryObject> MemoryBlock<M> {
         ensures cause { OnErr result (are_non_coherent self.now.props ≡ true) }
         ensures properties { D.properties device.new ≡ D.properties device.old }
     {
-        if !self.props.is_non_coherent() {
+        if !self.props().is_non_coherent() {
             return Ok(());
         }
         let range = self.rounded(offset, len);
@@ -616,7 +617,7 @@ impl<M: MemoryObject> MemoryBlock<M> {
         ensures cause { OnErr result (are_non_coherent self.now.props ≡ true) }
         ensures properties { D.properties device.new ≡ D.properties device.old }
     {
-        if !self.props.is_non_coherent() {
+        if !self.props().is_non_coherent() {
             return Ok(());
         }
         let range = self.rounded(offset, len);

@@ -26,12 +26,13 @@ impl Model for KeptMapping {
 }
 
 impl KeptMapping {
-    /// Nothing.
+    /// Nothing. (Where it starts says nothing then. It is not 0, since a compiler takes two zeros for a run of bytes, and
+    /// carries those through memory where it would drop two numbers that it knows.)
     #[inline(always)]
     pub(crate) fn none() -> KeptMapping
         ensures { result ≡ None }
     {
-        KeptMapping { start: 0, len: 0 }
+        KeptMapping { start: 1, len: 0 }
     }
 
     /// This, which is of some bytes.

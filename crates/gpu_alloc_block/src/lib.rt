@@ -3,6 +3,7 @@
 
 pub mod block;
 mod kept_mapping;
+mod kept_props;
 pub mod laws;
 
 pub use block::{Kind, Mapping, MemoryBlock};

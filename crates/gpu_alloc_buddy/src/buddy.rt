@@ -354,6 +354,7 @@ impl<M: MemoryObject, A: Allocator> BuddyAllocator<M, A> {
     /// The answer is the same whatever `key` is. The block's own index makes it constant time; with another key the time
     /// grows with the number of pairs of halves of that length. Who knows a live block of this span learns that it is
     /// the one that is found (`exact`).
+    #[inline(always)]
     pub fn find(&self, key: usize, object: u64, offset: u64, size: u64) -> Option<Leaf>
         ensures found { MatchOption result (IsNoLiveSpan self.now object offset size)
             (IsLiveSpan self.now object offset size) }
@@ -493,6 +494,7 @@ impl<M: MemoryObject, A: Allocator> BuddyAllocator<M, A> {
 
     /// Takes the front of a shortest free piece that is long enough: none where there is none. It fails only for want
     /// of host memory.
+    #[inline(always)]
     fn take_place<L: Ledger, K: Ledger>(
         &mut self,
         order: u32,

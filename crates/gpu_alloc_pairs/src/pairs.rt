@@ -143,6 +143,7 @@ impl<M: MemoryObject, A: Allocator> Pairs<M, A> {
 
     /// Takes the front of a shortest free piece of at least 2^order bytes, as a block: none where there is no such piece.
     /// It fails only for want of host memory, and nothing but room changes then.
+    #[inline(always)]
     pub fn take<L: Ledger, K: Ledger>(
         &mut self,
         order: u32,
@@ -196,6 +197,7 @@ impl<M: MemoryObject, A: Allocator> Pairs<M, A> {
 
     /// Takes a live block back. Free halves join, and a chunk of which no other block is live goes: its handle is
     /// answered, and its size in bytes.
+    #[inline(always)]
     pub fn give_back<K: Ledger>(&mut self, leaf: Leaf, releases: &mut Steps<K>) -> Option<(M, u64)>
         requires live { IsLiveLeaf (self.old).space leaf }
         ensures stays { IfNone result ((IsUnusedChunk (without_leaf (self.old).space leaf) leaf.chunk → ⊥)
@@ -222,6 +224,7 @@ impl<M: MemoryObject, A: Allocator> Pairs<M, A> {
     ///
     /// The answer is the same whatever `key` is. The block's index makes it constant time; with another key the time
     /// grows with the number of pairs of that length.
+    #[inline(always)]
     pub fn find(&self, key: usize, object: u64, offset: u64, size: u64) -> Option<Leaf>
         ensures found { MatchOption result (IsNoLiveSpan (self.now).space object offset size)
             (IsLiveSpan (self.now).space object offset size) }
@@ -371,6 +374,8 @@ fn key_of<M: MemoryObject, A: Allocator>(
 }
 
 /// The key of the pair that has a block of 2^order bytes, by a search over all pairs of that length.
+#[cold]
+#[inline(never)]
 fn search<M: MemoryObject, A: Allocator>(
     chunks: &Slab<Chunk<M>, A>,
     pairs: &Slab<Pair, A>,

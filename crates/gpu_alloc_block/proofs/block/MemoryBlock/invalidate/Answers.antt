@@ -1,4 +1,4 @@
-use Rattle.std.proofs.Common.{◌≡◌, false, Ok, sym, ◌∙◌}
+use Rattle.std.proofs.Common.{◌≡◌, false, Ok, sym, ◌∙◌, ap}
 use Rattle.gpu_alloc_types.specs.Properties.{are_non_coherent}
 use Rattle.gpu_alloc_types.specs.Device.{IsWellFormed, IsInvalidated}
 use Rattle.gpu_alloc_types.specs.declared.types.OutOfMemory.{OutOfMemory}
@@ -15,5 +15,5 @@ returns-then-not-is_non_coherent-clause-objects g c =
     let r = rounded b c.args.offset c.args.len in
     let held = c.requires.ready in
     let well : IsWellFormed p held.0 = some_known (objects b.object) held.0 (IsWellFormed p) held.1 (g.met.D.ObjectDevice.well_formed c.args.device.now b.object) in
-    let coherent : are_non_coherent b.props ≡ false = rw (← c.self.view_is) (sym c.is_non_coherent.ensures ∙ c.if-not-is_non_coherent.true) in
+    let coherent : are_non_coherent b.props ≡ false = ap are_non_coherent (sym c.props.ensures) ∙ sym c.is_non_coherent.ensures ∙ c.if-not-is_non_coherent.true in
     changes_none objects b.object (IsInvalidated {E = OutOfMemory} (Ok tt) r) held.0 held.1 (as_invalidated p b r held.0 held.2 well coherent)
