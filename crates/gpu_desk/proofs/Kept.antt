@@ -13,7 +13,7 @@ use Rattle.gpu_alloc.specs.Budget.{with_heap_limit}
 use Rattle.gpu_alloc.specs.NewObject.{ObjectsGiven}
 use Rattle.gpu_alloc.specs.Sound as allocator
 use Rattle.gpu_alloc.specs.Owned.{HoldsWith}
-use Rattle.gpu_alloc.specs.State.{Block, HeldObject, State, IsOwned}
+use Rattle.gpu_alloc.specs.State.{Block, HeldObject, State, IsOwned, total}
 use Rattle.gpu_alloc.specs.Types.Mapping.{Mapping}
 use Rattle.gpu_alloc_base.proofs.Names.{get_put-other, here, len_put, wherever}
 use Rattle.gpu_answers.specs.Asking.{RunState}
@@ -90,23 +90,23 @@ gone_over_write {T} s key v w at q gone = (given gone.0, get_put-other s.live ke
 
 -- Grants.
 
--- the block's object is new exactly where one object more is held
-pub fresh_is : (s new : State) (b : Block) → HoldsWith s b new → IsOwned new b
-    → IsTrue (nat_lt (map.len s.held) (map.len new.held)) ↔ (map.get s.held b.object ≡ None)
-fresh_is s new b holds owned = by holds.objects
+-- the block's object is new exactly where one object less may be held
+pub fresh_is : (s new : State) (b : Block) → HoldsWith s b new → IsOwned new b → total new ≡ total s
+    → IsTrue (nat_lt new.remaining s.remaining) ↔ (map.get s.held b.object ≡ None)
+fresh_is s new b holds owned as_many_in_all = by holds.objects
   where
     there : map.get new.held b.object ≡ Some owned.held.0
     there = owned.held.1
 
     by : (new.held ≡ s.held) ⊎ ((h : HeldObject) × (map.get s.held b.object ≡ None) × (new.held ≡ map.insert s.held b.object h))
-        → IsTrue (nat_lt (map.len s.held) (map.len new.held)) ↔ (map.get s.held b.object ≡ None)
+        → IsTrue (nat_lt new.remaining s.remaining) ↔ (map.get s.held b.object ≡ None)
     by (inl same) =
         let as_many : map.len new.held ≡ map.len s.held = ap (λ (m : map.FinMap nat_cmp HeldObject). map.len m) same in
         let had : map.get s.held b.object ≡ Some owned.held.0 = subst (λ (m : map.FinMap nat_cmp HeldObject). map.get m b.object ≡ Some owned.held.0) same there in
-        (λ more. absurd (let no : nat_lt (map.len s.held) (map.len new.held) ≡ false = grind (arith, nat_tests) in cc), λ none. absurd (cc))
+        (λ more. absurd (let no : nat_lt new.remaining s.remaining ≡ false = grind (arith, nat_tests) in cc), λ none. absurd (cc))
     by (inr one) =
         let more : map.len new.held ≡ map.len s.held + 1 = ap (λ (m : map.FinMap nat_cmp HeldObject). map.len m) one.2 ∙ len_put s.held b.object one.0 one.1 in
-        let yes : nat_lt (map.len s.held) (map.len new.held) ≡ true = grind (arith, nat_tests) in
+        let yes : nat_lt new.remaining s.remaining ≡ true = grind (arith, nat_tests) in
         (λ is. one.1, λ none. yes)
 
 -- no other object comes or goes

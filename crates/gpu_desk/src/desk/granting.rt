@@ -204,7 +204,7 @@ impl Desk {
         let Ok(()) = self.device.begin(answers) else {
             return Err(Denial::Fault(Fault::NoMemory));
         };
-        let held = self.allocator.held_objects();
+        let remaining = self.allocator.remaining_allocations();
         let told = self.device.gone().len();
         let answer = allocate(
             &mut self.allocator,
@@ -216,7 +216,7 @@ impl Desk {
         self.device.forget_gone_after(told);
         match answer {
             Ok(block) => {
-                let fresh = self.allocator.held_objects() > held;
+                let fresh = self.allocator.remaining_allocations() < remaining;
                 let tag = Tag {
                     user: wish.user,
                     asked: request.size,

@@ -76,7 +76,7 @@ returns-in-Ok-answer-clause-granted c =
       alone = done.alone;
       pages = done.pages;
       run = (done.decided.0, mid, subst (λ d. Chain IsStep d done.decided.0 mid) begins done.decided.1, (done.decided.2, shown_at_last));
-      fresh = rw (c.keep.ensures.fresh, c.held_objects.ensures, c.held_objects-held.ensures) (fresh_is c.self.inside.allocator c.allocate-answer.new.allocator b done.added.held done.granted.owned);
+      fresh = rw (c.keep.ensures.fresh, c.remaining_allocations.ensures, c.remaining_allocations-remaining.ensures) (fresh_is c.self.inside.allocator c.allocate-answer.new.allocator b done.added.held done.granted.owned done.total);
       others = λ q other. ap (λ (f : ℕ → _). f q) shown_at_last ∙ given_others _ _ _ b.object (objects_of c.begin.new.self) (objects_of mid) done.objects q other ∙ ap (λ (f : ℕ → _). f q) shown_at_first;
     })
 
