@@ -44,7 +44,7 @@ use crate::{Dedicated, MemoryBlock, MemoryForUsage, Request};
 use by_type::{close_buddies, close_free_lists, empty_buddies, empty_free_lists, unused_heaps};
 use gpu_alloc_base::free_list_block::Slot;
 use gpu_alloc_base::heap::Heap;
-use gpu_alloc_base::{AllocationError, Config, buddy_block, free_list_block};
+use gpu_alloc_base::{AllocationError, Config, booking, buddy_block, free_list_block};
 use gpu_alloc_block::Kind;
 use gpu_alloc_buddy::BuddyAllocator;
 use gpu_alloc_freelist::FreeListAllocator;
@@ -442,8 +442,11 @@ impl<M: MemoryObject, A: Allocator> GpuAllocator<M, A> {
                 };
                 let key = self.own.insert(row);
                 let heap = self.limits.heap_index(memory_type);
-                self.heaps[heap].alloc(row.size);
-                self.allocations_remains -= 1;
+                booking::hold(
+                    &mut self.heaps[heap],
+                    &mut self.allocations_remains,
+                    row.size,
+                );
                 let props = self.limits.props(memory_type);
                 let atom = self.limits.atom(memory_type);
                 Ok(Some(MemoryBlock::new(

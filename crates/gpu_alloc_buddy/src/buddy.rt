@@ -24,6 +24,7 @@ ghost use Rattle.gpu_alloc_pairs.specs.HeldLists.{AddsLeaves, ListsChunks};
 ghost use Rattle.gpu_alloc_pairs.specs.Store.{CountsLooks, CountsTaking};
 ghost use Rattle.gpu_alloc_base.specs.AlignMasks.{IsAlignMask};
 
+use gpu_alloc_base::booking;
 use gpu_alloc_base::buddy_block::{Leaf, into_parts};
 use gpu_alloc_base::heap::Heap;
 use gpu_alloc_base::new_chunk::new_chunk_with_handle;
@@ -311,8 +312,7 @@ impl<M: MemoryObject, A: Allocator> BuddyAllocator<M, A> {
             return;
         };
         device.deallocate_memory(&memory);
-        heap.dealloc(size);
-        *allocations_remains += 1;
+        booking::let_go(heap, allocations_remains, size);
     }
 
     /// The live block of this span of an object, exactly where there is one. `offset` is where it starts in the object
@@ -511,8 +511,7 @@ impl<M: MemoryObject, A: Allocator> BuddyAllocator<M, A> {
         self.next_order = chunk_order;
         // (the heap's limit is a u64, so a ledger that stays within it does not overflow)
         let _ = heap.limit();
-        heap.alloc(size);
-        *allocations_remains -= 1;
+        booking::hold(heap, allocations_remains, size);
         Ok(BuddyBlock::new(handle, leaf))
     }
 }

@@ -35,6 +35,7 @@ mod live;
 mod runs;
 
 pub use chunks::NumberedChunk;
+use gpu_alloc_base::booking;
 use gpu_alloc_base::free_list_block::Slot;
 use gpu_alloc_base::heap::Heap;
 use gpu_alloc_base::new_chunk::new_chunk_with_handle;
@@ -516,8 +517,7 @@ impl<M: MemoryObject, A: Allocator> FreeListAllocator<M, A> {
         self.chunk_size = (2 * chunk_size).min(self.final_chunk_size);
         // (the heap's limit is a u64, so a ledger that stays within it does not overflow)
         let _ = heap.limit();
-        heap.alloc(chunk_size);
-        *allocations_remains -= 1;
+        booking::hold(heap, allocations_remains, chunk_size);
         Ok(block)
     }
 
@@ -560,8 +560,7 @@ impl<M: MemoryObject, A: Allocator> FreeListAllocator<M, A> {
     {
         while let Some((memory, size, _)) = self.freelist.take_whole(keep_last) {
             device.deallocate_memory(&memory);
-            heap.dealloc(size);
-            *allocations_remains += 1;
+            booking::let_go(heap, allocations_remains, size);
         }
     }
 }

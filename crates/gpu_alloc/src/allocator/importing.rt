@@ -12,6 +12,7 @@ ghost use Rattle.gpu_alloc_block.specs.State.{total};
 use super::GpuAllocator;
 use crate::MemoryBlock;
 use crate::own::OwnRow;
+use gpu_alloc_base::booking;
 use gpu_alloc_block::Kind;
 use gpu_alloc_types::{MemoryObject, MemoryPropertyFlags};
 use std::alloc::Allocator;
@@ -95,8 +96,11 @@ impl<M: MemoryObject, A: Allocator> GpuAllocator<M, A> {
         };
         let key = self.own.insert(row);
         let heap = self.limits.heap_index(memory_type);
-        self.heaps[heap].alloc(row.size);
-        self.allocations_remains -= 1;
+        booking::hold(
+            &mut self.heaps[heap],
+            &mut self.allocations_remains,
+            row.size,
+        );
         let atom = self.limits.atom(memory_type);
         Ok(MemoryBlock::new(
             memory,

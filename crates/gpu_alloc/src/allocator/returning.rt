@@ -10,7 +10,7 @@ ghost use Rattle.gpu_alloc_block.specs.State.{IsOwned, is_shared, total};
 use super::{GpuAllocator, uncounted};
 use crate::MemoryBlock;
 use gpu_alloc_base::free_list_block::Slot;
-use gpu_alloc_base::{BuddyBlock, FreeListBlock};
+use gpu_alloc_base::{BuddyBlock, FreeListBlock, booking};
 use gpu_alloc_block::Kind;
 use gpu_alloc_block::block::into_memory;
 use gpu_alloc_types::{MemoryObject, ObjectDevice};
@@ -50,8 +50,11 @@ impl<M: MemoryObject, A: Allocator> GpuAllocator<M, A> {
         device.deallocate_memory(&memory);
         let row = self.own.remove(key, memory.object());
         let heap = self.limits.heap_index(row.memory_type);
-        self.heaps[heap].dealloc(row.size);
-        self.allocations_remains += 1;
+        booking::let_go(
+            &mut self.heaps[heap],
+            &mut self.allocations_remains,
+            row.size,
+        );
         self.keeps_sound();
     }
 

@@ -29,8 +29,8 @@ index_mut-requires g c =
     let n : vec_len c.self.inside.heaps ≡ length c.self.inside.heaps.items = grind (arith, common_steps) in
     omega (arith, n, c.heap_index-heap.ensures, heap_there _ _ _ _ c.self.invariant.books refl c.args.memory_type known)
 
-pub alloc-requires : goal.alloc-requires
-alloc-requires g c =
+pub hold-requires-clause-room : goal.hold-requires-clause-room
+hold-requires-clause-room g c =
     let known = rw (← c.self.view_is) at c.requires.known in
     let small : c.args.size < 2 ^ 64 = omega (arith, c.requires.ends) in
     ledger-room _ _ _ _ c.self.invariant.books refl c.args.memory_type _ _ c.index_mut.result.now known c.heap_index-heap.ensures c.index_mut.ensures.value small
@@ -74,10 +74,10 @@ more g c =
     }
 
 state_is : (g : Over) (c : goal.After-new g)
-    → state_in c.self.inside.limits (set c.self.inside.heaps.items c.heap_index-heap.result c.alloc.new.self) c.self.inside.buddies.items c.self.inside.free_lists.items (whole c.insert-key.new.self c.self.inside.buddies.items c.self.inside.free_lists.items) (c.self.inside.allocations_remains - 1)
+    → state_in c.self.inside.limits (set c.self.inside.heaps.items c.heap_index-heap.result c.hold.new.heap) c.self.inside.buddies.items c.self.inside.free_lists.items (whole c.insert-key.new.self c.self.inside.buddies.items c.self.inside.free_lists.items) (c.self.inside.allocations_remains - 1)
     ≡ holding (before g c) (object g c) (block g c)
 state_is g c =
-    state_held c.self.inside.limits _ c.self.inside.buddies.items c.self.inside.free_lists.items _ _ c.index_mut.result.now (whole c.self.inside.own c.self.inside.buddies.items c.self.inside.free_lists.items) (whole c.insert-key.new.self c.self.inside.buddies.items c.self.inside.free_lists.items) _ (object g c) (block g c) c.index_mut.ensures.value (ap (λ (h : Heap). h.size) c.alloc.ensures) (ap (λ (h : Heap). h.limit) c.alloc.ensures)
+    state_held c.self.inside.limits _ c.self.inside.buddies.items c.self.inside.free_lists.items _ _ c.index_mut.result.now (whole c.self.inside.own c.self.inside.buddies.items c.self.inside.free_lists.items) (whole c.insert-key.new.self c.self.inside.buddies.items c.self.inside.free_lists.items) _ (object g c) (block g c) c.index_mut.ensures.value (ap (λ (h : Heap). h.size) c.hold.ensures.ledger) (ap (λ (h : Heap). h.limit) c.hold.ensures.ledger)
     (more g c).held (more g c).live
 
 block_is : (g : Over) (c : goal.After-new g) → c.new.result ≡ block g c
@@ -87,17 +87,17 @@ block_is g c =
 
 pub invariant_of-self-2 : goal.invariant_of-self-2
 invariant_of-self-2 g c =
-    rw (properties_kept c.self.inside.limits c.self.inside.heaps.items c.heap_index-heap.result c.alloc.new.self c.index_mut.result.now c.index_mut.ensures.value (ap (λ (h : Heap). h.size) c.alloc.ensures))
+    rw (properties_kept c.self.inside.limits c.self.inside.heaps.items c.heap_index-heap.result c.hold.new.heap c.index_mut.result.now c.index_mut.ensures.value (ap (λ (h : Heap). h.size) c.hold.ensures.ledger), c.hold.ensures.count)
     (record {
       books = booked-held _ _ _ _ c.self.invariant.books refl (whole c.insert-key.new.self c.self.inside.buddies.items c.self.inside.free_lists.items) (object g c) (span_of (block g c)) (more g c) c.index_mut.result.now _ _ (some g c)
-          c.heap_index-heap.ensures c.index_mut.ensures.value c.alloc.ensures (λ asked. absurd (cc));
+          c.heap_index-heap.ensures c.index_mut.ensures.value c.hold.ensures.ledger (λ asked. absurd (cc));
       shared = c.self.invariant.shared;
       listed = c.self.invariant.listed;
       apart = (came g c).apart;
     })
 
 pub returns-clause-imported : goal.returns-clause-imported
-returns-clause-imported g c = rw (← c.self.view_is) (imports (before g c) _ _ _ _ _ c.new.result (block_is g c) (state_is g c))
+returns-clause-imported g c = rw (← c.self.view_is, c.hold.ensures.count) (imports (before g c) _ _ _ _ _ c.new.result (block_is g c) (state_is g c))
 
 -- The object's name is free in the table, and so are its spans.
 

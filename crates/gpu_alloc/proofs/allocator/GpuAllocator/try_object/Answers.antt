@@ -58,8 +58,8 @@ index_mut-requires g c =
     omega (arith, n, c.heap_index-heap.ensures, heap_there _ _ _ _ c.self.invariant.books refl c.args.memory_type known)
 
 -- `small` is what the size's type says, among what the argument `request` is known by
-pub alloc-requires : goal.alloc-requires
-alloc-requires g c =
+pub hold-requires-clause-room : goal.hold-requires-clause-room
+hold-requires-clause-room g c =
     let known = rw (← c.self.view_is) at c.requires.known in
     let small : c.args.request.size < 2 ^ 64 = c.well_formed.1.1.0.1.1.0.1 in
     ledger-room _ _ _ _ c.self.invariant.books refl c.args.memory_type _ _ c.index_mut.result.now known c.heap_index-heap.ensures c.index_mut.ensures.value small
@@ -111,10 +111,10 @@ fits g c =
     omega (arith, (asks g c).within, of.used, of.limit)
 
 state_is : (g : Over) (c : goal.After-new g)
-    → state_in c.self.inside.limits (set c.self.inside.heaps.items c.heap_index-heap.result c.alloc.new.self) c.self.inside.buddies.items c.self.inside.free_lists.items (whole c.insert-key.new.self c.self.inside.buddies.items c.self.inside.free_lists.items) (c.self.inside.allocations_remains - 1)
+    → state_in c.self.inside.limits (set c.self.inside.heaps.items c.heap_index-heap.result c.hold.new.heap) c.self.inside.buddies.items c.self.inside.free_lists.items (whole c.insert-key.new.self c.self.inside.buddies.items c.self.inside.free_lists.items) (c.self.inside.allocations_remains - 1)
     ≡ holding (before g c) (own_object c.args.request.size c.args.memory_type) (block g c)
 state_is g c =
-    state_held c.self.inside.limits _ c.self.inside.buddies.items c.self.inside.free_lists.items _ _ c.index_mut.result.now (whole c.self.inside.own c.self.inside.buddies.items c.self.inside.free_lists.items) (whole c.insert-key.new.self c.self.inside.buddies.items c.self.inside.free_lists.items) _ (object g c) (block g c) c.index_mut.ensures.value (ap (λ (h : Heap). h.size) c.alloc.ensures) (ap (λ (h : Heap). h.limit) c.alloc.ensures)
+    state_held c.self.inside.limits _ c.self.inside.buddies.items c.self.inside.free_lists.items _ _ c.index_mut.result.now (whole c.self.inside.own c.self.inside.buddies.items c.self.inside.free_lists.items) (whole c.insert-key.new.self c.self.inside.buddies.items c.self.inside.free_lists.items) _ (object g c) (block g c) c.index_mut.ensures.value (ap (λ (h : Heap). h.size) c.hold.ensures.ledger) (ap (λ (h : Heap). h.limit) c.hold.ensures.ledger)
     (more g c).held (more g c).live
 
 block_is : (g : Over) (c : goal.After-new g) → c.new.result ≡ block g c
@@ -122,10 +122,10 @@ block_is g c = c.new.ensures ∙ (λ k. record (block g c) { object = sym c.obje
 
 pub invariant_of-self-in-Ok : goal.invariant_of-self-in-Ok
 invariant_of-self-in-Ok g c =
-    rw (properties_kept c.self.inside.limits c.self.inside.heaps.items c.heap_index-heap.result c.alloc.new.self c.index_mut.result.now c.index_mut.ensures.value (ap (λ (h : Heap). h.size) c.alloc.ensures))
+    rw (properties_kept c.self.inside.limits c.self.inside.heaps.items c.heap_index-heap.result c.hold.new.heap c.index_mut.result.now c.index_mut.ensures.value (ap (λ (h : Heap). h.size) c.hold.ensures.ledger), c.hold.ensures.count)
     (record {
       books = booked-held _ _ _ _ c.self.invariant.books refl (whole c.insert-key.new.self c.self.inside.buddies.items c.self.inside.free_lists.items) (object g c) (span_at c.object.result 0 c.args.request.size) (more g c) c.index_mut.result.now _ _
-          (positive c.self.inside.allocations_remains c.if-self-eq0.false) c.heap_index-heap.ensures c.index_mut.ensures.value c.alloc.ensures (λ asked. fits g c);
+          (positive c.self.inside.allocations_remains c.if-self-eq0.false) c.heap_index-heap.ensures c.index_mut.ensures.value c.hold.ensures.ledger (λ asked. fits g c);
       shared = c.self.invariant.shared;
       listed = c.self.invariant.listed;
       apart = (came g c).apart;
@@ -133,7 +133,7 @@ invariant_of-self-in-Ok g c =
 
 pub returns-in-Ok-clause-tries : goal.returns-in-Ok-clause-tries
 returns-in-Ok-clause-tries g c =
-    rw (← c.self.view_is) (
+    rw (← c.self.view_is, c.hold.ensures.count) (
       made (own_question (before g c) c.args.request.size c.args.memory_type) c.object.result,
       (c.allocate_memory-answer.new.self, rw (← c.flags-flags.ensures, c.object.ensures) c.in-Ok.ensures, refl),
       decides_granted (before g c) _ c.args.request c.args.memory_type c.object.result _ (block_is g c) (asks g c) (free g c) (state_is g c),
@@ -221,8 +221,8 @@ allocate_memory-answer-requires g c =
     askable c.args.self.now _ c.args.request.size c.args.memory_type _ c.requires.agrees.properties c.requires.askable.nonempty c.requires.known
     (c.flags-flags.ensures ∙ ap (λ (s : State). flags_of s.properties) c.self.view_is)
 
-pub overflow_sub-self : goal.overflow_sub-self
-overflow_sub-self g c = positive c.self.inside.allocations_remains c.if-self-eq0.false
+pub hold-requires-clause-remains : goal.hold-requires-clause-remains
+hold-requires-clause-remains g c = positive c.self.inside.allocations_remains c.if-self-eq0.false
 
 pub insert-key-requires-clause-room : goal.insert-key-requires-clause-room
 insert-key-requires-clause-room g c = when_ok _ (sym c.if-is_err.ensures.value) c.reserve.ensures.room

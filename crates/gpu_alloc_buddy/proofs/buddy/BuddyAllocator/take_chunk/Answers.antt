@@ -65,10 +65,10 @@ returns-clause-answers g c =
     told.2.0 ∙ ap (λ q. made q (g.M.MemoryObject.object c.in-Ok.handles.0)) (asked g at) ∙ ap (made (question b (2 ^ c.args.order) flags)) (sym c.begin-leaf.ensures.object) in
     let space_is : buddy_in c.begin-leaf.new.self.space c.chunk_order-chunk_order.result c.self.inside.minimal_size c.self.inside.memory_type (property_bits c.self.inside.props) c.self.inside.atom ≡ with_leaf (with_chunk b leaf (2 ^ c.chunk_order-chunk_order.result)) leaf =
     rw (c.begin-leaf.ensures.space, c.reserve.ensures.kept.space) refl in
-    let new_is = in_new_chunk_is (account b c.args.heap.now c.args.allocations_remains.now) leaf _ (2 ^ c.chunk_order-chunk_order.result) c.bytes-size.result _ c.alloc.new.self
-    space_is c.alloc.ensures (sym (sized g at)) (c.bytes-size.ensures ∙ sym (sized g at)) in
+    let new_is = in_new_chunk_is (account b c.args.heap.now c.args.allocations_remains.now) leaf _ (2 ^ c.chunk_order-chunk_order.result) c.bytes-size.result _ c.hold.new.heap
+    space_is c.hold.ensures.ledger (sym (sized g at)) (c.bytes-size.ensures ∙ sym (sized g at)) in
     let begins = rw (c.reserve.ensures.kept.space) at c.begin-leaf.ensures.begins in
-    rw (← c.self.view_is, c.new.ensures) (
+    rw (← c.self.view_is, c.new.ensures, c.hold.ensures.count) (
       told.0,
       told.1,
       inr (record { asks = asks; place = record { of_size = begins.of_size; start = begins.start; free_key = begins.free_key }; asked = es_is; state = new_is }),
@@ -97,8 +97,8 @@ pub returns-clause-split : goal.returns-clause-split
 returns-clause-split g c =
     (omega (arith, c.begin-leaf.ensures.counted, c.chunk_order-chunk_order.ensures.longer), omega (arith, c.begin-leaf.ensures.counted, c.chunk_order-chunk_order.ensures.bound))
 
-pub alloc-requires : goal.alloc-requires
-alloc-requires g c =
+pub hold-requires-clause-room : goal.hold-requires-clause-room
+hold-requires-clause-room g c =
     let asks = rw (← c.self.view_is) at c.requires.asks in
     let size = rw (← c.self.view_is) at c.chunk_order-chunk_order.ensures.is in
     omega (arith, asks.within, size, c.bytes-size.ensures, c.limit.ensures, c.limit.type_inv)

@@ -84,13 +84,13 @@ begin-block-requires-clause-inside g c = c.chunk_size_for-chunk_size.ensures.eno
 pub overflow_mul-chunk_size : goal.overflow_mul-chunk_size
 overflow_mul-chunk_size g c = omega (arith, c.chunk_size_for-chunk_size.ensures.bound)
 
-pub alloc-requires : goal.alloc-requires
-alloc-requires g c =
+pub hold-requires-clause-room : goal.hold-requires-clause-room
+hold-requires-clause-room g c =
     let asks = rw (← c.self.view_is) at c.requires.asks in
     omega (arith, asks.within, c.chunk_size_for-chunk_size.ensures.is, c.limit.ensures, c.limit.type_inv)
 
-pub overflow_sub-allocations_remains : goal.overflow_sub-allocations_remains
-overflow_sub-allocations_remains g c =
+pub hold-requires-clause-remains : goal.hold-requires-clause-remains
+hold-requires-clause-remains g c =
     let asks = rw (← c.self.view_is) at c.requires.asks in
     asks.has.remains.objects
 
@@ -119,13 +119,14 @@ returns-clause-answers g c =
     let flags = allocation_bits c.args.flags in
     let q : ChunkQuestion = chunk_question c.chunk_size_for-chunk_size.result c.self.inside.memory_type flags c.intersects-visible.result in
     let is = question_is l c.args.size c.chunk_size_for-chunk_size.result flags c.intersects-visible.result c.chunk_size_for-chunk_size.ensures.is c.intersects-visible.ensures in
-    let after = account (record l { space = c.begin-block.new.self.space; next_chunk = c.min-self-inside.result }) c.alloc.new.self (c.args.allocations_remains.now - 1) in (
+    let after = account (record l { space = c.begin-block.new.self.space; next_chunk = c.min-self-inside.result }) c.hold.new.heap (c.args.allocations_remains.now - 1) in
+    rw c.hold.ensures.count (
       told.0,
       told.1,
       subst (λ x. Answers (list_case (account x c.args.heap.now c.args.allocations_remains.now) c.args.size (c.args.align_mask + 1) flags) told.0 (Ok c.begin-block.result) after) c.self.view_is
-          (grown_answers l c.args.heap.now c.alloc.new.self c.args.allocations_remains.now c.args.size (c.args.align_mask + 1) flags (g.M.MemoryObject.object c.in-Ok.handles.0) c.chunk_size_for-chunk_size.result c.min-self-inside.result
+          (grown_answers l c.args.heap.now c.hold.new.heap c.args.allocations_remains.now c.args.size (c.args.align_mask + 1) flags (g.M.MemoryObject.object c.in-Ok.handles.0) c.chunk_size_for-chunk_size.result c.min-self-inside.result
           c.reserve.new.self.space c.begin-block.new.self.space c.begin-block.result told.0 q c.reserve.ensures.kept c.begin-block.ensures.block c.begin-block.ensures.chunk c.chunk_size_for-chunk_size.ensures.is c.min-self-inside.ensures
-          c.alloc.ensures is told.2.0 asks),
+          c.hold.ensures.ledger is told.2.0 asks),
     )
 
 -- and the device's objects
