@@ -10,7 +10,7 @@ use Rattle.gpu_alloc_base.specs.FreeSpace.{IsMultipleOf, IsPowerOfTwo}
 use Rattle.gpu_alloc_base.specs.Sizes.{up}
 use Rattle.gpu_alloc_base.specs.declared.error.AllocationError.{AllocationError}
 use Rattle.gpu_alloc_base.proofs.ChunkSizes.{up_enough}
-use Rattle.gpu_alloc_base.proofs.Multiples.{down_below, mod_from_multiple, multiple_below, multiple_from_mod, multiple_of_lower}
+use Rattle.gpu_alloc_base.proofs.Multiples.{mod_from_multiple, multiple_below, multiple_from_mod, multiple_of_lower}
 use Rattle.gpu_alloc_base.proofs.PowersOfTwo.{bit_of_power, greater_power, power_of_bit}
 use Rattle.gpu_alloc_block.specs.State.{Block, State}
 use Rattle.gpu_alloc_block.specs.declared.block.Kind.TheVariants.{Dedicated as DedicatedObject}
@@ -32,10 +32,6 @@ module _ (g : ℕ) (is : IsGranularity g) where
 
   some : 0 < g
   some = omega (arith, power.1, pow_pos power.0)
-
-  -- the least number of bytes in whole pages that has 2^64 bytes or more is of a size that has as many with a page less one
-  pub pages_small : (size : ℕ) → size + (g - 1) < 2 ^ 64 → up size g < 2 ^ 64
-  pages_small size small = omega (arith, small, down_below (size + (g - 1)) g)
 
   pub pages_large : (size : ℕ) → 2 ^ 64 ≤ size + (g - 1) → 2 ^ 64 ≤ up size g
   pages_large size large =

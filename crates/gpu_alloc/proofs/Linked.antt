@@ -16,15 +16,16 @@ use Rattle.gpu_alloc_base.proofs.Leaves.{leaf_total, leaf_exact}
 use Rattle.gpu_alloc_base.proofs.Maps.{one_value}
 use Rattle.gpu_alloc_base.proofs.Slots.{slot_total, slot_exact}
 use Rattle.gpu_alloc_block.specs.Parts.{AreNamed, Holds, IsAt, Part}
-use Rattle.gpu_alloc_block.specs.State.{HeldObject, Span}
+use Rattle.gpu_alloc_block.specs.State.{HeldObject, Span, State}
 use Rattle.gpu_alloc_block.specs.declared.block.Kind.TheVariants.{FreeListChunk}
 use Rattle.gpu_alloc_block.proofs.Parts.ByName.{name_there, name_was, span_row_live, span_row_there}
 use Rattle.gpu_alloc_block.proofs.Parts.Steps.{holds_of, own_part, part_span}
 use Rattle.gpu_alloc_block.proofs.Parts.Unions.{live_of}
 use Rattle.gpu_alloc_buddy.specs.BuddyState.{IsLiveLeaf}
 use Rattle.gpu_alloc_freelist.specs.FreeListState.{IsLiveSlot}
-use Rattle.gpu_alloc.specs.Inside.{chunk_object, leaf_at, list_object, slot_at, span_of_leaf, span_of_slot, AreBuddies, AreLists, IsBooked, IsBuddyFor, IsChunkOf, IsForType, IsLinked, IsListFor, IsListForType, IsListLinked, IsNumberedChunk}
+use Rattle.gpu_alloc.specs.Inside.{chunk_object, leaf_at, list_object, properties_in, slot_at, span_of_leaf, span_of_slot, state_in, AreBuddies, AreLists, IsBooked, IsBuddyFor, IsChunkOf, IsForType, IsLinked, IsListFor, IsListForType, IsListLinked, IsNumberedChunk}
 use Rattle.gpu_alloc.specs.Own.{OwnTable}
+use Rattle.gpu_alloc.specs.declared.limits.Limits.{Limits}
 use Rattle.gpu_alloc.specs.Whole.{buddy_part, list_part, parts_of, whole, AreWhole, IsKept, IsPlace}
 use Rattle.gpu_alloc.proofs.HeapLists.{each_set}
 use Rattle.gpu_alloc.proofs.Wholes.{at_buddy, at_list, single, stands_at, within}
@@ -62,6 +63,10 @@ pub record IsRecorded (c : Config) (p : Properties) (heaps : List Heap) (buddies
 pub kept_as : (c : Config) (p : Properties) (heaps : List Heap) (buddies : List Buddy) (lists : List Listing) (own : OwnTable) (remaining : ℕ) → IsRecorded c p heaps buddies lists (whole own buddies lists) remaining
     → AreWhole own buddies lists → IsKept c p heaps buddies lists own remaining
 kept_as c p heaps buddies lists own remaining is apart = record { books = is.books; shared = is.shared; listed = is.listed; apart = apart }
+
+-- fields that keep what they have to, and stand for this state
+abbrev pub StandFor : {A : Type 0} → Limits A → List Heap → List Buddy → List Listing → OwnTable → ℕ → State → Type 0
+StandFor l heaps buddies lists own remaining s = IsKept l.config (properties_in l heaps) heaps buddies lists own remaining × (state_in l heaps buddies lists (whole own buddies lists) remaining ≡ s)
 
 -- They follow from what the parts hold.
 

@@ -117,9 +117,6 @@ module _ (F : ℕ → ℕ → Type 0) (object : ℕ) (test : (x : ℕ) → F obj
 
   -- the aligned range of an order around a byte
   module _ (at : ℕ) (free : F object at) where
-    aligned_at : ℕ → ℕ
-    aligned_at k = down at (2 ^ k)
-
     around_at : (k : ℕ) → IsIn (down at (2 ^ k)) (2 ^ k) at
     around_at k = let some = pow_pos k in record { from = down_below at (2 ^ k); to = omega (arith, some) }
 

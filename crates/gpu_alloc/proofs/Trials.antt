@@ -1,5 +1,5 @@
 -- Candidates that are tried in turn, and what a refusal comes to.
-use Rattle.std.proofs.Common.{◌≡◌, ℕ, suc, ◌<◌, ◌≤◌, Bool, true, false, List, [], ◌∷◌, ◌++◌, ◌/◌, ◌^◌, ◌==◌, bit_and, arith, ap, filter, length, drop, get_or, Option, Result, Err, refl, subst, sym, ◌∙◌, inl, inr, append_assoc, append-nil, drop-cons}
+use Rattle.std.proofs.Common.{◌≡◌, ℕ, suc, ◌<◌, ◌≤◌, Bool, true, false, List, [], ◌∷◌, ◌++◌, ◌/◌, ◌^◌, ◌==◌, bit_and, arith, ap, filter, length, drop, get_or, Option, Result, Err, refl, subst, ◌∙◌, inl, inr, append_assoc, append-nil, drop-cons}
 use Rattle.std.proofs.lemmas.Bool.Decides.{nat_tests}
 use Rattle.std.proofs.lemmas.Nat.Bits.{shr_and_one}
 use Rattle.std.proofs.Math.ListN.{drop_of_length-le}
@@ -11,9 +11,7 @@ use Rattle.gpu_alloc_block.specs.State.{State, Block}
 use Rattle.gpu_alloc_base.specs.Case as case
 use Rattle.gpu_alloc_base.specs.Case.{Case}
 use Rattle.gpu_alloc.specs.Allocation.{candidates_of, passing, IsPassed, Decides, TriesAll, ObjectsTried}
-use Rattle.gpu_alloc.specs.Growth.{IsFirst}
 use Rattle.gpu_alloc.specs.declared.allocator.Ask.{Ask}
-use Rattle.gpu_alloc_base.proofs.ToldTwice.{IsToldAs, first_is, wants_is}
 use Rattle.gpu_alloc_base.specs.declared.error.AllocationError.{AllocationError}
 use Rattle.gpu_alloc_base.specs.declared.error.AllocationError.TheVariants.{OutOfDeviceMemory, OutOfHostMemory, NoCompatibleMemoryTypes, TooManyObjects}
 use Rattle.gpu_alloc.specs.declared.request.Request.{Request}
@@ -88,8 +86,3 @@ pub tries_as_meant : (s : State) (r : Request) (asked : ℕ → Ask) (meant : �
 tries_as_meant s r asked meant es answer new is h =
     let same : named meant ≡ implied (usage_bits r.usage) = ap named is ∙ implied-named (usage_bits r.usage) in
     subst (λ u. TriesAll s asked (filter (is_allowed r.memory_types) (ranking u s.properties.memory_types)) es answer new) same h
-
--- what a request gets before the table grows is what it gets at last
-pub first_refusal : {B S B' S' : Type 0} {c : Case B S} {d : Case B' S'} → IsToldAs c d → (e : AllocationError) → IsFirst c e → case.Answers d [] (Err e) d.before
-first_refusal told e (inl first) = first_is told e first
-first_refusal {d = d} told e (inr (is, none)) = subst (λ x. case.Answers d [] (Err x) d.before) (sym is) (wants_is told none)

@@ -146,9 +146,6 @@ module _ (own : OwnTable) (buddies : List Buddy) (lists : List Listing) (apart :
   pub live_here : (span : Span) (h : HeldObject) → IsTrue (set_of.contains (whole own buddies lists).live span) → finite.get own.held span.object ≡ Some h → IsTrue (set_of.contains own.live span)
   live_here span h live has = part_span Place ps apart zero (part_of_own own) span h live has refl
 
-  pub live_held : (span : Span) → IsTrue (set_of.contains own.live span) → (h : HeldObject) × (finite.get own.held span.object ≡ Some h)
-  live_held span live = apart.inside zero (part_of_own own) span refl live
-
   module _ (now : OwnTable) where
     pub own_comes : (span : Span) (h : HeldObject) → finite.get (whole own buddies lists).held span.object ≡ None → is_shared h.kind ≡ false
         → now.held ≡ finite.insert own.held span.object h → now.live ≡ set_of.insert own.live span

@@ -1,5 +1,5 @@
 -- A request that is told twice, of an allocator's own chunks and of what a larger one holds: what the first refuses, the second does.
-use Rattle.std.proofs.Common.{◌≡◌, inl, inr, ◌<◌, List, [], Some, None, Err, refl, ap, subst, arith, IsTrue}
+use Rattle.std.proofs.Common.{◌≡◌, inl, inr, ◌<◌, List, [], Some, Err, refl, ap, subst, arith, IsTrue}
 use Rattle.gpu_alloc_types.specs.Device.{Event}
 use Rattle.gpu_alloc_base.specs.Case.{Case, MayAsk, HasQuestion, Asks, IsWithinBudget, IsOverBudget, IsOpen, IsShut, IsPassedUnasked, IsPassed, LacksHost, Answers, RefusesFirst}
 use Rattle.gpu_alloc_base.specs.NewChunk.{ChunkQuestion, LacksDeviceMemory, LacksHostMemory, IsGivenBack}
@@ -75,7 +75,3 @@ module _ {B S B' S' : Type 0} {c : Case B S} {d : Case B' S'} (told : IsToldAs c
   first_is TooManyObjects shut = (refl, refl, shut_is shut)
   first_is OutOfHostMemory never = absurd never
   first_is NoCompatibleMemoryTypes never = absurd never
-
-  -- nothing is certain, and then there is no host memory
-  pub wants_is : RefusesFirst c None → Answers d [] (Err OutOfHostMemory) d.before
-  wants_is is = (refl, inl (refl, open_is is))

@@ -4,7 +4,7 @@ use Rattle.std.proofs.lemmas.Bool.{cases_lt}
 use Rattle.std.proofs.lemmas.List.{get_or_default}
 use Rattle.std.proofs.lemmas.List.Elements.{Contains-get_or, Contains-append_left, Contains-push, Contains-push_cases}
 use Rattle.std.proofs.lemmas.List.Quantifiers.{all_pairs_push}
-use Rattle.std.specs.Prelude.{IfSome, IfNone, IsSome, is_some}
+use Rattle.std.specs.Prelude.{IfSome, IfNone, is_some}
 use Rattle.std.specs.Result.{IsErr}
 use Rattle.std.specs.List.{All}
 use Rattle.std.specs.FinMap as map
@@ -23,7 +23,7 @@ use Rattle.gpu_alloc_base.specs.declared.free_list_block.Slot.{Slot}
 use Rattle.gpu_alloc_base.specs.declared.region.FreeListRegion.{FreeListRegion}
 use Rattle.gpu_alloc_base.proofs.FreeRuns.{region_is_run, run_is_region, place_has_run, run_has_place, last_is, not_both, tail_below}
 use Rattle.gpu_alloc_base.proofs.Lists.{contains_head, contains_later, contains_cases, contains_none}
-use Rattle.gpu_alloc_base.proofs.Maps.{found_value, one_value, own_inserted, inserted_cases, inserted_kept}
+use Rattle.gpu_alloc_base.proofs.Maps.{one_value, own_inserted, inserted_cases, inserted_kept}
 use Rattle.gpu_alloc_base.proofs.SameRuns.{runs_same}
 use Rattle.gpu_alloc_freelist.proofs.Spaces.{was_live, still_live, now_live, space_with_slot, next_is_new, none_in_next, space_with_chunk}
 
@@ -361,10 +361,6 @@ module _ (regions : List FreeListRegion) (size alignment i : ℕ) (r : FreeListR
 
 -- What the stores keep with a block more.
 
--- no number that is held is above the latest
-pub below_next : (s : Space) → IsSoundSpace s → (k : ℕ) → IsSome (map.get s.chunks k) → k < s.latest + 1
-below_next s sound k some = let found = found_value (map.get s.chunks k) some in omega (arith, (sound.numbers k found.0 found.1).1)
-
 pub listed : (chunks : HeldChunks) (latest : ℕ) (live new : set.FinSet slot_cmp) (regions : List FreeListRegion) (slot : Slot) (count room whole : ℕ) → new ≡ set.insert live slot
     → IsTaken (space_in chunks live latest) regions slot → count ≤ room → wholes chunks regions ≡ whole → IsListed (space_in chunks new latest) regions count room whole
 listed chunks latest live new regions slot count room whole is took enough counted =
@@ -379,14 +375,6 @@ listed chunks latest live new regions slot count room whole is took enough count
 -- room for one more chunk with a block is room in each list
 pub some_room : (chunks live regions : ℕ) → 0 < room_for chunks live regions → (0 < chunks) × ((0 < live) × (2 ≤ regions))
 some_room chunks live regions some = (omega (arith, some), (omega (arith, some), omega (arith, some)))
-
--- room stays where no list can take less
-pub room_kept : (chunks live regions chunks' live' regions' : ℕ) → chunks ≤ chunks' → live ≤ live' → regions ≤ regions' → room_for chunks live regions ≤ room_for chunks' live' regions'
-room_kept chunks live regions chunks' live' regions' in_chunks in_live in_regions = omega (arith, in_chunks, in_live, in_regions)
-
--- and is one less at most where a chunk came with a block
-pub room_taken : (chunks live regions chunks' live' regions' : ℕ) → chunks ≤ chunks' + 1 → live ≤ live' + 1 → regions ≤ regions' + 2 → room_for chunks live regions ≤ room_for chunks' live' regions' + 1
-room_taken chunks live regions chunks' live' regions' in_chunks in_live in_regions = omega (arith, in_chunks, in_live, in_regions)
 
 -- The lists with a new chunk, and the block that is its tail.
 

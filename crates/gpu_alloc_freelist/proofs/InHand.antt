@@ -1,12 +1,12 @@
 -- What the calls of a free list's allocator leave of the blocks in hand.
-use Rattle.std.proofs.Common.{◌≡◌, inl, inr, ℕ, ◌<◌, ◌≤◌, ◌∷◌, [], true, false, List, Option, Some, None, Result, Ok, Err, IfOk, refl, sym, ◌∙◌, ap, subst, arith}
+use Rattle.std.proofs.Common.{◌≡◌, inl, inr, ℕ, ◌<◌, ◌≤◌, ◌∷◌, [], true, false, List, Option, Some, None, Result, Ok, Err, IfOk, refl, sym, ◌∙◌, ap, arith}
 use Rattle.std.specs.FinMap as map
 use Rattle.std.specs.FinSet as set
 use Rattle.std.specs.List.{Contains}
 use Rattle.gpu_alloc_types.specs.Device.{Object, Event}
 use Rattle.gpu_alloc_types.specs.Properties.{Properties}
 use Rattle.gpu_alloc_base.specs.InHand.{Offers}
-use Rattle.gpu_alloc_base.specs.Accounts.{Account, account, HeldChunks}
+use Rattle.gpu_alloc_base.specs.Accounts.{Account, HeldChunks}
 use Rattle.gpu_alloc_base.specs.Case.{Answers}
 use Rattle.gpu_alloc_base.specs.Chunks.{Chunk}
 use Rattle.gpu_alloc_base.specs.Slots.{slot_cmp}

@@ -1,8 +1,7 @@
 -- Rows with rising numbers that are searched for one: the row that has it is what the finite map has.
-use Rattle.std.proofs.Common.{◌≡◌, inl, inr, ℕ, zero, suc, ◌<◌, ◌≤◌, List, [], ◌∷◌, length, get_or, Some, IfSome, IsSome, slice_get, sym, ◌∙◌, ap, subst, arith}
+use Rattle.std.proofs.Common.{◌≡◌, inl, inr, ℕ, zero, suc, ◌<◌, ◌≤◌, List, [], ◌∷◌, length, get_or, IfSome, IsSome, slice_get, sym, ◌∙◌, ap, subst, arith}
 use borrow.Author.Tests.{tests}
 use Rattle.std.proofs.lemmas.Bool.{cases_lt}
-use Rattle.std.proofs.lemmas.List.Elements.{Contains-get_or}
 use Rattle.std.proofs.lemmas.Map.Lookups.{exact_unsigned}
 use Rattle.std.proofs.lemmas.Option.{slice_get-get_or}
 use Rattle.std.specs.Cmp.{nat_cmp_is}
@@ -13,7 +12,7 @@ use Rattle.std.specs.Ordering.{nat_cmp, ordering_index}
 use Rattle.std.specs.declared.cmp.Ordering.TheVariants.{Less, Equal, Greater}
 use Rattle.gpu_alloc_base.proofs.ListedRanges.{some_value}
 use Rattle.gpu_alloc_freelist.specs.Chunks.{by_number, AreNumbered}
-use Rattle.gpu_alloc_freelist.proofs.NumberedRows.{numbered_place, row_found}
+use Rattle.gpu_alloc_freelist.proofs.NumberedRows.{numbered_place}
 
 -- what holds at a place holds of what stands there
 pub holds_there : {X : Type 0} (P : X → Type 0) (xs : List X) (i : ℕ) → i < length xs → HoldsAt P xs i → IfSome (slice_get xs i) P
@@ -59,9 +58,3 @@ module _ {T X : Type 0} (number : T → ℕ) (value : T → X) (rows : List T) (
   -- the row that compares equal has the number, and says what the map has under it
   pub found_number : (i : ℕ) → i < length rows → HoldsAt (λ row. nat_cmp (number row) k ≡ Equal) rows i → IfSome (slice_get rows i) (λ row. number row ≡ k)
   found_number i lt equal = holds_there (λ row. number row ≡ k) rows i lt (λ d. exact_unsigned (number (get_or rows i d)) k (equal d))
-
-  pub found_says : (i : ℕ) → i < length rows → HoldsAt (λ row. nat_cmp (number row) k ≡ Equal) rows i
-      → IfSome (slice_get rows i) (λ row. map.get (by_number number value rows) k ≡ Some (value row))
-  found_says i lt equal = holds_there (λ row. map.get (by_number number value rows) k ≡ Some (value row)) rows i lt (λ d.
-      let row = get_or rows i d in
-      subst (λ n. map.get (by_number number value rows) n ≡ Some (value row)) (exact_unsigned (number row) k (equal d)) (row_found number value rows row rise (Contains-get_or rows i d lt)))

@@ -197,17 +197,7 @@ module _ (F : ℕ → ℕ → Type 0) (regions : List FreeListRegion) (i : ℕ) 
     -- a run is taken from its start on
     pub whole_goes : cut ≡ r.start → AreRunsBeside (remove regions i) F tail
     whole_goes is = subst (AreRunsBeside (remove regions i) F) (λ k. record { chunk = r.chunk; start = sym is k; end = r.end }) run_goes
-
     -- The same by what was read at that place.
-
-    pub tail_goes_at : (x y : FreeListRegion) → x ≡ get_or regions i x → y ≡ get_or regions i y → x.start < cut → cut < r.end
-        → AreRunsBeside (set regions i (record { chunk = y.chunk; start = y.start; end = cut })) F tail
-    tail_goes_at x y is_x is_y from to =
-        subst (λ (q : FreeListRegion). AreRunsBeside (set regions i (record { chunk = q.chunk; start = q.start; end = cut })) F tail) (sym (is_y ∙ get_or_default regions i y d within))
-        (tail_goes (subst (λ (q : FreeListRegion). q.start < cut) (is_x ∙ get_or_default regions i x d within) from) to)
-
-    pub whole_goes_at : (x : FreeListRegion) → x ≡ get_or regions i x → r.start ≤ cut → cut ≤ x.start → AreRunsBeside (remove regions i) F tail
-    whole_goes_at x is_x le ge = whole_goes (omega (arith, le, subst (λ (q : FreeListRegion). cut ≤ q.start) (is_x ∙ get_or_default regions i x d within) ge))
 
 -- A block comes back.
 

@@ -1,9 +1,9 @@
 -- The runs of a list, as one loses its tail or goes, and as a range comes back: whatever the free bytes are, they stay
 -- exactly those.
-use Rattle.std.proofs.Common.{◌≡◌, inl, inr, ℕ, ◌+◌, ◌<◌, ◌≤◌, List, ◌∷◌, length, take, drop, get_or, refl, sym, ◌∙◌, ap, subst, arith}
+use Rattle.std.proofs.Common.{◌≡◌, inl, inr, ℕ, ◌+◌, ◌<◌, ◌≤◌, List, length, get_or, refl, sym, ◌∙◌, ap, subst, arith}
 use Rattle.std.specs.List.{All, Contains, remove}
 use Rattle.std.proofs.lemmas.Bool.{cases_lt, cases_order}
-use Rattle.std.proofs.lemmas.List.{length-append, get_or_default}
+use Rattle.std.proofs.lemmas.List.{get_or_default}
 use Rattle.std.proofs.lemmas.List.Elements.{Contains-get_or}
 use Rattle.gpu_alloc_base.specs.FreeRuns.{IsBefore, With, AreRuns, AreRunsBeside}
 use Rattle.gpu_alloc_base.specs.declared.region.FreeListRegion.{FreeListRegion}
@@ -63,11 +63,6 @@ module _ (F : ℕ → ℕ → Type 0) where
 pub put_back_length : (old : List FreeListRegion) (x joint : FreeListRegion) (new : List FreeListRegion) → PutsBack old x joint new → length new ≤ length old + 1
 put_back_length old x joint new p =
     subst (λ list. length list ≤ length old + 1) (sym p.is) (joint_length old p.place x x p.from p.to joint (p.joined x) p.at.within)
-
-pub put_back_some : (old : List FreeListRegion) (x joint : FreeListRegion) (new : List FreeListRegion) → PutsBack old x joint new → 0 < length new
-put_back_some old x joint new p =
-    let n : length new ≡ length (take p.from old) + (length (drop p.to old) + 1) = ap length p.is ∙ length-append (take p.from old) (joint ∷ drop p.to old) ∙ omega arith in
-    omega (arith, n)
 
 -- Of sorted regions alone: they are the runs of their own bytes.
 

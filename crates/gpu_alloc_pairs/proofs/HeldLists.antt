@@ -1,12 +1,11 @@
 -- The lists of what a store holds: the held chunks and the live blocks, each once.
-use Rattle.std.proofs.Common.{◌≡◌, ◌≢◌, ℕ, ◌^◌, ◌<◌, ◌≤◌, Bool, true, false, List, [], ◌∷◌, ◌++◌, append-nil, append_assoc, map, nat_eq, take, Some, refl, sym, ◌∙◌, ap, subst, arith}
+use Rattle.std.proofs.Common.{◌≡◌, ◌≢◌, ℕ, ◌^◌, ◌<◌, ◌≤◌, Bool, true, false, List, [], ◌∷◌, ◌++◌, append_assoc, map, take, Some, refl, sym, ◌∙◌, ap, subst, arith}
 use Rattle.std.proofs.lemmas.List.{take_all}
 use Rattle.std.proofs.lemmas.Map.Keys.{IsDistinct-cons}
-use Rattle.std.proofs.lemmas.Simd.{map-map}
 use Rattle.std.specs.FinMap as finite
 use Rattle.std.specs.List.{AllByRecursion, Contains, IsDistinct}
 use Rattle.std.specs.Ordering.{eq_by_cmp}
-use Rattle.slab.specs.Slab.{Slab, entries}
+use Rattle.slab.specs.Slab.{Slab}
 use Rattle.gpu_alloc_base.specs.Accounts.{HeldChunks}
 use Rattle.gpu_alloc_base.specs.Chunks.{Chunk as HeldChunk}
 use Rattle.gpu_alloc_base.specs.Leaves.{leaf_cmp}
@@ -14,8 +13,6 @@ use Rattle.gpu_alloc_base.specs.declared.buddy_block.Leaf.{Leaf}
 use Rattle.gpu_alloc_base.proofs.Leaves.{leaf_test}
 use Rattle.gpu_alloc_base.proofs.ListViews.{AreNamedApart}
 use Rattle.gpu_alloc_base.proofs.Lists.{contains_head, contains_later}
-use Rattle.gpu_alloc_base.proofs.Maps.{eq-false}
-use Rattle.gpu_alloc_pairs.specs.Blocks.{chunks_in}
 use Rattle.gpu_alloc_pairs.specs.Entry.{Entry, use_of}
 use Rattle.gpu_alloc_pairs.specs.Halves.{HalfAt, half_at, half_used, halves_from, leaf_of, live_leaves}
 use Rattle.gpu_alloc_pairs.specs.HeldLists.{AddsLeaves}
@@ -23,10 +20,9 @@ use Rattle.gpu_alloc_pairs.specs.Space.{IsSoundSpace, Space}
 use Rattle.gpu_alloc_pairs.specs.Store.{IsStored}
 use Rattle.gpu_alloc_pairs.specs.Tree.{IsHalf, pair_at}
 use Rattle.gpu_alloc_pairs.specs.declared.pair.Side.{Side}
-use Rattle.gpu_alloc_pairs.specs.declared.pairs.Chunk.{Chunk}
 use Rattle.gpu_alloc_pairs.specs.declared.pair.Use.TheVariants.{Taken}
 use Rattle.gpu_alloc_pairs.proofs.GivesBack.{same_order}
-use Rattle.gpu_alloc_pairs.proofs.Halves.{halves_apart, halves_are, keys_apart, same_use-from_eq}
+use Rattle.gpu_alloc_pairs.proofs.Halves.{halves_apart, halves_are, same_use-from_eq}
 use Rattle.gpu_alloc_pairs.proofs.Trees.{one_half}
 
 -- a loop pushes what an element gives

@@ -19,7 +19,7 @@ use Rattle.gpu_alloc_freelist.specs.FreeListState.{Listing, Space}
 use Rattle.gpu_alloc_freelist.proofs.ForCallers.{account_without_chunk, all_go, sound_without_chunk}
 use Rattle.gpu_alloc.specs.Inside.{state_in, properties_in, types_in, list_object, slot_at, IsLiveIn}
 use Rattle.gpu_alloc.specs.Own.{OwnTable}
-use Rattle.gpu_alloc.proofs.Linked.{IsConsistent, IsListOf, consistent, lists_set}
+use Rattle.gpu_alloc.proofs.Linked.{IsConsistent, IsListOf, StandFor, consistent, lists_set}
 use Rattle.gpu_alloc.specs.Release.{AreChunksGone, GivesBack, LetsGo, without_all, without_objects}
 use Rattle.gpu_alloc.specs.FirstTypes.{first_types}
 use Rattle.gpu_alloc.specs.Spans.{Table}
@@ -47,10 +47,6 @@ without_object s object = record s { held = finite.remove s.held object; remaini
 -- and with these fewer
 abbrev pub without_these : State → List ℕ → State
 without_these s names = record s { held = without_all s.held names; remaining = s.remaining + length names }
-
--- fields that keep what they have to, and stand for this state
-abbrev pub StandFor : {A : Type 0} → Limits A → List Heap → List Buddy → List Listing → OwnTable → ℕ → State → Type 0
-StandFor l heaps buddies lists own remaining s = IsKept l.config (properties_in l heaps) heaps buddies lists own remaining × (state_in l heaps buddies lists (whole own buddies lists) remaining ≡ s)
 
 -- a memory type's free list and its heap, as a call is handed them
 pub record Handed {A : Type 0} (l : Limits A) (heaps : List Heap) (buddies : List Buddy) (lists : List Listing) (own : OwnTable) (remaining index i : ℕ) (fl : Listing) (heap : Heap) : Type 0 where

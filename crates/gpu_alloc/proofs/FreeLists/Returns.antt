@@ -1,5 +1,5 @@
 -- What a block that comes back to a memory type's free list leaves in the allocator's fields.
-use Rattle.std.proofs.Common.{◌≡◌, ℕ, ◌<◌, List, length, get_or, true, Option, refl, sym, ◌∙◌, ap, subst, arith}
+use Rattle.std.proofs.Common.{◌≡◌, ℕ, List, length, get_or, true, Option, refl, sym, ◌∙◌, ap, subst, arith}
 use Rattle.std.proofs.Math.ListN.{set}
 use Rattle.std.specs.FinMap as finite
 use Rattle.std.specs.FinSet as set_of
@@ -14,7 +14,7 @@ use Rattle.gpu_alloc_freelist.specs.FreeListState.{Listing, IsLiveSlot}
 use Rattle.gpu_alloc_freelist.proofs.ForCallers.{sound_without_slot}
 use Rattle.gpu_alloc.specs.Inside.{state_in, properties_in, types_in, list_object, span_of_slot, slot_at, IsNumberedChunk}
 use Rattle.gpu_alloc.specs.Own.{OwnTable}
-use Rattle.gpu_alloc.proofs.Linked.{lists_set}
+use Rattle.gpu_alloc.proofs.Linked.{StandFor, lists_set}
 use Rattle.gpu_alloc.specs.Release.{AreChunksGone, GoesWith, without_span}
 use Rattle.gpu_alloc.specs.FirstTypes.{first_types}
 use Rattle.gpu_alloc.specs.Spans.{Table}
@@ -28,7 +28,7 @@ use Rattle.gpu_alloc_base.specs.declared.heap.Heap.{Heap}
 use Rattle.gpu_alloc.specs.declared.limits.Limits.{Limits}
 use Rattle.gpu_alloc.proofs.Agreeing.{agrees_without_span}
 use Rattle.gpu_alloc.proofs.Consistency.{known_object, booked-span_gone}
-use Rattle.gpu_alloc.proofs.FreeLists.Going.{Handed, IsLeft, StandFor, given_back, handed, list_in, of, unchanged}
+use Rattle.gpu_alloc.proofs.FreeLists.Going.{Handed, IsLeft, given_back, handed, list_in, of, unchanged}
 use Rattle.gpu_alloc.proofs.FreeLists.States.{list_types_kept}
 use Rattle.gpu_alloc.proofs.FreeLists.Types.{same_listing_for}
 

@@ -1,8 +1,7 @@
--- A memory type's free list among the allocator's fields, and the object of one of its chunks.
-use Rattle.std.proofs.Common.{◌≡◌, ◌≢◌, ℕ, ◌<◌, List, length, get_or, Option, Some, IfSome, None, refl, sym, ◌∙◌, subst, arith}
+-- A memory type's free list among the allocator's fields.
+use Rattle.std.proofs.Common.{◌≡◌, ℕ, ◌<◌, List, length, get_or, Option, Some, IfSome, refl, ◌∙◌, subst, arith}
 use Rattle.std.proofs.lemmas.List.{length-map}
 use Rattle.std.proofs.lemmas.Option.{slice_get_read}
-use Rattle.std.specs.FinMap as finite
 use Rattle.std.specs.List.{slice_get}
 use Rattle.gpu_alloc_buddy.specs.BuddyState.{Buddy}
 use Rattle.gpu_alloc_freelist.specs.FreeListState.{Listing}
@@ -10,8 +9,6 @@ use Rattle.gpu_alloc.specs.Inside.{state_in, properties_in, types_in, IsListForT
 use Rattle.gpu_alloc.proofs.Linked.{IsConsistent, IsListOf}
 use Rattle.gpu_alloc.specs.FirstTypes.{first_types, first_type_state}
 use Rattle.gpu_alloc.specs.Spans.{Table}
-use Rattle.gpu_alloc_block.specs.State.{HeldObject}
-use Rattle.gpu_alloc_block.specs.declared.block.Kind.TheVariants.{BuddyChunk, FreeListChunk}
 use Rattle.gpu_alloc_base.specs.declared.heap.Heap.{Heap}
 use Rattle.gpu_alloc.specs.declared.limits.Limits.{Limits}
 use Rattle.gpu_alloc.proofs.FreeLists.Serving.{ServesList}
@@ -43,16 +40,3 @@ pub same_listing_for : {A : Type 0} (l : Limits A) (heaps : List Heap) (t : Tabl
 same_listing_for l heaps t index fl after of memory_type props atom final =
     let given = of.for_type in
     record { memory_type = memory_type ∙ given.memory_type; props = props ∙ given.props; atom = atom ∙ given.atom; final_chunk = final ∙ given.final_chunk }
-
--- A free-list chunk's object is of the list's memory type, and no buddy chunk.
-
-pub of_type_at : (t : Table) (index object : ℕ) (h : HeldObject) → finite.get t.held object ≡ Some h → h.memory_type ≡ index → IfSome (finite.get t.held object) (λ x. x.memory_type ≡ index)
-of_type_at t index object h found is = subst (λ (o : Option HeldObject). IfSome o (λ x. x.memory_type ≡ index)) (sym found) is
-
-pub no_buddy_at : (t : Table) (number object : ℕ) (h : HeldObject) → finite.get t.held object ≡ Some h → h.kind ≡ FreeListChunk number → IfSome (finite.get t.held object) (λ x. x.kind ≢ BuddyChunk)
-no_buddy_at t number object h found kind =
-    subst (λ (o : Option HeldObject). IfSome o (λ x. x.kind ≢ BuddyChunk)) (sym found) (λ buddy. let both = sym kind ∙ buddy in absurd (cc))
-
--- an object that is not held is whatever is asked of it
-pub none_at : (t : Table) (object : ℕ) (P : HeldObject → Type 0) → finite.get t.held object ≡ None → IfSome (finite.get t.held object) P
-none_at t object P none = subst (λ (o : Option HeldObject). IfSome o P) (sym none) tt

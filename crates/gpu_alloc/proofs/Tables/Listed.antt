@@ -65,10 +65,6 @@ appended_cases (x ∷ xs) ys y has = elim (contains_cases x y (xs ++ ys) has) [
 pub pushed_all : {E X : Type 0} (f : E → X) (old rows : List X) (es rest : List E) → rest ≡ [] → rows ++ map f rest ≡ old ++ map f es → rows ≡ old ++ map f es
 pushed_all f old rows es rest none is = sym (append-nil rows) ∙ subst (λ (r : List _). rows ++ map f r ≡ old ++ map f es) none is
 
--- and one that pushes each element
-pub pushed_each : {X : Type 0} (rows es rest : List X) → rest ≡ [] → rows ++ rest ≡ es → rows ≡ es
-pushed_each rows es rest none is = sym (append-nil rows) ∙ subst (λ r. rows ++ r ≡ es) none is
-
 pub mapped_twice : {E X Y : Type 0} (f : E → X) (g : X → Y) (h : E → Y) → ((e : E) → g (f e) ≡ h e) → (es : List E) → map g (map f es) ≡ map h es
 mapped_twice f g h is [] = refl
 mapped_twice f g h is (e ∷ es) = λ k. is e k ∷ mapped_twice f g h is es k

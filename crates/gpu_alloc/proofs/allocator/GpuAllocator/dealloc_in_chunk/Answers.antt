@@ -1,7 +1,6 @@
 use Rattle.std.proofs.Common.{refl, ◌∙◌, arith}
 use Rattle.gpu_alloc_base.specs.Accounts.{account}
-use Rattle.gpu_alloc.specs.Whole.{whole}
-use Rattle.gpu_alloc.proofs.Linked.{consistent, kept_as}
+use Rattle.gpu_alloc.proofs.Linked.{consistent}
 use Rattle.gpu_alloc.proofs.Buddies.Returns.{Given, given_back, known_type, leaf_found, agrees_before, counted_first, IsReturned, back}
 use Rattle.gpu_alloc.proofs.Soundness.{sound_is}
 use Rattle.gpu_alloc.proofs.allocator.GpuAllocator.dealloc_in_chunk.Given.{Over}
@@ -16,25 +15,22 @@ pub unreachable-requires : goal.unreachable-requires
 unreachable-requires g c =
     let owned = rw (← c.self.view_is) at c.requires.owned in
     let name = c.object-object.ensures ∙ c.into_memory-memory.ensures in
-    leaf_found c.self.inside.limits _ _ _ _ _ c.memory_type-memory_type.result c.index.result.now c.args.block (consistent _ _ _ _ _ _ _ c.self.invariant) owned c.requires.shared c.memory_type-memory_type.ensures c.index.ensures
-    (rw (← name, ← c.offset-offset.ensures, ← c.size-size.ensures) (c.in_default.ensures.found))
+    leaf_found c.self.inside.limits c.self.invariant owned c.requires.shared c.memory_type-memory_type.ensures c.index.ensures (rw (← name, ← c.offset-offset.ensures, ← c.size-size.ensures) (c.in_default.ensures.found))
 
 given : (g : Over) (c : goal.After-new-2 g)
-    → Given c.self.inside.limits c.self.inside.heaps.items c.self.inside.buddies.items c.self.inside.free_lists.items (whole c.self.inside.own c.self.inside.buddies.items c.self.inside.free_lists.items) c.self.inside.allocations_remains c.memory_type-memory_type.result c.heap_index-heap.result
-    c.index_mut.result.now c.index_mut-2.result.now c.new.result c.args.block
+    → Given c.self.inside.limits c.self.inside.heaps.items c.self.inside.buddies.items c.self.inside.free_lists.items c.self.inside.own c.self.inside.allocations_remains c.memory_type-memory_type.result c.heap_index-heap.result c.index_mut.result.now c.index_mut-2.result.now c.new.result c.args.block
 given g c =
     let owned = rw (← c.self.view_is) at c.requires.owned in
     let name = c.object-object.ensures ∙ c.into_memory-memory.ensures in
-    let known = known_type c.self.inside.limits _ _ _ _ _ c.memory_type-memory_type.result c.index.result.now c.args.block (consistent _ _ _ _ _ _ _ c.self.invariant) owned c.requires.shared c.memory_type-memory_type.ensures c.index.ensures in
+    let known = known_type c.self.inside.limits c.self.invariant owned c.requires.shared c.memory_type-memory_type.ensures c.index.ensures in
     let same = one_read c.self.inside.buddies.items c.memory_type-memory_type.result c.index.result.now c.index_mut.result.now (omega (arith, known, c.self.invariant.shared.count)) c.index.ensures c.index_mut.ensures.value in
-    given_back c.self.inside.limits _ _ _ _ _ c.memory_type-memory_type.result c.index_mut.result.now c.args.block (consistent _ _ _ _ _ _ _ c.self.invariant) owned c.requires.shared c.memory_type-memory_type.ensures c.index_mut.ensures.value
-    c.new.result c.heap_index-heap.result c.index_mut-2.result.now c.heap_index-heap.ensures c.index_mut-2.ensures.value (rw (c.new.ensures, ← name, ← c.offset-offset.ensures, ← c.size-size.ensures, ← same) c.in-Some.ensures.found)
+    given_back c.self.inside.limits c.self.invariant owned c.requires.shared c.memory_type-memory_type.ensures c.index_mut.ensures.value c.heap_index-heap.ensures c.index_mut-2.ensures.value
+    (rw (c.new.ensures, ← name, ← c.offset-offset.ensures, ← c.size-size.ensures, ← same) c.in-Some.ensures.found)
 
 pub index_mut-requires-2 : goal.index_mut-requires-2
 index_mut-requires-2 g c =
     let owned = rw (← c.self.view_is) at c.requires.owned in
-    below c.heap_index-heap.ensures c.self.inside.heaps.ok.0 (heap_there _ _ _ _ c.self.invariant.books refl c.memory_type-memory_type.result (known_type c.self.inside.limits _ _ _ _ _ c.memory_type-memory_type.result c.index.result.now c.args.block
-    (consistent _ _ _ _ _ _ _ c.self.invariant) owned c.requires.shared c.memory_type-memory_type.ensures c.index.ensures))
+    below c.heap_index-heap.ensures c.self.inside.heaps.ok.0 (heap_there _ _ _ _ c.self.invariant.books refl c.memory_type-memory_type.result (known_type c.self.inside.limits c.self.invariant owned c.requires.shared c.memory_type-memory_type.ensures c.index.ensures))
 
 pub dealloc-requires-clause-agrees : goal.dealloc-requires-clause-agrees
 dealloc-requires-clause-agrees g c = let agrees = rw (← c.self.view_is) at c.requires.agrees in agrees_before (given g c) _ _ agrees
@@ -45,29 +41,23 @@ dealloc-requires-clause-counted g c = counted_first (given g c)
 -- What its call did, and what it comes to.
 
 given_after : (g : Over) (c : goal.After-self-2-1 g)
-    → Given c.self.inside.limits c.self.inside.heaps.items c.self.inside.buddies.items c.self.inside.free_lists.items (whole c.self.inside.own c.self.inside.buddies.items c.self.inside.free_lists.items) c.self.inside.allocations_remains c.memory_type-memory_type.result c.heap_index-heap.result
-    c.index_mut.result.now c.index_mut-2.result.now c.new.result c.args.block
+    → Given c.self.inside.limits c.self.inside.heaps.items c.self.inside.buddies.items c.self.inside.free_lists.items c.self.inside.own c.self.inside.allocations_remains c.memory_type-memory_type.result c.heap_index-heap.result c.index_mut.result.now c.index_mut-2.result.now c.new.result c.args.block
 given_after g c =
     let owned = rw (← c.self.view_is) at c.requires.owned in
     let name = c.object-object.ensures ∙ c.into_memory-memory.ensures in
-    let known = known_type c.self.inside.limits _ _ _ _ _ c.memory_type-memory_type.result c.index.result.now c.args.block (consistent _ _ _ _ _ _ _ c.self.invariant) owned c.requires.shared c.memory_type-memory_type.ensures c.index.ensures in
+    let known = known_type c.self.inside.limits c.self.invariant owned c.requires.shared c.memory_type-memory_type.ensures c.index.ensures in
     let same = one_read c.self.inside.buddies.items c.memory_type-memory_type.result c.index.result.now c.index_mut.result.now (omega (arith, known, c.self.invariant.shared.count)) c.index.ensures c.index_mut.ensures.value in
-    given_back c.self.inside.limits _ _ _ _ _ c.memory_type-memory_type.result c.index_mut.result.now c.args.block (consistent _ _ _ _ _ _ _ c.self.invariant) owned c.requires.shared c.memory_type-memory_type.ensures c.index_mut.ensures.value
-    c.new.result c.heap_index-heap.result c.index_mut-2.result.now c.heap_index-heap.ensures c.index_mut-2.ensures.value (rw (c.new.ensures, ← name, ← c.offset-offset.ensures, ← c.size-size.ensures, ← same) c.in-Some.ensures.found)
+    given_back c.self.inside.limits c.self.invariant owned c.requires.shared c.memory_type-memory_type.ensures c.index_mut.ensures.value c.heap_index-heap.ensures c.index_mut-2.ensures.value
+    (rw (c.new.ensures, ← name, ← c.offset-offset.ensures, ← c.size-size.ensures, ← same) c.in-Some.ensures.found)
 
-returned_by : (g : Over) (c : goal.After-self-2-1 g) → IsReturned c.self.inside.own (given_after g c) c.self.invariant.apart (account c.dealloc.new.buddy c.dealloc.new.heap c.dealloc.new.allocations_remains) (g.D.ObjectDevice.properties c.args.device.now) (g.D.ObjectDevice.properties c.dealloc.new.device) (g.D.ObjectDevice.objects c.args.device.now) (g.D.ObjectDevice.objects c.dealloc.new.device) c.dealloc.ensures.frees.0 (account c.dealloc.new.buddy c.dealloc.new.heap c.dealloc.new.allocations_remains)
+returned_by : (g : Over) (c : goal.After-self-2-1 g) → IsReturned (given_after g c) (account c.dealloc.new.buddy c.dealloc.new.heap c.dealloc.new.allocations_remains) c.dealloc.ensures.frees.0
+    (g.D.ObjectDevice.properties c.dealloc.new.device) (g.D.ObjectDevice.objects c.args.device.now) (g.D.ObjectDevice.objects c.dealloc.new.device)
 returned_by g c =
     let agrees = rw (← c.self.view_is) at c.requires.agrees in
-    back c.self.inside.own (given_after g c) c.self.invariant.apart (account c.dealloc.new.buddy c.dealloc.new.heap c.dealloc.new.allocations_remains) (g.D.ObjectDevice.properties c.args.device.now) (g.D.ObjectDevice.properties c.dealloc.new.device) (g.D.ObjectDevice.objects c.args.device.now) (g.D.ObjectDevice.objects c.dealloc.new.device) c.dealloc.ensures.frees.0 (record {
-      frees = c.dealloc.ensures.frees.2;
-      objects = c.dealloc.ensures.objects;
-      sound = c.dealloc.ensures.sound;
-      agrees = agrees;
-      properties = c.dealloc.ensures.properties;
-    })
+    back (given_after g c) c.dealloc.ensures.sound agrees c.dealloc.ensures.properties c.dealloc.ensures.frees.2 c.dealloc.ensures.objects
 
 pub invariant_of-self : goal.invariant_of-self
-invariant_of-self g c = let of = returned_by g c in kept_as _ _ _ _ _ _ _ of.recorded of.parts
+invariant_of-self g c = (returned_by g c).kept
 
 pub returns-clause-freed : goal.returns-clause-freed
 returns-clause-freed g c = rw (← c.self.view_is) (c.dealloc.ensures.frees.0, c.dealloc.ensures.frees.1, (returned_by g c).frees)

@@ -1,13 +1,11 @@
 use Rattle.std.proofs.Common.{◌∙◌, true}
 use Rattle.gpu_alloc_base.specs.Accounts.{account}
-use Rattle.gpu_alloc_base.specs.declared.free_list_block.Slot.{Slot}
 use Rattle.gpu_alloc.specs.Inside.{slot_at}
 use Rattle.gpu_alloc.specs.Release.{GoesWith, without_span}
 use Rattle.gpu_alloc.proofs.FreeLists.Going.{Handed, IsLeft, agrees_first, counted_first}
 use Rattle.gpu_alloc.proofs.FreeLists.Returns.{came_back, goes_with_list, handed_back, slot_live}
 use Rattle.gpu_alloc.proofs.Linked.{consistent}
 use Rattle.gpu_alloc.proofs.Soundness.{sound_is}
-use Rattle.gpu_alloc_block.specs.State.{span_of}
 use Rattle.gpu_alloc.proofs.allocator.GpuAllocator.dealloc_in_list.Given.{Over}
 use Rattle.gpu_alloc.proofs.allocator.GpuAllocator.dealloc_in_list.Goals as goal
 
