@@ -41,12 +41,6 @@ leaf_removed s k q = in_removed leaf_cmp leaf_total leaf_exact s k q
 pub leaf_same_or_left : (s : set.FinSet leaf_cmp) (k q : Leaf) → set.contains s q ≡ true → (q ≡ k) ⊎ (set.contains (set.remove s k) q ≡ true)
 leaf_same_or_left s k q has = same_or_left leaf_cmp leaf_total leaf_exact s k q has
 
-pub leaves_push : (leaves : List Leaf) (leaf : Leaf) → set.from_list {R = leaf_cmp} (leaves ++ leaf ∷ []) ≡ set.insert (set.from_list leaves) leaf
-leaves_push leaves leaf = set_push leaf_cmp leaf_total leaf_exact leaves leaf
-
-pub leaves_less : (e : Leaf → Leaf → Bool) (xs ys : List Leaf) (x : Leaf) → (Contains ys x → ⊥) → IsLess e xs ys x → set.from_list {R = leaf_cmp} ys ≡ set.remove (set.from_list xs) x
-leaves_less e xs ys x gone l = set_less leaf_cmp leaf_total leaf_exact e xs ys x gone l
-
 -- Who is live once a leaf is added.
 
 pub was_live : (live : set.FinSet leaf_cmp) (leaf q : Leaf) → IsTrue (set.contains (set.insert live leaf) q) → (q ≡ leaf) ⊎ IsTrue (set.contains live q)

@@ -203,14 +203,3 @@ module _ {K : Type 0} {R : K → K → Ordering} (total : IsTotalOrder R) (exact
               | inl same ↦ absurd (let yes = (key_test R total exact q (f x)).1 (sym was.2 ∙ ap f same) in cc)
               | inr still ↦ (was.0, still, was.2)
             ]
-
-    pub names_len : (es : List E) → AreNamedApart f es → set.len (set.from_list {R = R} (map f es)) ≡ length es
-    names_len [] apart = set.len-empty R
-    names_len (e ∷ es) apart =
-        let is_new : set.contains (set.from_list {R = R} (map f es)) (f e) ≡ false = absent _ refl in
-        let more = rw is_new at (set.len-insert total (set.from_list {R = R} (map f es)) (f e)) in
-        omega (arith, more, names_len es apart.1)
-      where
-        absent : (b : Bool) → set.contains (set.from_list {R = R} (map f es)) (f e) ≡ b → b ≡ false
-        absent true is = let there = (in_names es (f e)).0 is in absurd (apart.0 there.0 there.1 there.2)
-        absent false is = refl

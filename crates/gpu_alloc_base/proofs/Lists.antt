@@ -59,12 +59,6 @@ module _ {X : Type 0} where
       → x ≡ get_or xs i x → ys ≡ swap_remove xs i x → IsLess e xs ys x
   less e flips xs ys i x d lt is left = less_permuted e flips xs ys x d (subst (λ zs. IsPermutation xs (x ∷ zs)) (sym left) (IsPermutation-swap_remove xs i x lt is))
 
-  -- what `swap_remove` leaves was there
-  pub swap_removed : (xs ys : List X) (i : ℕ) (x : X) → i < length xs → x ≡ get_or xs i x → ys ≡ swap_remove xs i x → (y : X) → Contains ys y → Contains xs y
-  swap_removed xs ys i x lt is left y has =
-      let perm : IsPermutation xs (x ∷ ys) = subst (λ zs. IsPermutation xs (x ∷ zs)) (sym left) (IsPermutation-swap_remove xs i x lt is) in
-      Contains-permutation (x ∷ ys) xs y (IsPermutation-sym xs (x ∷ ys) perm) (contains_later x y ys has)
-
   -- what a push leaves was there, or is new
   pub pushed_cases : (xs ys : List X) (x : X) → ys ≡ xs ++ x ∷ [] → (y : X) → Contains ys y → Contains xs y ⊎ (y ≡ x)
   pushed_cases xs ys x pushed y has = elim (Contains-push_cases xs x y (subst (λ zs. Contains zs y) pushed has)) [ inl old ↦ inl old | inr new ↦ inr (sym new) ]

@@ -116,10 +116,6 @@ module _ {X : Type 0} where
     | inr ne ↦ (ne, sym (get_removed-other m name q ne) ∙ is)
   ]
 
-  -- with no entry under any name it is empty
-  pub empty_from : (m : finite.FinMap nat_cmp X) → ((q : ℕ) → finite.get m q ≡ None) → m ≡ finite.empty
-  empty_from m none = finite.same_map nat_cmp_total nat_cmp-IsAntisymmetric _ _ (λ q. none q ∙ sym (finite.get-empty nat_cmp q))
-
   pub len_put : (m : finite.FinMap nat_cmp X) (name : ℕ) (x : X) → finite.get m name ≡ None → finite.len (finite.insert m name x) ≡ finite.len m + 1
   len_put m name x none = finite.len-insert nat_cmp_total m name x ∙ ap (λ o. cond (is_some o) (finite.len m) (finite.len m + 1)) none
 

@@ -76,16 +76,3 @@ pub still_held : (q : ChunkQuestion) (object : ℕ) (f g : ℕ → Option Object
 still_held q object f g P name more held =
     let other : name ≢ object = λ same. let none : f name ≡ None = ap f same ∙ more.0 in let both = held.1 in cc in
     (held.0, ap (λ h. h name) more.1.2 ∙ put-other f object (Some more.1.0) name other ∙ held.1, held.2)
-
--- and the new one is
-pub new_is_there : (q : ChunkQuestion) (chunk : Chunk) (f g : ℕ → Option Object) → HasOneChunkMore q chunk.object f g → chunk.size ≡ q.size → HeldWith g chunk.object (IsThere q.memory_type q.mapped chunk)
-new_is_there q chunk f g more size =
-    let o : Object = more.1.0 in (
-      o,
-      ap (λ h. h chunk.object) more.1.2 ∙ put-same f chunk.object (Some o),
-      record {
-        of_type = more.1.1.of_type;
-        of_size = more.1.1.of_size ∙ sym size;
-        mapped = λ visible. more.1.1.mapped ∙ rw visible (ap (λ n. Some (0, n)) (sym more.1.1.of_size));
-      },
-    )

@@ -39,6 +39,3 @@ slot_removed s k q = in_removed slot_cmp slot_total slot_exact s k q
 
 pub slot_same_or_left : (s : set.FinSet slot_cmp) (k q : Slot) → set.contains s q ≡ true → (q ≡ k) ⊎ (set.contains (set.remove s k) q ≡ true)
 slot_same_or_left s k q has = same_or_left slot_cmp slot_total slot_exact s k q has
-
-pub slots_less : (e : Slot → Slot → Bool) (xs ys : List Slot) (x : Slot) → (Contains ys x → ⊥) → IsLess e xs ys x → set.from_list {R = slot_cmp} ys ≡ set.remove (set.from_list xs) x
-slots_less e xs ys x gone l = set_less slot_cmp slot_total slot_exact e xs ys x gone l

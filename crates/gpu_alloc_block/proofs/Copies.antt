@@ -38,10 +38,6 @@ module _ (p : Properties) (b : Block) (offset : ℕ) (bytes : List ℕ) (some : 
       record { nonempty = nonempty; inside = (is.inside.0, is.inside.1, omega (arith, is.inside.2, covers.0), omega (arith, is.inside.3, covers.1)) }
 
   module _ (held : HeldWith f b.object (IsOpen p b r)) where
-    -- what may be put
-    pub put_ready : 0 < length bytes → HeldWith f b.object (IsInMapped (b.offset + offset) (length bytes))
-    put_ready nonempty = (held.0, held.1, narrower held.0 nonempty held.2.ready.mapped)
-
     module _ (g : ℕ → Option Object) (row : Row p f (BytesPut b.object (b.offset + offset) bytes) g) where
       -- what was put may be flushed
       pub flush_ready : (q : Properties) → q ≡ p → HeldWith g b.object (IsOpen q b r)
@@ -82,6 +78,3 @@ module _ (p : Properties) (b : Block) (offset : ℕ) (bytes : List ℕ) (some : 
       let now : c.2.0 ≡ row.1.0 = some_same c.2.0 row.1.0 (sym (changed_there f b.object (IsInvalidated {E = OutOfMemory} (Ok tt) r) g c) ∙ row.1.1) in
       let told : (k : ℕ) → k < length bytes → slice_get bytes k ≡ slice_get c.2.0.host_bytes (b.offset + offset + k) = λ k less. row.1.2 k less ∙ ap (λ o. slice_get o.host_bytes (b.offset + offset + k)) (sym now) in
       (c.0, c.1, (c.2.0, got_invalidated p b offset bytes some within c.0 c.2.0 c.2.1 told, row.0 ∙ c.2.2))
-
-pub get_refused : (b : Block) (r : Range) (e : OutOfMemory) (f g : ℕ → Option Object) → Changes (IsInvalidated (Err e) r) f b.object g → Changes (IsPartlyRead r) f b.object g
-get_refused b r e f g c = changes_told f b.object (IsInvalidated (Err e) r) (IsPartlyRead r) g (λ o new done. got_partly r e o new done) c

@@ -41,10 +41,6 @@ none_kept none = record {
   two = λ j key b c some later apart. absurd (let no = none j in cc);
 }
 
--- no call at all
-pub leaves_all : (s : State) (objects : ℕ → Option Object) (bs : List Block) → LeavesList s objects s objects bs
-leaves_all s objects bs = record { properties = refl; outside = λ name. refl; bytes = λ i b at. bytes_stay.none b objects }
-
 module _ {s mid : State} {old now : ℕ → Option Object} where
   -- one call and then another
   pub leaves_then : {after : State} {new : ℕ → Option Object} {bs : List Block} → LeavesList s old mid now bs

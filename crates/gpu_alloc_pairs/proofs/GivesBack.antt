@@ -83,9 +83,6 @@ module _ (chunks : HeldChunks) (old : List (Slab Entry)) (i : IsStored chunks ol
   leaf_key : h.key ≡ leaf.index
   leaf_key = ap (λ (l : Leaf). l.index) at_half.1.1
 
-  pub starts_half : (order : ℕ) → leaf.size ≡ 2 ^ order → IsMultipleOf (2 ^ order) leaf.offset
-  starts_half order size = let a = (i.sound.inside leaf live).aligned in (a.0, a.1 ∙ ap (λ n. a.0 * n) size)
-
   leaf_side : (order : ℕ) (side : Side) → leaf.size ≡ 2 ^ order → HasSide leaf.offset order side → h.side ≡ side
   leaf_side order side size has =
       let half = at_half.1.0 in

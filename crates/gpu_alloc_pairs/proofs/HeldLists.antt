@@ -25,12 +25,6 @@ use Rattle.gpu_alloc_pairs.proofs.GivesBack.{same_order}
 use Rattle.gpu_alloc_pairs.proofs.Halves.{halves_apart, halves_are, same_use-from_eq}
 use Rattle.gpu_alloc_pairs.proofs.Trees.{one_half}
 
--- a loop pushes what an element gives
-pub one_pushed : {E X : Type 0} (f : E → X) (all before after : List X) (e : E) (left rest : List E) → left ≡ e ∷ rest → after ≡ before ++ f e ∷ [] → before ++ map f left ≡ all
-    → after ++ map f rest ≡ all
-one_pushed f all before after e left rest step pushed so_far =
-    ap (λ l. l ++ map f rest) pushed ∙ append_assoc before (f e ∷ []) (map f rest) ∙ ap (λ l. before ++ map f l) (sym step) ∙ so_far
-
 -- Names that stand once.
 
 module _ {E K : Type 0} (f : E → K) where

@@ -16,9 +16,6 @@ pub none_is_not : (side : Option Side) → side ≡ None → IsSome side → ⊥
 none_is_not None e h = cc
 none_is_not (Some x) e h = cc
 
-pub keeps_none : (s : Slab Pair) → KeepsPairs s s
-keeps_none s = record { free = λ k. refl; entries = λ k. refl; len = refl; vacant_key = refl; capacity = refl }
-
 pub keeps_both : (s s' s'' : Slab Pair) → KeepsPairs s s' → KeepsPairs s' s'' → KeepsPairs s s''
 keeps_both s s' s'' a b = record {
   free = λ k. b.free k ∙ a.free k;
@@ -42,9 +39,6 @@ module _ (s s' : Slab Pair) (key : ℕ) (slot : Option Pair) (u : Updates s s' k
   -- on or not as before, where nothing is written
   on_before : (k : ℕ) → k ≢ key → IsOn s' k → IsOn s k
   on_before k ne h = subst IsSome (ap free_of (u.others k ne)) h
-
-  on_after : (k : ℕ) → k ≢ key → IsOn s k → IsOn s' k
-  on_after k ne h = subst IsSome (sym (ap free_of (u.others k ne))) h
 
   -- the first pair of a ring
   pub first_links : (side : Side) → ((k : ℕ) → IsOn s k → ⊥) → IsOfState (Ready side key key) slot

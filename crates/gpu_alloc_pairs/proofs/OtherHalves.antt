@@ -9,23 +9,6 @@ use Rattle.gpu_alloc_base.proofs.AlignedPowers.{ends_in}
 use Rattle.gpu_alloc_base.proofs.ExactPieces.{same_piece}
 use Rattle.gpu_alloc_pairs.proofs.PieceHalves.{not_left, aligned_joined}
 
-pub even_start : (s n : ℕ) → 0 < n → s % n ≡ 0 → IsMultipleOf n s
-even_start s n pos e = (s / n, omega (arith, e))
-
-pub odd_start : (s p m : ℕ) → 0 < p → s ≡ m * p → (s % (2 * p) ≡ 0 → ⊥) → (p ≤ s) × IsMultipleOf (2 * p) (s - p)
-odd_start s p m pos e odd =
-    let q : ℕ = m / 2 in
-    elim (cases_lt 0 (m % 2)) [
-      | inl one ↦
-          let em : m ≡ 2 * q + 1 = omega arith in
-          let es : s ≡ (2 * q + 1) * p = e ∙ ap (λ x. x * p) em in
-          (omega (arith, es), (q, omega (arith, es)))
-      | inr none ↦
-          let em : m ≡ 2 * q = omega arith in
-          let es : s ≡ q * (2 * p) = omega (arith, e, ap (λ x. x * p) em) in
-          absurd (odd (ap (λ x. x % (2 * p)) es ∙ mul-mod_left q (2 * p)))
-    ]
-
 -- the other half is one piece
 pub right_half_is : (x y q : Piece) → AreHalves x y → AreHalves x q → q ≡ y
 right_half_is x y q h g = same_piece q y (g.chunk ∙ sym h.chunk) (g.beside ∙ sym h.beside) (g.order ∙ sym h.order)
@@ -48,9 +31,3 @@ no_left x y P h out q has g = elim h [
   | inl r ↦ not_left q x g y r
   | inr l ↦ out (subst P (left_half_is x y q l g) has)
 ]
-
--- what is joined ends in a longer power
-pub joined_bounded : (l r : Piece) (j : ℕ) → AreHalves l r → l.order < j → l.start < 2 ^ j → l.start + 2 ^ (l.order + 1) ≤ 2 ^ j
-joined_bounded l r j h lt within =
-    let e = ends_in l.start (l.order + 1) 0 j (aligned_joined l r h) (0, omega arith) (omega arith) (omega arith) in
-    omega (arith, e)

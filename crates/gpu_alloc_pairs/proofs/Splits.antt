@@ -33,9 +33,6 @@ pub not_free : (d : Bool) → taken_as d ≡ Free → ⊥
 not_free true e = cc
 not_free false e = cc
 
-pub divided_or_whole : (P : Pairs) (order key : ℕ) (side : Side) (d : Bool) → IsUndivided P order key side → (taken_as d ≡ Divided) ⊎ IsUndivided P order key side
-divided_or_whole P order key side d whole = inr whole
-
 -- A free half is taken.
 
 free_not_divided : (u : Use) → u ≡ Free → u ≡ Divided → ⊥

@@ -27,10 +27,6 @@ here_or_not order key n k = elim (cases_eq n order) [
 pub at_place : (P : Pairs) (order key n k : ℕ) (e : Entry) → n ≡ order → k ≡ key → P n k ≡ Some e → P order key ≡ Some e
 at_place P order key n k e same also at = subst (λ m. P m key ≡ Some e) same (subst (λ m. P n m ≡ Some e) also at)
 
--- a place that is one length up is another
-pub above_is_other : (order n : ℕ) → n ≡ order → n + 1 ≡ order → ⊥
-above_is_other order n a b = omega (arith, a, b)
-
 -- A half is used otherwise.
 
 module _ (P Q : Pairs) (order key : ℕ) (side : Side) (e : Entry) (now : Use) (s : SetsHalf P Q order key side e now) where

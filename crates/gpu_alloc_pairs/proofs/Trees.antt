@@ -52,10 +52,6 @@ pub same_parent_with : (e : Entry) (side : Side) (now : Use) → (with_use e sid
 same_parent_with e Left now = refl
 same_parent_with e Right now = refl
 
-pub other_is_other : (side : Side) → other_side side ≡ side → ⊥
-other_is_other Left e = cc
-other_is_other Right e = cc
-
 pub side_or_other : (side a : Side) → (a ≡ side) ⊎ (a ≡ other_side side)
 side_or_other Left Left = inl refl
 side_or_other Left Right = inr refl

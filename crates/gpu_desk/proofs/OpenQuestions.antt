@@ -360,13 +360,6 @@ module _ (s : State) (granularity : ℕ) (r : Request) (w : Wish) where
       → is_own s (plan_for s granularity r w) t ≡ serves_alone s r hint t
   own_by_bytes hint t is same = ap (λ p. is_own s p t) (plan_plain hint is same)
 
-  pub small_pages : goes_by_pages granularity w ≡ true → (plan_for s granularity r w).too_large ≡ false → 2 ^ 64 ≤ up r.size granularity → ⊥
-  small_pages is small large =
-      let plan_small = ap (λ (p : Plan). p.too_large) (sym (plan_pages is)) ∙ small in
-      let too : nat_le (2 ^ 64) (up r.size granularity) ≡ true = grind (arith, nat_tests) in
-      let not : (true || nat_lt s.properties.max_memory_allocation_size r.size) ≡ false = subst (λ b. (b || nat_lt s.properties.max_memory_allocation_size r.size) ≡ false) too plan_small in
-      cc
-
   -- an optimal request that goes by bytes is one where pages are of a byte
   pub of_bytes : goes_by_pages granularity w ≡ false → w.optimal ≡ true → granularity ≡ 1
   of_bytes is optimal =

@@ -16,9 +16,6 @@ next_place : (k : ℕ) → k ≢ 0 → behind k ≡ k % 2 ^ 32 + 1
 next_place k some = ap (λ b. cond b 0 (k % 2 ^ 32 + 1)) (other k 0 some)
 
 module _ (key : ℕ) where
-  is_it : ℕ → Bool
-  is_it k = k == key
-
   with_it : (k : ℕ) (ks : List ℕ) → k ≡ key → filter (λ q. q == key) ks ≡ [] → ComesOnce (k ∷ ks) key
   with_it k ks e rest = ap (λ b. cond b (k ∷ filter (λ q. q == key) ks) (filter (λ q. q == key) ks)) (same k key e) ∙ ap (λ qs. k ∷ qs) rest ∙ ap (λ q. q ∷ []) e
 

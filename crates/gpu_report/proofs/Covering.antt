@@ -55,9 +55,6 @@ module _ (s : State) (object : ℕ) (h : HeldObject) (live : List LiveBlock) (fr
   of_block : LiveBlock → Bool
   of_block b = b.object == object
 
-  of_range : FreeRange → Bool
-  of_range r = r.object == object
-
   -- A live block of the object.
   record IsBlock (b : LiveBlock) : Type 0 where
     has : Contains live b

@@ -54,18 +54,6 @@ faultless s t object_size offset size none =
       remains = not_zero s.remaining remains.0;
     }
 
--- with the flags of every question the device may be asked
-address_offered : (address : Bool) → IsTrue (has_bit (cond address 1 0) 1) → IsTrue address
-address_offered true has = refl
-address_offered false has = has
-
-pub import_is_askable : (p : Properties) (size t flags : ℕ) → 0 < size → t < length p.memory_types → flags ≡ flags_of p → IsAskable p size t flags
-import_is_askable p size t flags some known is = record {
-  nonempty = some;
-  known = known;
-  address = λ has. address_offered p.buffer_device_address (subst (λ n. IsTrue (has_bit n 1)) is has);
-}
-
 -- A span inside a whole object that may be imported.
 
 good_end : (non : Bool) (end atom object_size : ℕ) → (non && not (end % atom == 0) && not (end == object_size)) ≡ false → non ≡ true → (end % atom ≡ 0) ⊎ (end ≡ object_size)

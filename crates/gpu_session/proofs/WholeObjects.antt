@@ -26,9 +26,6 @@ AreOwn s = (name : ℕ) → IfSome (finite.get s.blocks name) (λ b. b.kind ≡ 
 
 -- In a sound state such blocks are whole objects.
 
-abbrev KindAt : Books → ℕ → Block → Type 0
-KindAt s name b = (finite.get s.blocks name ≡ Some b) × (b.kind ≡ DedicatedObject)
-
 lies_whole : (k : Kind) (s : State) (name counted : ℕ) (span : Span) (o : Object) → k ≡ DedicatedObject → LiesIn k counted span → IsCounted k s name counted o → (span.offset ≡ 0) × (o.size ≡ span.size)
 lies_whole k s name counted span o is lies count =
     let whole : LiesIn DedicatedObject counted span = subst (λ (x : Kind). LiesIn x counted span) is lies in

@@ -75,9 +75,6 @@ named_after m k c named fresh i j a b at_i at_j same = elim (inserted_cases m k 
   ]
 ]
 
-pub named_left : (m : Chunks) (k : ℕ) → AreNamed m → AreNamed (finite.remove m k)
-named_left m k named i j a b at_i at_j same = named i j a b (kept_key m k i a at_i).1 (kept_key m k j b at_j).1 same
-
 module _ (g : ℕ → Chunk → HeldObject) (m : Chunks) (named : AreNamed m) where
   -- what is held under a name
   pub name_there : (k : ℕ) (c : Chunk) → finite.get m k ≡ Some c → finite.get (by_name g m) c.object ≡ Some (g k c)

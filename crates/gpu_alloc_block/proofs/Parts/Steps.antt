@@ -24,10 +24,6 @@ module _ (IsPlace : ℕ → HeldObject → Type 0) (ps : List Part) (apart : Are
           let same : there.1 ≡ p = at_once ps i there.1 p (subst (λ j. IsAt ps j there.1) here there.2) at in
           e ∙ sym there.3 ∙ ap (λ (s : Part). map.get s.held object) same ∙ has
 
-  -- what the union holds may be somewhere
-  pub place_known : (object : ℕ) (h : HeldObject) → map.get (held_in ps) object ≡ Some h → (i : ℕ) × IsPlace i h
-  place_known object h is = let there = held_at ps object h is in (there.0, apart.placed there.0 there.1 object h there.2 there.3)
-
   -- and stands in the part where it may be
   pub own_part : ((i j : ℕ) (h : HeldObject) → IsPlace i h → IsPlace j h → i ≡ j) → (i : ℕ) (p : Part) (object : ℕ) (h : HeldObject) → map.get (held_in ps) object ≡ Some h → IsPlace i h → IsAt ps i p → Holds p object h
   own_part single i p object h is placed at =

@@ -19,11 +19,6 @@ at_once [] i x y a b = absurd a
 at_once (z ∷ xs) zero x y a b = sym a ∙ b
 at_once (z ∷ xs) (suc i) x y a b = at_once xs i x y a b
 
-pub at_set : {A : Type 0} (xs : List A) (i : ℕ) (x new : A) → IsAt xs i x → IsAt (set xs i new) i new
-at_set [] i x new a = absurd a
-at_set (z ∷ xs) zero x new a = refl
-at_set (z ∷ xs) (suc i) x new a = at_set xs i x new a
-
 -- after a change at one place
 pub at_after : {A : Type 0} (xs : List A) (i : ℕ) (new : A) (j : ℕ) (y : A) → IsAt (set xs i new) j y → ((j ≡ i) × (new ≡ y)) ⊎ ((j ≢ i) × IsAt xs j y)
 at_after [] i new j y a = absurd a

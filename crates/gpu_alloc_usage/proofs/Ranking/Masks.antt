@@ -78,16 +78,3 @@ with_bits-more mask (first ∷ bits) bit = with_bits-more (bit_or mask (2 ^ firs
 -- one shifted by less than 32 stays within 32 bits
 pub shifted_one : (bit : ℕ) → bit < 32 → 1 * 2 ^ bit % 4294967296 ≡ 2 ^ bit
 shifted_one bit h = one_shl bit 32 h
-
-bit_is_below : (w mask t : ℕ) → mask < 2 ^ w → bit_at mask t ≡ 1 → t < w
-bit_is_below w mask t small e =
-    elim (cases_lt t w) [
-      | inl less ↦ less
-      | inr past ↦ let zero = bit_at_above mask w t small past in let none : ⊥ = omega arith in absurd none
-    ]
-
--- a mask of 32 bits is one of numbers below 32
-pub below_32 : (mask : ℕ) (bits items : List ℕ) → mask < 2 ^ 32 → mask ≡ with_bits 0 bits → items ≡ bits → (k : ℕ) → k < length items → get_or items k 0 < 32
-below_32 mask bits items small exact same k inside =
-    let there : Contains bits (get_or items k 0) = subst (λ xs. Contains xs (get_or items k 0)) same (Contains-get_or items k 0 inside) in
-    bit_is_below 32 mask (get_or items k 0) small (rw exact (there_is_set 0 bits (get_or items k 0) there))

@@ -50,9 +50,6 @@ IsRising-one k x a b less inside = let none : ⊥ = omega arith in absurd none
 
 -- What a filter leaves.
 
-pub length-filter-le : (p : ℕ → Bool) (xs : List ℕ) → length (filter p xs) ≤ length xs
-length-filter-le p xs = omega (arith, length-filter_both p (λ x. not (p x)) (λ _. refl) xs)
-
 pub filter-kept : (p : ℕ → Bool) (xs : List ℕ) (x : ℕ) → Contains (filter p xs) x → Contains xs x
 filter-kept p xs x c = All-contains (λ y. Contains xs y) (filter p xs) x (All-filter p (λ y. Contains xs y) xs (All-from_contains (λ y. Contains xs y) xs (λ y h. h))) c
 
