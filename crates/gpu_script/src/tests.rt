@@ -13,6 +13,7 @@ mod grants;
 mod growths;
 mod halves;
 mod kept_chunk;
+mod keys;
 mod lines;
 mod lists;
 mod memory;

@@ -14,6 +14,7 @@ use gpu_alloc::{
 use gpu_alloc_types::{MemoryDevice, MemoryObject};
 use std::alloc::{AllocError, Allocator, Global};
 use std::marker::Model;
+use std::mem::swap;
 use std::process::Abort;
 use std::test::Fail;
 
@@ -389,6 +390,16 @@ impl Bench {
             Some(block) => self.allocator.owns(block),
             None => panic!(rt; "no block"),
         }
+    }
+
+    /// Whether its allocator says that each block of another is live.
+    pub(super) fn owns_all_of(&self, other: &Bench) -> bool {
+        other.blocks.iter().all(|block| self.allocator.owns(block))
+    }
+
+    /// Swaps its blocks for those of another.
+    pub(super) fn swap_blocks(&mut self, other: &mut Bench) {
+        swap(&mut self.blocks, &mut other.blocks);
     }
 
     /// What the latest block tells of its memory type.
