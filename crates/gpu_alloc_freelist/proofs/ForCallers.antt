@@ -204,7 +204,7 @@ module _ {keep_last : Bool} {from a : Account Listing} {objects now : ℕ → Op
       → IsOnItsWay keep_last from objects p (gone_so_far ++ n ∷ []) (es ++ Deallocated chunk.object ∷ []) (account (record a.allocator { space = space }) heap (a.remaining + 1)) objects_now
   goes_on_as space heap objects_now space_is heap_is objects_are = rw (space_is, heap_is, objects_are) goes_on
 
--- For callers: what holds of the account that is left, where it holds of no chunk that goes, and of one more where it holds of the others.
+-- For callers: what is so of the account that is left, by the names of the chunks that went. It is so where none goes, and where one goes first and it is so of the others.
 
 module _ (Goes : Account Listing → List ℕ → Account Listing → Type 0) (none_goes : (a : Account Listing) → Goes a [] a)
     (one_goes : (a new : Account Listing) (n : ℕ) (chunk : Chunk) (names : List ℕ) → IsSound a.allocator → map.get a.allocator.space.chunks n ≡ Some chunk → IsWhollyFree a.allocator.space n → Goes (account_without_chunk a n chunk) names new

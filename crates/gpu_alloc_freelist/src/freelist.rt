@@ -538,7 +538,9 @@ impl<M: MemoryObject, A: Allocator> FreeListAllocator<M, A> {
             .min(self.final_chunk_size)
     }
 
-    /// Gives wholly free chunks back to the device, but not that of the last run where this one is kept.
+    /// Gives wholly free chunks back to the device, but not that of the last run where this one is kept. (Most returns
+    /// leave none, and learn that from a count.)
+    #[inline(always)]
     fn give_back<D: ObjectDevice<M>>(
         &mut self,
         device: &mut D,

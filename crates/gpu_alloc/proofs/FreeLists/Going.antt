@@ -87,8 +87,8 @@ module _ {A : Type 0} {l : Limits A} {heaps : List Heap} {buddies : List Buddy} 
 
   -- What the free list asks.
 
-  pub agrees_first : (q : Properties) (objects : ℕ → Option Object) → Agrees state q objects → list.Agrees fl q objects
-  agrees_first q objects agrees = list_agrees state index fl serves q objects h.known agrees
+  pub agrees_before : (q : Properties) (objects : ℕ → Option Object) → Agrees state q objects → list.Agrees fl q objects
+  agrees_before q objects agrees = list_agrees state index fl serves q objects h.known agrees
 
   pub counted_first : IsCounted fl.space.chunks heap remaining
   counted_first = list_counted state index fl serves heaps i heap h.kept.books h.here heap_in h.at_heap

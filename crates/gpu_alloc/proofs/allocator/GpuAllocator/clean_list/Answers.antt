@@ -1,6 +1,6 @@
 use Rattle.std.proofs.Common.{false}
 use Rattle.gpu_alloc_base.specs.Accounts.{account}
-use Rattle.gpu_alloc.proofs.FreeLists.Going.{Handed, IsLeft, agrees_first, counted_first, given_back, handed, unchanged, unchanged_list}
+use Rattle.gpu_alloc.proofs.FreeLists.Going.{Handed, IsLeft, agrees_before, counted_first, given_back, handed, unchanged, unchanged_list}
 use Rattle.gpu_alloc.proofs.allocator.GpuAllocator.clean_list.Given.{Over}
 use Rattle.gpu_alloc.proofs.allocator.GpuAllocator.clean_list.Goals as goal
 
@@ -8,7 +8,7 @@ pub cleanup-requires-clause-agrees : goal.cleanup-requires-clause-agrees
 cleanup-requires-clause-agrees g c =
     let known = rw (← c.self.view_is) at c.requires.known in
     let agrees = rw (← c.self.view_is) at c.requires.agrees in
-    agrees_first (handed c.self.inside.limits c.self.invariant known c.index_mut.ensures.value c.heap_index-heap.ensures c.index_mut-2.ensures.value) _ _ agrees
+    agrees_before (handed c.self.inside.limits c.self.invariant known c.index_mut.ensures.value c.heap_index-heap.ensures c.index_mut-2.ensures.value) _ _ agrees
 
 pub cleanup-requires-clause-counted : goal.cleanup-requires-clause-counted
 cleanup-requires-clause-counted g c =

@@ -2,7 +2,7 @@ use Rattle.std.proofs.Common.{◌∙◌, true}
 use Rattle.gpu_alloc_base.specs.Accounts.{account}
 use Rattle.gpu_alloc.specs.Inside.{slot_at}
 use Rattle.gpu_alloc.specs.Release.{GoesWith, without_span}
-use Rattle.gpu_alloc.proofs.FreeLists.Going.{Handed, IsLeft, agrees_first, counted_first}
+use Rattle.gpu_alloc.proofs.FreeLists.Going.{Handed, IsLeft, agrees_before, counted_first}
 use Rattle.gpu_alloc.proofs.FreeLists.Returns.{came_back, goes_with_list, handed_back, slot_live}
 use Rattle.gpu_alloc.proofs.Linked.{consistent}
 use Rattle.gpu_alloc.proofs.Soundness.{sound_is}
@@ -24,7 +24,7 @@ dealloc-requires-clause-live g c =
     slot_live (handed g c) owned c.requires.listed c.memory_type-memory_type.ensures (c.new.ensures ∙ (λ k. slot_at (record { object = name k; offset = c.offset-offset.ensures k; size = c.size-size.ensures k }) c.args.number))
 
 pub dealloc-requires-clause-agrees : goal.dealloc-requires-clause-agrees
-dealloc-requires-clause-agrees g c = let agrees = rw (← c.self.view_is) at c.requires.agrees in agrees_first (handed g c) _ _ agrees
+dealloc-requires-clause-agrees g c = let agrees = rw (← c.self.view_is) at c.requires.agrees in agrees_before (handed g c) _ _ agrees
 
 pub dealloc-requires-clause-counted : goal.dealloc-requires-clause-counted
 dealloc-requires-clause-counted g c = counted_first (handed g c)
