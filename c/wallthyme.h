@@ -19,7 +19,8 @@
  * - After all blocks are freed and wt_cleanup, no object is held.
  * - What was asked for of an optimal block shares no page with a linear one (WT_OPTIMAL), no question passes a heap's
  *   limit, and WT_ALLOCATE_OWN is set exactly where an object will hold one block, of its size. A request with
- *   WT_HELD_ONLY asks nothing, and is served wherever a permitted memory type has a place for it, but for host memory.
+ *   WT_HELD_ONLY asks nothing. It is served wherever its size is within the limit and a permitted memory type that
+ *   serves its usage has a place for it, but for host memory.
  *
  * What the caller owes, and nothing checks:
  * - Pointers are valid; one to 0 elements may be null. Nothing that a call writes overlaps anything else that the
@@ -159,8 +160,9 @@ enum { WT_SHARED = 0, WT_PREFERRED = 1, WT_REQUIRED = 2 };
 
 /* wt_request.flags: the device is asked for nothing (proved). Of the permitted memory types that serve the usage, the
    first in rank that has a place in a shared object serves, even where a better one would serve by asking. WT_WOULD_ASK
-   where none has one (proved): always with WT_REQUIRED, and where the request is large enough for an object of its own.
-   How many more objects may be held is of no account. */
+   where none has one (proved), as with WT_REQUIRED; a memory type has none for a request that it would serve by an
+   object of its own. A size over the limit, and a usage that no permitted type serves, are refused before. How many more
+   objects may be held is of no account. */
 #define WT_HELD_ONLY 2u
 
 /* wt_memory_type.props: the lower six bits of VkMemoryType::propertyFlags. Other bits are ignored; leave such

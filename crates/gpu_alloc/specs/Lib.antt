@@ -9,7 +9,6 @@ pub mod FirstTypes
 pub mod FreeBytes
 pub mod FreeListSharing
 pub mod FreeRanges
-pub mod Growth
 pub mod HeldOnly
 pub mod Importing
 pub mod Listing

@@ -2,8 +2,8 @@
 
 use gpu_alloc_block::Kind;
 
-/// A live span of a held object, and where its block stands in a buddy allocator: its chunk there, and its index. Other
-/// blocks have a chunk of 0, and their own key as index.
+/// A live span of a held object, and where its block stands in a buddy allocator: its chunk there, and its index. A block
+/// of a free list has a chunk of 0 and its key as index, the one block of an object 0 for both.
 pub use gpu_alloc_base::buddy_block::Leaf as LiveSpan;
 
 /// What is known of a held object, beside its name.

@@ -7,7 +7,7 @@ use gpu_alloc_types::MemoryObject;
 use std::marker::Model;
 
 /// What a live block of a buddy allocator is known by, as [`into_parts`] tells it.
-#[derive(Clone, Copy, PartialEq, Eq)]
+#[derive(Clone, Copy, Debug, PartialEq, Eq)]
 pub struct Leaf {
     /// The name of its chunk's object.
     pub object: u64,

@@ -79,7 +79,7 @@ pub struct MemoryBlock<M: MemoryObject> {
     atom: u64,
     kind: Kind,
     mapping: KeptMapping,
-    // Under which the table of live spans has it. Contracts don't see it, since the table confirms it.
+    // Under which its store has it. Contracts don't see it, since the store confirms it.
     key: usize,
 }
 
@@ -90,8 +90,6 @@ impl<M: MemoryObject> Model for MemoryBlock<M> {
     ghost Value = { Block };
 
     ghost coded = { block_code };
-
-    ghost use Rattle.gpu_alloc_types.specs.Flags.{property_bits};
 
     ghost view = { λ b. record {
       object = M.object b.memory;
@@ -110,8 +108,8 @@ impl<M: MemoryObject> Model for MemoryBlock<M> {
 }
 
 impl<M: MemoryObject> MemoryBlock<M> {
-    /// An unmapped block, whose span stands under a key. It is public for the crate above, whose table of live spans
-    /// confirms each block: users get theirs of a `GpuAllocator`.
+    /// An unmapped block, which its store has under a key. It is public for the crate above, whose stores confirm each
+    /// block: users get theirs of a `GpuAllocator`.
     #[inline(always)]
     pub fn new(
         memory: M,
@@ -397,7 +395,7 @@ impl<M: MemoryObject> MemoryBlock<M> {
         self.kind
     }
 
-    /// The key of its span, which the table confirms before it is used. It is public for the crate above.
+    /// The key under which its store has it, which the store confirms. It is public for the crate above.
     #[inline(always)]
     pub fn key(&self) -> usize {
         self.key

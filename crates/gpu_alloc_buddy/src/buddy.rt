@@ -330,7 +330,7 @@ impl<M: MemoryObject, A: Allocator> BuddyAllocator<M, A> {
         self.pairs.find(key, object, offset, size)
     }
 
-    /// The held chunks, each once, in no order that is told.
+    /// The held chunks, each once, by rising key. It is public for `gpu_alloc`.
     pub fn chunks(&self) -> Iter<'_, Chunk<M>>
         ensures { ListsChunks M.object self.now.chunks result }
     {
@@ -340,7 +340,7 @@ impl<M: MemoryObject, A: Allocator> BuddyAllocator<M, A> {
     /// Adds to a list each live block, once, in no order that is told. It is public for `gpu_alloc`. The time grows with
     /// the number of pairs of halves.
     ///
-    /// The only refusal is want of host memory: some of them are then added. Nothing else changes.
+    /// The only refusal is want of host memory, after which nothing is said of the list.
     pub fn list_live<B: Allocator>(&self, leaves: &mut Vec<Leaf, B>) -> Result<(), AllocError>
         ensures { OnOk result (AddsLeaves self.now.live leaves.old.items leaves.new.items) }
     {

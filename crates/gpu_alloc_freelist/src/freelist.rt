@@ -339,21 +339,22 @@ impl<M: MemoryObject, A: Allocator> FreeListAllocator<M, A> {
         self.give_back(device, false, heap, allocations_remains);
     }
 
-    /// The held chunks, each once, in no order that is told.
+    /// The held chunks, each once, in no order that is told. It is public for `gpu_alloc`.
     pub fn chunks(&self) -> Iter<'_, NumberedChunk<M>>
         ensures { ListsChunks M.object (self.now).space.chunks result }
     {
         self.freelist.chunks()
     }
 
-    /// The live blocks, each once, in no order that is told, with their keys.
+    /// The live blocks, each once, in no order that is told. What stands beside each is its key, of which no contract
+    /// speaks. It is public for `gpu_alloc`.
     pub fn slots(&self) -> Iter<'_, Slot>
         ensures { ListsSlots (self.now).space.live result }
     {
         self.freelist.slots()
     }
 
-    /// Whether a block is live here: by its object, chunk, offset and size.
+    /// Whether a block is live here: by its object, chunk, offset and size. It is public for `gpu_alloc`.
     ///
     /// The answer is the same whatever the key is. The key that the block carries makes it fast: another one costs a
     /// search of the live blocks.
@@ -379,7 +380,7 @@ impl<M: MemoryObject, A: Allocator> FreeListAllocator<M, A> {
     }
 
     /// Whether so many bytes in whole atoms are no more than a largest chunk, so that `alloc` takes a request of that
-    /// size.
+    /// size, if it is at least 1. It is public for `gpu_alloc`.
     #[inline(always)]
     pub fn fits_a_chunk(&self, size: u64) -> bool
         ensures { result ≡ nat_le (up size (self.now).atom) (self.now).final_chunk }

@@ -247,7 +247,7 @@ impl<M: MemoryObject, A: Allocator> Pairs<M, A> {
         })
     }
 
-    /// The held chunks, each once, in no order that is told.
+    /// The held chunks, each once, by rising key.
     pub fn chunks(&self) -> Iter<'_, Chunk<M>>
         ensures { ListsChunks M.object ((self.now).space).chunks result }
     {
@@ -256,7 +256,7 @@ impl<M: MemoryObject, A: Allocator> Pairs<M, A> {
 
     /// Adds to a list each live block, once, in no order that is told. The time grows with the number of pairs.
     ///
-    /// The only refusal is want of memory: some of them are then added.
+    /// The only refusal is want of memory, after which nothing is said of the list.
     pub fn list_live<B: Allocator>(&self, leaves: &mut Vec<Leaf, B>) -> Result<(), AllocError>
         ensures { OnOk result (AddsLeaves ((self.now).space).live leaves.old.items leaves.new.items) }
     {

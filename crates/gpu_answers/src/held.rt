@@ -13,8 +13,8 @@ use std::marker::Model;
 /// The objects that are held, by name, and the names of those that were given back.
 ///
 /// The names are 1, 2, 3 and so on, and none is used again. There is always room for the name of each object that is
-/// held beside those that were given back, so that no name is lost. The calls take a number of steps that hangs on no
-/// count, on average.
+/// held beside those that were given back, so that no name is lost. The calls take constant time on average for a handle
+/// that was made here; any other is searched for.
 #[derive(Drop)]
 pub(crate) struct HeldObjects {
     objects: Objects,

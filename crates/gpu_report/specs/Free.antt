@@ -3,9 +3,9 @@ use Rattle.std.specs.Prelude.{◌↔◌, ℕ, ◌-◌, ◌*◌, ◌/◌, ◌==�
 use Rattle.std.specs.List.{filter}
 use Rattle.gpu_alloc.specs.FreeRanges.{IsFreeRangeOf}
 use Rattle.gpu_alloc.specs.RangeOrder.{AreInOrder}
-use Rattle.gpu_alloc.specs.State.{State}
+use Rattle.gpu_alloc.specs.State.{HeldObject, State}
 use Rattle.gpu_alloc_types.specs.declared.types.FreeRange.{FreeRange}
-use Rattle.gpu_report.specs.Held.{is_held_as}
+use Rattle.gpu_report.specs.Held.{is_listed_as}
 use Rattle.gpu_report.specs.declared.part.Part.{Part}
 
 -- these are the free ranges of a memory type, each once
@@ -13,9 +13,9 @@ pub record AreFree (s : State) (t : ℕ) (free : List FreeRange) : Type 0 where
   pub exact : (r : FreeRange) → Contains free r ↔ IsFreeRangeOf s t r
   pub order : AreInOrder free
 
--- the lengths of those in objects that are held as this
-abbrev pub free_sizes : State → Part → List FreeRange → List ℕ
-free_sizes s p free = map (λ r. r.end - r.start) (filter (λ r. is_held_as s p r.object) free)
+-- the lengths of those in those of the held objects that are held as this
+abbrev pub free_sizes : List (ℕ × HeldObject) → Part → List FreeRange → List ℕ
+free_sizes held p free = map (λ r. r.end - r.start) (filter (λ r. is_listed_as held p r.object) free)
 
 -- the greatest of the lengths, 0 where there is none
 abbrev pub largest : List ℕ → ℕ

@@ -34,9 +34,6 @@ abbrev pub is_found : Part → Option HeldObject → Bool
 is_found p None = false
 is_found p (Some h) = is_of p h
 
-abbrev pub is_held_as : State → Part → ℕ → Bool
-is_held_as s p object = is_found p (finite.get s.held object)
-
 abbrev pub part_of : ℕ → ObjectKind → Part
 part_of t kind = record { memory_type = t; kind = kind }
 

@@ -67,9 +67,9 @@ pub record AreSums (s : State) (held : List (ℕ × HeldObject)) (live : List Li
   pub objects : k.objects ≡ length (held_as held (part_of k.memory_type k.kind))
   pub live_blocks : k.live_blocks ≡ length (live_sizes held (part_of k.memory_type k.kind) live)
   pub live_bytes : k.live_bytes ≡ sum (live_sizes held (part_of k.memory_type k.kind) live)
-  pub free_bytes : k.free_bytes ≡ sum (free_sizes s (part_of k.memory_type k.kind) free)
-  pub largest_free : k.largest_free ≡ largest (free_sizes s (part_of k.memory_type k.kind) free)
-  pub scattered : k.scattered ≡ scattered (free_sizes s (part_of k.memory_type k.kind) free)
+  pub free_bytes : k.free_bytes ≡ sum (free_sizes held (part_of k.memory_type k.kind) free)
+  pub largest_free : k.largest_free ≡ largest (free_sizes held (part_of k.memory_type k.kind) free)
+  pub scattered : k.scattered ≡ scattered (free_sizes held (part_of k.memory_type k.kind) free)
 
 -- the same of a memory type and a kind as which an object is held
 pub record IsKindTold (s : State) (held : List (ℕ × HeldObject)) (live : List LiveBlock) (k : KindReport) : Type 0 where

@@ -35,7 +35,7 @@ pub(crate) fn kind_report<M: MemoryObject, A: Allocator>(
     ensures of { IfOk result (λ k. part_told k ≡ part) }
 {
     let live_sizes = part.live_sizes(alloc, held, live)?;
-    let free_sizes = part.free_sizes(alloc, allocator, free)?;
+    let free_sizes = part.free_sizes(alloc, held, free)?;
     Ok(KindReport {
         memory_type: part.memory_type,
         kind: part.kind,

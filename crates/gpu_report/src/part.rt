@@ -14,8 +14,8 @@ ghost use Rattle.gpu_report.specs.Report.{is_chunk};
 use crate::held::find;
 use crate::{LiveBlock, ObjectKind};
 use gpu_alloc::spans::HeldRow;
-use gpu_alloc::{FreeRange, GpuAllocator, Kind, MemoryObject};
-use std::alloc::{AllocError, Allocator, Global};
+use gpu_alloc::{FreeRange, Kind};
+use std::alloc::{AllocError, Global};
 
 impl ObjectKind {
     /// What an object is reported to be held for.
@@ -111,18 +111,20 @@ impl Part {
         Ok(sizes)
     }
 
-    /// The lengths of the free ranges in chunks that are held as this.
-    pub(crate) fn free_sizes<M: MemoryObject, A: Allocator>(
+    /// The lengths of the free ranges in those of the held objects, by name, that are held as this.
+    pub(crate) fn free_sizes(
         &self,
         alloc: Global,
-        allocator: &GpuAllocator<M, A>,
+        held: &[(u64, HeldRow)],
         free: &[FreeRange],
     ) -> Result<Vec<u64>, AllocError>
-        ensures { IfOk result (λ sizes. sizes.items ≡ free_sizes allocator.now self.now free.now) }
+        requires once { IsDistinct nat_eq (keys_of (mapped entry_of held.now)) }
+        requires rising { IsNonDecreasing (keys_of (mapped entry_of held.now)) }
+        ensures { IfOk result (λ sizes. sizes.items ≡ free_sizes (mapped entry_of held.now) self.now free.now) }
     {
         let mut sizes = Vec::new(alloc);
         for range in free {
-            if self.is_of(allocator.held(range.object)) {
+            if self.is_of(find(held, range.object)) {
                 sizes.push(range.end.saturating_sub(range.start))?;
             }
         }

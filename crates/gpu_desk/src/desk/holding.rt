@@ -79,6 +79,7 @@ impl Desk {
     pub fn alloc_held(&mut self, request: Request, wish: Wish) -> Result<Grant, Denial>
         ensures granted { IfOk result (AllocatedHeld self.old request wish self.new) }
         ensures denied { IfErr result (HeldDenied self.old request wish) }
+        ensures unasked { self.new.device ≡ self.old.device }
         ensures unchanged { OnErr result (IsAsBefore self.old self.new) }
         ensures keeps { Keeps self.old self.new }
     {
