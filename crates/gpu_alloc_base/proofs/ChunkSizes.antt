@@ -3,13 +3,13 @@ use Rattle.std.proofs.Common.{◌≡◌, inl, inr, ℕ, ◌+◌, ◌-◌, ◌*�
 use Rattle.std.specs.Prelude.{min, max}
 use Rattle.std.proofs.lemmas.Bool.{cases_lt}
 use Rattle.std.proofs.lemmas.Bool.Decides.{nat_tests}
-use Rattle.std.proofs.lemmas.Nat.{pow_pos, div-mul-add, div_below}
+use Rattle.std.proofs.lemmas.Nat.{pow_pos, div_below}
 use Rattle.std.proofs.Math.Nat.{add-div_right, div-le_self, mul-le-mul_left, mul-le-mul_right}
 use Rattle.gpu_alloc_base.specs.FreeSpace.{IsPowerUpTo, IsMultipleOf}
 use Rattle.gpu_alloc_base.specs.AlignMasks.{IsAlignMask}
-use Rattle.gpu_alloc_base.specs.Sizes.{next_power_of_two, down, up, doubled_up, grown_chunk, IsLeastProduct, cut, at_least_an_atom, starting_size, final_size, transient_threshold}
+use Rattle.gpu_alloc_base.specs.Sizes.{next_power_of_two, down, up, grown_chunk, IsLeastProduct, cut, at_least_an_atom, starting_size, final_size, transient_threshold}
 use Rattle.gpu_alloc_base.proofs.AlignedPowers.{pow-le}
-use Rattle.gpu_alloc_base.proofs.PowersOfTwo.{is_next_power_of_two, power_of_bit, bit_of_power, greater_power, power_is_next}
+use Rattle.gpu_alloc_base.proofs.PowersOfTwo.{is_next_power_of_two, power_of_bit, bit_of_power, greater_power}
 use Rattle.gpu_alloc_base.proofs.Multiples.{multiple_below, multiple_down, down_below}
 use Rattle.gpu_alloc_base.specs.declared.config.Config.{Config}
 

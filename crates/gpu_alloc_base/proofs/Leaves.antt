@@ -1,5 +1,5 @@
 -- Leaves in their order, and the set of a list of them.
-use Rattle.std.proofs.Common.{◌≡◌, Bool, true, ◌⊎◌, inl, inr, List, [], ◌∷◌, ◌++◌, Equal, IsTrue, refl}
+use Rattle.std.proofs.Common.{◌≡◌, true, ◌⊎◌, inl, inr, List, Equal, IsTrue, refl}
 use Rattle.std.specs.Bool.{Decides}
 use Rattle.std.specs.Cmp.{IsTotalOrder}
 use Rattle.std.specs.Cmp.Lexicographic.{on_texts}
@@ -9,8 +9,7 @@ use Rattle.std.specs.List.{Contains}
 use Rattle.std.specs.Ordering.{eq_by_cmp}
 use Rattle.gpu_alloc_base.specs.Leaves.{leaf_numbers, leaf_cmp}
 use Rattle.gpu_alloc_base.specs.declared.buddy_block.Leaf.{Leaf}
-use Rattle.gpu_alloc_base.proofs.ListSets.{key_test, in_set, in_inserted, in_removed, same_or_left, set_push, set_less}
-use Rattle.gpu_alloc_base.proofs.Lists.{IsLess}
+use Rattle.gpu_alloc_base.proofs.ListSets.{key_test, in_set, in_inserted, in_removed, same_or_left}
 
 pub leaf_total : IsTotalOrder leaf_cmp
 leaf_total = on_texts leaf_numbers

@@ -1,5 +1,5 @@
 -- A new object that is mapped, or given back.
-use Rattle.std.proofs.Common.{◌≡◌, ◌≢◌, sym, inl, inr, ℕ, ◌<◌, true, [], ◌∷◌, Option, Some, None, Ok, Err, refl, ◌∙◌, ap, arith}
+use Rattle.std.proofs.Common.{◌≡◌, ◌≢◌, inl, inr, ℕ, ◌<◌, true, [], ◌∷◌, Option, Some, None, Ok, Err, refl, ◌∙◌, ap, arith}
 use Rattle.gpu_alloc_types.specs.Properties.{Properties, is_host_visible}
 use Rattle.gpu_alloc_types.specs.Device.{Object, Row, HeldWith, IsHeld, IsMappable, put}
 use Rattle.gpu_alloc_types.specs.Device.Event.{Allocated, Mapped}
@@ -9,7 +9,6 @@ use Rattle.gpu_alloc_types.specs.declared.types.DeviceMapError.TheVariants.{OutO
 use Rattle.gpu_alloc_types.specs.declared.types.OutOfMemory.{OutOfMemory}
 use Rattle.gpu_alloc_types.specs.declared.types.OutOfMemory.TheVariants.{OutOfDeviceMemory as DeviceFull, OutOfHostMemory as HostFull}
 use Rattle.gpu_alloc_base.specs.Errors.{like_memory}
-use Rattle.gpu_alloc_base.specs.Chunks.{Chunk, IsThere}
 use Rattle.gpu_alloc_base.specs.NewChunk.{ChunkQuestion, HasOneChunkMore, AsksChunk, unmapped, new_chunk_refusal}
 
 module _ (q : ChunkQuestion) (f g : ℕ → Option Object) (flags name : ℕ) (p : Properties) where

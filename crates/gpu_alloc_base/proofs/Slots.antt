@@ -1,5 +1,5 @@
 -- Live blocks of a free list in their order, and the set of a list of them.
-use Rattle.std.proofs.Common.{◌≡◌, Bool, true, ◌⊎◌, List, Equal}
+use Rattle.std.proofs.Common.{◌≡◌, true, ◌⊎◌, List, Equal}
 use Rattle.std.specs.Bool.{Decides}
 use Rattle.std.specs.Cmp.{IsTotalOrder}
 use Rattle.std.specs.Cmp.Lexicographic.{on_texts}
@@ -8,8 +8,7 @@ use Rattle.std.specs.List.{Contains}
 use Rattle.std.specs.Ordering.{eq_by_cmp}
 use Rattle.gpu_alloc_base.specs.Slots.{slot_numbers, slot_cmp}
 use Rattle.gpu_alloc_base.specs.declared.free_list_block.Slot.{Slot}
-use Rattle.gpu_alloc_base.proofs.ListSets.{key_test, in_set, in_inserted, in_removed, same_or_left, set_less}
-use Rattle.gpu_alloc_base.proofs.Lists.{IsLess}
+use Rattle.gpu_alloc_base.proofs.ListSets.{key_test, in_set, in_inserted, in_removed, same_or_left}
 use Rattle.std.specs.FinSet as set
 
 pub slot_total : IsTotalOrder slot_cmp

@@ -4,10 +4,10 @@ use Rattle.gpu_alloc_types.specs.Properties.{Properties, is_coherent, are_non_co
 use Rattle.gpu_alloc_types.specs.Device.{Object, Range, Row, Changes, HeldWith, IsPut, IsFlushed, IsInvalidated, IsInMapped}
 use Rattle.gpu_alloc_types.specs.Device.Event.{BytesPut, BytesGot}
 use Rattle.gpu_alloc_types.specs.declared.types.OutOfMemory.{OutOfMemory}
-use Rattle.gpu_alloc_block.proofs.Changes.{some_same, changed_there, changes_told, changes_of, changes_twice}
-use Rattle.gpu_alloc_block.proofs.Moving.{incoherent, put_flushed, put_partly, got_invalidated, got_partly}
+use Rattle.gpu_alloc_block.proofs.Changes.{some_same, changed_there, changes_of, changes_twice}
+use Rattle.gpu_alloc_block.proofs.Moving.{incoherent, put_flushed, put_partly, got_invalidated}
 use Rattle.gpu_alloc_block.proofs.Rounded.{rounded_covers}
-use Rattle.gpu_alloc_block.specs.Bytes.{HasOnlyOtherBytes, IsOpen, IsWrittenThrough, IsPartlyWritten, IsReadThrough, IsPartlyRead}
+use Rattle.gpu_alloc_block.specs.Bytes.{HasOnlyOtherBytes, IsOpen, IsWrittenThrough, IsPartlyWritten, IsReadThrough}
 use Rattle.gpu_alloc_block.specs.Ranges.{rounded}
 use Rattle.gpu_alloc_block.specs.State.{Block}
 

@@ -1,5 +1,5 @@
 -- For callers that hold a list of blocks, or blocks under keys.
-use Rattle.std.proofs.Common.{◌≡◌, ℕ, zero, suc, ◌<◌, ◌≤◌, List, [], ◌∷◌, ◌++◌, drop, length, length-append, slice_get, take, Option, Some, None, refl, sym, ◌∙◌, ap, subst, arith}
+use Rattle.std.proofs.Common.{◌≡◌, ℕ, zero, suc, ◌<◌, ◌≤◌, List, [], ◌∷◌, ◌++◌, drop, length, length-append, slice_get, take, Option, Some, None, sym, ◌∙◌, ap, subst, arith}
 use Rattle.std.proofs.lemmas.List.{take-append-le}
 use Rattle.gpu_alloc_types.specs.Device.{Object}
 use Rattle.gpu_alloc_types.specs.Properties.{Properties}

@@ -24,14 +24,13 @@ ghost use Rattle.gpu_alloc_pairs.specs.HeldLists.{AddsLeaves, ListsChunks};
 ghost use Rattle.gpu_alloc_pairs.specs.Store.{CountsLooks, CountsTaking};
 ghost use Rattle.gpu_alloc_base.specs.AlignMasks.{IsAlignMask};
 
-use gpu_alloc_base::booking;
 use gpu_alloc_base::buddy_block::{Leaf, into_parts};
 use gpu_alloc_base::heap::Heap;
 use gpu_alloc_base::new_chunk::new_chunk_with_handle;
 use gpu_alloc_base::range_order::put_in_order;
 use gpu_alloc_base::sizes::next_order;
 use gpu_alloc_base::steps::Steps;
-use gpu_alloc_base::{AllocationError, BuddyBlock};
+use gpu_alloc_base::{AllocationError, BuddyBlock, booking};
 use gpu_alloc_pairs::{Chunk, Pairs, bytes};
 use gpu_alloc_types::{
     AllocationFlags, FreeRange, MemoryObject, MemoryPropertyFlags, ObjectDevice,

@@ -35,14 +35,13 @@ mod live;
 mod runs;
 
 pub use chunks::NumberedChunk;
-use gpu_alloc_base::booking;
 use gpu_alloc_base::free_list_block::Slot;
 use gpu_alloc_base::heap::Heap;
 use gpu_alloc_base::new_chunk::new_chunk_with_handle;
 use gpu_alloc_base::range_order::put_in_order;
 use gpu_alloc_base::sizes::next_power_of_two;
 use gpu_alloc_base::steps::Steps;
-use gpu_alloc_base::{AllocationError, FreeListBlock};
+use gpu_alloc_base::{AllocationError, FreeListBlock, booking};
 use gpu_alloc_types::{
     AllocationFlags, FreeRange, MemoryObject, MemoryPropertyFlags, ObjectDevice,
 };

@@ -1,13 +1,9 @@
 -- The other half of a piece: that there is one alone.
-use Rattle.std.proofs.Common.{◌≡◌, ℕ, ◌+◌, ◌*◌, ◌-◌, ◌/◌, ◌%◌, ◌^◌, ◌<◌, ◌≤◌, ◌⊎◌, inl, inr, sym, ◌∙◌, ap, subst, arith}
-use Rattle.std.proofs.lemmas.Bool.{cases_lt}
-use Rattle.std.proofs.Math.Nat.{mul-mod_left}
+use Rattle.std.proofs.Common.{◌≡◌, ◌^◌, ◌⊎◌, inl, inr, sym, ◌∙◌, ap, subst, arith}
 use Rattle.gpu_alloc_base.specs.declared.piece.Piece.{Piece}
-use Rattle.gpu_alloc_base.specs.FreeSpace.{IsMultipleOf}
 use Rattle.gpu_alloc_base.specs.Pieces.{AreHalves}
-use Rattle.gpu_alloc_base.proofs.AlignedPowers.{ends_in}
 use Rattle.gpu_alloc_base.proofs.ExactPieces.{same_piece}
-use Rattle.gpu_alloc_pairs.proofs.PieceHalves.{not_left, aligned_joined}
+use Rattle.gpu_alloc_pairs.proofs.PieceHalves.{not_left}
 
 -- the other half is one piece
 pub right_half_is : (x y q : Piece) → AreHalves x y → AreHalves x q → q ≡ y

@@ -1,5 +1,5 @@
 -- What an allocation asks to be made, and so what its found question is for.
-use Rattle.std.proofs.Common.{◌≡◌, ◌⊎◌, ◌↔◌, IsTrue, IfOk, inl, inr, ℕ, ◌<◌, Bool, true, false, cond, List, [], ◌∷◌, ◌++◌, length, ◌≤◌, ◌^◌, Option, Some, None, Result, Ok, Err, MatchBool, nat_eq, nat_le, nat_lt, ◌==◌, ◌&&◌, ◌||◌, not, All, arith, refl, sym, ◌∙◌, ap, subst}
+use Rattle.std.proofs.Common.{◌≡◌, ◌⊎◌, ◌↔◌, IsTrue, IfOk, inl, inr, ℕ, ◌<◌, Bool, true, false, cond, List, [], ◌∷◌, ◌++◌, length, Option, Some, None, Result, Ok, Err, MatchBool, nat_eq, nat_le, ◌==◌, ◌&&◌, not, All, arith, refl, sym, ◌∙◌, ap, subst}
 use Rattle.std.proofs.lemmas.Bool.Decides.{nat_tests}
 use Rattle.std.proofs.lemmas.List.Elements.{All-head, All-tail}
 use Rattle.std.specs.Option.{IfSome}
@@ -9,7 +9,7 @@ use Rattle.gpu_alloc_types.specs.Flags.{has_bit, transient, usage_bits}
 use Rattle.gpu_alloc_base.specs.Case as case
 use Rattle.gpu_alloc_base.specs.Case.{Case}
 use Rattle.gpu_alloc_base.specs.NewChunk.{ChunkQuestion, LacksDeviceMemory, LacksHostMemory, IsGivenBack, made, whole_of}
-use Rattle.gpu_alloc_base.specs.Sizes.{preferred_threshold, transient_threshold, up}
+use Rattle.gpu_alloc_base.specs.Sizes.{preferred_threshold, transient_threshold}
 use Rattle.gpu_alloc_usage.proofs.Ranking.Candidates.{candidates-within}
 use Rattle.gpu_alloc.specs.Allocation.{Allocates, AllocatesBy, AllocatesOptimal, IsAloneWhereServed, IsGranted, IsInPages, IsPassed, Plan, Refuses, TriesAll, fits_a_chunk, is_alone, is_small, plan, plan_in_pages, serves_alone, strategy, unhinted}
 use Rattle.gpu_alloc.specs.Candidates.{candidate}

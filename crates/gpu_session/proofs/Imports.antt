@@ -1,14 +1,12 @@
 -- What an import asks, and when allocator and device agree afterwards.
-use Rattle.std.proofs.Common.{◌≡◌, ◌⊎◌, inl, inr, ℕ, ◌+◌, ◌%◌, ◌<◌, ◌≤◌, ◌==◌, ◌&&◌, ◌||◌, arith, Bool, true, false, not, cond, nat_le, nat_lt, length, Option, Some, None, Ok, is_some, IsTrue, refl, ◌∙◌, ap, subst}
+use Rattle.std.proofs.Common.{◌≡◌, ◌⊎◌, inl, inr, ℕ, ◌+◌, ◌%◌, ◌<◌, ◌≤◌, ◌==◌, ◌&&◌, ◌||◌, arith, Bool, true, false, not, nat_le, nat_lt, length, Option, Some, None, Ok, is_some, refl, ◌∙◌, ap}
 use Rattle.std.proofs.lemmas.Bool.Decides.{nat_tests}
-use Rattle.gpu_alloc_types.specs.Device.{Event, IsAskable, IsHeld, Object, Row, put}
+use Rattle.gpu_alloc_types.specs.Device.{Event, IsHeld, Object, Row, put}
 use Rattle.gpu_alloc_types.specs.Device.Event.{Allocated, Deallocated}
 use Rattle.gpu_alloc_types.specs.Objects.{put-undone}
-use Rattle.gpu_alloc_types.specs.Flags.{has_bit}
 use Rattle.gpu_alloc_types.specs.Properties.{Properties, is_non_coherent}
 use Rattle.gpu_alloc.specs.Agreement.{Agrees, BlockAgrees}
 use Rattle.gpu_alloc.specs.Importing.{ImportAgrees, MayBeImported}
-use Rattle.gpu_alloc.specs.NewChunk.{flags_of}
 use Rattle.gpu_alloc.specs.State.{Block, State}
 use Rattle.gpu_session.specs.Faults.{fault_of_import, is_bad_end}
 use Rattle.gpu_session.specs.declared.command.Fault.TheVariants.{BadImportEnd, BadRange, BadSize, BadType, NoRemaining}

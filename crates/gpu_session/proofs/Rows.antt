@@ -1,5 +1,5 @@
 -- Live blocks as a list of rows.
-use Rattle.std.proofs.Common.{◌≡◌, ◌↔◌, inl, inr, ℕ, true, arith, List, [], ◌∷◌, ◌++◌, map, nat_eq, Some, refl, sym, ◌∙◌, ap, subst}
+use Rattle.std.proofs.Common.{◌≡◌, ◌↔◌, inl, inr, ℕ, true, arith, List, [], ◌∷◌, ◌++◌, map, nat_eq, Some, sym, ◌∙◌, ap, subst}
 use Rattle.std.proofs.lemmas.List.{append-nil}
 use Rattle.std.proofs.lemmas.Map.Views.{lookup-from_Contains, Contains-from_lookup}
 use Rattle.std.proofs.lemmas.Cmp.{nat_eq_equiv}

@@ -1,6 +1,6 @@
 -- Live blocks as a list of spans by name.
-use Rattle.std.specs.Prelude.{◌≡◌, ℕ}
-use Rattle.gpu_alloc.specs.State.{Block, Span, span_of}
+use Rattle.std.specs.Prelude.{◌≡◌}
+use Rattle.gpu_alloc.specs.State.{Span, span_of}
 use Rattle.gpu_session.specs.Books.{Books, OfBlock}
 use Rattle.gpu_session.specs.declared.session.listing.NamedSpan.{NamedSpan}
 

@@ -1,13 +1,13 @@
 -- Where values lie, and the first one from a place on.
-use Rattle.std.proofs.Common.{◌≡◌, ◌≢◌, ◌⊎◌, inl, inr, ℕ, ◌+◌, ◌*◌, ◌/◌, ◌%◌, ◌^◌, ◌<◌, ◌≤◌, List, length, map, None, refl, sym, ◌∙◌, ap, subst, arith}
+use Rattle.std.proofs.Common.{◌≡◌, ◌⊎◌, inl, inr, ℕ, ◌+◌, ◌*◌, ◌/◌, ◌%◌, ◌^◌, ◌<◌, ◌≤◌, List, length, None, sym, ◌∙◌, ap, subst, arith}
 use Rattle.std.proofs.lemmas.List.{length-map}
 use Rattle.std.specs.FinMap as finite
 use Rattle.std.specs.Option.{IsSome}
 use Rattle.gpu_slots.specs.declared.slot_map.Place.{Place}
-use Rattle.gpu_slots.specs.Places.{live_in, place_at, IsSound}
+use Rattle.gpu_slots.specs.Places.{live_in, place_at}
 use Rattle.gpu_slots.specs.SlotMap.{SlotState, ArePlaced, HasNoneFrom, IsFirstFrom}
 use Rattle.gpu_slots.proofs.Lookups.{IsLiveAt, live_at, below_or_past, one_or_two, key_parts, parts_of, no_value, get_here}
-use Rattle.gpu_slots.proofs.Sound.{roomless, state}
+use Rattle.gpu_slots.proofs.Sound.{state}
 
 module _ {T : Type 0} (places : List (Place T)) (few : length places < 2 ^ 32) where
   le : length places ≤ 2 ^ 32

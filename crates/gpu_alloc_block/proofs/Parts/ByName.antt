@@ -1,5 +1,5 @@
 -- Chunks by key and rows as a part, as one comes or goes.
-use Rattle.std.proofs.Common.{◌≡◌, ◌≢◌, inl, inr, ℕ, true, IsTrue, Some, None, refl, sym, ◌∙◌, ap, subst}
+use Rattle.std.proofs.Common.{◌≡◌, ◌≢◌, inl, inr, ℕ, IsTrue, Some, None, refl, sym, ◌∙◌, ap, subst}
 use Rattle.std.proofs.lemmas.Bool.{cases_eq}
 use Rattle.std.specs.Cmp.{IsTotalOrder, nat_cmp_total}
 use Rattle.std.specs.declared.cmp.Ordering.{Ordering}
@@ -10,7 +10,7 @@ use Rattle.gpu_alloc_base.specs.Chunks.{Chunk}
 use Rattle.gpu_alloc_base.proofs.ListSets.{in_inserted, in_removed, same_or_left}
 use Rattle.gpu_alloc_base.proofs.ListViews.{IsMore, IsLess, IsOneToOne, seek_name, named_there, named_absent, named_more, named_less, names_more, names_less, in_names}
 use Rattle.gpu_alloc_base.proofs.Maps.{one_value, own_inserted, inserted_cases, inserted_kept, kept_key, kept_other}
-use Rattle.gpu_alloc_block.specs.State.{HeldObject, Span, span_cmp}
+use Rattle.gpu_alloc_block.specs.State.{HeldObject, Span}
 use Rattle.gpu_alloc_block.proofs.LiveSpans.{span_total, span_exact}
 use Rattle.gpu_alloc_block.specs.Parts.{Chunks, by_name, by_span, AreNamed}
 use Rattle.gpu_alloc_block.proofs.Parts.Entries.{entry_there, there_entry, item_there}

@@ -1,4 +1,4 @@
-use Rattle.std.proofs.Common.{◌≡◌, ◌∙◌, map, ap}
+use Rattle.std.proofs.Common.{◌∙◌, map, ap}
 use Rattle.gpu_session.proofs.Rows.{row_of, rows_are}
 use Rattle.gpu_session.proofs.session.Session.named_spans.Goals as goal
 

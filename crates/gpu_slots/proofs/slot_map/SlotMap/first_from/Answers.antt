@@ -1,4 +1,4 @@
-use Rattle.std.proofs.Common.{◌<◌, ◌≤◌, ◌∙◌, sym, subst, None, length, arith}
+use Rattle.std.proofs.Common.{◌<◌, ◌≤◌, ◌∙◌, sym, subst, length, arith}
 use Rattle.gpu_slots.specs.declared.slot_map.Place.{Place}
 use Rattle.gpu_slots.proofs.Lookups.{read_at}
 use Rattle.gpu_slots.proofs.Walk.{first_from, none_from}

@@ -1,5 +1,4 @@
 use Rattle.std.proofs.Common.{◌≡◌, length}
-use Rattle.std.specs.FinSet as set
 use Rattle.gpu_alloc.specs.UnderKeys.{AreAllKept}
 use Rattle.gpu_uses.proofs.textures.TextureCache.end.Given as goal
 
