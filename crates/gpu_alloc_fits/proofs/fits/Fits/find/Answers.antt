@@ -1,0 +1,27 @@
+use Rattle.std.proofs.Common.{◌≡◌, Some, None, refl, sym, ◌∙◌, ap, subst}
+use Rattle.gpu_alloc_base.specs.declared.free_list_block.Slot.{Slot}
+use Rattle.gpu_alloc_fits.specs.Fits.{Store}
+use Rattle.gpu_alloc_fits.specs.Inside.{IsAtKey, chunks_in, slot_of, space_in}
+use Rattle.gpu_alloc_fits.specs.Space.{IsLiveSlot, IsLiveSpan}
+use Rattle.gpu_alloc_fits.specs.Tiles.{tile_in}
+use Rattle.gpu_alloc_fits.specs.declared.tile.Tile.{Tile}
+use Rattle.gpu_alloc_fits.proofs.Nodes.{tile_of_node}
+use Rattle.gpu_alloc_fits.proofs.Stored.{none_at, span_at, the_span}
+use Rattle.gpu_alloc_fits.proofs.fits.Fits.find.Given.{Over}
+use Rattle.gpu_alloc_fits.proofs.fits.Fits.find.Goals as goal
+
+pub returns-in_err-key-clause-found : goal.returns-in_err-key-clause-found
+returns-in_err-key-clause-found g c =
+    let none = none_at g.M.MemoryObject.object c.self.inside.chunks c.self.inside.tiles c.self.invariant.kept c.args.object c.args.offset c.args.size c.in_err-key.ensures in
+    rw (c.from_residual.ensures, ← c.self.view_is) none
+
+pub returns-clause-found : goal.returns-clause-found
+returns-clause-found g c =
+    rw (← c.self.view_is)
+    (span_at g.M.MemoryObject.object c.self.inside.chunks c.self.inside.tiles c.self.invariant.kept c.args.object c.args.offset c.args.size c.in_ok-key.key c.index.result.now.tile
+    (tile_of_node c.self.inside.tiles c.in_ok-key.key c.index.result.now c.index.ensures) c.in_ok-key.ensures)
+
+pub returns-clause-exact : goal.returns-clause-exact
+returns-clause-exact g c slot span =
+    the_span g.M.MemoryObject.object c.self.inside.chunks c.self.inside.tiles c.self.invariant.kept c.args.object c.args.offset c.args.size c.in_ok-key.key c.index.result.now.tile
+    (tile_of_node c.self.inside.tiles c.in_ok-key.key c.index.result.now c.index.ensures) c.in_ok-key.ensures c.self.invariant.one_object slot (subst (λ (s : Store). IsLiveSpan s.space c.args.object c.args.offset c.args.size slot) (sym c.self.view_is) span)

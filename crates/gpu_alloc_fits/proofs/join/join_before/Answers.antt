@@ -1,0 +1,47 @@
+use Rattle.std.proofs.Common.{◌≡◌, ◌≢◌, ℕ, true, Some, ap, subst, refl, sym}
+use Rattle.std.proofs.lemmas.Bool.Decides.{Decides-ltb}
+use Rattle.gpu_alloc_fits.specs.Inside.{size_in}
+use Rattle.gpu_alloc_fits.specs.Tiles.{KeepsElsewhere, tile_in}
+use Rattle.gpu_alloc_fits.specs.declared.tile.Tile.{Tile}
+use Rattle.gpu_alloc_fits.proofs.Joins.{IsJoined, front_else, front_key, front_near, left_is_first, left_joined, put_key, unnot}
+use Rattle.gpu_alloc_fits.proofs.Nodes.{tile_of_node}
+use Rattle.gpu_alloc_fits.proofs.Tiles.{one_tile}
+use Rattle.gpu_alloc_fits.proofs.join.join_before.Given.{Over}
+use Rattle.gpu_alloc_fits.proofs.join.join_before.Goals as goal
+
+pub index-front-requires : goal.index-front-requires
+index-front-requires g c = front_key (size_in c.args.chunks.now) c.args.nodes.now c.args.key c.index-node.result.now c.requires.beside c.index-node.ensures c.if-node-eq0.false
+
+pub put-requires : goal.put-requires
+put-requires g c =
+    put_key c.args.nodes.now c.unfile.new.nodes c.remove.new.self c.args.key c.index-node.result.now.before c.index-node.result.now c.index-node.ensures
+    (front_else (size_in c.args.chunks.now) c.args.nodes.now c.args.key c.index-node.result.now c.requires.beside c.index-node.ensures c.index-front.result.now c.if-node-eq0.false c.index-front.ensures)
+    c.unfile.ensures.keeps c.remove.ensures.updates
+
+joined : (g : Over) (c : goal.After-set_after g) → IsJoined (size_in c.args.chunks.now) c.args.nodes.now c.set_after.new.nodes c.args.key c.index-node.result.now.tile.chunk
+joined g c =
+    left_joined (size_in c.args.chunks.now) c.args.nodes.now c.unfile.new.nodes c.remove.new.self c.put.new.nodes c.args.key c.index-node.result.now.before c.index-node.result.now c.index-front.result.now c.unlisted.result
+    c.requires.beside c.index-node.ensures c.index-front.ensures (unnot c.index-front.result.now.tile.free c.if-not-front.false)
+    (front_else (size_in c.args.chunks.now) c.args.nodes.now c.args.key c.index-node.result.now c.requires.beside c.index-node.ensures c.index-front.result.now c.if-node-eq0.false c.index-front.ensures)
+    c.unfile.ensures.keeps c.remove.ensures.updates c.put.ensures.updates c.set_after.new.nodes
+    (front_near (size_in c.args.chunks.now) c.args.nodes.now c.args.key c.index-node.result.now c.requires.beside c.index-node.ensures c.index-front.result.now c.if-node-eq0.false c.index-front.ensures)
+    c.unlisted.ensures.tile c.unlisted.ensures.before c.unlisted.ensures.after
+    _ (Decides-ltb 0 c.index-front.result.now.tile.start).1 (Decides-ltb 0 c.index-front.result.now.tile.start).0 c.set_after.ensures.sets
+
+pub returns-clause-beside : goal.returns-clause-beside
+returns-clause-beside g c = (joined g c).beside
+
+pub returns-clause-first : goal.returns-clause-first
+returns-clause-first g c =
+    left_is_first (size_in c.args.chunks.now) c.args.nodes.now c.unfile.new.nodes c.remove.new.self c.put.new.nodes c.args.key c.index-node.result.now.before c.index-node.result.now c.index-front.result.now c.unlisted.result
+    c.requires.beside c.index-node.ensures c.index-front.ensures (unnot c.index-front.result.now.tile.free c.if-not-front.false)
+    (front_else (size_in c.args.chunks.now) c.args.nodes.now c.args.key c.index-node.result.now c.requires.beside c.index-node.ensures c.index-front.result.now c.if-node-eq0.false c.index-front.ensures)
+    c.unfile.ensures.keeps c.remove.ensures.updates c.put.ensures.updates c.set_after.new.nodes
+    (front_near (size_in c.args.chunks.now) c.args.nodes.now c.args.key c.index-node.result.now c.requires.beside c.index-node.ensures c.index-front.result.now c.if-node-eq0.false c.index-front.ensures)
+    c.unlisted.ensures.tile c.unlisted.ensures.before c.unlisted.ensures.after
+    _ (Decides-ltb 0 c.index-front.result.now.tile.start).1 (Decides-ltb 0 c.index-front.result.now.tile.start).0 c.set_after.ensures.sets
+
+pub returns-clause-elsewhere : goal.returns-clause-elsewhere
+returns-clause-elsewhere g c a at =
+    let same = one_tile (tile_in c.args.nodes.now) c.args.key c.args.key c.index-node.result.now.tile a (tile_of_node c.args.nodes.now c.args.key c.index-node.result.now c.index-node.ensures) at refl in
+    subst (λ (t : Tile). KeepsElsewhere t.chunk (tile_in c.args.nodes.now) (tile_in c.set_after.new.nodes)) same (joined g c).elsewhere

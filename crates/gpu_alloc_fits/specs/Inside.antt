@@ -1,0 +1,133 @@
+-- What the fields of a store keep: its chunks and tiles, its wholly free chunk, and what is known to have no place.
+use Rattle.std.specs.Prelude.{◌≡◌, ◌≢◌, ◌⊎◌, ℕ, ◌+◌, ◌-◌, ◌<◌, ◌≤◌, ◌^◌, true, false, cond, List, [], ◌∷◌, Option, Some, None, filter_map}
+use Rattle.std.specs.FinMap as map
+use Rattle.std.specs.FinSet as set
+use Rattle.slab.specs.Slab.{Slab, entries, get, slab_len}
+use Rattle.gpu_alloc_types.specs.declared.types.FreeRange.{FreeRange}
+use Rattle.gpu_alloc_base.specs.Accounts.{HeldChunks}
+use Rattle.gpu_alloc_base.specs.AlignMasks.{IsAlignMask}
+use Rattle.gpu_alloc_base.specs.Chunks.{Chunk, object_in}
+use Rattle.gpu_alloc_base.specs.SlabViews.{by_key, HasOneKeyEach}
+use Rattle.gpu_alloc_base.specs.Slots.{slot_cmp}
+use Rattle.gpu_alloc_base.specs.declared.free_list_block.Slot.{Slot}
+use Rattle.gpu_alloc_fits.specs.Fits.{Store}
+use Rattle.gpu_alloc_fits.specs.Links.{IsKept}
+use Rattle.gpu_alloc_fits.specs.Space.{Space, HasPlace, IsWhollyFree}
+use Rattle.gpu_alloc_fits.specs.Tiles.{tile_in}
+use Rattle.gpu_alloc_fits.specs.declared.fits.Chunk.{Chunk as Row}
+use Rattle.gpu_alloc_fits.specs.declared.search.Full.{Full}
+use Rattle.gpu_alloc_fits.specs.declared.tile.Node.{Node}
+use Rattle.gpu_alloc_fits.specs.declared.tile.Tile.{Tile}
+
+-- the chunk that a row says
+abbrev pub chunk_of : {M : Type 0} → (M → ℕ) → Row M → Chunk
+chunk_of object row = record { object = object row.memory; size = row.size }
+
+-- the chunks of a slab by key
+abbrev pub chunks_in : {M : Type 0} → (M → ℕ) → Slab (Row M) → HeldChunks
+chunks_in object rows = by_key (chunk_of object) rows
+
+abbrev pub size_of : {M : Type 0} → Option (Row M) → ℕ
+size_of None = 0
+size_of (Some row) = row.size
+
+-- how many bytes the chunk under a key has: none where there is no chunk
+abbrev pub size_in : {M : Type 0} → Slab (Row M) → ℕ → ℕ
+size_in rows key = size_of (get rows key)
+
+-- the block that a live tile is
+abbrev pub slot_of : HeldChunks → Tile → Slot
+slot_of chunks t =
+    record { object = object_in (map.get chunks t.chunk); chunk = t.chunk; offset = t.start; size = t.end - t.start }
+
+abbrev pub live_slot : HeldChunks → Tile → Option Slot
+live_slot chunks t = cond t.free None (Some (slot_of chunks t))
+
+-- what is made of the tiles of a slab, where something is
+abbrev pub made_of : {Y : Type 0} → (Tile → Option Y) → List (ℕ × Node) → List Y
+made_of h rest = filter_map (λ e. h e.1.tile) rest
+
+-- the live blocks
+unfoldable pub live_in : HeldChunks → Slab Node → set.FinSet slot_cmp
+live_in chunks nodes = set.from_list (made_of (live_slot chunks) (entries nodes))
+
+-- the range that a free tile is
+abbrev pub free_range : HeldChunks → Tile → Option FreeRange
+free_range chunks t =
+    cond t.free (Some (record { object = object_in (map.get chunks t.chunk); start = t.start; end = t.end })) None
+
+-- an element, or none, as a list
+abbrev pub listed : {Y : Type 0} → Option Y → List Y
+listed None = []
+listed (Some y) = y ∷ []
+
+abbrev pub space_in : HeldChunks → Slab Node → Space
+space_in chunks nodes = record { chunks = chunks; live = live_in chunks nodes }
+
+abbrev pub store_in : HeldChunks → ℕ → Slab Node → Store
+store_in chunks chunk_room nodes =
+    record { space = space_in chunks nodes; chunk_room = chunk_room; tile_room = nodes.capacity - slab_len nodes }
+
+-- the tile is live, and has these bytes of its chunk
+pub record IsLiveTile (offset size : ℕ) (t : Tile) : Type 0 where
+  pub live : t.free ≡ false
+  pub starts : t.start ≡ offset
+  pub of_size : t.end - t.start ≡ size
+
+-- it is a live block of this span of an object
+pub record IsBlock (chunks : HeldChunks) (object offset size : ℕ) (t : Tile) : Type 0 where
+  pub tile : IsLiveTile offset size t
+  pub of_object : object_in (map.get chunks t.chunk) ≡ object
+
+-- such a tile stands under the key
+abbrev pub IsAtKey : HeldChunks → (ℕ → Option Tile) → ℕ → ℕ → ℕ → ℕ → Type 0
+IsAtKey chunks T object offset size k = (a : Tile) × ((T k ≡ Some a) × IsBlock chunks object offset size a)
+
+-- the tile under the key is free and all of this chunk
+pub record IsWholeTile (size : ℕ → ℕ) (T : ℕ → Option Tile) (x chunk : ℕ) : Type 0 where
+  pub tile : Tile
+  pub at : T x ≡ Some tile
+  pub free : tile.free ≡ true
+  pub start : tile.start ≡ 0
+  pub end : tile.end ≡ size chunk
+  pub chunk_is : tile.chunk ≡ chunk
+
+-- the same of some chunk, and no other one is wholly free
+pub record IsTheWhole (s : Space) (size : ℕ → ℕ) (T : ℕ → Option Tile) (x : ℕ) : Type 0 where
+  pub chunk : ℕ
+  pub whole : IsWholeTile size T x chunk
+  pub only : (key : ℕ) → IsWhollyFree s key → key ≡ chunk
+
+-- the wholly free chunk, by the key of its tile, if there is one
+abbrev pub IsSpareTile : Space → (ℕ → ℕ) → (ℕ → Option Tile) → Option ℕ → Type 0
+IsSpareTile s size T None = (key : ℕ) → IsWhollyFree s key → ⊥
+IsSpareTile s size T (Some x) = IsTheWhole s size T x
+
+-- the key but where it is this one
+abbrev pub IsWithout : Option ℕ → ℕ → Option ℕ → Type 0
+IsWithout None key new = new ≡ None
+IsWithout (Some z) key new = ((z ≡ key) × (new ≡ None)) ⊎ ((z ≢ key) × (new ≡ Some z))
+
+-- what was looked for and had no place still has none
+pub record HasNone (s : Space) (f : Full) : Type 0 where
+  pub nonempty : 0 < f.size
+  pub alignment : IsAlignMask f.align_mask
+  pub none : HasPlace s f.size (f.align_mask + 1) → ⊥
+
+-- a block is no smaller than the one that had no place
+abbrev pub IsBeyond : Option Full → ℕ → ℕ → Type 0
+IsBeyond None size align_mask = ⊥
+IsBeyond (Some f) size align_mask = (f.size ≤ size) × (f.align_mask ≤ align_mask)
+
+abbrev pub IsStillFull : Space → Option Full → Type 0
+IsStillFull s None = Unit {0}
+IsStillFull s (Some f) = HasNone s f
+
+-- what holds of the fields between calls
+pub record IsStored {M : Type 0} (object : M → ℕ) (rows : Slab (Row M)) (nodes : Slab Node) (spare : Option ℕ)
+    (full : Option Full) : Type 0 where
+  pub kept : IsKept (size_in rows) nodes
+  pub sizes : (k : ℕ) (row : Row M) → get rows k ≡ Some row → (0 < row.size) × (row.size < 2 ^ 64)
+  pub one_object : HasOneKeyEach (λ row. object row.memory) rows
+  pub spare_is : IsSpareTile (space_in (chunks_in object rows) nodes) (size_in rows) (tile_in nodes) spare
+  pub still_full : IsStillFull (space_in (chunks_in object rows) nodes) full

@@ -1,0 +1,139 @@
+-- Shared chunks and the live blocks in them: what is free, where there is room, and what a grant and a return make of
+-- them.
+use Rattle.std.specs.Prelude.{◌≡◌, ◌≢◌, ℕ, ◌+◌, ◌<◌, ◌≤◌, ◌^◌, Some, None, IsSome, IsTrue}
+use Rattle.std.specs.FinMap as map
+use Rattle.std.specs.FinSet as set
+use Rattle.gpu_alloc_types.specs.declared.types.FreeRange.{FreeRange}
+use Rattle.gpu_alloc_base.specs.Accounts.{HeldChunks}
+use Rattle.gpu_alloc_base.specs.Chunks.{Chunk}
+use Rattle.gpu_alloc_base.specs.FreeRuns.{AreFree, IsFreeRun, IsListPlace}
+use Rattle.gpu_alloc_base.specs.FreeSpace.{IsIn, IsMultipleOf}
+use Rattle.gpu_alloc_base.specs.InHand as in_hand
+use Rattle.gpu_alloc_base.specs.InHand.{Bytes}
+use Rattle.gpu_alloc_base.specs.Slots.{slot_cmp}
+use Rattle.gpu_alloc_base.specs.declared.free_list_block.Slot.{Slot}
+
+-- the held chunks by key, and the live blocks
+pub record Space : Type 0 where
+  pub chunks : HeldChunks
+  pub live : set.FinSet slot_cmp
+
+abbrev pub no_space : Space
+no_space = record { chunks = map.empty; live = set.empty }
+
+abbrev pub IsLiveSlot : Space → Slot → Type 0
+IsLiveSlot s slot = IsTrue (set.contains s.live slot)
+
+-- a live block of this span of an object
+pub record IsLiveSpan (s : Space) (object offset size : ℕ) (slot : Slot) : Type 0 where
+  pub live : IsLiveSlot s slot
+  pub of_object : slot.object ≡ object
+  pub starts : slot.offset ≡ offset
+  pub of_size : slot.size ≡ size
+
+-- no live block has this span
+abbrev pub IsNoLiveSpan : Space → ℕ → ℕ → ℕ → Type 0
+IsNoLiveSpan s object offset size = (slot : Slot) → IsLiveSpan s object offset size slot → ⊥
+
+-- the byte lies in a held chunk, and in no live block
+pub record IsFreeIn (s : Space) (chunk at : ℕ) : Type 0 where
+  pub held : Chunk
+  pub is : map.get s.chunks chunk ≡ Some held
+  pub inside : at < held.size
+  pub unused : (slot : Slot) → IsLiveSlot s slot → slot.chunk ≡ chunk → IsIn slot.offset slot.size at → ⊥
+
+-- somewhere in a held chunk there is room for a block of this size at a multiple of the alignment
+abbrev pub HasPlace : Space → ℕ → ℕ → Type 0
+HasPlace s size alignment = (chunk start : ℕ) × IsListPlace (IsFreeIn s) size alignment chunk start
+
+-- the block has exactly this size, and lies in free bytes of a held chunk at a multiple of the alignment
+pub record IsFitting (s : Space) (size alignment : ℕ) (slot : Slot) : Type 0 where
+  pub exact : slot.size ≡ size
+  pub aligned : IsMultipleOf alignment slot.offset
+  pub chunk : Chunk
+  pub held : map.get s.chunks slot.chunk ≡ Some chunk
+  pub object : slot.object ≡ chunk.object
+  pub free : AreFree (IsFreeIn s) slot.chunk slot.offset (slot.offset + slot.size)
+
+-- the block begins a chunk that was not held
+pub record BeginsChunk (s : Space) (size : ℕ) (slot : Slot) : Type 0 where
+  pub exact : slot.size ≡ size
+  pub start : slot.offset ≡ 0
+  pub free_key : map.get s.chunks slot.chunk ≡ None
+
+-- one more block is live
+abbrev pub with_slot : Space → Slot → Space
+with_slot s slot = record s { live = set.insert s.live slot }
+
+-- one block less
+abbrev pub without_slot : Space → Slot → Space
+without_slot s slot = record s { live = set.remove s.live slot }
+
+-- one more chunk is held, of the block's object
+abbrev pub with_chunk : Space → Slot → ℕ → Space
+with_chunk s slot size =
+    record s { chunks = map.insert s.chunks slot.chunk (record { object = slot.object; size = size }) }
+
+-- one chunk less
+abbrev pub without_chunk : Space → ℕ → Space
+without_chunk s key = record s { chunks = map.remove s.chunks key }
+
+-- the chunk is held, and no block in it is live
+pub record IsWhollyFree (s : Space) (key : ℕ) : Type 0 where
+  pub held : IsSome (map.get s.chunks key)
+  pub unused : (slot : Slot) → IsLiveSlot s slot → slot.chunk ≢ key
+
+-- the chunk is wholly free, and another one is too
+pub record IsSpare (s : Space) (key : ℕ) : Type 0 where
+  pub free : IsWhollyFree s key
+  pub other : ℕ
+  pub differs : other ≢ key
+  pub other_free : IsWhollyFree s other
+
+-- no held chunk is of this object
+abbrev pub IsUnheld : Space → ℕ → Type 0
+IsUnheld s object = (key : ℕ) (chunk : Chunk) → map.get s.chunks key ≡ Some chunk → chunk.object ≢ object
+
+-- the range is a free run of the chunk of its object
+pub record IsRunOf (s : Space) (r : FreeRange) : Type 0 where
+  pub key : ℕ
+  pub chunk : Chunk
+  pub held : map.get s.chunks key ≡ Some chunk
+  pub object : chunk.object ≡ r.object
+  pub run : IsFreeRun (IsFreeIn s) key r.start r.end
+
+-- a live block is not empty, and lies in its chunk
+pub record LiesInChunk (s : Space) (slot : Slot) : Type 0 where
+  pub chunk : Chunk
+  pub held : map.get s.chunks slot.chunk ≡ Some chunk
+  pub object : slot.object ≡ chunk.object
+  pub nonempty : 0 < slot.size
+  pub inside : slot.offset + slot.size ≤ chunk.size
+
+-- chunks are of objects of their own, live blocks are apart, and at most one chunk is wholly free
+pub record IsSoundSpace (s : Space) : Type 0 where
+  pub one_object : (i k : ℕ) (c d : Chunk) → map.get s.chunks i ≡ Some c → map.get s.chunks k ≡ Some d
+      → c.object ≡ d.object → i ≡ k
+  pub sizes : (k : ℕ) (c : Chunk) → map.get s.chunks k ≡ Some c → (0 < c.size) × (c.size < 2 ^ 64)
+  pub inside : (slot : Slot) → IsLiveSlot s slot → LiesInChunk s slot
+  pub apart : (x y : Slot) → IsLiveSlot s x → IsLiveSlot s y → x.chunk ≡ y.chunk → (at : ℕ) → IsIn x.offset x.size at
+      → IsIn y.offset y.size at → x ≡ y
+  pub one_free : (i k : ℕ) → IsWhollyFree s i → IsWhollyFree s k → i ≡ k
+
+-- Blocks in hand.
+
+-- the bytes of a block
+abbrev pub bytes_of : Slot → Bytes
+bytes_of slot = record { object = slot.object; offset = slot.offset; size = slot.size }
+
+-- a call leaves each block that was in hand
+abbrev pub Leaves : Space → Space → Type 0
+Leaves s new = in_hand.Leaves bytes_of s.live new.live
+
+-- a grant adds its block
+abbrev pub Adds : Space → Space → Slot → Type 0
+Adds s new slot = in_hand.Adds bytes_of s.live new.live slot
+
+-- a return takes its block away, and no other
+abbrev pub Removes : Space → Slot → Space → Type 0
+Removes s slot new = in_hand.Removes bytes_of s.live slot new.live

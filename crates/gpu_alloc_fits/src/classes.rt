@@ -1,0 +1,169 @@
+//! Free tiles in lists by classes of sizes: eight classes to each power of two, in units of 256 bytes. Nothing but speed
+//! rests on them: each tile that they name is looked at before it is used.
+
+ghost use Rattle.std.specs.Prelude.{◌≡◌};
+ghost use Rattle.slab.specs.Slab.{slab_len};
+ghost use Rattle.gpu_alloc_fits.specs.Links.{Keeps};
+
+use crate::tile::{NONE, Node};
+use slab::Slab;
+use std::alloc::Allocator;
+
+/// How many classes there are: a tile of 4 TiB or more stands in none.
+const CLASSES: usize = 256;
+
+/// The first tile of each class, and a bit for each class that has one.
+#[derive(Drop)]
+pub(crate) struct Classes {
+    first: [usize; 256],
+    filled: [u64; 4],
+}
+
+impl Classes {
+    /// No tile.
+    pub(crate) fn new() -> Self {
+        Classes {
+            first: [NONE; 256],
+            filled: [0; 4],
+        }
+    }
+
+    /// The first tile of a class, or no key.
+    #[inline(always)]
+    pub(crate) fn first(&self, class: usize) -> usize {
+        match self.first.get(class) {
+            Some(&key) => key,
+            None => NONE,
+        }
+    }
+
+    /// The first class from this one on that has a tile, or no class.
+    #[inline(always)]
+    pub(crate) fn filled_from(&self, class: usize) -> usize {
+        let word = class >> 6;
+        let Some(&bits) = self.filled.get(word) else {
+            return NONE;
+        };
+        let rest = bits & (u64::MAX << (class & 63));
+        if rest != 0 {
+            return (word << 6) | rest.trailing_zeros() as usize;
+        }
+        for next in word + 1..4 {
+            if let Some(&bits) = self.filled.get(next) {
+                if bits != 0 {
+                    return (next << 6) | bits.trailing_zeros() as usize;
+                }
+            }
+        }
+        NONE
+    }
+
+    /// Makes this the first tile of a class: no key where the class has none any more.
+    #[inline(always)]
+    fn set_first(&mut self, class: usize, key: usize) {
+        if let Some(first) = self.first.get_mut(class) {
+            *first = key;
+        }
+        if let Some(bits) = self.filled.get_mut(class >> 6) {
+            let bit = 1u64 << (class & 63);
+            if key == NONE {
+                *bits &= !bit;
+            } else {
+                *bits |= bit;
+            }
+        }
+    }
+}
+
+/// The class of a tile of this many bytes.
+#[inline(always)]
+pub(crate) fn class_of(bytes: u64) -> usize {
+    let units = bytes >> 8;
+    if units < 16 {
+        return units as usize;
+    }
+    let shift = 60u32.saturating_sub(units.leading_zeros());
+    ((shift as usize) << 3).wrapping_add((units >> (shift & 63)) as usize)
+}
+
+/// The least class all of whose tiles have this many bytes.
+#[inline(always)]
+pub(crate) fn class_above(bytes: u64) -> usize {
+    let units = bytes.wrapping_add(255) >> 8;
+    if units < 16 {
+        return units as usize;
+    }
+    let shift = 60u32.saturating_sub(units.leading_zeros()) & 63;
+    let up = units.wrapping_add((1u64 << shift).wrapping_sub(1));
+    ((shift as usize) << 3).wrapping_add((up >> shift) as usize)
+}
+
+/// Puts a free tile first into the list of its class.
+#[inline(always)]
+pub(crate) fn file<A: Allocator>(nodes: &mut Slab<Node, A>, classes: &mut Classes, key: usize)
+    ensures keeps { Keeps nodes.old nodes.new }
+    ensures len { slab_len nodes.new ≡ slab_len nodes.old }
+    ensures capacity { (nodes.new).capacity ≡ (nodes.old).capacity }
+{
+    let class = match nodes.get(key) {
+        Some(node) => class_of(node.tile.end.wrapping_sub(node.tile.start)),
+        None => NONE,
+    };
+    if class >= CLASSES {
+        return;
+    }
+    let below = classes.first(class);
+    set_down(nodes, key, below);
+    set_up(nodes, key, NONE);
+    set_up(nodes, below, key);
+    classes.set_first(class, key);
+}
+
+/// Takes a free tile off the list of its class.
+#[inline(always)]
+pub(crate) fn unfile<A: Allocator>(nodes: &mut Slab<Node, A>, classes: &mut Classes, key: usize)
+    ensures keeps { Keeps nodes.old nodes.new }
+    ensures len { slab_len nodes.new ≡ slab_len nodes.old }
+    ensures capacity { (nodes.new).capacity ≡ (nodes.old).capacity }
+{
+    let (up, down, class) = match nodes.get(key) {
+        Some(node) => (
+            node.up,
+            node.down,
+            class_of(node.tile.end.wrapping_sub(node.tile.start)),
+        ),
+        None => (NONE, NONE, NONE),
+    };
+    if class >= CLASSES {
+        return;
+    }
+    set_down(nodes, up, down);
+    set_up(nodes, down, up);
+    if up == NONE {
+        classes.set_first(class, down);
+    }
+}
+
+/// Writes which tile stands above this one in its list.
+#[inline(always)]
+fn set_up<A: Allocator>(nodes: &mut Slab<Node, A>, key: usize, value: usize)
+    ensures keeps { Keeps nodes.old nodes.new }
+    ensures len { slab_len nodes.new ≡ slab_len nodes.old }
+    ensures capacity { (nodes.new).capacity ≡ (nodes.old).capacity }
+{
+    if let Some(node) = nodes.get_mut(key) {
+        node.up = value;
+    }
+}
+
+/// Writes which tile stands below this one in its list.
+#[inline(always)]
+fn set_down<A: Allocator>(nodes: &mut Slab<Node, A>, key: usize, value: usize)
+    ensures keeps { Keeps nodes.old nodes.new }
+    ensures len { slab_len nodes.new ≡ slab_len nodes.old }
+    ensures capacity { (nodes.new).capacity ≡ (nodes.old).capacity }
+{
+    if let Some(node) = nodes.get_mut(key) {
+        node.down = value;
+    }
+}

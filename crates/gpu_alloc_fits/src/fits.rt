@@ -1,0 +1,514 @@
+//! The held chunks of one memory type, and the tiles that they are cut into.
+
+ghost use Rattle.std.specs.Prelude.{◌≡◌, ℕ, ◌+◌, ◌≤◌, ◌<◌, ◌↔◌, ◌++◌, IfOk, IfSome, IfNone};
+ghost use Rattle.std.specs.Prelude.{IsSome, IsTrue, OnOk, Some, None, Contains, MatchOption, length};
+ghost use Rattle.std.specs.FinMap as map;
+ghost use Rattle.std.specs.FinSet as set;
+ghost use Rattle.slab.specs.Slab.{ContainsKey, Updates, get};
+ghost use Rattle.gpu_alloc_types.specs.declared.types.FreeRange.{FreeRange as Range};
+ghost use Rattle.gpu_alloc_base.specs.AlignMasks.{IsAlignMask};
+ghost use Rattle.gpu_alloc_base.specs.RangeOrder.{AreInOrder};
+ghost use Rattle.gpu_alloc_base.specs.declared.free_list_block.Slot.{Slot as LiveSlot};
+ghost use Rattle.gpu_alloc_fits.specs.Fits.{HasRooms, TakesPlace};
+ghost use Rattle.gpu_alloc_fits.specs.Inside.{IsAtKey, IsBlock, IsLiveTile, IsWholeTile, IsWithout, chunks_in};
+ghost use Rattle.gpu_alloc_fits.specs.Inside.{free_range, listed, live_slot, size_in};
+ghost use Rattle.gpu_alloc_fits.specs.Links.{IsKept};
+ghost use Rattle.gpu_alloc_fits.specs.Listed.{AddsSlots, ListsChunks};
+ghost use Rattle.gpu_alloc_fits.specs.Space.{Adds, BeginsChunk, HasPlace, IsLiveSlot, IsLiveSpan, IsNoLiveSpan, IsRunOf};
+ghost use Rattle.gpu_alloc_fits.specs.Space.{IsSoundSpace, IsSpare, IsUnheld, IsWhollyFree, Leaves, Removes, no_space};
+ghost use Rattle.gpu_alloc_fits.specs.Space.{with_chunk, with_slot, without_chunk, without_slot};
+ghost use Rattle.gpu_alloc_fits.specs.Tiles.{KeepsElsewhere, KeepsLive, tile_in};
+
+use crate::block::{FitBlock, into_parts};
+use crate::classes::{Classes, file, unfile};
+use crate::cut::cut_out;
+use crate::join::put_back;
+use crate::search::{Known, find_place, last_start};
+use crate::tile::{NONE, Node, Tile, unlisted};
+use gpu_alloc_base::free_list_block::Slot;
+use gpu_alloc_base::range_order::put_in_order;
+use gpu_alloc_base::steps::Steps;
+use gpu_alloc_types::{FreeRange, MemoryObject};
+use slab::{Iter, Slab};
+use std::alloc::{AllocError, Allocator, Global};
+use std::marker::Model;
+use std::sync::ledger::Ledger;
+
+/// A held chunk: a handle of its object, and its size in bytes.
+#[derive(Drop)]
+pub struct Chunk<M: MemoryObject> {
+    pub(crate) memory: M,
+    pub(crate) size: u64,
+}
+
+impl<M: MemoryObject> Chunk<M> {
+    /// The name of its object.
+    #[inline(always)]
+    pub fn object(&self) -> u64
+        ensures { result ≡ M.object self.now.memory }
+    {
+        self.memory.object()
+    }
+
+    /// Its size, in bytes.
+    #[inline(always)]
+    pub fn size(&self) -> u64
+        ensures { result ≡ self.now.size }
+    {
+        self.size
+    }
+}
+
+/// The held chunks of one memory type, cut into blocks exactly as long as asked and the free runs between them. It knows
+/// no device: chunks are handed in, and handed out when no block of theirs is live. It cannot be let go:
+/// [`close`](Fits::close) ends it.
+///
+/// Between calls the free tiles are exactly the free runs: the longest ranges of bytes that lie in a chunk and in no live
+/// block. At most one chunk is wholly free.
+pub struct Fits<M: MemoryObject, A: Allocator = Global> {
+    chunks: Slab<Chunk<M>, A>,
+    tiles: Slab<Node, A>,
+    classes: Classes,
+    // The tile that is a wholly free chunk, if there is one.
+    spare: Option<usize>,
+    known: Known,
+}
+
+impl<M: MemoryObject, A: Allocator> Model for Fits<M, A> {
+    ghost use Rattle.gpu_alloc_fits.specs.Codes.{store_code};
+    ghost use Rattle.gpu_alloc_fits.specs.Fits.{Store};
+
+    ghost Value = { Store };
+
+    ghost coded = { store_code };
+
+    ghost use Rattle.std.specs.Prelude.{◌-◌};
+    ghost use Rattle.slab.specs.Slab.{slab_len};
+    ghost use Rattle.gpu_alloc_fits.specs.Inside.{IsStored, chunks_in, store_in};
+
+    ghost view = { λ f. store_in (chunks_in M.object f.chunks) (f.chunks.capacity - slab_len f.chunks) f.tiles };
+
+    ghost invariant = { λ f. IsStored M.object f.chunks f.tiles f.spare f.known.full };
+}
+
+impl<M: MemoryObject, A: Allocator + Copy> Fits<M, A> {
+    /// A store of no chunk. `alloc` gives the memory of its slabs, of which this call takes none.
+    pub fn new(alloc: A) -> Self
+        ensures empty { result.space ≡ no_space }
+    {
+        Fits {
+            chunks: Slab::new(alloc),
+            tiles: Slab::new(alloc),
+            classes: Classes::new(),
+            spare: None,
+            known: Known::new(),
+        }
+    }
+
+    /// The free runs as ranges of their objects, by the name of their object, then by start. Each is in bytes of its
+    /// object.
+    ///
+    /// The only refusal is want of host memory. Nothing changes.
+    pub fn free_ranges(&self, alloc: A) -> Result<Vec<FreeRange, A>, AllocError>
+        ensures runs { IfOk result (λ ranges. (r : Range) → Contains ranges.items r ↔ IsRunOf (self.now).space r) }
+        ensures order { IfOk result (λ ranges. AreInOrder ranges.items) }
+    {
+        let mut ranges = Vec::new(alloc);
+        for (_, node) in self.tiles.iter() {
+            list_free(&self.chunks, node.tile, &mut ranges)?;
+        }
+        put_in_order(&mut ranges);
+        Ok(ranges)
+    }
+}
+
+impl<M: MemoryObject, A: Allocator> Fits<M, A> {
+    /// Makes room for one more chunk with one more block.
+    ///
+    /// The only refusal is want of memory. Nothing but the room changes, after a refusal too.
+    pub fn reserve(&mut self) -> Result<(), AllocError>
+        ensures room { OnOk result (HasRooms self.new) }
+        ensures kept { (self.new).space ≡ (self.old).space }
+    {
+        self.chunks.reserve(1)?;
+        self.tiles.reserve(3)
+    }
+
+    /// Whether somewhere in a held chunk there is room for a block of this many bytes at a multiple of `align_mask + 1`.
+    /// The size has to be at least 1, and `align_mask + 1` a power of two of at most 2^63.
+    ///
+    /// All tiles are searched only where the lists of free tiles show none with room. What has no place is remembered
+    /// until a block comes back or a chunk comes, and a tile that a search found is tried by the next call.
+    pub fn has_place(&mut self, size: u64, align_mask: u64) -> bool
+        requires nonempty { 0 < size }
+        requires alignment { IsAlignMask align_mask }
+        ensures place { IsTrue result ↔ HasPlace (self.old).space size (align_mask + 1) }
+        ensures kept { self.new ≡ self.old }
+    {
+        find_place(&self.chunks, &self.tiles, &self.classes, &mut self.known, size, align_mask)
+            .is_some()
+    }
+
+    /// Takes a block of exactly this many bytes, at least 1, at a multiple of `align_mask + 1`, in a free run that has
+    /// room: none where no free run has. `align_mask + 1` is a power of two of at most 2^63.
+    ///
+    /// The only refusal is want of host memory, for tiles or for a second handle of the chunk's object, and nothing but
+    /// room changes then. Each block that a caller had in hand is live still (`leaves`). The new one is live too, and
+    /// shares no byte with any of them (`added`).
+    pub fn take(
+        &mut self,
+        size: u64,
+        align_mask: u64,
+    ) -> Result<Option<FitBlock<M>>, AllocError>
+        requires nonempty { 0 < size }
+        requires alignment { IsAlignMask align_mask }
+        ensures takes { TakesPlace (self.old).space size (align_mask + 1) result (self.new).space }
+        ensures added { IfOk result (λ block. IfSome block (Adds (self.old).space (self.new).space)) }
+        ensures leaves { Leaves (self.old).space (self.new).space }
+    {
+        let place = find_place(
+            &self.chunks,
+            &self.tiles,
+            &self.classes,
+            &mut self.known,
+            size,
+            align_mask,
+        );
+        let Some(key) = place else {
+            return Ok(None);
+        };
+        self.tiles.reserve(2)?;
+        let run = self.tiles[key].tile;
+        let memory = self.chunks[run.chunk].memory.duplicate()?;
+        let start = last_start(run.end, size, align_mask);
+        let end = start + size;
+        cut_out(&mut self.tiles, &mut self.classes, &self.chunks, key, run.chunk, start, end);
+        self.spare = without(self.spare, key);
+        let slot = Slot {
+            object: memory.object(),
+            chunk: run.chunk as u64,
+            offset: start,
+            size,
+        };
+        Ok(Some(FitBlock::new(memory, slot, key)))
+    }
+
+    /// Holds a new chunk of `memory_size` bytes, and makes a block of its first `size` bytes. `memory` and `handle` are
+    /// handles of its object. Room for both was made. It takes no memory and cannot fail.
+    pub fn begin(&mut self, memory: M, handle: M, memory_size: u64, size: u64) -> FitBlock<M>
+        requires same { M.object handle ≡ M.object memory }
+        requires room { HasRooms self.old }
+        requires nonempty { 0 < size }
+        requires inside { size ≤ memory_size }
+        requires new_object { IsUnheld (self.old).space (M.object memory) }
+        ensures object { result.object ≡ M.object memory }
+        ensures begins { BeginsChunk (self.old).space size result }
+        ensures space { (self.new).space ≡ with_slot (with_chunk (self.old).space result memory_size) result }
+        ensures added { Adds (self.old).space (self.new).space result }
+        ensures leaves { Leaves (self.old).space (self.new).space }
+    {
+        let object = memory.object();
+        let chunk = self.chunks.insert_reserved(Chunk {
+            memory,
+            size: memory_size,
+        });
+        let whole = Tile {
+            chunk,
+            start: 0,
+            end: memory_size,
+            free: true,
+        };
+        let key = self.tiles.insert_reserved(unlisted(whole, NONE, NONE));
+        file(&mut self.tiles, &mut self.classes, key);
+        cut_out(&mut self.tiles, &mut self.classes, &self.chunks, key, chunk, 0, size);
+        self.known.full = None;
+        let slot = Slot {
+            object,
+            chunk: chunk as u64,
+            offset: 0,
+            size,
+        };
+        FitBlock::new(handle, slot, key)
+    }
+
+    /// Takes a live block back, and joins it with the free runs beside it. Where its chunk is then wholly free and another
+    /// one is too, its chunk goes: its handle is answered, and its size in bytes. It takes no memory and cannot fail.
+    ///
+    /// Each other block that a caller has in hand is live still, and may be returned next (`removed`). `looks` counts the
+    /// tiles beside the block that are looked at: at most two.
+    pub fn give_back<L: Ledger>(
+        &mut self,
+        block: FitBlock<M>,
+        looks: &mut Steps<L>,
+    ) -> Option<(M, u64)>
+        requires live { IsLiveSlot (self.old).space block }
+        ensures stays { IfNone result ((IsSpare (without_slot (self.old).space block) block.chunk → ⊥)
+            × ((self.new).space ≡ without_slot (self.old).space block)) }
+        ensures goes { IfSome result (λ gone. IsSpare (without_slot (self.old).space block) block.chunk
+            × ((map.get ((self.old).space).chunks block.chunk
+            ≡ Some (record { object = M.object gone.0; size = gone.1 }))
+            × ((self.new).space ≡ without_chunk (without_slot (self.old).space block) block.chunk))) }
+        ensures removed { Removes (self.old).space block (self.new).space }
+        ensures few { looks.new ≤ looks.old + 2 }
+    {
+        let (_, slot, hint) = into_parts(block);
+        let Some(key) = key_of(&self.chunks, &self.tiles, hint, slot.object, slot.offset, slot.size) else {
+            unreachable!();
+        };
+        let joint = put_back(&mut self.tiles, &mut self.classes, &self.chunks, key, looks);
+        self.known.full = None;
+        let whole = self.chunks[joint.chunk].size;
+        if !is_whole(joint, whole) {
+            return None;
+        }
+        match self.spare {
+            Some(_) => Some(end(&mut self.chunks, &mut self.tiles, &mut self.classes, key, joint.chunk)),
+            None => {
+                self.spare = Some(key);
+                None
+            }
+        }
+    }
+
+    /// Takes the wholly free chunk out, if there is one: a handle of its object, its size in bytes and its key. There is
+    /// at most one. It takes no memory and cannot fail.
+    pub fn take_whole(&mut self) -> Option<(M, u64, usize)>
+        ensures none { IfNone result (((key : ℕ) → IsWhollyFree (self.old).space key → ⊥)
+            × ((self.new).space ≡ (self.old).space)) }
+        ensures some { IfSome result (λ taken. IsWhollyFree (self.old).space taken.2
+            × ((map.get ((self.old).space).chunks taken.2
+            ≡ Some (record { object = M.object taken.0; size = taken.1 }))
+            × ((self.new).space ≡ without_chunk (self.old).space taken.2))) }
+        ensures rest { (key : ℕ) → IsWhollyFree (self.new).space key → ⊥ }
+        ensures live { (self.new).space.live ≡ (self.old).space.live }
+    {
+        let key = self.spare?;
+        self.spare = None;
+        let chunk = self.tiles[key].tile.chunk;
+        let (memory, size) = end(&mut self.chunks, &mut self.tiles, &mut self.classes, key, chunk);
+        Some((memory, size, chunk))
+    }
+
+    /// The live block of this span of an object and the key under which it stands, exactly where there is one. `offset`
+    /// is where it starts in the object and `size` how long it is, in bytes: any two numbers.
+    ///
+    /// The answer is the same whatever `key` is. The block's own key makes it constant time; with another key the time
+    /// grows with the number of tiles.
+    #[inline(always)]
+    pub fn find(&self, key: usize, object: u64, offset: u64, size: u64) -> Option<(Slot, usize)>
+        ensures found { MatchOption result (IsNoLiveSpan (self.now).space object offset size)
+            (λ found. IsLiveSpan (self.now).space object offset size found.0) }
+        ensures exact { (slot : LiveSlot) → IsLiveSpan (self.now).space object offset size slot
+            → IfSome result (λ found. found.0 ≡ slot) }
+    {
+        let key = key_of(&self.chunks, &self.tiles, key, object, offset, size)?;
+        let slot = Slot {
+            object,
+            chunk: self.tiles[key].tile.chunk as u64,
+            offset,
+            size,
+        };
+        Some((slot, key))
+    }
+
+    /// The held chunks, each once, by rising key.
+    pub fn chunks(&self) -> Iter<'_, Chunk<M>>
+        ensures { ListsChunks M.object ((self.now).space).chunks result }
+    {
+        self.chunks.iter()
+    }
+
+    /// Adds to a list each live block, once, in no order that is told. The time grows with the number of tiles.
+    ///
+    /// The only refusal is want of memory, after which nothing is said of the list.
+    pub fn list_live<B: Allocator>(&self, slots: &mut Vec<Slot, B>) -> Result<(), AllocError>
+        ensures { OnOk result (AddsSlots ((self.now).space).live slots.old.items slots.new.items) }
+    {
+        for (_, node) in self.tiles.iter() {
+            list_live(&self.chunks, node.tile, slots)?;
+        }
+        Ok(())
+    }
+
+    /// How many times all tiles were searched for a place, modulo 2^64: about once for each chunk that comes. Tests look at
+    /// it, and no contract.
+    pub fn searches(&self) -> u64 {
+        self.known.searches()
+    }
+
+    /// A lemma: does nothing at run time. Its contract is what every store keeps.
+    pub fn keeps_sound(&self)
+        ensures { IsSoundSpace (self.now).space }
+    {
+        let _ = &self.chunks;
+    }
+
+    /// Ends a store of no chunk.
+    pub fn close(self)
+        requires { map.len ((self.space).chunks) ≡ 0 }
+    {
+        let Fits {
+            chunks: _,
+            tiles: _,
+            classes: _,
+            spare: _,
+            known: _,
+        } = self;
+    }
+}
+
+/// A key, but where it is this one.
+#[inline(always)]
+fn without(spare: Option<usize>, key: usize) -> Option<usize>
+    ensures { IsWithout spare key result }
+{
+    match spare {
+        Some(other) if other != key => Some(other),
+        _ => None,
+    }
+}
+
+/// Whether a tile is all of a chunk of this many bytes.
+#[inline(always)]
+fn is_whole(tile: Tile, size: u64) -> bool
+    ensures { IsTrue result ↔ (tile.start ≡ 0) × (tile.end ≡ size) }
+{
+    tile.start == 0 && tile.end == size
+}
+
+/// Lets the wholly free chunk go that is the tile of this key: a handle of its object is answered, and its size in bytes.
+fn end<M: MemoryObject, A: Allocator>(
+    chunks: &mut Slab<Chunk<M>, A>,
+    tiles: &mut Slab<Node, A>,
+    classes: &mut Classes,
+    key: usize,
+    chunk: usize,
+) -> (M, u64)
+    requires kept { IsKept (size_in chunks.old) tiles.old }
+    requires whole { IsWholeTile (size_in chunks.old) (tile_in tiles.old) key chunk }
+    ensures kept { IsKept (size_in chunks.new) tiles.new }
+    ensures lives { KeepsLive (tile_in tiles.old) (tile_in tiles.new) }
+    ensures elsewhere { KeepsElsewhere chunk (tile_in tiles.old) (tile_in tiles.new) }
+    ensures row { get chunks.old chunk ≡ Some (record { memory = result.0; size = result.1 }) }
+    ensures updates { Updates chunks.old chunks.new chunk None }
+{
+    unfile(tiles, classes, key);
+    let _ = tiles.remove(key);
+    let Chunk { memory, size } = chunks.remove(chunk);
+    (memory, size)
+}
+
+/// The key of the tile that is the live block of this span: this one where it is, and else the one that a search finds.
+#[inline(always)]
+fn key_of<M: MemoryObject, A: Allocator>(
+    chunks: &Slab<Chunk<M>, A>,
+    tiles: &Slab<Node, A>,
+    key: usize,
+    object: u64,
+    offset: u64,
+    size: u64,
+) -> Option<usize>
+    requires kept { IsKept (size_in chunks.now) tiles.now }
+    ensures { MatchOption result
+        ((k : ℕ) → IsAtKey (chunks_in M.object chunks.now) (tile_in tiles.now) object offset size k → ⊥)
+        (IsAtKey (chunks_in M.object chunks.now) (tile_in tiles.now) object offset size) }
+{
+    match tiles.get(key) {
+        Some(node) if is_of(chunks, node.tile, object, offset, size) => Some(key),
+        _ => search(chunks, tiles, object, offset, size),
+    }
+}
+
+/// The key of the tile that is the live block of this span, by a search of all tiles.
+#[cold]
+#[inline(never)]
+fn search<M: MemoryObject, A: Allocator>(
+    chunks: &Slab<Chunk<M>, A>,
+    tiles: &Slab<Node, A>,
+    object: u64,
+    offset: u64,
+    size: u64,
+) -> Option<usize>
+    requires kept { IsKept (size_in chunks.now) tiles.now }
+    ensures { MatchOption result
+        ((k : ℕ) → IsAtKey (chunks_in M.object chunks.now) (tile_in tiles.now) object offset size k → ⊥)
+        (IsAtKey (chunks_in M.object chunks.now) (tile_in tiles.now) object offset size) }
+{
+    for (key, node) in tiles.iter() {
+        if is_of(chunks, node.tile, object, offset, size) {
+            return Some(key);
+        }
+    }
+    None
+}
+
+/// Whether a tile is a live block of this span.
+#[inline(always)]
+fn is_of<M: MemoryObject, A: Allocator>(
+    chunks: &Slab<Chunk<M>, A>,
+    tile: Tile,
+    object: u64,
+    offset: u64,
+    size: u64,
+) -> bool
+    requires nonempty { tile.start ≤ tile.end }
+    requires held { ContainsKey chunks.now tile.chunk }
+    ensures { IsTrue result ↔ IsBlock (chunks_in M.object chunks.now) object offset size tile }
+{
+    is_live_tile(tile, offset, size) && chunks[tile.chunk].memory.object() == object
+}
+
+/// Whether a tile is live and has these bytes of its chunk.
+#[inline(always)]
+fn is_live_tile(tile: Tile, offset: u64, size: u64) -> bool
+    requires { tile.start ≤ tile.end }
+    ensures { IsTrue result ↔ IsLiveTile offset size tile }
+{
+    !tile.free && tile.start == offset && tile.end - tile.start == size
+}
+
+/// Adds a tile to a list of blocks, where it is live. It fails only for want of memory.
+#[inline(always)]
+fn list_live<M: MemoryObject, A: Allocator, B: Allocator>(
+    chunks: &Slab<Chunk<M>, A>,
+    tile: Tile,
+    slots: &mut Vec<Slot, B>,
+) -> Result<(), AllocError>
+    requires nonempty { tile.start ≤ tile.end }
+    requires held { ContainsKey chunks.now tile.chunk }
+    ensures { OnOk result (slots.new.items ≡ slots.old.items
+        ++ listed (live_slot (chunks_in M.object chunks.now) tile)) }
+{
+    if tile.free {
+        return Ok(());
+    }
+    slots.push(Slot {
+        object: chunks[tile.chunk].memory.object(),
+        chunk: tile.chunk as u64,
+        offset: tile.start,
+        size: tile.end - tile.start,
+    })?;
+    Ok(())
+}
+
+/// Adds a tile to a list of ranges, where it is free. It fails only for want of memory.
+#[inline(always)]
+fn list_free<M: MemoryObject, A: Allocator, B: Allocator>(
+    chunks: &Slab<Chunk<M>, A>,
+    tile: Tile,
+    ranges: &mut Vec<FreeRange, B>,
+) -> Result<(), AllocError>
+    requires held { ContainsKey chunks.now tile.chunk }
+    ensures { OnOk result (ranges.new.items ≡ ranges.old.items
+        ++ listed (free_range (chunks_in M.object chunks.now) tile)) }
+{
+    if !tile.free {
+        return Ok(());
+    }
+    ranges.push(FreeRange {
+        object: chunks[tile.chunk].memory.object(),
+        start: tile.start,
+        end: tile.end,
+    })?;
+    Ok(())
+}

@@ -1,0 +1,131 @@
+//! How a live tile is freed, and joined with the free tiles beside it.
+
+ghost use Rattle.std.specs.Prelude.{◌≡◌, ◌≤◌, ◌+◌, ◌↔◌, ℕ, Some, true, false, IsTrue};
+ghost use Rattle.slab.specs.Slab.{ContainsKey};
+ghost use Rattle.gpu_alloc_fits.specs.Inside.{size_in};
+ghost use Rattle.gpu_alloc_fits.specs.Links.{IsBeside, IsKept};
+ghost use Rattle.gpu_alloc_fits.specs.Tiles.{GivesBack, IsFirst, IsFreeOf, IsLiveAt, KeepsElsewhere, KeepsLive, tile_in};
+ghost use Rattle.gpu_alloc_fits.specs.declared.tile.Tile.{Tile as TileOf};
+
+use crate::classes::{Classes, file, unfile};
+use crate::fits::Chunk;
+use crate::tile::{Node, Tile, put, set_after, set_before, unlisted};
+use gpu_alloc_base::steps::Steps;
+use gpu_alloc_types::MemoryObject;
+use slab::Slab;
+use std::alloc::Allocator;
+use std::sync::ledger::Ledger;
+
+/// Frees a live tile and joins it with the free ones beside it: its key becomes that of the joint, which is answered.
+/// `looks` counts the tiles that are looked at: two at most. It takes no memory.
+pub(crate) fn put_back<M: MemoryObject, A: Allocator, L: Ledger>(
+    nodes: &mut Slab<Node, A>,
+    classes: &mut Classes,
+    chunks: &Slab<Chunk<M>, A>,
+    key: usize,
+    looks: &mut Steps<L>,
+) -> Tile
+    requires kept { IsKept (size_in chunks.now) nodes.old }
+    requires live { (a : TileOf) × IsLiveAt (tile_in nodes.old) key a }
+    ensures kept { IsKept (size_in chunks.now) nodes.new }
+    ensures back { GivesBack (tile_in nodes.old) (tile_in nodes.new) key }
+    ensures joint { (a : TileOf) → tile_in nodes.old key ≡ Some a → IsFreeOf a.chunk (tile_in nodes.new) key result }
+    ensures elsewhere { (a : TileOf) → tile_in nodes.old key ≡ Some a
+        → KeepsElsewhere a.chunk (tile_in nodes.old) (tile_in nodes.new) }
+    ensures few { looks.new ≤ looks.old + 2 }
+{
+    let node = nodes[key];
+    let freed = Tile {
+        chunk: node.tile.chunk,
+        start: node.tile.start,
+        end: node.tile.end,
+        free: true,
+    };
+    put(nodes, key, unlisted(freed, node.before, node.after));
+    join_before(nodes, classes, chunks, key, looks);
+    join_after(nodes, classes, chunks, key, looks);
+    let joint = nodes[key].tile;
+    file(nodes, classes, key);
+    joint
+}
+
+/// Joins a free tile with the free one before it, if there is one.
+#[inline(always)]
+fn join_before<M: MemoryObject, A: Allocator, L: Ledger>(
+    nodes: &mut Slab<Node, A>,
+    classes: &mut Classes,
+    chunks: &Slab<Chunk<M>, A>,
+    key: usize,
+    looks: &mut Steps<L>,
+)
+    requires beside { IsBeside (size_in chunks.now) key nodes.old }
+    ensures beside { IsBeside (size_in chunks.now) key nodes.new }
+    ensures first { IsFirst key (tile_in nodes.new) }
+    ensures lives { KeepsLive (tile_in nodes.old) (tile_in nodes.new) }
+    ensures joint { (a : TileOf) → tile_in nodes.old key ≡ Some a → (b : TileOf) × IsFreeOf a.chunk (tile_in nodes.new) key b }
+    ensures elsewhere { (a : TileOf) → tile_in nodes.old key ≡ Some a
+        → KeepsElsewhere a.chunk (tile_in nodes.old) (tile_in nodes.new) }
+    ensures few { looks.new ≤ looks.old + 1 }
+{
+    let node = nodes[key];
+    if node.tile.start == 0 {
+        return;
+    }
+    looks.tick();
+    let other = node.before;
+    let front = nodes[other];
+    if !front.tile.free {
+        return;
+    }
+    unfile(nodes, classes, other);
+    let _ = nodes.remove(other);
+    let joint = Tile {
+        chunk: node.tile.chunk,
+        start: front.tile.start,
+        end: node.tile.end,
+        free: true,
+    };
+    put(nodes, key, unlisted(joint, front.before, node.after));
+    set_after(nodes, front.tile.start > 0, front.before, key);
+}
+
+/// Joins a free tile with the free one behind it, if there is one.
+#[inline(always)]
+fn join_after<M: MemoryObject, A: Allocator, L: Ledger>(
+    nodes: &mut Slab<Node, A>,
+    classes: &mut Classes,
+    chunks: &Slab<Chunk<M>, A>,
+    key: usize,
+    looks: &mut Steps<L>,
+)
+    requires beside { IsBeside (size_in chunks.now) key nodes.old }
+    requires first { IsFirst key (tile_in nodes.old) }
+    ensures kept { IsKept (size_in chunks.now) nodes.new }
+    ensures lives { KeepsLive (tile_in nodes.old) (tile_in nodes.new) }
+    ensures joint { (a : TileOf) → tile_in nodes.old key ≡ Some a → (b : TileOf) × IsFreeOf a.chunk (tile_in nodes.new) key b }
+    ensures elsewhere { (a : TileOf) → tile_in nodes.old key ≡ Some a
+        → KeepsElsewhere a.chunk (tile_in nodes.old) (tile_in nodes.new) }
+    ensures few { looks.new ≤ looks.old + 1 }
+{
+    let node = nodes[key];
+    let whole = chunks[node.tile.chunk].size;
+    if node.tile.end == whole {
+        return;
+    }
+    looks.tick();
+    let other = node.after;
+    let back = nodes[other];
+    if !back.tile.free {
+        return;
+    }
+    unfile(nodes, classes, other);
+    let _ = nodes.remove(other);
+    let joint = Tile {
+        chunk: node.tile.chunk,
+        start: node.tile.start,
+        end: back.tile.end,
+        free: true,
+    };
+    put(nodes, key, unlisted(joint, node.before, back.after));
+    set_before(nodes, back.tile.end < whole, back.after, key);
+}

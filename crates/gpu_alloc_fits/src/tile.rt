@@ -1,0 +1,110 @@
+//! Tiles: the live blocks and free runs of the held chunks, each with the keys of its neighbours.
+
+ghost use Rattle.std.specs.Prelude.{◌≡◌, ◌≢◌, Some, IsTrue};
+ghost use Rattle.slab.specs.Slab.{ContainsKey, Updates, slab_len};
+ghost use Rattle.gpu_alloc_fits.specs.Links.{SetsAfter, SetsBefore};
+
+use slab::Slab;
+use std::alloc::Allocator;
+
+/// No key.
+pub(crate) const NONE: usize = usize::MAX;
+
+/// Bytes of a chunk: a live block, or a free run.
+#[derive(Clone, Copy)]
+pub(crate) struct Tile {
+    /// The key of its chunk.
+    pub(crate) chunk: usize,
+
+    /// Where it starts in the chunk, in bytes.
+    pub(crate) start: u64,
+
+    /// Where it ends, in bytes.
+    pub(crate) end: u64,
+
+    /// Whether it is a free run.
+    pub(crate) free: bool,
+}
+
+/// A tile, the keys of the tiles beside it, and its place in the list of its class while it is free.
+#[derive(Clone, Copy)]
+pub(crate) struct Node {
+    pub(crate) tile: Tile,
+
+    /// The tile that ends where this one starts, if its chunk has one.
+    pub(crate) before: usize,
+
+    /// The tile that starts where this one ends, if its chunk has one.
+    pub(crate) after: usize,
+
+    /// The free tile above it in the list of its class: a hint.
+    pub(crate) up: usize,
+
+    /// The free tile below it in that list: a hint.
+    pub(crate) down: usize,
+}
+
+/// A node that stands in no list of a class.
+#[inline(always)]
+pub(crate) fn unlisted(tile: Tile, before: usize, after: usize) -> Node
+    ensures tile { result.tile ≡ tile }
+    ensures before { result.before ≡ before }
+    ensures after { result.after ≡ after }
+{
+    Node {
+        tile,
+        before,
+        after,
+        up: NONE,
+        down: NONE,
+    }
+}
+
+/// Puts a node in the place of the one that stands under a key.
+#[inline(always)]
+pub(crate) fn put<A: Allocator>(nodes: &mut Slab<Node, A>, key: usize, node: Node)
+    requires { ContainsKey nodes.old key }
+    ensures updates { Updates nodes.old nodes.new key (Some node) }
+    ensures len { slab_len nodes.new ≡ slab_len nodes.old }
+    ensures capacity { (nodes.new).capacity ≡ (nodes.old).capacity }
+{
+    nodes[key] = node;
+}
+
+/// Writes which tile ends where this one starts, where `there` says that this one stands.
+#[inline(always)]
+pub(crate) fn set_before<A: Allocator>(
+    nodes: &mut Slab<Node, A>,
+    there: bool,
+    key: usize,
+    value: usize,
+)
+    ensures sets { SetsBefore nodes.old nodes.new there key value }
+    ensures len { slab_len nodes.new ≡ slab_len nodes.old }
+    ensures capacity { (nodes.new).capacity ≡ (nodes.old).capacity }
+{
+    if there {
+        if let Some(node) = nodes.get_mut(key) {
+            node.before = value;
+        }
+    }
+}
+
+/// Writes which tile starts where this one ends, where `there` says that this one stands.
+#[inline(always)]
+pub(crate) fn set_after<A: Allocator>(
+    nodes: &mut Slab<Node, A>,
+    there: bool,
+    key: usize,
+    value: usize,
+)
+    ensures sets { SetsAfter nodes.old nodes.new there key value }
+    ensures len { slab_len nodes.new ≡ slab_len nodes.old }
+    ensures capacity { (nodes.new).capacity ≡ (nodes.old).capacity }
+{
+    if there {
+        if let Some(node) = nodes.get_mut(key) {
+            node.after = value;
+        }
+    }
+}
