@@ -3,8 +3,8 @@ use Rattle.std.proofs.Common.{◌≡◌, ◌≢◌, inl, inr, ℕ, ◌<◌, ◌�
 use Rattle.std.proofs.lemmas.Bool.{cases_eq}
 use Rattle.slab.specs.Slab.{ContainsKey, Slab, Updates, get}
 use Rattle.gpu_alloc_fits.specs.Inside.{IsWholeTile, size_in, size_of}
-use Rattle.gpu_alloc_fits.specs.Links.{AreLinked, IsKept, Keeps, after_in, before_in}
-use Rattle.gpu_alloc_fits.specs.Tiles.{AreNeighbours, IsCalm, IsLiveAt, IsTiled, KeepsElsewhere, KeepsLive, Sets, tile_in}
+use Rattle.gpu_alloc_fits.specs.Links.{IsKept, Keeps, after_in, before_in}
+use Rattle.gpu_alloc_fits.specs.Tiles.{AreNeighbours, IsTiled, KeepsElsewhere, KeepsLive, Sets, tile_in}
 use Rattle.gpu_alloc_fits.specs.declared.fits.Chunk.{Chunk as Row}
 use Rattle.gpu_alloc_fits.specs.declared.tile.Node.{Node}
 use Rattle.gpu_alloc_fits.specs.declared.tile.Tile.{Tile}

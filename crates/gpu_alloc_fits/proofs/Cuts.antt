@@ -1,5 +1,5 @@
 -- A free tile is taken, and what a block leaves of it is free again.
-use Rattle.std.proofs.Common.{◌≡◌, ◌≢◌, inl, inr, ℕ, ◌+◌, ◌<◌, ◌≤◌, Bool, true, false, Option, Some, None, IsSome, refl, sym, ◌∙◌, ap, subst, arith}
+use Rattle.std.proofs.Common.{◌≡◌, ◌≢◌, inl, inr, ℕ, ◌<◌, ◌≤◌, Bool, true, false, Option, Some, None, IsSome, refl, sym, ◌∙◌, ap, subst, arith}
 use Rattle.std.proofs.lemmas.Bool.{cases_eq}
 use Rattle.slab.specs.Slab.{Slab, ContainsKey, Updates, get}
 use Rattle.gpu_alloc_fits.specs.Inside.{size_in, size_of}
@@ -163,18 +163,18 @@ module _ (size : ℕ → ℕ) (s0 s1 s2 : Slab Node) (x y : ℕ) (n o q : Node) 
         (after_left s2 s3 behind n.before y sets y (λ h same. let w = key_x h in not_new n.before w.0 w.1 (sym same)) ∙ new_after ∙ o_after)
         (sets.before x ∙ put_before s1 s2 x q puts_q ∙ q_before)
         (λ j a at_j first.
-            let keys = kept.linked j x a m at_j at_m first in
-            let is : n.before ≡ j = sym (ap before_of at) ∙ keys.1 in
-            let h = yes' (starts_behind size (tile_in s0) kept.tiled x m at_m j a at_j first) in
-            let ne_x : j ≢ x = λ same. (key_x h).4 (is ∙ same) in
-            let held : ContainsKey s2 n.before = subst (ContainsKey s2) (sym is) (has_tile s2 j a (tile_2 j ne_x (not_new j a at_j) ∙ at_j)) in
-            (ap (after_in s3) (sym is) ∙ sets.written h held, sets.before y ∙ new_before ∙ o_before ∙ is))
+        let keys = kept.linked j x a m at_j at_m first in
+        let is : n.before ≡ j = sym (ap before_of at) ∙ keys.1 in
+        let h = yes' (starts_behind size (tile_in s0) kept.tiled x m at_m j a at_j first) in
+        let ne_x : j ≢ x = λ same. (key_x h).4 (is ∙ same) in
+        let held : ContainsKey s2 n.before = subst (ContainsKey s2) (sym is) (has_tile s2 j a (tile_2 j ne_x (not_new j a at_j) ∙ at_j)) in
+        (ap (after_in s3) (sym is) ∙ sets.written h held, sets.before y ∙ new_before ∙ o_before ∙ is))
         (λ k b at_k last.
-            let keys = kept.linked x k m b at_m at_k last in
-            let ne_x : k ≢ x = λ same. (let e = one_tile (tile_in s0) k x b m at_k at_m same in omega (arith, last.meet, ap (λ (t : Tile). t.start) e, from, to)) in (
-              after_left s2 s3 behind n.before y sets x (λ h same. (key_x h).4 (sym same)) ∙ put_after s1 s2 x q puts_q ∙ q_after ∙ sym (ap after_of at) ∙ keys.0,
-              sets.before k ∙ before_2 k ne_x (not_new k b at_k) ∙ keys.1,
-            ))
+        let keys = kept.linked x k m b at_m at_k last in
+        let ne_x : k ≢ x = λ same. (let e = one_tile (tile_in s0) k x b m at_k at_m same in omega (arith, last.meet, ap (λ (t : Tile). t.start) e, from, to)) in (
+          after_left s2 s3 behind n.before y sets x (λ h same. (key_x h).4 (sym same)) ∙ put_after s1 s2 x q puts_q ∙ q_after ∙ sym (ap after_of at) ∙ keys.0,
+          sets.before k ∙ before_2 k ne_x (not_new k b at_k) ∙ keys.1,
+        ))
         (λ j k a b j_x k_x at_j at_k both. (
           after_left s2 s3 behind n.before y sets j (λ h same. k_x (sym (kept.linked j k a b at_j at_k both).0 ∙ ap (after_in s0) same ∙ (key_x h).3)) ∙ after_2 j j_x (not_new j a at_j),
           sets.before k ∙ before_2 k k_x (not_new k b at_k),
@@ -230,18 +230,18 @@ module _ (size : ℕ → ℕ) (s0 s1 s2 : Slab Node) (x y : ℕ) (n o q : Node) 
         (sets.after x ∙ put_after s1 s2 x q puts_q ∙ q_after)
         (before_left s2 s3 less n.after y sets y (λ h same. let w = key_behind h in not_new n.after w.0 w.1 (sym same)) ∙ new_before ∙ o_before)
         (λ j a at_j first.
-            let keys = kept.linked j x a m at_j at_m first in
-            let ne_x : j ≢ x = λ same. (let e = one_tile (tile_in s0) j x a m at_j at_m same in omega (arith, first.meet, ap (λ (t : Tile). t.end) e, from, to)) in (
-              sets.after j ∙ after_2 j ne_x (not_new j a at_j) ∙ keys.0,
-              before_left s2 s3 less n.after y sets x (λ h same. (key_behind h).4 (sym same)) ∙ put_before s1 s2 x q puts_q ∙ q_before ∙ sym (ap before_of at) ∙ keys.1,
-            ))
+        let keys = kept.linked j x a m at_j at_m first in
+        let ne_x : j ≢ x = λ same. (let e = one_tile (tile_in s0) j x a m at_j at_m same in omega (arith, first.meet, ap (λ (t : Tile). t.end) e, from, to)) in (
+          sets.after j ∙ after_2 j ne_x (not_new j a at_j) ∙ keys.0,
+          before_left s2 s3 less n.after y sets x (λ h same. (key_behind h).4 (sym same)) ∙ put_before s1 s2 x q puts_q ∙ q_before ∙ sym (ap before_of at) ∙ keys.1,
+        ))
         (λ k b at_k last.
-            let keys = kept.linked x k m b at_m at_k last in
-            let is : n.after ≡ k = sym (ap after_of at) ∙ keys.0 in
-            let h = yes' (ends_before size (tile_in s0) kept.tiled x m at_m k b at_k last) in
-            let ne_x : k ≢ x = λ same. (key_behind h).4 (is ∙ same) in
-            let held : ContainsKey s2 n.after = subst (ContainsKey s2) (sym is) (has_tile s2 k b (tile_2 k ne_x (not_new k b at_k) ∙ at_k)) in
-            (sets.after y ∙ new_after ∙ o_after ∙ is, ap (before_in s3) (sym is) ∙ sets.written h held))
+        let keys = kept.linked x k m b at_m at_k last in
+        let is : n.after ≡ k = sym (ap after_of at) ∙ keys.0 in
+        let h = yes' (ends_before size (tile_in s0) kept.tiled x m at_m k b at_k last) in
+        let ne_x : k ≢ x = λ same. (key_behind h).4 (is ∙ same) in
+        let held : ContainsKey s2 n.after = subst (ContainsKey s2) (sym is) (has_tile s2 k b (tile_2 k ne_x (not_new k b at_k) ∙ at_k)) in
+        (sets.after y ∙ new_after ∙ o_after ∙ is, ap (before_in s3) (sym is) ∙ sets.written h held))
         (λ j k a b j_x k_x at_j at_k both. (
           sets.after j ∙ after_2 j j_x (not_new j a at_j),
           before_left s2 s3 less n.after y sets k (λ h same. j_x (sym (kept.linked j k a b at_j at_k both).1 ∙ ap (before_in s0) same ∙ (key_behind h).3)) ∙ before_2 k k_x (not_new k b at_k),

@@ -1,5 +1,5 @@
 -- A store of no chunk.
-use Rattle.std.proofs.Common.{◌≡◌, ◌<◌, ℕ, List, [], Option, Some, None, IsSome, option_map, sym, ◌∙◌, ap, subst, arith}
+use Rattle.std.proofs.Common.{◌≡◌, ℕ, List, [], Option, Some, None, IsSome, option_map, sym, ◌∙◌, ap, arith}
 use Rattle.std.specs.Prelude as list
 use Rattle.std.specs.Prelude.{slice_index_or}
 use Rattle.std.specs.FinMap as map
@@ -7,7 +7,6 @@ use Rattle.std.specs.FinSet as set
 use Rattle.std.specs.Ordering.{nat_cmp}
 use Rattle.slab.specs.Slab.{Slab, entries_from, get}
 use Rattle.gpu_alloc_base.specs.Accounts.{HeldChunks}
-use Rattle.gpu_alloc_base.specs.Chunks.{Chunk}
 use Rattle.gpu_alloc_fits.specs.Inside.{IsStored, chunk_of, chunks_in, live_in, live_slot, made_of, size_in, size_of, space_in}
 use Rattle.gpu_alloc_fits.specs.Links.{IsKept}
 use Rattle.gpu_alloc_fits.specs.Space.{no_space}

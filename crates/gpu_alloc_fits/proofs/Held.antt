@@ -1,5 +1,5 @@
 -- What a store keeps as a chunk comes with its first block, and as a wholly free one goes.
-use Rattle.std.proofs.Common.{◌≡◌, ◌≢◌, inl, inr, ℕ, ◌+◌, ◌<◌, ◌≤◌, ◌^◌, true, false, Option, Some, None, IsSome, option_map, refl, sym, ◌∙◌, ap, subst, arith}
+use Rattle.std.proofs.Common.{◌≡◌, ◌≢◌, inl, inr, ℕ, ◌<◌, ◌≤◌, ◌^◌, true, false, Option, Some, None, IsSome, option_map, refl, sym, ◌∙◌, ap, subst, arith}
 use Rattle.std.proofs.lemmas.Bool.{cases_eq}
 use Rattle.std.specs.FinMap as map
 use Rattle.std.specs.FinSet as set
@@ -11,7 +11,7 @@ use Rattle.gpu_alloc_base.proofs.ListedRanges.{told_object}
 use Rattle.gpu_alloc_base.proofs.Maps.{gone, kept_other}
 use Rattle.gpu_alloc_base.proofs.SlabViews.{by_key_put, by_key_removed, get_by_key, once_inserted, once_removed}
 use Rattle.gpu_alloc_base.proofs.Slots.{slot_inserted}
-use Rattle.gpu_alloc_fits.specs.Inside.{IsSpareTile, IsStillFull, IsStored, IsTheWhole, IsWholeTile, chunk_of, chunks_in, live_in, size_in, size_of, slot_of, space_in}
+use Rattle.gpu_alloc_fits.specs.Inside.{IsSpareTile, IsStillFull, IsStored, IsWholeTile, chunk_of, chunks_in, live_in, size_in, size_of, slot_of, space_in}
 use Rattle.gpu_alloc_fits.specs.Links.{IsKept, Keeps}
 use Rattle.gpu_alloc_fits.specs.Space.{BeginsChunk, IsFreeIn, IsLiveSlot, IsUnheld, IsWhollyFree, Space, with_chunk, with_slot, without_chunk}
 use Rattle.gpu_alloc_fits.specs.Tiles.{IsLiveAt, KeepsElsewhere, KeepsLive, KeepsOthers, tile_in}

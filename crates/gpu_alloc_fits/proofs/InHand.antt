@@ -1,7 +1,5 @@
 -- What the calls of a store leave of the blocks in hand.
-use Rattle.std.proofs.Common.{◌≡◌, ◌≢◌, ℕ, ◌<◌, ◌≤◌, Some, None, refl, sym, ◌∙◌, ap, arith}
-use Rattle.std.specs.FinMap as map
-use Rattle.gpu_alloc_base.specs.Chunks.{Chunk}
+use Rattle.std.proofs.Common.{◌≡◌, ℕ, ◌<◌, sym, ◌∙◌, ap, arith}
 use Rattle.gpu_alloc_base.specs.declared.free_list_block.Slot.{Slot}
 use Rattle.gpu_alloc_base.proofs.InHand.{grant_adds, grant_leaves, leaves_same, return_removes}
 use Rattle.gpu_alloc_base.proofs.Slots.{slot_exact, slot_total}

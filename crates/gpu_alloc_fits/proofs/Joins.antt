@@ -4,11 +4,11 @@ use Rattle.std.proofs.lemmas.Bool.{cases_eq}
 use Rattle.std.specs.Prelude.{not}
 use Rattle.slab.specs.Slab.{Slab, ContainsKey, Updates, get}
 use Rattle.gpu_alloc_fits.specs.Links.{AreLinked, IsBeside, IsKept, Keeps, SetsAfter, SetsBefore, after_in, after_of, before_in, before_of}
-use Rattle.gpu_alloc_fits.specs.Tiles.{AreFreeNeighbours, AreNeighbours, GivesBack, IsCalmBut, IsFirst, IsFreeOf, IsLiveAt, IsTiled, KeepsElsewhere, KeepsLive, Sets, tile_in}
+use Rattle.gpu_alloc_fits.specs.Tiles.{AreNeighbours, GivesBack, IsFirst, KeepsElsewhere, KeepsLive, Sets, tile_in}
 use Rattle.gpu_alloc_fits.specs.declared.tile.Node.{Node}
 use Rattle.gpu_alloc_fits.specs.declared.tile.Tile.{Tile}
 use Rattle.gpu_alloc_fits.proofs.Links.{after_else, before_else, ends_before, joint_linked, key_after, key_before, retiled_linked, starts_behind}
-use Rattle.gpu_alloc_fits.proofs.Nodes.{after_left, before_left, has_tile, node_of_tile, other_after, other_before, other_tile, put_after, put_before, puts, tile_of, tile_of_node}
+use Rattle.gpu_alloc_fits.proofs.Nodes.{after_left, before_left, has_tile, other_after, other_before, other_tile, put_after, put_before, puts, tile_of, tile_of_node}
 use Rattle.gpu_alloc_fits.proofs.Tiles.{Absorbs, IsJoint, IsLast, came, came_joint, joint_calm, joint_lives, joint_tiled, not_both, one_tile, retiled, settled}
 
 -- A live tile is freed: it may touch free ones.
@@ -214,22 +214,22 @@ module _ (size : ℕ → ℕ) (s0 z s1 s2 : Slab Node) (x y : ℕ) (n o m : Node
     left_linked : AreLinked (tile_in s3) (before_in s3) (after_in s3)
     left_linked = joint_linked (tile_in s0) (tile_in s3) (before_in s0) (after_in s0) (before_in s3) (after_in s3) beside.linked size beside.tiled x y y x o.tile n.tile left_tile at_y at_x left_joint left_absorbed
         (λ j a at_j first.
-            let keys = beside.linked j y a o.tile at_j at_y first in
-            let is : o.before ≡ j = sym (ap before_of there) ∙ keys.1 in
-            let ne_x : j ≢ x = λ same. around a (one_tile (tile_in s0) j x a n.tile at_j at_x same) first in
-            let ne_y = before_else size (tile_in s0) beside.tiled y o.tile at_y j a at_j first in
-            let held : ContainsKey s2 o.before = subst (ContainsKey s2) (sym is) (has_tile s2 j a (tile_2 j ne_x ne_y ∙ at_j)) in (
-              ap (after_in s3) (sym is) ∙ sets.written (yes' (starts_behind size (tile_in s0) beside.tiled y o.tile at_y j a at_j first)) held,
-              sets.before x ∙ put_before s1 s2 x m puts_m ∙ before ∙ is,
-            ))
+        let keys = beside.linked j y a o.tile at_j at_y first in
+        let is : o.before ≡ j = sym (ap before_of there) ∙ keys.1 in
+        let ne_x : j ≢ x = λ same. around a (one_tile (tile_in s0) j x a n.tile at_j at_x same) first in
+        let ne_y = before_else size (tile_in s0) beside.tiled y o.tile at_y j a at_j first in
+        let held : ContainsKey s2 o.before = subst (ContainsKey s2) (sym is) (has_tile s2 j a (tile_2 j ne_x ne_y ∙ at_j)) in (
+          ap (after_in s3) (sym is) ∙ sets.written (yes' (starts_behind size (tile_in s0) beside.tiled y o.tile at_y j a at_j first)) held,
+          sets.before x ∙ put_before s1 s2 x m puts_m ∙ before ∙ is,
+        ))
         (λ k b at_k last.
-            let keys = beside.linked x k n.tile b at_x at_k last in
-            let ne_x = after_else size (tile_in s0) beside.tiled x n.tile at_x k b at_k last in
-            let ne_y : k ≢ y = λ same. around n.tile refl (subst (AreNeighbours n.tile) (one_tile (tile_in s0) k y b o.tile at_k at_y same) last) in (
-              after_left s2 s3 behind o.before x sets x (λ h same. let w = key_y h in around w.0 (one_tile (tile_in s0) o.before x w.0 n.tile w.1 at_x (sym same)) w.2)
-                  ∙ put_after s1 s2 x m puts_m ∙ after ∙ sym (ap after_of at) ∙ keys.0,
-              sets.before k ∙ before_2 k ne_x ne_y ∙ keys.1,
-            ))
+        let keys = beside.linked x k n.tile b at_x at_k last in
+        let ne_x = after_else size (tile_in s0) beside.tiled x n.tile at_x k b at_k last in
+        let ne_y : k ≢ y = λ same. around n.tile refl (subst (AreNeighbours n.tile) (one_tile (tile_in s0) k y b o.tile at_k at_y same) last) in (
+          after_left s2 s3 behind o.before x sets x (λ h same. let w = key_y h in around w.0 (one_tile (tile_in s0) o.before x w.0 n.tile w.1 at_x (sym same)) w.2)
+              ∙ put_after s1 s2 x m puts_m ∙ after ∙ sym (ap after_of at) ∙ keys.0,
+          sets.before k ∙ before_2 k ne_x ne_y ∙ keys.1,
+        ))
         (λ j k a b j_x j_y k_x k_y at_j at_k both. (
           after_left s2 s3 behind o.before x sets j (λ h same. k_y (sym (beside.linked j k a b at_j at_k both).0 ∙ ap (after_in s0) same ∙ (key_y h).3)) ∙ after_2 j j_x j_y,
           sets.before k ∙ before_2 k k_x k_y,
@@ -288,22 +288,22 @@ module _ (size : ℕ → ℕ) (s0 z s1 s2 : Slab Node) (x y : ℕ) (n o m : Node
     right_linked : AreLinked (tile_in s3) (before_in s3) (after_in s3)
     right_linked = joint_linked (tile_in s0) (tile_in s3) (before_in s0) (after_in s0) (before_in s3) (after_in s3) beside.linked size beside.tiled x y x y n.tile o.tile right_tile at_x at_y right_joint right_absorbed
         (λ j a at_j first.
-            let keys = beside.linked j x a n.tile at_j at_x first in
-            let ne_x = before_else size (tile_in s0) beside.tiled x n.tile at_x j a at_j first in
-            let ne_y : j ≢ y = λ same. around_right n.tile refl (subst (λ t. AreNeighbours t n.tile) (one_tile (tile_in s0) j y a o.tile at_j at_y same) first) in (
-              sets.after j ∙ after_2 j ne_x ne_y ∙ keys.0,
-              before_left s2 s3 less o.after x sets x (λ h same. let w = key_behind h in around_right w.0 (one_tile (tile_in s0) o.after x w.0 n.tile w.1 at_x (sym same)) w.2)
-                  ∙ put_before s1 s2 x m puts_m ∙ before ∙ sym (ap before_of at) ∙ keys.1,
-            ))
+        let keys = beside.linked j x a n.tile at_j at_x first in
+        let ne_x = before_else size (tile_in s0) beside.tiled x n.tile at_x j a at_j first in
+        let ne_y : j ≢ y = λ same. around_right n.tile refl (subst (λ t. AreNeighbours t n.tile) (one_tile (tile_in s0) j y a o.tile at_j at_y same) first) in (
+          sets.after j ∙ after_2 j ne_x ne_y ∙ keys.0,
+          before_left s2 s3 less o.after x sets x (λ h same. let w = key_behind h in around_right w.0 (one_tile (tile_in s0) o.after x w.0 n.tile w.1 at_x (sym same)) w.2)
+              ∙ put_before s1 s2 x m puts_m ∙ before ∙ sym (ap before_of at) ∙ keys.1,
+        ))
         (λ k b at_k last.
-            let keys = beside.linked y k o.tile b at_y at_k last in
-            let is : o.after ≡ k = sym (ap after_of there) ∙ keys.0 in
-            let ne_x : k ≢ x = λ same. around_right b (one_tile (tile_in s0) k x b n.tile at_k at_x same) last in
-            let ne_y = after_else size (tile_in s0) beside.tiled y o.tile at_y k b at_k last in
-            let held : ContainsKey s2 o.after = subst (ContainsKey s2) (sym is) (has_tile s2 k b (tile_2 k ne_x ne_y ∙ at_k)) in (
-              sets.after x ∙ put_after s1 s2 x m puts_m ∙ after ∙ is,
-              ap (before_in s3) (sym is) ∙ sets.written (yes' (ends_before size (tile_in s0) beside.tiled y o.tile at_y k b at_k last)) held,
-            ))
+        let keys = beside.linked y k o.tile b at_y at_k last in
+        let is : o.after ≡ k = sym (ap after_of there) ∙ keys.0 in
+        let ne_x : k ≢ x = λ same. around_right b (one_tile (tile_in s0) k x b n.tile at_k at_x same) last in
+        let ne_y = after_else size (tile_in s0) beside.tiled y o.tile at_y k b at_k last in
+        let held : ContainsKey s2 o.after = subst (ContainsKey s2) (sym is) (has_tile s2 k b (tile_2 k ne_x ne_y ∙ at_k)) in (
+          sets.after x ∙ put_after s1 s2 x m puts_m ∙ after ∙ is,
+          ap (before_in s3) (sym is) ∙ sets.written (yes' (ends_before size (tile_in s0) beside.tiled y o.tile at_y k b at_k last)) held,
+        ))
         (λ j k a b j_x j_y k_x k_y at_j at_k both. (
           sets.after j ∙ after_2 j j_x j_y,
           before_left s2 s3 less o.after x sets k (λ h same. j_y (sym (beside.linked j k a b at_j at_k both).1 ∙ ap (before_in s0) same ∙ (key_behind h).3)) ∙ before_2 k k_x k_y,

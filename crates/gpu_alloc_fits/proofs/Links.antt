@@ -1,6 +1,6 @@
 -- Neighbours: there is one on each side but at a chunk's ends, and keys of neighbours stay true as tiles are cut and joined.
-use Rattle.std.proofs.Common.{◌≡◌, ◌≢◌, ◌⊎◌, inl, inr, ℕ, ◌-◌, ◌<◌, ◌≤◌, Option, Some, None, refl, sym, ◌∙◌, ap, subst, arith}
-use Rattle.std.proofs.lemmas.Bool.{cases_lt, cases_eq}
+use Rattle.std.proofs.Common.{◌≡◌, ◌≢◌, inl, inr, ℕ, ◌-◌, ◌<◌, ◌≤◌, Option, Some, refl, sym, ◌∙◌, ap, subst, arith}
+use Rattle.std.proofs.lemmas.Bool.{cases_lt}
 use Rattle.gpu_alloc_fits.specs.Links.{AreLinked}
 use Rattle.gpu_alloc_fits.specs.Tiles.{AreNeighbours, IsTiled, Sets}
 use Rattle.gpu_alloc_fits.specs.declared.tile.Tile.{Tile}

@@ -1,15 +1,14 @@
 -- The lists of live blocks and of free ranges.
-use Rattle.std.proofs.Common.{◌≡◌, ◌≢◌, ◌↔◌, inl, inr, ℕ, ◌<◌, Bool, true, false, cond, List, [], Contains, Option, Some, None, refl, sym, ◌∙◌, ap, subst, arith}
+use Rattle.std.proofs.Common.{◌≡◌, ◌≢◌, ◌↔◌, inl, inr, ℕ, true, false, cond, [], Contains, Some, None, refl, sym, ◌∙◌, ap, subst, arith}
 use Rattle.std.specs.FinMap as map
 use Rattle.std.specs.FinSet as set
 use Rattle.std.specs.List.{IsDistinct}
 use Rattle.std.specs.Ordering.{eq_by_cmp}
-use Rattle.slab.specs.Slab.{Slab, entries, get}
+use Rattle.slab.specs.Slab.{Slab, entries}
 use Rattle.slab.proofs.SlabLemmas.{Contains-entries}
 use Rattle.gpu_alloc_types.specs.declared.types.FreeRange.{FreeRange}
 use Rattle.gpu_alloc_base.specs.Accounts.{HeldChunks}
 use Rattle.gpu_alloc_base.specs.Chunks.{Chunk, object_in}
-use Rattle.gpu_alloc_base.specs.FreeRuns.{IsFreeRun}
 use Rattle.gpu_alloc_base.specs.RangeOrder.{same_start}
 use Rattle.gpu_alloc_base.specs.SlabViews.{HasOneKeyEach}
 use Rattle.gpu_alloc_base.specs.Slots.{slot_cmp}
@@ -20,10 +19,10 @@ use Rattle.gpu_alloc_base.proofs.ListedRanges.{told_object}
 use Rattle.gpu_alloc_base.proofs.RangeOrder.{starts_apart}
 use Rattle.gpu_alloc_base.proofs.SlabViews.{found_by_key}
 use Rattle.gpu_alloc_base.proofs.Slots.{slot_test}
-use Rattle.gpu_alloc_fits.specs.Inside.{IsStored, chunk_of, chunks_in, free_range, live_in, live_slot, made_of, size_in, slot_of, space_in}
+use Rattle.gpu_alloc_fits.specs.Inside.{chunk_of, chunks_in, free_range, live_in, live_slot, made_of, size_in, slot_of, space_in}
 use Rattle.gpu_alloc_fits.specs.Links.{IsKept}
 use Rattle.gpu_alloc_fits.specs.Space.{IsFreeIn, IsRunOf}
-use Rattle.gpu_alloc_fits.specs.Tiles.{HasRun, IsLiveAt, region_of, tile_in}
+use Rattle.gpu_alloc_fits.specs.Tiles.{HasRun, region_of, tile_in}
 use Rattle.gpu_alloc_fits.specs.declared.fits.Chunk.{Chunk as Row}
 use Rattle.gpu_alloc_fits.specs.declared.tile.Node.{Node}
 use Rattle.gpu_alloc_fits.specs.declared.tile.Tile.{Tile}
@@ -100,20 +99,20 @@ module _ {M : Type 0} (object : M → ℕ) (rows : Slab (Row M)) (nodes : Slab N
   pub free_all : (r : FreeRange) → Contains (made_of (free_range chunks) (entries nodes)) r ↔ IsRunOf (space_in chunks nodes) r
   free_all r = (
     (λ has.
-    let f = in_filtered (λ (e : ℕ × Node). free_range chunks e.1.tile) (entries nodes) r has in
-    let at = tile_of_node nodes f.0.0 f.0.1 ((Contains-entries nodes f.0.0 f.0.1).0 f.1) in
-    let m = free_made f.0.1.tile r f.2 in
-    let c = of_held f.0.0 f.0.1.tile at in
-    let run = region_is_run (IsFreeIn (space_in chunks nodes)) (HasRun (tile_in nodes)) (canonical object rows nodes kept) (region_of f.0.1.tile) (f.0.0, f.0.1.tile, (at, (m.0, refl))) in
-    subst (IsRunOf (space_in chunks nodes)) m.1 (record { key = f.0.1.tile.chunk; chunk = c.0; held = c.1; object = sym (told_object (map.get chunks f.0.1.tile.chunk) c.0 c.1); run = run })),
+        let f = in_filtered (λ (e : ℕ × Node). free_range chunks e.1.tile) (entries nodes) r has in
+        let at = tile_of_node nodes f.0.0 f.0.1 ((Contains-entries nodes f.0.0 f.0.1).0 f.1) in
+        let m = free_made f.0.1.tile r f.2 in
+        let c = of_held f.0.0 f.0.1.tile at in
+        let run = region_is_run (IsFreeIn (space_in chunks nodes)) (HasRun (tile_in nodes)) (canonical object rows nodes kept) (region_of f.0.1.tile) (f.0.0, f.0.1.tile, (at, (m.0, refl))) in
+        subst (IsRunOf (space_in chunks nodes)) m.1 (record { key = f.0.1.tile.chunk; chunk = c.0; held = c.1; object = sym (told_object (map.get chunks f.0.1.tile.chunk) c.0 c.1); run = run })),
     (λ run.
-    let h = run_is_region (IsFreeIn (space_in chunks nodes)) (HasRun (tile_in nodes)) (canonical object rows nodes kept) (record { chunk = run.key; start = r.start; end = r.end }) run.run in
-    let n = node_of_tile nodes h.0 h.1 h.2.0 in
-    let free : n.0.tile.free ≡ true = ap (λ (t : Tile). t.free) n.2 ∙ h.2.1.0 in
-    let bytes = ap region_of n.2 ∙ h.2.1.1 in
-    let chunk = ap (λ (q : FreeListRegion). q.chunk) bytes in
-    let named : object_in (map.get chunks n.0.tile.chunk) ≡ r.object = ap (λ k. object_in (map.get chunks k)) chunk ∙ told_object (map.get chunks run.key) run.chunk run.held ∙ run.object in
-    let is : record { object = object_in (map.get chunks n.0.tile.chunk); start = n.0.tile.start; end = n.0.tile.end } ≡ r =
-    (λ i. record { object = named i; start = (ap (λ (q : FreeListRegion). q.start) bytes) i; end = (ap (λ (q : FreeListRegion). q.end) bytes) i }) in
-    to_filtered (λ (e : ℕ × Node). free_range chunks e.1.tile) (entries nodes) (h.0, n.0) r ((Contains-entries nodes h.0 n.0).1 n.1) (free_given n.0.tile free ∙ ap Some is)),
+        let h = run_is_region (IsFreeIn (space_in chunks nodes)) (HasRun (tile_in nodes)) (canonical object rows nodes kept) (record { chunk = run.key; start = r.start; end = r.end }) run.run in
+        let n = node_of_tile nodes h.0 h.1 h.2.0 in
+        let free : n.0.tile.free ≡ true = ap (λ (t : Tile). t.free) n.2 ∙ h.2.1.0 in
+        let bytes = ap region_of n.2 ∙ h.2.1.1 in
+        let chunk = ap (λ (q : FreeListRegion). q.chunk) bytes in
+        let named : object_in (map.get chunks n.0.tile.chunk) ≡ r.object = ap (λ k. object_in (map.get chunks k)) chunk ∙ told_object (map.get chunks run.key) run.chunk run.held ∙ run.object in
+        let is : record { object = object_in (map.get chunks n.0.tile.chunk); start = n.0.tile.start; end = n.0.tile.end } ≡ r =
+        (λ i. record { object = named i; start = (ap (λ (q : FreeListRegion). q.start) bytes) i; end = (ap (λ (q : FreeListRegion). q.end) bytes) i }) in
+        to_filtered (λ (e : ℕ × Node). free_range chunks e.1.tile) (entries nodes) (h.0, n.0) r ((Contains-entries nodes h.0 n.0).1 n.1) (free_given n.0.tile free ∙ ap Some is)),
   )

@@ -1,11 +1,11 @@
 -- The live tiles as the set of live blocks.
-use Rattle.std.proofs.Common.{◌≡◌, ◌≢◌, ◌⊎◌, inl, inr, ℕ, ◌+◌, ◌-◌, ◌<◌, ◌≤◌, Bool, true, false, cond, List, [], ◌∷◌, Contains, Option, Some, None, filter_map, refl, sym, ◌∙◌, ap, subst, arith}
+use Rattle.std.proofs.Common.{◌≡◌, ◌≢◌, inl, inr, ℕ, ◌-◌, true, false, cond, List, [], ◌∷◌, Contains, Option, Some, None, filter_map, refl, sym, ◌∙◌, ap, arith}
 use Rattle.std.proofs.lemmas.Bool.Decides.{same_from_decides}
 use Rattle.std.proofs.lemmas.Bool.{cases_eq}
 use Rattle.std.specs.Bool.{Decides}
 use Rattle.std.specs.FinMap as map
 use Rattle.std.specs.FinSet as set
-use Rattle.slab.specs.Slab.{Slab, entries, get}
+use Rattle.slab.specs.Slab.{Slab, entries}
 use Rattle.slab.proofs.SlabLemmas.{Contains-entries}
 use Rattle.gpu_alloc_base.specs.Accounts.{HeldChunks}
 use Rattle.gpu_alloc_base.specs.Chunks.{object_in}
@@ -68,7 +68,7 @@ in_live chunks nodes slot =
           let n = node_of_tile nodes h.0 h.1 h.2.0 in
           let live : n.0.tile.free ≡ false = ap (λ (t : Tile). t.free) n.2 ∙ h.2.1 in
           d.1 (to_filtered (λ (e : ℕ × Node). live_slot chunks e.1.tile) (entries nodes) (h.0, n.0) slot ((Contains-entries nodes h.0 n.0).1 n.1)
-            (slot_of_live chunks n.0.tile live ∙ ap (λ (t : Tile). Some (slot_of chunks t)) n.2 ∙ ap Some h.3)),
+          (slot_of_live chunks n.0.tile live ∙ ap (λ (t : Tile). Some (slot_of chunks t)) n.2 ∙ ap Some h.3)),
     )
 
 -- two sets with the same members are equal
@@ -88,11 +88,11 @@ module _ (chunks : HeldChunks) (old new : Slab Node) where
       → live_in chunks new ≡ set.insert (live_in chunks old) (slot_of chunks b)
   live_more x a b at free live others = same_slots _ _
       (λ q t.
-          let h = (in_live chunks new q).0 t in
-          elim (cases_eq h.0 x) [
-            | inl here ↦ (slot_inserted (live_in chunks old) (slot_of chunks b) q).1 (inl (sym h.3 ∙ ap (slot_of chunks) (one_tile (tile_in new) h.0 x h.1 b h.2.0 live.0 here)))
-            | inr ne ↦ (slot_inserted (live_in chunks old) (slot_of chunks b) q).1 (inr ((in_live chunks old q).1 (h.0, h.1, others.was h.0 h.1 ne h.2, h.3)))
-          ])
+      let h = (in_live chunks new q).0 t in
+      elim (cases_eq h.0 x) [
+        | inl here ↦ (slot_inserted (live_in chunks old) (slot_of chunks b) q).1 (inl (sym h.3 ∙ ap (slot_of chunks) (one_tile (tile_in new) h.0 x h.1 b h.2.0 live.0 here)))
+        | inr ne ↦ (slot_inserted (live_in chunks old) (slot_of chunks b) q).1 (inr ((in_live chunks old q).1 (h.0, h.1, others.was h.0 h.1 ne h.2, h.3)))
+      ])
       (λ q t. elim ((slot_inserted (live_in chunks old) (slot_of chunks b) q).0 t) [
         | inl is ↦ (in_live chunks new q).1 (x, b, live, sym is)
         | inr was ↦
@@ -115,17 +115,17 @@ module _ (chunks : HeldChunks) (old new : Slab Node) where
     pub live_less : (x : ℕ) (a : Tile) → IsLiveAt (tile_in old) x a → GivesBack (tile_in old) (tile_in new) x → live_in chunks new ≡ set.remove (live_in chunks old) (slot_of chunks a)
     live_less x a live back = same_slots _ _
         (λ q t.
-            let h = (in_live chunks new q).0 t in
-            let was = back.was h.0 h.1 h.2 in
-            (slot_removed (live_in chunks old) (slot_of chunks a) q).1 (
-              (λ is. was.1 (one_key h.0 x h.1 a was.0 live (h.3 ∙ is))),
-              (in_live chunks old q).1 (h.0, h.1, was.0, h.3),
-            ))
+        let h = (in_live chunks new q).0 t in
+        let was = back.was h.0 h.1 h.2 in
+        (slot_removed (live_in chunks old) (slot_of chunks a) q).1 (
+          (λ is. was.1 (one_key h.0 x h.1 a was.0 live (h.3 ∙ is))),
+          (in_live chunks old q).1 (h.0, h.1, was.0, h.3),
+        ))
         (λ q t.
-            let r = (slot_removed (live_in chunks old) (slot_of chunks a) q).0 t in
-            let h = (in_live chunks old q).0 r.1 in
-            let ne : h.0 ≢ x = λ same. r.0 (sym h.3 ∙ ap (slot_of chunks) (one_tile (tile_in old) h.0 x h.1 a h.2.0 live.0 same)) in
-            (in_live chunks new q).1 (h.0, h.1, back.stays h.0 h.1 h.2 ne, h.3))
+        let r = (slot_removed (live_in chunks old) (slot_of chunks a) q).0 t in
+        let h = (in_live chunks old q).0 r.1 in
+        let ne : h.0 ≢ x = λ same. r.0 (sym h.3 ∙ ap (slot_of chunks) (one_tile (tile_in old) h.0 x h.1 a h.2.0 live.0 same)) in
+        (in_live chunks new q).1 (h.0, h.1, back.stays h.0 h.1 h.2 ne, h.3))
 
 -- Live blocks as chunks come and go in which none is live.
 pub live_elsewhere : (old new : HeldChunks) (nodes : Slab Node) → ((k : ℕ) (a : Tile) → IsLiveAt (tile_in nodes) k a → map.get new a.chunk ≡ map.get old a.chunk) → live_in new nodes ≡ live_in old nodes

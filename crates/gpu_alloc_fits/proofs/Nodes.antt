@@ -1,9 +1,9 @@
 -- Nodes and their tiles, and what writes leave as it was.
-use Rattle.std.proofs.Common.{◌≡◌, ◌≢◌, ◌⊎◌, inl, inr, ℕ, ◌+◌, Bool, true, false, Option, Some, None, IsSome, option_map, refl, sym, ◌∙◌, ap, subst}
+use Rattle.std.proofs.Common.{◌≡◌, ◌≢◌, inl, inr, ℕ, Bool, true, Option, Some, None, IsSome, option_map, refl, sym, ◌∙◌, ap, subst}
 use Rattle.std.proofs.lemmas.Bool.{cases_eq}
 use Rattle.slab.specs.Slab.{Slab, ContainsKey, Updates, get}
-use Rattle.gpu_alloc_fits.specs.Links.{AreLinked, IsBeside, IsKept, Keeps, SetsAfter, SetsBefore, after_in, after_of, before_in, before_of}
-use Rattle.gpu_alloc_fits.specs.Tiles.{IsCalm, IsCalmBut, IsTiled, Sets, tile_in}
+use Rattle.gpu_alloc_fits.specs.Links.{AreLinked, IsKept, Keeps, SetsAfter, SetsBefore, after_in, after_of, before_in, before_of}
+use Rattle.gpu_alloc_fits.specs.Tiles.{IsCalm, IsTiled, Sets, tile_in}
 use Rattle.gpu_alloc_fits.specs.declared.tile.Node.{Node}
 use Rattle.gpu_alloc_fits.specs.declared.tile.Tile.{Tile}
 use Rattle.gpu_alloc_fits.proofs.Tiles.{bit}

@@ -1,5 +1,5 @@
 -- A block that comes back, found under a key that confirms it.
-use Rattle.std.proofs.Common.{◌≡◌, ◌≢◌, ℕ, ◌<◌, ◌^◌, Option, Some, None, option_map, refl, sym, ◌∙◌, ap, subst}
+use Rattle.std.proofs.Common.{◌≡◌, ℕ, Option, Some, None, option_map, sym, ◌∙◌, ap, subst}
 use Rattle.std.specs.FinMap as map
 use Rattle.slab.specs.Slab.{Slab, Updates, get}
 use Rattle.gpu_alloc_base.specs.Chunks.{Chunk}
@@ -73,7 +73,6 @@ module _ {M : Type 0} (object : M → ℕ) (rows : Slab (Row M)) (n0 n1 : Slab N
     -- it is another one, and goes
     module _ (z : ℕ) (some : spare ≡ Some z) (rows' : Slab (Row M)) (n2 : Slab Node) (goes : Updates rows rows' joint.chunk None) (lives : KeepsLive (tile_in n1) (tile_in n2)) (left : KeepsElsewhere joint.chunk (tile_in n1) (tile_in n2))
         (kept_2 : IsKept (size_in rows') n2) where
-
       left_spare : IsSpareTile (space_in (chunks_in object rows') n2) (size_in rows') (tile_in n2) spare
       left_spare =
           let other = the_other object rows n0 n1 spare full stored x tile joint live back free elsewhere kept start end_is z some in
@@ -90,8 +89,8 @@ module _ {M : Type 0} (object : M → ℕ) (rows : Slab (Row M)) (n0 n1 : Slab N
       pub returned_with : IsReturnedWith object rows' n2 spare old b (chunk_of object row)
       returned_with =
           let s = goes_as object rows n0 n1 spare full stored x tile joint live back free elsewhere kept old _ b (chunk_of object row) same block
-              (goes_spare object rows n0 n1 spare full stored x tile joint live back free elsewhere kept start end_is z some)
-              (get_by_key (chunk_of object) rows joint.chunk ∙ ap (option_map (chunk_of object)) row_at) (gone_space object rows rows' n1 n2 joint.chunk row row_at goes lives kept_2) in
+          (goes_spare object rows n0 n1 spare full stored x tile joint live back free elsewhere kept start end_is z some)
+          (get_by_key (chunk_of object) rows joint.chunk ∙ ap (option_map (chunk_of object)) row_at) (gone_space object rows rows' n1 n2 joint.chunk row row_at goes lives kept_2) in
           record {
             stored = gone_stored object rows rows' n1 n2 joint.chunk row row_at goes lives kept_2 spare None stored.sizes stored.one_object left_spare tt;
             goes = s.0;

@@ -1,14 +1,13 @@
 -- The free tiles are exactly the free runs, and a place is where one of them has room.
-use Rattle.std.proofs.Common.{◌≡◌, ◌≢◌, ◌⊎◌, inl, inr, ℕ, ◌+◌, ◌-◌, ◌<◌, ◌≤◌, ◌↔◌, Bool, true, false, Option, Some, None, option_map, refl, sym, ◌∙◌, ap, subst, arith}
-use Rattle.std.proofs.lemmas.Bool.{cases_lt, cases_eq}
+use Rattle.std.proofs.Common.{◌≡◌, inl, inr, ℕ, ◌<◌, ◌≤◌, true, Option, Some, None, option_map, refl, sym, ◌∙◌, ap, subst, arith}
+use Rattle.std.proofs.lemmas.Bool.{cases_eq}
 use Rattle.std.specs.FinMap as map
 use Rattle.slab.specs.Slab.{Slab, get}
-use Rattle.gpu_alloc_base.specs.Accounts.{HeldChunks}
 use Rattle.gpu_alloc_base.specs.Chunks.{Chunk}
 use Rattle.gpu_alloc_base.specs.FreeRuns.{IsListPlace, IsSpaced, tail_start}
 use Rattle.gpu_alloc_base.specs.declared.free_list_block.Slot.{Slot}
 use Rattle.gpu_alloc_base.specs.declared.region.FreeListRegion.{FreeListRegion}
-use Rattle.gpu_alloc_base.proofs.FreeRuns.{place_has_run, run_has_place, tail_below}
+use Rattle.gpu_alloc_base.proofs.FreeRuns.{place_has_run, run_has_place}
 use Rattle.gpu_alloc_base.proofs.SlabViews.{found_by_key, get_by_key}
 use Rattle.gpu_alloc_fits.specs.Inside.{chunk_of, chunks_in, size_in, size_of, slot_of, space_in}
 use Rattle.gpu_alloc_fits.specs.Links.{IsKept}
@@ -110,10 +109,19 @@ module _ {M : Type 0} (object : M → ℕ) (rows : Slab (Row M)) where
       no_place some none place =
           let run = place_has_run (IsFreeIn (space_in (chunks_in object rows) nodes)) (HasRun (tile_in nodes)) canonical size alignment place.0 place.1 some positive place.2 in
           let r = run.1 in
-          none r.0 (r.1, (r.2.0, (r.2.1.0, (
-            let s = ap (λ (q : FreeListRegion). q.start) r.2.1.1 in
-            let e = ap (λ (q : FreeListRegion). q.end) r.2.1.1 in
-            rw (s, e) run.3))))
+          none r.0 (
+            r.1,
+            (
+              r.2.0,
+              (
+                r.2.1.0,
+                (
+                    let s = ap (λ (q : FreeListRegion). q.start) r.2.1.1 in
+                    let e = ap (λ (q : FreeListRegion). q.end) r.2.1.1 in
+                    rw (s, e) run.3),
+              ),
+            ),
+          )
 
       pub in_place : (k : ℕ) (fits : HasRoomAt (tile_in nodes) size alignment k) → IsListPlace (IsFreeIn (space_in (chunks_in object rows) nodes)) size alignment fits.0.chunk (tail_start size alignment fits.0.end)
       in_place k fits = run_has_place (IsFreeIn (space_in (chunks_in object rows) nodes)) (HasRun (tile_in nodes)) canonical size alignment (region_of fits.0) positive (k, fits.0, (fits.1.0, (fits.1.1.0, refl))) fits.1.1.1

@@ -1,5 +1,5 @@
 -- All tiles are searched for one of a kind.
-use Rattle.std.proofs.Common.{◌≡◌, ◌∷◌, ℕ, List, Contains, [], arith, Some, inl, inr, ap}
+use Rattle.std.proofs.Common.{◌≡◌, ◌∷◌, ℕ, List, Contains, [], Some, inl, inr, ap}
 use Rattle.slab.specs.Slab.{Slab, get, entries}
 use Rattle.slab.proofs.SlabLemmas.{Contains-cons, Contains-cons_cases, Contains-entries}
 use Rattle.gpu_alloc_base.proofs.Lists.{contains_head, contains_none}

@@ -189,7 +189,7 @@ module _ (chunks : ℕ → ℕ) (T T' : ℕ → Option Tile) (x y : ℕ) (n o m 
     front_calm left j k c d is_c is_d both = elim (free_came j c is_c both.left) [
       | inl a ↦
           let same = starts_there chunks T T' x y y x o n n o m tiled at splits joint some_o some_n splits.new splits.rest (inr (refl, refl)) k d is_d
-              (sym both.chunk ∙ ap (λ (t : Tile). t.chunk) a.1) (sym (ap (λ (t : Tile). t.end) a.1) ∙ both.meet) in
+          (sym both.chunk ∙ ap (λ (t : Tile). t.chunk) a.1) (sym (ap (λ (t : Tile). t.end) a.1) ∙ both.meet) in
           not_both d n (one_tile T' k x d n is_d splits.rest same) both.right live
       | inr a ↦ elim (free_came k d is_d both.right) [
         | inl b ↦ left j c m a.2 both.left at (record { chunk = both.chunk ∙ ap (λ (t : Tile). t.chunk) b.1 ∙ sym joint.in_chunk; meet = both.meet ∙ ap (λ (t : Tile). t.start) b.1 ∙ sym joint.start })
@@ -216,7 +216,7 @@ module _ (chunks : ℕ → ℕ) (T T' : ℕ → Option Tile) (x y : ℕ) (n o m 
     back_calm right j k c d is_c is_d both = elim (free_came k d is_d both.right) [
       | inl a ↦
           let same = ends_there chunks T T' x y x y n o n o m tiled at splits joint some_n some_o splits.rest splits.new (inl (refl, refl)) j c is_c
-              (both.chunk ∙ ap (λ (t : Tile). t.chunk) a.1) (both.meet ∙ ap (λ (t : Tile). t.start) a.1) in
+          (both.chunk ∙ ap (λ (t : Tile). t.chunk) a.1) (both.meet ∙ ap (λ (t : Tile). t.start) a.1) in
           not_both c n (one_tile T' j x c n is_c splits.rest same) both.left live
       | inr a ↦ elim (free_came j c is_c both.left) [
         | inl b ↦ right k d m a.2 both.right at (record { chunk = joint.in_chunk ∙ joint.chunk ∙ sym (ap (λ (t : Tile). t.chunk) b.1) ∙ both.chunk; meet = joint.end ∙ sym (ap (λ (t : Tile). t.end) b.1) ∙ both.meet })

@@ -1,36 +1,34 @@
 -- What a store keeps, and what comes of it as a block is taken and comes back, and as a chunk comes and goes.
-use Rattle.std.proofs.Common.{◌≡◌, ◌≢◌, ◌⊎◌, inl, inr, ℕ, ◌+◌, ◌-◌, ◌<◌, ◌≤◌, ◌^◌, ◌↔◌, Bool, true, false, List, Option, Some, None, Result, Ok, Err, IsErr, IsSome, IsTrue, option_map, refl, sym, ◌∙◌, ap, subst, arith}
+use Rattle.std.proofs.Common.{◌≡◌, ◌≢◌, inl, inr, ℕ, ◌+◌, ◌-◌, ◌<◌, ◌≤◌, ◌^◌, true, false, List, Option, Some, None, Result, Ok, Err, IsErr, IsSome, option_map, refl, sym, ◌∙◌, ap, subst, arith}
 use Rattle.std.proofs.lemmas.Bool.{cases_eq}
 use Rattle.std.specs.Prelude as list
 use Rattle.std.specs.Prelude.{slice_index_or}
 use Rattle.std.specs.Ordering.{nat_cmp}
 use Rattle.std.specs.FinMap as map
 use Rattle.std.specs.FinSet as set
-use Rattle.slab.specs.Slab.{Slab, Updates, entries_from, get}
+use Rattle.slab.specs.Slab.{Slab, entries_from, get}
 use Rattle.gpu_alloc_base.specs.Accounts.{HeldChunks}
 use Rattle.gpu_alloc_base.specs.Chunks.{Chunk, object_in}
-use Rattle.gpu_alloc_base.specs.FreeRuns.{AreFree, IsListPlace, tail_start}
-use Rattle.gpu_alloc_base.specs.FreeSpace.{IsMultipleOf}
+use Rattle.gpu_alloc_base.specs.FreeRuns.{IsListPlace, tail_start}
 use Rattle.gpu_alloc_base.specs.SlabViews.{HasOneKeyEach}
 use Rattle.gpu_alloc_base.specs.declared.free_list_block.Slot.{Slot}
 use Rattle.gpu_alloc_base.proofs.FreeRuns.{tail_below}
 use Rattle.gpu_alloc_base.proofs.ListedRanges.{told_object}
-use Rattle.gpu_alloc_base.proofs.Maps.{found_value, gone, inserted_kept, kept_other, other_inserted}
-use Rattle.gpu_alloc_base.proofs.SlabViews.{by_key_put, by_key_removed, found_by_key, get_by_key}
+use Rattle.gpu_alloc_base.proofs.SlabViews.{found_by_key, get_by_key}
 use Rattle.gpu_alloc_base.proofs.Slots.{slot_inserted, slot_removed}
 use Rattle.gpu_alloc_fits.specs.Fits.{TakesPlace}
-use Rattle.gpu_alloc_fits.specs.Inside.{HasNone, IsAtKey, IsBlock, IsLiveTile, IsSpareTile, IsStillFull, IsStored, IsTheWhole, IsWholeTile, IsWithout, chunk_of, chunks_in, live_in, live_slot, made_of, size_in, size_of, slot_of, space_in}
+use Rattle.gpu_alloc_fits.specs.Inside.{IsAtKey, IsBlock, IsLiveTile, IsSpareTile, IsStillFull, IsStored, IsTheWhole, IsWholeTile, IsWithout, chunk_of, chunks_in, live_in, live_slot, made_of, size_in, size_of, slot_of, space_in}
 use Rattle.gpu_alloc_fits.specs.Links.{IsKept, after_of, before_of}
 use Rattle.gpu_alloc_fits.specs.Space.{HasPlace, IsFitting, IsFreeIn, IsLiveSlot, IsLiveSpan, IsSoundSpace, IsSpare, IsWhollyFree, LiesInChunk, Space, with_slot, without_slot, without_chunk}
-use Rattle.gpu_alloc_fits.specs.Tiles.{GivesBack, HasRoomAt, HasRoomIn, IsFreeOf, IsLiveAt, KeepsElsewhere, KeepsLive, KeepsOthers, tile_in}
+use Rattle.gpu_alloc_fits.specs.Tiles.{GivesBack, HasRoomAt, HasRoomIn, IsFreeOf, IsLiveAt, KeepsElsewhere, KeepsOthers, tile_in}
 use Rattle.gpu_alloc_fits.specs.declared.fits.Chunk.{Chunk as Row}
 use Rattle.gpu_alloc_fits.specs.declared.search.Full.{Full}
 use Rattle.gpu_alloc_fits.specs.declared.tile.Node.{Node}
 use Rattle.gpu_alloc_fits.specs.declared.tile.Tile.{Tile}
-use Rattle.gpu_alloc_fits.proofs.Live.{in_live, live_less, live_more, live_same}
+use Rattle.gpu_alloc_fits.proofs.Live.{in_live, live_less, live_more}
 use Rattle.gpu_alloc_fits.proofs.Nodes.{keeps_kept, tile_of}
-use Rattle.gpu_alloc_fits.proofs.Runs.{held_chunk, held_row, in_place, size_is}
-use Rattle.gpu_alloc_fits.proofs.Tiles.{not_both, one_tile, unused_whole, whole_unused}
+use Rattle.gpu_alloc_fits.proofs.Runs.{held_chunk, held_row, in_place}
+use Rattle.gpu_alloc_fits.proofs.Tiles.{one_tile, unused_whole, whole_unused}
 
 -- the block of these bytes of a held chunk
 pub block_slot : (chunks : HeldChunks) (chunk start end size name : ℕ) → end ≡ start + size → object_in (map.get chunks chunk) ≡ name
@@ -142,7 +140,7 @@ module _ {M : Type 0} (object : M → ℕ) (rows : Slab (Row M)) (nodes : Slab N
         let y_from = ap (λ (s : Slot). s.offset) g.3 in
         let y_long = ap (λ (s : Slot). s.size) g.3 in
         let key = kept.tiled.apart h.0 g.0 h.1 g.1 h.2.0 g.2.0 (ap (λ (s : Slot). s.chunk) h.3 ∙ same ∙ sym (ap (λ (s : Slot). s.chunk) g.3))
-            (omega (arith, in_x.from, in_y.to, x_from, y_from, y_long, some_g)) (omega (arith, in_y.from, in_x.to, x_from, x_long, y_from, some_h)) in
+        (omega (arith, in_x.from, in_y.to, x_from, y_from, y_long, some_g)) (omega (arith, in_y.from, in_x.to, x_from, x_long, y_from, some_h)) in
         sym h.3 ∙ ap (slot_of chunks) (one_tile (tile_in nodes) h.0 g.0 h.1 g.1 h.2.0 g.2.0 key) ∙ g.3;
     one_free = one_free spare stored.spare_is;
   }
@@ -218,10 +216,10 @@ module _ {M : Type 0} (object : M → ℕ) (rows : Slab (Row M)) (n0 n1 : Slab N
   taken_spare (Some z) new whole (inr is) =
       let w = whole.whole in
       let other : w.tile.chunk ≢ a.chunk = λ same.
-          let some = stored.kept.tiled.nonempty x a at in
-          let end : w.tile.end ≡ size_in rows a.chunk = w.end ∙ ap (size_in rows) (sym w.chunk_is ∙ same) in
-          let inside = stored.kept.tiled.inside x a at in
-          is.0 (stored.kept.tiled.apart z x w.tile a w.at at same (omega (arith, w.start, some)) (omega (arith, some, inside, end))) in
+      let some = stored.kept.tiled.nonempty x a at in
+      let end : w.tile.end ≡ size_in rows a.chunk = w.end ∙ ap (size_in rows) (sym w.chunk_is ∙ same) in
+      let inside = stored.kept.tiled.inside x a at in
+      is.0 (stored.kept.tiled.apart z x w.tile a w.at at same (omega (arith, w.start, some)) (omega (arith, some, inside, end))) in
       subst (IsSpareTile (space_in chunks_t n1) (size_in rows) (tile_in n1)) (sym is.1) (record {
         chunk = whole.chunk;
         whole = record { tile = w.tile; at = elsewhere z w.tile w.at other; free = w.free; start = w.start; end = w.end; chunk_is = w.chunk_is };
@@ -396,10 +394,16 @@ module _ {M : Type 0} (object : M → ℕ) (rows : Slab (Row M)) (nodes : Slab N
   pub none_at : ((k : ℕ) → IsAtKey chunks_s (tile_in nodes) name offset size k → ⊥) → (slot : Slot) → IsLiveSpan (space_in chunks_s nodes) name offset size slot → ⊥
   none_at none slot span =
       let f = found_at object rows nodes kept slot span.live in
-      none f.0 (f.1.0, (f.1.1.0, record {
-        tile = record { live = f.1.1.1.tile.live; starts = f.1.1.1.tile.starts ∙ span.starts; of_size = f.1.1.1.tile.of_size ∙ span.of_size };
-        of_object = f.1.1.1.of_object ∙ span.of_object;
-      }))
+      none f.0 (
+        f.1.0,
+        (
+          f.1.1.0,
+          record {
+            tile = record { live = f.1.1.1.tile.live; starts = f.1.1.1.tile.starts ∙ span.starts; of_size = f.1.1.1.tile.of_size ∙ span.of_size };
+            of_object = f.1.1.1.of_object ∙ span.of_object;
+          },
+        ),
+      )
 
   module _ (k : ℕ) (a : Tile) (at_a : tile_in nodes k ≡ Some a) (at : IsAtKey chunks_s (tile_in nodes) name offset size k) where
     is_block : IsBlock chunks_s name offset size a
@@ -415,10 +419,16 @@ module _ {M : Type 0} (object : M → ℕ) (rows : Slab (Row M)) (nodes : Slab N
     pub the_span : HasOneKeyEach (λ (row : Row M). object row.memory) rows → (slot : Slot) → IsLiveSpan (space_in chunks_s nodes) name offset size slot → record { object = name; chunk = a.chunk; offset = offset; size = size } ≡ slot
     the_span once slot span =
         let b = is_block in
-        let here : IsAtKey chunks_s (tile_in nodes) slot.object slot.offset slot.size k = (a, (at_a, record {
-          tile = record { live = b.tile.live; starts = b.tile.starts ∙ sym span.starts; of_size = b.tile.of_size ∙ sym span.of_size };
-          of_object = b.of_object ∙ sym span.of_object;
-        })) in
+        let here : IsAtKey chunks_s (tile_in nodes) slot.object slot.offset slot.size k = (
+          a,
+          (
+            at_a,
+            record {
+              tile = record { live = b.tile.live; starts = b.tile.starts ∙ sym span.starts; of_size = b.tile.of_size ∙ sym span.of_size };
+              of_object = b.of_object ∙ sym span.of_object;
+            },
+          ),
+        ) in
         sym slot_is ∙ the_slot object rows nodes kept once slot span.live k here
 
 -- what else is known of full

@@ -1,7 +1,7 @@
 -- Tiles: which is which, where one came from, and what stays as one is freed or joined with another.
 use Rattle.std.proofs.Common.{◌≡◌, ◌≢◌, ◌⊎◌, inl, inr, ℕ, ◌-◌, ◌<◌, ◌≤◌, Bool, true, false, Option, Some, None, refl, sym, ◌∙◌, ap, subst, arith}
 use Rattle.std.proofs.lemmas.Bool.{cases_lt, cases_eq}
-use Rattle.gpu_alloc_fits.specs.Tiles.{AreFreeNeighbours, AreNeighbours, IsCalm, IsCalmBut, IsFirst, IsLiveAt, IsTiled, KeepsLive, Sets}
+use Rattle.gpu_alloc_fits.specs.Tiles.{AreFreeNeighbours, IsCalm, IsCalmBut, IsFirst, IsLiveAt, IsTiled, KeepsLive, Sets}
 use Rattle.gpu_alloc_fits.specs.declared.tile.Tile.{Tile}
 
 -- one key has one tile
@@ -78,9 +78,17 @@ retiled size T T' x a b tiled at same sets = record {
       let c = tiled.covers chunk at' lt in
       elim (cases_eq c.0 x) [
         | inl here ↦
-            let e = one_tile T c.0 x c.1 a c.2.0 at here in
-            (x, b, (sets.changed, (sym same.chunk ∙ sym (ap (λ (t : Tile). t.chunk) e) ∙ c.2.1.0,
-              (omega (arith, c.2.1.1.0, ap (λ (t : Tile). t.start) e, same.start), omega (arith, c.2.1.1.1, ap (λ (t : Tile). t.end) e, same.end)))))
+            let e = one_tile T c.0 x c.1 a c.2.0 at here in (
+              x,
+              b,
+              (
+                sets.changed,
+                (
+                  sym same.chunk ∙ sym (ap (λ (t : Tile). t.chunk) e) ∙ c.2.1.0,
+                  (omega (arith, c.2.1.1.0, ap (λ (t : Tile). t.start) e, same.start), omega (arith, c.2.1.1.1, ap (λ (t : Tile). t.end) e, same.end)),
+                ),
+              ),
+            )
         | inr other ↦ (c.0, c.1, (sets.others c.0 other ∙ c.2.0, c.2.1))
       ];
 }
@@ -145,14 +153,30 @@ module _ (size : ℕ → ℕ) (T T' : ℕ → Option Tile) (x y l r : ℕ) (p q 
         let c = tiled.covers chunk at lt in
         elim (cases_eq c.0 l) [
           | inl here ↦
-              let e = one_tile T c.0 l c.1 p c.2.0 at_l here in
-              (x, m, (absorbs.grown, (joint.in_chunk ∙ sym (ap (λ (t : Tile). t.chunk) e) ∙ c.2.1.0,
-                (omega (arith, c.2.1.1.0, ap (λ (t : Tile). t.start) e, joint.start), omega (arith, c.2.1.1.1, ap (λ (t : Tile). t.end) e, joint.meet, joint.end, tiled.nonempty r q at_r)))))
+              let e = one_tile T c.0 l c.1 p c.2.0 at_l here in (
+                x,
+                m,
+                (
+                  absorbs.grown,
+                  (
+                    joint.in_chunk ∙ sym (ap (λ (t : Tile). t.chunk) e) ∙ c.2.1.0,
+                    (omega (arith, c.2.1.1.0, ap (λ (t : Tile). t.start) e, joint.start), omega (arith, c.2.1.1.1, ap (λ (t : Tile). t.end) e, joint.meet, joint.end, tiled.nonempty r q at_r)),
+                  ),
+                ),
+              )
           | inr ne_l ↦ elim (cases_eq c.0 r) [
             | inl here ↦
-                let e = one_tile T c.0 r c.1 q c.2.0 at_r here in
-                (x, m, (absorbs.grown, (joint.in_chunk ∙ joint.chunk ∙ sym (ap (λ (t : Tile). t.chunk) e) ∙ c.2.1.0,
-                  (omega (arith, c.2.1.1.0, ap (λ (t : Tile). t.start) e, joint.start, joint.meet, tiled.nonempty l p at_l), omega (arith, c.2.1.1.1, ap (λ (t : Tile). t.end) e, joint.end)))))
+                let e = one_tile T c.0 r c.1 q c.2.0 at_r here in (
+                  x,
+                  m,
+                  (
+                    absorbs.grown,
+                    (
+                      joint.in_chunk ∙ joint.chunk ∙ sym (ap (λ (t : Tile). t.chunk) e) ∙ c.2.1.0,
+                      (omega (arith, c.2.1.1.0, ap (λ (t : Tile). t.start) e, joint.start, joint.meet, tiled.nonempty l p at_l), omega (arith, c.2.1.1.1, ap (λ (t : Tile). t.end) e, joint.end)),
+                    ),
+                  ),
+                )
             | inr ne_r ↦ let ne = on c.0 ne_l ne_r in (c.0, c.1, (absorbs.others c.0 ne.0 ne.1 ∙ c.2.0, c.2.1))
           ]
         ];
@@ -204,35 +228,36 @@ pub unused_whole : (size : ℕ → ℕ) (T : ℕ → Option Tile) (x : ℕ) (a :
     → (a.start ≡ 0) × (a.end ≡ size a.chunk)
 unused_whole size T x a tiled calm at free unused =
     let some = tiled.nonempty x a at in
-    let inside = tiled.inside x a at in
-    (elim (cases_lt 0 a.start) [
-      | inr zero ↦ omega (arith, zero)
-      | inl more ↦
-          let before = a.start - 1 in
-          let c = tiled.covers a.chunk before (omega (arith, some, inside, more)) in
-          elim (bit c.1.free) [
-            | inr live ↦ absurd (unused c.0 c.1 (c.2.0, live) c.2.1.0)
-            | inl is_free ↦ elim (cases_lt a.start c.1.end) [
-              | inl over ↦
-                  let key = tiled.apart x c.0 a c.1 at c.2.0 (sym c.2.1.0) over (omega (arith, c.2.1.1.0, some, more)) in
-                  let e = one_tile T x c.0 a c.1 at c.2.0 key in
-                  absurd (omega (arith, c.2.1.1.0, more, ap (λ (t : Tile). t.start) e))
-              | inr under ↦ absurd (calm c.0 x c.1 a c.2.0 at (record { chunk = c.2.1.0; meet = omega (arith, under, c.2.1.1.1, more); left = is_free; right = free }))
+    let inside = tiled.inside x a at in (
+      elim (cases_lt 0 a.start) [
+        | inr zero ↦ omega (arith, zero)
+        | inl more ↦
+            let before = a.start - 1 in
+            let c = tiled.covers a.chunk before (omega (arith, some, inside, more)) in
+            elim (bit c.1.free) [
+              | inr live ↦ absurd (unused c.0 c.1 (c.2.0, live) c.2.1.0)
+              | inl is_free ↦ elim (cases_lt a.start c.1.end) [
+                | inl over ↦
+                    let key = tiled.apart x c.0 a c.1 at c.2.0 (sym c.2.1.0) over (omega (arith, c.2.1.1.0, some, more)) in
+                    let e = one_tile T x c.0 a c.1 at c.2.0 key in
+                    absurd (omega (arith, c.2.1.1.0, more, ap (λ (t : Tile). t.start) e))
+                | inr under ↦ absurd (calm c.0 x c.1 a c.2.0 at (record { chunk = c.2.1.0; meet = omega (arith, under, c.2.1.1.1, more); left = is_free; right = free }))
+              ]
             ]
-          ]
-    ],
-    elim (cases_lt a.end (size a.chunk)) [
-      | inr most ↦ omega (arith, most, inside)
-      | inl less ↦
-          let c = tiled.covers a.chunk a.end less in
-          elim (bit c.1.free) [
-            | inr live ↦ absurd (unused c.0 c.1 (c.2.0, live) c.2.1.0)
-            | inl is_free ↦ elim (cases_lt c.1.start a.end) [
-              | inl over ↦
-                  let key = tiled.apart x c.0 a c.1 at c.2.0 (sym c.2.1.0) (omega (arith, c.2.1.1.1, some)) over in
-                  let e = one_tile T x c.0 a c.1 at c.2.0 key in
-                  absurd (omega (arith, c.2.1.1.1, ap (λ (t : Tile). t.end) e))
-              | inr under ↦ absurd (calm x c.0 a c.1 at c.2.0 (record { chunk = sym c.2.1.0; meet = omega (arith, under, c.2.1.1.0); left = free; right = is_free }))
+      ],
+      elim (cases_lt a.end (size a.chunk)) [
+        | inr most ↦ omega (arith, most, inside)
+        | inl less ↦
+            let c = tiled.covers a.chunk a.end less in
+            elim (bit c.1.free) [
+              | inr live ↦ absurd (unused c.0 c.1 (c.2.0, live) c.2.1.0)
+              | inl is_free ↦ elim (cases_lt c.1.start a.end) [
+                | inl over ↦
+                    let key = tiled.apart x c.0 a c.1 at c.2.0 (sym c.2.1.0) (omega (arith, c.2.1.1.1, some)) over in
+                    let e = one_tile T x c.0 a c.1 at c.2.0 key in
+                    absurd (omega (arith, c.2.1.1.1, ap (λ (t : Tile). t.end) e))
+                | inr under ↦ absurd (calm x c.0 a c.1 at c.2.0 (record { chunk = sym c.2.1.0; meet = omega (arith, under, c.2.1.1.0); left = free; right = is_free }))
+              ]
             ]
-          ]
-    ])
+      ],
+    )

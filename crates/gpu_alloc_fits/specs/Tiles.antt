@@ -1,5 +1,5 @@
 -- The bytes of held chunks as tiles, each a live block or a free run, by the keys under which they stand.
-use Rattle.std.specs.Prelude.{◌≡◌, ◌≢◌, ℕ, ◌<◌, ◌≤◌, true, false, Option, Some, None, option_map}
+use Rattle.std.specs.Prelude.{◌≡◌, ◌≢◌, ℕ, ◌<◌, ◌≤◌, true, false, Option, Some, option_map}
 use Rattle.gpu_alloc_base.specs.FreeRuns.{HasRoom}
 use Rattle.gpu_alloc_base.specs.declared.region.FreeListRegion.{FreeListRegion}
 use Rattle.slab.specs.Slab.{Slab, get}

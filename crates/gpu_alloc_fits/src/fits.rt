@@ -145,8 +145,15 @@ impl<M: MemoryObject, A: Allocator> Fits<M, A> {
         ensures place { IsTrue result ↔ HasPlace (self.old).space size (align_mask + 1) }
         ensures kept { self.new ≡ self.old }
     {
-        find_place(&self.chunks, &self.tiles, &self.classes, &mut self.known, size, align_mask)
-            .is_some()
+        find_place(
+            &self.chunks,
+            &self.tiles,
+            &self.classes,
+            &mut self.known,
+            size,
+            align_mask,
+        )
+        .is_some()
     }
 
     /// Takes a block of exactly this many bytes, at least 1, at a multiple of `align_mask + 1`, in a free run that has
@@ -155,11 +162,7 @@ impl<M: MemoryObject, A: Allocator> Fits<M, A> {
     /// The only refusal is want of host memory, for tiles or for a second handle of the chunk's object, and nothing but
     /// room changes then. Each block that a caller had in hand is live still (`leaves`). The new one is live too, and
     /// shares no byte with any of them (`added`).
-    pub fn take(
-        &mut self,
-        size: u64,
-        align_mask: u64,
-    ) -> Result<Option<FitBlock<M>>, AllocError>
+    pub fn take(&mut self, size: u64, align_mask: u64) -> Result<Option<FitBlock<M>>, AllocError>
         requires nonempty { 0 < size }
         requires alignment { IsAlignMask align_mask }
         ensures takes { TakesPlace (self.old).space size (align_mask + 1) result (self.new).space }
@@ -182,7 +185,15 @@ impl<M: MemoryObject, A: Allocator> Fits<M, A> {
         let memory = self.chunks[run.chunk].memory.duplicate()?;
         let start = last_start(run.end, size, align_mask);
         let end = start + size;
-        cut_out(&mut self.tiles, &mut self.classes, &self.chunks, key, run.chunk, start, end);
+        cut_out(
+            &mut self.tiles,
+            &mut self.classes,
+            &self.chunks,
+            key,
+            run.chunk,
+            start,
+            end,
+        );
         self.spare = without(self.spare, key);
         let slot = Slot {
             object: memory.object(),
@@ -220,7 +231,15 @@ impl<M: MemoryObject, A: Allocator> Fits<M, A> {
         };
         let key = self.tiles.insert_reserved(unlisted(whole, NONE, NONE));
         file(&mut self.tiles, &mut self.classes, key);
-        cut_out(&mut self.tiles, &mut self.classes, &self.chunks, key, chunk, 0, size);
+        cut_out(
+            &mut self.tiles,
+            &mut self.classes,
+            &self.chunks,
+            key,
+            chunk,
+            0,
+            size,
+        );
         self.known.full = None;
         let slot = Slot {
             object,
@@ -252,7 +271,14 @@ impl<M: MemoryObject, A: Allocator> Fits<M, A> {
         ensures few { looks.new ≤ looks.old + 2 }
     {
         let (_, slot, hint) = into_parts(block);
-        let Some(key) = key_of(&self.chunks, &self.tiles, hint, slot.object, slot.offset, slot.size) else {
+        let Some(key) = key_of(
+            &self.chunks,
+            &self.tiles,
+            hint,
+            slot.object,
+            slot.offset,
+            slot.size,
+        ) else {
             unreachable!();
         };
         let joint = put_back(&mut self.tiles, &mut self.classes, &self.chunks, key, looks);
@@ -262,7 +288,13 @@ impl<M: MemoryObject, A: Allocator> Fits<M, A> {
             return None;
         }
         match self.spare {
-            Some(_) => Some(end(&mut self.chunks, &mut self.tiles, &mut self.classes, key, joint.chunk)),
+            Some(_) => Some(end(
+                &mut self.chunks,
+                &mut self.tiles,
+                &mut self.classes,
+                key,
+                joint.chunk,
+            )),
             None => {
                 self.spare = Some(key);
                 None
@@ -285,7 +317,13 @@ impl<M: MemoryObject, A: Allocator> Fits<M, A> {
         let key = self.spare?;
         self.spare = None;
         let chunk = self.tiles[key].tile.chunk;
-        let (memory, size) = end(&mut self.chunks, &mut self.tiles, &mut self.classes, key, chunk);
+        let (memory, size) = end(
+            &mut self.chunks,
+            &mut self.tiles,
+            &mut self.classes,
+            key,
+            chunk,
+        );
         Some((memory, size, chunk))
     }
 

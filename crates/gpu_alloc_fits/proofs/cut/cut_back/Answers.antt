@@ -1,4 +1,4 @@
-use Rattle.std.proofs.Common.{arith, sym, ap, ◌∙◌}
+use Rattle.std.proofs.Common.{arith, ap}
 use Rattle.gpu_alloc_fits.specs.Inside.{size_in, size_of}
 use Rattle.gpu_alloc_fits.proofs.Cuts.{back_kept, row_there}
 use Rattle.std.proofs.lemmas.Bool.Decides.{Decides-ltb}

@@ -1,9 +1,9 @@
-use Rattle.std.proofs.Common.{◌≡◌, ◌-◌, ◌++◌, cond, Some, None, option_map, sym, ◌∙◌, ap}
+use Rattle.std.proofs.Common.{◌≡◌, ◌++◌, cond, Some, None, option_map, sym, ◌∙◌, ap}
 use Rattle.std.specs.FinMap as map
 use Rattle.gpu_alloc_base.specs.Chunks.{object_in}
 use Rattle.gpu_alloc_base.proofs.ListedRanges.{told_object}
 use Rattle.gpu_alloc_base.proofs.SlabViews.{get_by_key}
-use Rattle.gpu_alloc_fits.specs.Inside.{chunk_of, chunks_in, free_range, listed, slot_of}
+use Rattle.gpu_alloc_fits.specs.Inside.{chunk_of, chunks_in, free_range, listed}
 use Rattle.gpu_alloc_fits.proofs.Joins.{unnot}
 use Rattle.gpu_alloc_fits.proofs.fits.list_free.Goals as goal
 

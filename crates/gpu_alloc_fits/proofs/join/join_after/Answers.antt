@@ -1,4 +1,4 @@
-use Rattle.std.proofs.Common.{◌≡◌, ◌≢◌, ◌<◌, ℕ, true, Some, ap, subst, refl, sym, ◌∙◌, arith}
+use Rattle.std.proofs.Common.{◌≡◌, ap, subst, refl, sym, ◌∙◌, arith}
 use Rattle.std.proofs.lemmas.Bool.Decides.{Decides-ltb}
 use Rattle.gpu_alloc_fits.specs.Inside.{size_in, size_of}
 use Rattle.gpu_alloc_fits.specs.Tiles.{AreNeighbours, KeepsElsewhere, tile_in}
@@ -18,7 +18,6 @@ pub returns-then-node-whole-clause-kept : goal.returns-then-node-whole-clause-ke
 returns-then-node-whole-clause-kept g c =
     kept_beside (size_in c.args.chunks.now) c.args.nodes.now c.args.key c.index-node.result.now c.requires.beside c.index-node.ensures c.requires.first
     (at_end (size_in c.args.chunks.now) c.args.nodes.now c.args.key c.index-node.result.now c.requires.beside c.index-node.ensures (c.if-node-whole.true ∙ sym (ap size_of c.index.ensures)))
-
 
 pub index-back-requires : goal.index-back-requires
 index-back-requires g c = back_key (size_in c.args.chunks.now) c.args.nodes.now c.args.key c.index-node.result.now c.requires.beside c.index-node.ensures (λ same. c.if-node-whole.false (same ∙ ap size_of c.index.ensures))

@@ -1,4 +1,4 @@
-use Rattle.std.proofs.Common.{◌≡◌, ◌≢◌, ℕ, true, Some, ap, subst, refl, sym}
+use Rattle.std.proofs.Common.{subst, refl}
 use Rattle.std.proofs.lemmas.Bool.Decides.{Decides-ltb}
 use Rattle.gpu_alloc_fits.specs.Inside.{size_in}
 use Rattle.gpu_alloc_fits.specs.Tiles.{KeepsElsewhere, tile_in}

@@ -1,9 +1,9 @@
-use Rattle.std.proofs.Common.{◌≡◌, ◌≢◌, Some, refl, ap, ◌∙◌}
+use Rattle.std.proofs.Common.{◌≡◌, ◌≢◌, refl, ap, ◌∙◌}
 use Rattle.gpu_alloc_fits.specs.Inside.{size_in}
 use Rattle.gpu_alloc_fits.specs.Tiles.{tile_in}
 use Rattle.gpu_alloc_fits.specs.declared.tile.Tile.{Tile}
 use Rattle.gpu_alloc_fits.proofs.Joins.{freed, freed_at, freed_elsewhere}
-use Rattle.gpu_alloc_fits.proofs.Nodes.{keeps_kept, tile_of_node, with_tiles}
+use Rattle.gpu_alloc_fits.proofs.Nodes.{keeps_kept, tile_of_node}
 use Rattle.gpu_alloc_fits.proofs.Tiles.{one_tile}
 use Rattle.gpu_alloc_fits.proofs.join.put_back.Goals as goal
 

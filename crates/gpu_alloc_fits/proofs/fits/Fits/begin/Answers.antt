@@ -1,8 +1,7 @@
-use Rattle.std.proofs.Common.{◌≡◌, Some, None, refl, sym, ◌∙◌, ap, subst, arith}
+use Rattle.std.proofs.Common.{◌≡◌, refl, sym, ◌∙◌, ap, subst, arith}
 use Rattle.gpu_alloc_base.specs.declared.free_list_block.Slot.{Slot}
 use Rattle.gpu_alloc_fits.specs.Fits.{HasRooms, Store}
-use Rattle.gpu_alloc_fits.specs.Inside.{IsStored, chunks_in, size_in, space_in}
-use Rattle.gpu_alloc_fits.specs.Links.{IsKept}
+use Rattle.gpu_alloc_fits.specs.Inside.{chunks_in, space_in}
 use Rattle.gpu_alloc_fits.specs.Space.{IsUnheld, with_chunk, with_slot}
 use Rattle.gpu_alloc_fits.specs.declared.fits.Chunk.{Chunk as Row}
 use Rattle.gpu_alloc_fits.proofs.Held.{come_begins, come_kept, come_space, come_stored}

@@ -1,13 +1,8 @@
-use Rattle.std.proofs.Common.{◌≡◌, Some, None, refl, sym, ◌∙◌, ap, subst}
-use Rattle.gpu_alloc_base.specs.declared.free_list_block.Slot.{Slot}
+use Rattle.std.proofs.Common.{sym, subst}
 use Rattle.gpu_alloc_fits.specs.Fits.{Store}
-use Rattle.gpu_alloc_fits.specs.Inside.{IsAtKey, chunks_in, slot_of, space_in}
-use Rattle.gpu_alloc_fits.specs.Space.{IsLiveSlot, IsLiveSpan}
-use Rattle.gpu_alloc_fits.specs.Tiles.{tile_in}
-use Rattle.gpu_alloc_fits.specs.declared.tile.Tile.{Tile}
+use Rattle.gpu_alloc_fits.specs.Space.{IsLiveSpan}
 use Rattle.gpu_alloc_fits.proofs.Nodes.{tile_of_node}
 use Rattle.gpu_alloc_fits.proofs.Stored.{none_at, span_at, the_span}
-use Rattle.gpu_alloc_fits.proofs.fits.Fits.find.Given.{Over}
 use Rattle.gpu_alloc_fits.proofs.fits.Fits.find.Goals as goal
 
 pub returns-in_err-key-clause-found : goal.returns-in_err-key-clause-found

@@ -1,4 +1,4 @@
-use Rattle.std.proofs.Common.{◌≡◌, Some, [], ◌∙◌, sym, ap, subst, arith}
+use Rattle.std.proofs.Common.{◌≡◌, Some, ◌∙◌, arith}
 use Rattle.slab.specs.Slab.{entries}
 use Rattle.gpu_alloc_fits.specs.Inside.{chunks_in, live_slot, made_of}
 use Rattle.gpu_alloc_fits.specs.Tiles.{tile_in}

@@ -1,10 +1,8 @@
-use Rattle.std.proofs.Common.{◌≡◌, ◌+◌, ℕ, false, Some, refl, sym, ◌∙◌, ap, subst, arith}
+use Rattle.std.proofs.Common.{◌≡◌, ◌+◌, Some, refl, sym, ◌∙◌, ap, subst, arith}
 use Rattle.slab.specs.Slab.{Slab}
-use Rattle.gpu_alloc_base.specs.FreeRuns.{tail_start}
-use Rattle.gpu_alloc_base.specs.declared.free_list_block.Slot.{Slot}
 use Rattle.gpu_alloc_fits.specs.Fits.{Store}
 use Rattle.gpu_alloc_fits.specs.Inside.{IsStored, chunks_in, space_in}
-use Rattle.gpu_alloc_fits.specs.Space.{HasPlace, IsFitting, IsSoundSpace, with_slot}
+use Rattle.gpu_alloc_fits.specs.Space.{IsFitting, with_slot}
 use Rattle.gpu_alloc_fits.specs.Tiles.{HasRoomAt, HasRoomIn, tile_in}
 use Rattle.gpu_alloc_fits.specs.declared.tile.Node.{Node}
 use Rattle.gpu_alloc_fits.proofs.Cuts.{row_there}
@@ -72,7 +70,7 @@ overflow_add-end g c =
     let at = tile_of_node c.reserve.new.self c.in-Some.key c.index.result.now c.index.ensures in
     let found = subst (λ (s : Slab Node). HasRoomAt (tile_in s) c.args.size (c.args.align_mask + 1) c.in-Some.key) (sym c.reserve.ensures.rest_kept) c.in-Some.ensures.place in
     let bounded = block_bounded g.M.MemoryObject.object c.self.inside.chunks c.reserve.new.self kept c.args.size c.args.align_mask c.in-Some.key c.index.result.now.tile at
-        (room_of (tile_in c.reserve.new.self) c.args.size (c.args.align_mask + 1) c.in-Some.key c.index.result.now.tile found at) c.last_start-start.result c.last_start-start.ensures c.self.invariant.sizes in
+    (room_of (tile_in c.reserve.new.self) c.args.size (c.args.align_mask + 1) c.in-Some.key c.index.result.now.tile found at) c.last_start-start.result c.last_start-start.ensures c.self.invariant.sizes in
     omega (arith, bounded)
 
 at_run : (g : Over) (c : goal.After-new g) → tile_in c.reserve.new.self c.in-Some.key ≡ Some c.index.result.now.tile
@@ -109,8 +107,8 @@ after g c =
     taken_space g.M.MemoryObject.object c.self.inside.chunks c.reserve.new.self c.cut_out.new.nodes c.self.inside.spare c.find_place-place.new.known.full (roomy g c) c.in-Some.key c.index.result.now.tile _ (at_run g c) (room g c).0
     c.cut_out.ensures.live refl c.cut_out.ensures.others c.cut_out.ensures.elsewhere c.cut_out.ensures.kept
     ∙ ap (with_slot (space_in (chunks_in g.M.MemoryObject.object c.self.inside.chunks) c.reserve.new.self))
-        (block_is g.M.MemoryObject.object c.self.inside.chunks c.reserve.new.self (roomy g c).kept c.args.size c.args.align_mask c.in-Some.key c.index.result.now.tile (at_run g c) (room g c) c.last_start-start.result c.last_start-start.ensures
-        c.index-2.result.now c.index-2.ensures ∙ sym (block g c))
+    (block_is g.M.MemoryObject.object c.self.inside.chunks c.reserve.new.self (roomy g c).kept c.args.size c.args.align_mask c.in-Some.key c.index.result.now.tile (at_run g c) (room g c) c.last_start-start.result c.last_start-start.ensures
+    c.index-2.result.now c.index-2.ensures ∙ sym (block g c))
     ∙ ap (λ s. with_slot s c.new.result) (before g c)
 
 pub returns-clause-takes : goal.returns-clause-takes

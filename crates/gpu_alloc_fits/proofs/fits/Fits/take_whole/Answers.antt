@@ -1,6 +1,5 @@
-use Rattle.std.proofs.Common.{◌≡◌, Some, None, option_map, refl, sym, ◌∙◌, ap, subst}
+use Rattle.std.proofs.Common.{◌≡◌, None, option_map, refl, sym, ◌∙◌, ap, subst}
 use Rattle.gpu_alloc_base.proofs.SlabViews.{get_by_key}
-use Rattle.gpu_alloc_fits.specs.Fits.{Store}
 use Rattle.gpu_alloc_fits.specs.Inside.{IsSpareTile, IsTheWhole, chunk_of, chunks_in, size_in, space_in}
 use Rattle.gpu_alloc_fits.specs.Space.{IsWhollyFree, Space, without_chunk}
 use Rattle.gpu_alloc_fits.specs.Tiles.{tile_in}
