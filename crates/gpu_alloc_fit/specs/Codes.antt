@@ -1,0 +1,21 @@
+-- How the values that contracts see are stored.
+use Rattle.std.specs.Prelude.{ℕ, refl}
+use Rattle.std.specs.Coded.{Coded, code_by, coded×, coded_ℕ}
+use Rattle.gpu_alloc_fit.specs.Fit.{Fitting}
+use Rattle.gpu_alloc_fits.specs.Codes.{space_code}
+use Rattle.gpu_alloc_fits.specs.Space.{Space}
+
+abbrev pub fitting_code : Coded Fitting
+fitting_code =
+    code_by (Space × ((ℕ × ℕ) × (ℕ × (ℕ × ℕ))))
+    (coded× space_code (coded× (coded× coded_ℕ coded_ℕ) (coded× coded_ℕ (coded× coded_ℕ coded_ℕ))))
+    (λ f. (f.space, ((f.next_chunk, f.final_chunk), (f.memory_type, (f.props, f.atom)))))
+    (λ c. record {
+      space = c.0;
+      next_chunk = c.1.0.0;
+      final_chunk = c.1.0.1;
+      memory_type = c.1.1.0;
+      props = c.1.1.1.0;
+      atom = c.1.1.1.1;
+    })
+    (λ _. refl)

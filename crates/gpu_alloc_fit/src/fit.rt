@@ -1,0 +1,524 @@
+//! The allocator of exact runs: shared chunks of one memory type, cut into blocks as long as asked.
+
+ghost use Rattle.std.specs.Prelude.{◌≡◌, ℕ, ◌+◌, ◌≤◌, ◌<◌, ◌^◌, ◌↔◌, Contains, IfOk, IfSome, OnErr};
+ghost use Rattle.std.specs.Prelude.{IsTrue, MatchOption, OnOk, max, nat_le};
+ghost use Rattle.std.specs.FinMap as map;
+ghost use Rattle.std.specs.Int.{is_power_of_two};
+ghost use Rattle.gpu_alloc_types.specs.Flags.{allocation_bits, property_bits, has_bit, with_device_address};
+ghost use Rattle.gpu_alloc_types.specs.Device.{Asked};
+ghost use Rattle.gpu_alloc_types.specs.declared.types.FreeRange.{FreeRange as Range};
+ghost use Rattle.gpu_alloc_base.specs.Accounts.{account, IsCounted, chunks_and_remaining};
+ghost use Rattle.gpu_alloc_base.specs.AlignMasks.{IsAlignMask};
+ghost use Rattle.gpu_alloc_base.specs.Case.{Asks, RefusesFirst, RefusesQuestion};
+ghost use Rattle.gpu_alloc_base.specs.FreeSpace.{IsMultipleOf};
+ghost use Rattle.gpu_alloc_base.specs.RangeOrder.{AreInOrder};
+ghost use Rattle.gpu_alloc_base.specs.Sizes.{up};
+ghost use Rattle.gpu_alloc_base.specs.Wanted.{requested, wanted};
+ghost use Rattle.gpu_alloc_base.specs.declared.free_list_block.Slot.{Slot as LiveSlot};
+ghost use Rattle.gpu_alloc_fit.specs.Fit.{Adds, Agrees, CallAllocates, CallAnswers, Cleans, Frees, HoldsNothing};
+ghost use Rattle.gpu_alloc_fit.specs.Fit.{IsGranted, KeepsSettings, Leaves, LeavesNoRest, ObjectsAfter, ObjectsCleaned};
+ghost use Rattle.gpu_alloc_fit.specs.Fit.{ObjectsFreed, Removes, case_of, chunk_size, fit_case, opened};
+ghost use Rattle.gpu_alloc_fit.specs.FitSound.{FitsAChunk, IsSound};
+ghost use Rattle.gpu_alloc_fits.specs.Listed.{AddsSlots, ListsChunks};
+ghost use Rattle.gpu_alloc_fits.specs.Space.{IsLiveSlot, IsLiveSpan, IsNoLiveSpan, IsRunOf};
+
+use gpu_alloc_base::free_list_block::Slot;
+use gpu_alloc_base::heap::Heap;
+use gpu_alloc_base::new_chunk::new_chunk_with_handle;
+use gpu_alloc_base::sizes::next_power_of_two;
+use gpu_alloc_base::steps::Steps;
+use gpu_alloc_base::{AllocationError, booking};
+use gpu_alloc_fits::{Chunk, FitBlock, Fits};
+use gpu_alloc_types::{
+    AllocationFlags, FreeRange, MemoryObject, MemoryPropertyFlags, ObjectDevice,
+};
+use slab::Iter;
+use std::alloc::{AllocError, Allocator, Global};
+use std::marker::Model;
+use std::sync::ledger::Ledger;
+
+/// Gives out blocks of shared chunks of one memory type. It cannot be let go: [`close`](FitAllocator::close) ends it.
+///
+/// Between calls each held chunk is of an object of its own, of at most 2^62 bytes, and at most one of them is wholly
+/// free. Each live block lies whole in its chunk, and no two of them share a byte. Chunks and blocks begin and end at
+/// multiples of the atom.
+pub struct FitAllocator<M: MemoryObject, A: Allocator = Global> {
+    fits: Fits<M, A>,
+    chunk_size: u64,
+    final_chunk_size: u64,
+    memory_type: u32,
+    props: MemoryPropertyFlags,
+    atom_mask: u64,
+}
+
+impl<M: MemoryObject, A: Allocator> Model for FitAllocator<M, A> {
+    ghost use Rattle.gpu_alloc_fit.specs.Fit.{Fitting};
+    ghost use Rattle.gpu_alloc_fit.specs.Codes.{fitting_code};
+
+    ghost Value = { Fitting };
+
+    ghost coded = { fitting_code };
+
+    ghost use Rattle.std.specs.Prelude.{◌+◌};
+    ghost use Rattle.gpu_alloc_types.specs.Flags.{property_bits};
+    ghost use Rattle.gpu_alloc_fit.specs.FitSound.{IsSound, fitting_in};
+
+    ghost view = { λ a. fitting_in (a.fits).space a.chunk_size a.final_chunk_size a.memory_type
+        (property_bits a.props) (a.atom_mask + 1) };
+
+    ghost invariant = { λ a. IsSound (fitting_in (a.fits).space a.chunk_size a.final_chunk_size a.memory_type
+        (property_bits a.props) (a.atom_mask + 1)) };
+}
+
+impl<M: MemoryObject, A: Allocator + Copy> FitAllocator<M, A> {
+    /// An allocator that holds nothing, for a memory type with these properties. Each size is in bytes and a multiple
+    /// of `atom_mask + 1`, which is a power of two of at most 2^62: the first chunk has at least `starting_chunk_size`,
+    /// which is at least one atom, and none has more than `final_chunk_size`, which is no less and at most 2^62.
+    ///
+    /// `alloc` gives the memory of its lists, of which this call takes none.
+    pub fn new(
+        alloc: A,
+        starting_chunk_size: u64,
+        final_chunk_size: u64,
+        memory_type: u32,
+        props: MemoryPropertyFlags,
+        atom_mask: u64,
+    ) -> Self
+        requires atom { IsTrue (is_power_of_two (atom_mask + 1)) }
+        requires atom_bound { atom_mask + 1 ≤ 2 ^ 62 }
+        requires starting { IsMultipleOf (atom_mask + 1) starting_chunk_size }
+        requires nonempty { 0 < starting_chunk_size }
+        requires largest { IsMultipleOf (atom_mask + 1) final_chunk_size }
+        requires growing { starting_chunk_size ≤ final_chunk_size }
+        requires bound { final_chunk_size ≤ 2 ^ 62 }
+        ensures opened { result ≡ opened starting_chunk_size final_chunk_size memory_type (property_bits props)
+            (atom_mask + 1) }
+        ensures empty { HoldsNothing memory_type (property_bits props) result }
+        ensures sound { IsSound result }
+    {
+        let fits = Fits::new(alloc);
+        fits.keeps_sound();
+        FitAllocator {
+            fits,
+            chunk_size: starting_chunk_size,
+            final_chunk_size,
+            memory_type,
+            props,
+            atom_mask,
+        }
+    }
+
+    /// The free runs of the held chunks: the longest ranges of bytes that lie in a chunk and in no live block, by the
+    /// name of their object, then by start. Each is in bytes of its object. `alloc` gives the memory of the list.
+    ///
+    /// The only refusal is want of host memory. Nothing changes.
+    pub fn free_ranges(&self, alloc: A) -> Result<Vec<FreeRange, A>, AllocError>
+        ensures runs { IfOk result (λ ranges. (r : Range) → Contains ranges.items r ↔ IsRunOf (self.now).space r) }
+        ensures order { IfOk result (λ ranges. AreInOrder ranges.items) }
+    {
+        self.fits.free_ranges(alloc)
+    }
+}
+
+impl<M: MemoryObject, A: Allocator> FitAllocator<M, A> {
+    /// Allocates a block of exactly `size` bytes, rounded up to whole atoms, at a multiple of `align_mask + 1` and of the
+    /// atom: in a free run that has room, or, only where none has, at the front of a new chunk that the device is asked
+    /// for with these flags.
+    ///
+    /// A new chunk has the size that the allocator has come to: at first the starting one, and after each chunk twice
+    /// that chunk, cut at the final size. Where that is below the rounded size, it is its least product with a power of
+    /// two that suffices, cut at the final size too. (The original crate's rule for a free list's chunks.) A chunk that
+    /// the host sees is mapped whole. `heap` is the ledger of the memory type's heap, to which a chunk is added, and
+    /// `allocations_remains` how many more objects may be held, which a chunk lowers.
+    ///
+    /// The size has to be at least 1, and at most the final size when it is rounded; `align_mask + 1` a power of two of
+    /// at most 2^63, the address flag set only where the device has the feature, and the device the one that this
+    /// allocator has served: it has the memory type with the properties given to `new`, and each held chunk.
+    ///
+    /// Refusals, after which all is as before: `TooManyObjects` where a chunk is wanted and no more objects may be held;
+    /// `OutOfDeviceMemory` where a chunk is wanted that `heap` has no room for (`Heap::fits`), of which the device is not
+    /// asked, and where the device answers so; `OutOfHostMemory` where the host's memory is refused to the allocator or
+    /// to the device, and where a chunk cannot be mapped for another reason. A chunk that was made is given back then. A
+    /// block in a held chunk is given whatever `heap` counts.
+    ///
+    /// `heap` has to count no less than the sum of the held chunks; what remains and the number of held chunks have to
+    /// fit 32 bits together. Both is so again after the call. The ledger never passes the greater of what it was and the
+    /// heap's limit (`ledger`).
+    ///
+    /// Each block that a caller had in hand is live still (`leaves`). The new one is live too, and shares no byte with
+    /// any of them (`added`). What may be asked next is what might be asked before (`settings`).
+    pub fn alloc<D: ObjectDevice<M>>(
+        &mut self,
+        device: &mut D,
+        size: u64,
+        align_mask: u64,
+        flags: AllocationFlags,
+        heap: &mut Heap,
+        allocations_remains: &mut u32,
+    ) -> Result<FitBlock<M>, AllocationError>
+        requires nonempty { 0 < size }
+        requires fits { up size (self.old).atom ≤ (self.old).final_chunk }
+        requires alignment { IsAlignMask align_mask }
+        requires address { IsTrue (has_bit (allocation_bits flags) with_device_address)
+            → IsTrue (D.properties device.old).buffer_device_address }
+        requires agrees { Agrees self.old (D.properties device.old) (D.objects device.old) }
+        requires counted { IsCounted (self.old).space.chunks heap.old allocations_remains.old }
+
+        // What was asked of the device, the answer, and what changed.
+        ensures allocates { Asked D.step device.old device.new
+            (CallAllocates self.old heap.old allocations_remains.old (requested size align_mask flags) result
+            self.new heap.new allocations_remains.new) }
+        ensures objects { ObjectsAfter self.old result self.new (D.objects device.old) (D.objects device.new) }
+        ensures agrees { Agrees self.new (D.properties device.new) (D.objects device.new) }
+        ensures properties { D.properties device.new ≡ D.properties device.old }
+
+        // What follows from it.
+        ensures granted { IfOk result (IsGranted self.old (requested size align_mask flags) self.new) }
+        ensures added { IfOk result (Adds self.old self.new) }
+        ensures leaves { Leaves self.old self.new }
+        ensures ledger { heap.new.used ≤ max heap.old.used heap.old.limit }
+        ensures settings { KeepsSettings self.old self.new }
+        ensures refused { OnErr result
+            ((self.new ≡ self.old) × ((heap.new ≡ heap.old) × (allocations_remains.new ≡ allocations_remains.old))) }
+        ensures sound { IsSound self.new }
+        ensures counted { IsCounted (self.new).space.chunks heap.new allocations_remains.new }
+        ensures total { chunks_and_remaining (self.new).space.chunks allocations_remains.new ≡ chunks_and_remaining
+            (self.old).space.chunks allocations_remains.old }
+    {
+        let size = self.rounded_size(size);
+        let align_mask = align_mask.max(self.atom_mask);
+        self.alloc_rounded(device, size, align_mask, flags, heap, allocations_remains)
+    }
+
+    /// The refusal that `alloc` gives such a request before it takes any memory or asks anything: `TooManyObjects`
+    /// where a chunk is wanted and no more objects may be held, and else `OutOfDeviceMemory` where a chunk is wanted
+    /// that `heap` has no room for (`Heap::fits`). None where it goes further. It takes no memory and changes nothing
+    /// (`kept`); where it had to search for a place, the next call with this request does not search again.
+    ///
+    /// The size has to be at least 1, and at most the final size when it is rounded; `align_mask + 1` a power of two of
+    /// at most 2^63, as of `alloc`.
+    pub fn refuses(
+        &mut self,
+        size: u64,
+        align_mask: u64,
+        heap: &Heap,
+        allocations_remains: u32,
+    ) -> Option<AllocationError>
+        requires nonempty { 0 < size }
+        requires fits { up size (self.old).atom ≤ (self.old).final_chunk }
+        requires alignment { IsAlignMask align_mask }
+        ensures refuses { (flags : ℕ)
+            → RefusesFirst (case_of (account self.old heap.now allocations_remains) (wanted size align_mask flags))
+            result }
+        ensures kept { self.new ≡ self.old }
+    {
+        let size = self.rounded_size(size);
+        let align_mask = align_mask.max(self.atom_mask);
+        self.refuses_rounded(size, align_mask, heap, allocations_remains)
+    }
+
+    /// Takes a block back, and joins it with the free runs beside it. Where its chunk is then wholly free and another
+    /// chunk is too, its chunk goes back to the device: `heap` is lowered by its size, and one more object may be held.
+    /// It takes no memory and cannot fail.
+    ///
+    /// The block has to be live here, by its object, chunk, offset and size, and the device the one that this allocator
+    /// has served. `heap` has to count no less than the sum of the held chunks; what remains and the number of held
+    /// chunks have to fit 32 bits together. Both is so again after the call.
+    ///
+    /// Each other block that a caller has in hand is live still, and may be returned next (`removed`). The settings stay
+    /// (`settings`), and the ledger does not grow (`ledger`). `looks` counts the tiles beside the block that are looked
+    /// at: at most two (`few`).
+    pub fn dealloc<D: ObjectDevice<M>, L: Ledger>(
+        &mut self,
+        device: &mut D,
+        block: FitBlock<M>,
+        heap: &mut Heap,
+        allocations_remains: &mut u32,
+        looks: &mut Steps<L>,
+    )
+        requires live { IsLiveSlot (self.old).space block }
+        requires agrees { Agrees self.old (D.properties device.old) (D.objects device.old) }
+        requires counted { IsCounted (self.old).space.chunks heap.old allocations_remains.old }
+
+        ensures frees { Asked D.step device.old device.new
+            (λ es. Frees (account self.old heap.old allocations_remains.old) block es
+            (account self.new heap.new allocations_remains.new)) }
+        ensures objects { ObjectsFreed self.old block (D.objects device.old) (D.objects device.new) }
+        ensures agrees { Agrees self.new (D.properties device.new) (D.objects device.new) }
+        ensures properties { D.properties device.new ≡ D.properties device.old }
+        ensures removed { Removes self.old block self.new }
+        ensures ledger { heap.new.used ≤ heap.old.used }
+        ensures settings { KeepsSettings self.old self.new }
+        ensures sound { IsSound self.new }
+        ensures counted { IsCounted (self.new).space.chunks heap.new allocations_remains.new }
+        ensures total { chunks_and_remaining (self.new).space.chunks allocations_remains.new ≡ chunks_and_remaining
+            (self.old).space.chunks allocations_remains.old }
+        ensures few { looks.new ≤ looks.old + 2 }
+    {
+        let gone = self.fits.give_back(block, looks);
+        self.fits.keeps_sound();
+        let Some((memory, size)) = gone else {
+            return;
+        };
+        device.deallocate_memory(&memory);
+        booking::let_go(heap, allocations_remains, size);
+    }
+
+    /// Gives the wholly free chunk back to the device, if there is one: `heap` is lowered by its size, and one more
+    /// object may be held. It takes no memory and cannot fail.
+    ///
+    /// The device has to be the one that this allocator has served. `heap` has to count no less than the sum of the
+    /// held chunks; what remains and the number of held chunks have to fit 32 bits together. Both is so again after the
+    /// call.
+    ///
+    /// Each block that a caller has in hand is live still (`leaves`). Where no block is live, no chunk is held
+    /// afterwards (`rest`), and [`close`](FitAllocator::close) may be called without a test. The settings stay
+    /// (`settings`), and the ledger does not grow (`ledger`).
+    pub fn cleanup<D: ObjectDevice<M>>(
+        &mut self,
+        device: &mut D,
+        heap: &mut Heap,
+        allocations_remains: &mut u32,
+    )
+        requires agrees { Agrees self.old (D.properties device.old) (D.objects device.old) }
+        requires counted { IsCounted (self.old).space.chunks heap.old allocations_remains.old }
+
+        ensures cleans { Asked D.step device.old device.new
+            (λ es. Cleans (account self.old heap.old allocations_remains.old) es
+            (account self.new heap.new allocations_remains.new)) }
+        ensures objects { ObjectsCleaned self.old (D.objects device.old) (D.objects device.new) }
+        ensures agrees { Agrees self.new (D.properties device.new) (D.objects device.new) }
+        ensures properties { D.properties device.new ≡ D.properties device.old }
+        ensures leaves { Leaves self.old self.new }
+        ensures rest { LeavesNoRest self.old self.new }
+        ensures ledger { heap.new.used ≤ heap.old.used }
+        ensures settings { KeepsSettings self.old self.new }
+        ensures sound { IsSound self.new }
+        ensures counted { IsCounted (self.new).space.chunks heap.new allocations_remains.new }
+        ensures total { chunks_and_remaining (self.new).space.chunks allocations_remains.new ≡ chunks_and_remaining
+            (self.old).space.chunks allocations_remains.old }
+    {
+        let gone = self.fits.take_whole();
+        self.fits.keeps_sound();
+        let Some((memory, size, _)) = gone else {
+            return;
+        };
+        device.deallocate_memory(&memory);
+        booking::let_go(heap, allocations_remains, size);
+    }
+
+    /// The live block of this span of an object and the key under which it stands, exactly where there is one. `offset`
+    /// is where it starts in the object and `size` how long it is, in bytes: any two numbers.
+    ///
+    /// The answer is the same whatever `key` is. The block's own key makes it constant time; with another key the time
+    /// grows with the number of live blocks and free runs.
+    #[inline(always)]
+    pub fn find(&self, key: usize, object: u64, offset: u64, size: u64) -> Option<(Slot, usize)>
+        ensures found { MatchOption result (IsNoLiveSpan (self.now).space object offset size)
+            (λ found. IsLiveSpan (self.now).space object offset size found.0) }
+        ensures exact { (slot : LiveSlot) → IsLiveSpan (self.now).space object offset size slot
+            → IfSome result (λ found. found.0 ≡ slot) }
+    {
+        self.fits.find(key, object, offset, size)
+    }
+
+    /// The held chunks, each once, by rising key.
+    pub fn chunks(&self) -> Iter<'_, Chunk<M>>
+        ensures { ListsChunks M.object (self.now).space.chunks result }
+    {
+        self.fits.chunks()
+    }
+
+    /// Adds to a list each live block, once, in no order that is told. The time grows with the number of live blocks and
+    /// free runs.
+    ///
+    /// The only refusal is want of host memory, after which nothing is said of the list.
+    pub fn list_live<B: Allocator>(&self, slots: &mut Vec<Slot, B>) -> Result<(), AllocError>
+        ensures { OnOk result (AddsSlots ((self.now).space).live slots.old.items slots.new.items) }
+    {
+        self.fits.list_live(slots)
+    }
+
+    /// How many times all live blocks and free runs were searched for a place, modulo 2^64. Tests look at it, and no
+    /// contract.
+    pub fn searches(&self) -> u64 {
+        self.fits.searches()
+    }
+
+    /// Ends an allocator that holds no chunk.
+    pub fn close(self)
+        requires { map.len ((self.space).chunks) ≡ 0 }
+    {
+        let FitAllocator {
+            fits,
+            chunk_size: _,
+            final_chunk_size: _,
+            memory_type: _,
+            props: _,
+            atom_mask: _,
+        } = self;
+        fits.close();
+    }
+
+    /// Whether so many bytes in whole atoms are no more than a largest chunk, so that `alloc` takes a request of that
+    /// size, if it is at least 1.
+    #[inline(always)]
+    pub fn fits_a_chunk(&self, size: u64) -> bool
+        ensures { result ≡ nat_le (up size (self.now).atom) (self.now).final_chunk }
+    {
+        // (a largest chunk is of whole atoms itself)
+        size <= self.final_chunk_size
+    }
+
+    /// A size in whole atoms.
+    fn rounded_size(&self, size: u64) -> u64
+        requires nonempty { 0 < size }
+        requires fits { up size (self.now).atom ≤ (self.now).final_chunk }
+        ensures is { result ≡ up size (self.now).atom }
+        ensures nonempty { 0 < result }
+        ensures whole { IsMultipleOf (self.now).atom result }
+    {
+        let atom = self.atom_mask + 1;
+        (size - 1) / atom * atom + atom
+    }
+
+    /// Allocates a block of whole atoms at a multiple of the atom.
+    fn alloc_rounded<D: ObjectDevice<M>>(
+        &mut self,
+        device: &mut D,
+        size: u64,
+        align_mask: u64,
+        flags: AllocationFlags,
+        heap: &mut Heap,
+        allocations_remains: &mut u32,
+    ) -> Result<FitBlock<M>, AllocationError>
+        requires fits { FitsAChunk self.old size align_mask }
+        requires address { IsTrue (has_bit (allocation_bits flags) with_device_address)
+            → IsTrue (D.properties device.old).buffer_device_address }
+        requires agrees { Agrees self.old (D.properties device.old) (D.objects device.old) }
+        requires counted { IsCounted (self.old).space.chunks heap.old allocations_remains.old }
+        ensures answers { Asked D.step device.old device.new
+            (CallAnswers self.old heap.old allocations_remains.old size (align_mask + 1) flags result
+            self.new heap.new allocations_remains.new) }
+        ensures objects { ObjectsAfter self.old result self.new (D.objects device.old) (D.objects device.new) }
+        ensures properties { D.properties device.new ≡ D.properties device.old }
+        ensures was { IsSound self.old }
+        ensures sound { IsSound self.new }
+    {
+        let taken = self.fits.take(size, align_mask);
+        self.fits.keeps_sound();
+        match taken {
+            Ok(Some(block)) => return Ok(block),
+            Ok(None) => {}
+            Err(_) => return Err(AllocationError::OutOfHostMemory),
+        }
+        match self.refuses_chunk(size, heap, *allocations_remains) {
+            Some(refusal) => Err(refusal),
+            None => self.take_chunk(device, size, align_mask, flags, heap, allocations_remains),
+        }
+    }
+
+    /// The refusal that `alloc_rounded` gives first.
+    fn refuses_rounded(
+        &mut self,
+        size: u64,
+        align_mask: u64,
+        heap: &Heap,
+        allocations_remains: u32,
+    ) -> Option<AllocationError>
+        requires nonempty { 0 < size }
+        requires fits { size ≤ (self.old).final_chunk }
+        requires alignment { IsAlignMask align_mask }
+        ensures refuses { (flags : ℕ) → RefusesFirst
+            (fit_case (account self.old heap.now allocations_remains) size (align_mask + 1) flags) result }
+        ensures kept { self.new ≡ self.old }
+    {
+        let refusal = self.refuses_chunk(size, heap, allocations_remains)?;
+        if self.fits.has_place(size, align_mask) {
+            return None;
+        }
+        Some(refusal)
+    }
+
+    /// Why the device may not be asked for a chunk with a block of this size: nothing remains, or the heap has no room
+    /// for it. None where it may.
+    fn refuses_chunk(
+        &self,
+        size: u64,
+        heap: &Heap,
+        allocations_remains: u32,
+    ) -> Option<AllocationError>
+        requires nonempty { 0 < size }
+        requires fits { size ≤ (self.now).final_chunk }
+        ensures { (alignment flags : ℕ)
+            → RefusesQuestion (fit_case (account self.now heap.now allocations_remains) size alignment flags) result }
+    {
+        if allocations_remains == 0 {
+            return Some(AllocationError::TooManyObjects);
+        }
+        if !heap.fits(self.chunk_size_for(size)) {
+            return Some(AllocationError::OutOfDeviceMemory);
+        }
+        None
+    }
+
+    /// Takes the front of a new chunk, where there is no place. Room is made before the device is asked.
+    fn take_chunk<D: ObjectDevice<M>>(
+        &mut self,
+        device: &mut D,
+        size: u64,
+        align_mask: u64,
+        flags: AllocationFlags,
+        heap: &mut Heap,
+        allocations_remains: &mut u32,
+    ) -> Result<FitBlock<M>, AllocationError>
+        requires fits { FitsAChunk self.old size align_mask }
+        requires asks { Asks (fit_case (account self.old heap.old allocations_remains.old) size (align_mask + 1)
+            (allocation_bits flags)) }
+        requires address { IsTrue (has_bit (allocation_bits flags) with_device_address)
+            → IsTrue (D.properties device.old).buffer_device_address }
+        requires agrees { Agrees self.old (D.properties device.old) (D.objects device.old) }
+        requires counted { IsCounted (self.old).space.chunks heap.old allocations_remains.old }
+        ensures answers { Asked D.step device.old device.new
+            (CallAnswers self.old heap.old allocations_remains.old size (align_mask + 1) flags result
+            self.new heap.new allocations_remains.new) }
+        ensures objects { ObjectsAfter self.old result self.new (D.objects device.old) (D.objects device.new) }
+        ensures properties { D.properties device.new ≡ D.properties device.old }
+        ensures sound { IsSound self.new }
+    {
+        if self.fits.reserve().is_err() {
+            return Err(AllocationError::OutOfHostMemory);
+        }
+        let chunk_size = self.chunk_size_for(size);
+        let visible = self.props.intersects(MemoryPropertyFlags::HOST_VISIBLE);
+        let made = new_chunk_with_handle(device, chunk_size, self.memory_type, flags, visible);
+        let (memory, handle) = match made {
+            Ok(handles) => handles,
+            Err(refusal) => return Err(refusal),
+        };
+        let block = self.fits.begin(memory, handle, chunk_size, size);
+        self.fits.keeps_sound();
+        self.chunk_size = (2 * chunk_size).min(self.final_chunk_size);
+        // (the heap's limit is a u64, so a ledger that stays within it does not overflow)
+        let _ = heap.limit();
+        booking::hold(heap, allocations_remains, chunk_size);
+        Ok(block)
+    }
+
+    /// The size of a new chunk with a block of this size.
+    fn chunk_size_for(&self, size: u64) -> u64
+        requires nonempty { 0 < size }
+        requires fits { size ≤ (self.now).final_chunk }
+        ensures is { result ≡ chunk_size self.now size }
+        ensures enough { size ≤ result }
+        ensures bound { result ≤ 2 ^ 62 }
+    {
+        if size <= self.chunk_size {
+            return self.chunk_size;
+        }
+        let multiple = next_power_of_two((size - 1) / self.chunk_size + 1);
+        self.chunk_size
+            .saturating_mul(multiple)
+            .min(self.final_chunk_size)
+    }
+}

@@ -1,0 +1,7 @@
+//! The allocator of exact runs for one memory type, on the device that is handed to its calls.
+#![tactic(auto)]
+
+mod fit;
+
+pub use fit::FitAllocator;
+pub use gpu_alloc_fits::{Chunk, FitBlock};
