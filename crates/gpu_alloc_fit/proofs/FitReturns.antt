@@ -7,15 +7,15 @@ use Rattle.gpu_alloc_types.specs.Device.{Event, HeldWith, Object, put}
 use Rattle.gpu_alloc_types.specs.Device.Event.{Deallocated}
 use Rattle.gpu_alloc_types.specs.Objects.{put-other}
 use Rattle.gpu_alloc_types.specs.Properties.{Properties}
-use Rattle.gpu_alloc_base.specs.Accounts.{Account, IsCounted, account, chunk_bytes, chunks_and_remaining}
+use Rattle.gpu_alloc_base.specs.Accounts.{Account, IsCounted, account, chunks_and_remaining}
 use Rattle.gpu_alloc_base.specs.Chunks.{Chunk, IsThere}
 use Rattle.gpu_alloc_base.specs.declared.free_list_block.Slot.{Slot}
 use Rattle.gpu_alloc_base.specs.declared.heap.Heap.{Heap}
-use Rattle.gpu_alloc_base.proofs.InHand.{leaves_same, no_chunks, none_in, return_removes}
-use Rattle.gpu_alloc_base.proofs.Maps.{gone, kept_key, kept_other, one_value}
+use Rattle.gpu_alloc_base.proofs.InHand.{no_chunks, none_in, return_removes}
+use Rattle.gpu_alloc_base.proofs.Maps.{gone, kept_key, kept_other}
 use Rattle.gpu_alloc_base.proofs.Slots.{slot_exact, slot_removed, slot_total}
 use Rattle.gpu_alloc_base.proofs.Sums.{len_less, sum_by-remove}
-use Rattle.gpu_alloc_fit.specs.Fit.{Agrees, Cleans, Fitting, Frees, Goes, KeepsSettings, Leaves, LeavesNoRest, Removes, sees_chunks}
+use Rattle.gpu_alloc_fit.specs.Fit.{Agrees, Fitting, Frees, Goes, Removes, sees_chunks}
 use Rattle.gpu_alloc_fit.specs.FitSound.{IsSound, fitting_in}
 use Rattle.gpu_alloc_fits.specs.Space.{IsLiveSlot, IsSoundSpace, IsWhollyFree, Space, bytes_of, without_chunk, without_slot}
 

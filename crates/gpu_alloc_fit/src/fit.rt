@@ -76,6 +76,9 @@ impl<M: MemoryObject, A: Allocator + Copy> FitAllocator<M, A> {
     /// which is at least one atom, and none has more than `final_chunk_size`, which is no less and at most 2^62.
     ///
     /// `alloc` gives the memory of its lists, of which this call takes none.
+    ///
+    /// Nothing is held or live (`empty`): by [`agrees_at_first`](crate::laws::agrees_at_first) a caller learns that
+    /// the allocator agrees with a device that offers the memory type.
     pub fn new(
         alloc: A,
         starting_chunk_size: u64,
@@ -213,8 +216,8 @@ impl<M: MemoryObject, A: Allocator> FitAllocator<M, A> {
         ensures kept { self.new ≡ self.old }
     {
         let size = self.rounded_size(size);
-        let align_mask = align_mask.max(self.atom_mask);
-        self.refuses_rounded(size, align_mask, heap, allocations_remains)
+        let used_mask = align_mask.max(self.atom_mask);
+        self.refuses_rounded(size, used_mask, heap, allocations_remains)
     }
 
     /// Takes a block back, and joins it with the free runs beside it. Where its chunk is then wholly free and another

@@ -2,6 +2,7 @@
 #![tactic(auto)]
 
 mod fit;
+pub mod laws;
 
 pub use fit::FitAllocator;
 pub use gpu_alloc_fits::{Chunk, FitBlock};

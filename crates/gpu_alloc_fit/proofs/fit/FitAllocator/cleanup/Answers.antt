@@ -1,13 +1,13 @@
-use Rattle.std.proofs.Common.{◌≡◌, inr, ℕ, ◌+◌, ◌-◌, [], ◌∷◌, Some, refl, arith, subst}
+use Rattle.std.proofs.Common.{◌≡◌, inr, ◌+◌, ◌-◌, [], ◌∷◌, Some, refl, arith, subst}
 use Rattle.std.specs.FinMap as map
 use Rattle.gpu_alloc_types.specs.Device.Event.{Deallocated}
 use Rattle.gpu_alloc_types.specs.Flags.{property_bits}
-use Rattle.gpu_alloc_base.specs.Accounts.{Account, IsCounted, account}
+use Rattle.gpu_alloc_base.specs.Accounts.{IsCounted, account}
 use Rattle.gpu_alloc_base.specs.Chunks.{Chunk}
 use Rattle.gpu_alloc_base.specs.declared.heap.Heap.{Heap}
 use Rattle.gpu_alloc_fit.specs.Fit.{Fitting, Goes}
 use Rattle.gpu_alloc_fit.specs.FitSound.{fitting_in}
-use Rattle.gpu_alloc_fits.specs.Space.{IsSoundSpace, Space}
+use Rattle.gpu_alloc_fits.specs.Space.{IsSoundSpace}
 use Rattle.gpu_alloc_fit.proofs.FitReturns.{agrees_without, goes_counted, goes_so, goes_total, is_counted, no_rest, one_more_fits, sound_without_chunk}
 use Rattle.gpu_alloc_fit.proofs.fit.FitAllocator.cleanup.Given.{Over}
 use Rattle.gpu_alloc_fit.proofs.fit.FitAllocator.cleanup.Goals.{In-Some}

@@ -1,14 +1,14 @@
-use Rattle.std.proofs.Common.{◌≡◌, inr, ℕ, ◌+◌, ◌-◌, [], ◌∷◌, Some, refl, arith, subst}
+use Rattle.std.proofs.Common.{◌≡◌, inr, ◌+◌, ◌-◌, [], ◌∷◌, Some, refl, arith, subst}
 use Rattle.std.specs.FinMap as map
 use Rattle.gpu_alloc_types.specs.Device.Event.{Deallocated}
 use Rattle.gpu_alloc_types.specs.Flags.{property_bits}
-use Rattle.gpu_alloc_base.specs.Accounts.{Account, IsCounted, account}
+use Rattle.gpu_alloc_base.specs.Accounts.{IsCounted, account}
 use Rattle.gpu_alloc_base.specs.Chunks.{Chunk}
 use Rattle.gpu_alloc_base.specs.declared.heap.Heap.{Heap}
 use Rattle.gpu_alloc_base.proofs.Slots.{slot_removed}
 use Rattle.gpu_alloc_fit.specs.Fit.{Fitting, Goes, account_without}
 use Rattle.gpu_alloc_fit.specs.FitSound.{fitting_in}
-use Rattle.gpu_alloc_fits.specs.Space.{IsSoundSpace, Space, without_slot}
+use Rattle.gpu_alloc_fits.specs.Space.{IsSoundSpace, without_slot}
 use Rattle.gpu_alloc_fit.proofs.FitReturns.{agrees_without, goes_counted, goes_so, goes_total, is_counted, one_more_fits, sound_without_chunk, sound_without_slot}
 use Rattle.gpu_alloc_fit.proofs.fit.FitAllocator.dealloc.Given.{Over}
 use Rattle.gpu_alloc_fit.proofs.fit.FitAllocator.dealloc.Goals.{In-Some}
