@@ -2,9 +2,7 @@
 use Rattle.std.proofs.Common.{◌≡◌, ℕ, ◌+◌, ◌-◌, ◌*◌, ◌/◌, ◌<◌, ◌≤◌, sym, subst, arith}
 use Rattle.std.proofs.lemmas.Nat.{div_below, pow_pos}
 use Rattle.std.proofs.Math.Nat.{mul-le-mul_right}
-use Rattle.gpu_alloc.specs.FreeListSound.{IsSound}
-use Rattle.gpu_alloc.specs.FreeListState.{Listing}
-use Rattle.gpu_alloc_base.specs.FreeSpace.{IsMultipleOf}
+use Rattle.gpu_alloc_base.specs.FreeSpace.{IsMultipleOf, IsPowerUpTo}
 use Rattle.gpu_alloc_base.specs.Sizes.{up}
 
 -- what is rounded up is not above a multiple that was not below
@@ -14,7 +12,5 @@ up_within size atom most positive (m, is) within =
     omega (arith, is, mul-le-mul_right atom few)
 
 -- what fits the largest chunk does so in whole atoms
-pub up_fits : (l : Listing) (size : ℕ) → IsSound l → size ≤ l.final_chunk → up size l.atom ≤ l.final_chunk
-up_fits l size sound within =
-    let (k, (_, is)) = sound.atom in
-    up_within size l.atom l.final_chunk (subst (λ n. 0 < n) (sym is) (pow_pos k)) sound.final_chunk.0 within
+pub up_fits : (atom most size : ℕ) → IsPowerUpTo 62 atom → IsMultipleOf atom most → size ≤ most → up size atom ≤ most
+up_fits atom most size (k, (_, is)) whole within = up_within size atom most (subst (λ n. 0 < n) (sym is) (pow_pos k)) whole within

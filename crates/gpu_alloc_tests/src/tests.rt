@@ -7,6 +7,7 @@ mod bytes;
 mod config;
 mod dump;
 mod errors;
+mod exact;
 mod flags;
 mod freelist;
 mod growths;

@@ -20,16 +20,16 @@ use std::process::Abort;
 use std::test::Fail;
 
 /// How many lists are drawn, by bytes and by atoms each.
-const LISTS: u64 = 32;
+pub(super) const LISTS: u64 = 32;
 
 /// How many calls a list has, before those that return what is left.
-const CALLS: u64 = 96;
+pub(super) const CALLS: u64 = 96;
 
 /// How many objects may be held at once.
-const MOST: u32 = 3;
+pub(super) const MOST: u32 = 3;
 
 /// A range of a chunk: its object is named by its number, since nothing else is asked of the device.
-type Range = FreeRange;
+pub(super) type Range = FreeRange;
 
 /// Where a block lies, and the number of its chunk.
 fn place_of(block: &FreeListBlock<SimMemory>) -> (Range, u64) {
@@ -43,7 +43,7 @@ fn place_of(block: &FreeListBlock<SimMemory>) -> (Range, u64) {
 
 /// The tail of a run that has room for so many bytes from a multiple of the mask and one on: it starts at the last such
 /// multiple.
-fn tail_of(run: Range, size: u64, align_mask: u64) -> Option<Range> {
+pub(super) fn tail_of(run: Range, size: u64, align_mask: u64) -> Option<Range> {
     let start = run.end.checked_sub(size)? & !align_mask;
     if start < run.start {
         return None;
@@ -78,7 +78,11 @@ fn add_runs(runs: &mut Vec<Range>, chunk: Range, blocks: &[Range]) -> Result<(),
 }
 
 /// The free runs: what the live blocks leave of each chunk.
-fn runs_of(alloc: Global, chunks: &[Range], live: &[Range]) -> Result<Vec<Range>, AllocError> {
+pub(super) fn runs_of(
+    alloc: Global,
+    chunks: &[Range],
+    live: &[Range],
+) -> Result<Vec<Range>, AllocError> {
     let mut blocks = Vec::new(alloc);
     for block in live {
         blocks.push(*block)?;
@@ -307,7 +311,7 @@ impl Lists {
             count(&mut self.tally.too_many);
             return Ok(Err(AllocationError::TooManyObjects));
         }
-        let length = self.chunk_size(size);
+        let length = chunk_size(self.next, size);
         count(&mut self.asked.0);
         self.asked.1 = Some(length);
         if self.asked.0 == self.refused {
@@ -317,17 +321,6 @@ impl Lists {
         let chunk = self.add_chunk(length)?;
         let tail = tail_of(chunk, size, align_mask);
         Ok(tail.ok_or(AllocationError::OutOfDeviceMemory))
-    }
-
-    /// The size of a chunk for so many bytes: the next one's, doubled until it is enough, and cut at the largest.
-    fn chunk_size(&self, size: u64) -> u64 {
-        let mut length = self.next;
-        for _ in 0..63 {
-            if length < size {
-                length <<= 1;
-            }
-        }
-        length.min(LARGEST)
     }
 
     /// Adds a chunk of so many bytes. The one after it has twice as many, if so many may be.
@@ -364,15 +357,7 @@ impl Lists {
 
     /// Counts on which sides of a block there are runs.
     fn count_sides(&mut self, block: Range) {
-        let mut before = false;
-        let mut behind = false;
-        for run in &self.runs {
-            if run.object == block.object {
-                before |= run.end == block.start;
-                behind |= run.start == block.end;
-            }
-        }
-        count(match (before, behind) {
+        count(match sides_of(self.runs.as_slice(), block) {
             (false, false) => &mut self.tally.alone,
             (true, false) => &mut self.tally.joined_before,
             (false, true) => &mut self.tally.joined_behind,
@@ -408,42 +393,70 @@ impl Lists {
 
     /// How many objects are held, of how many bytes, and how many more may be.
     fn held(&self) -> (usize, u128, u32) {
-        let mut bytes = 0u128;
-        let mut remaining = MOST;
-        for chunk in &self.chunks {
-            bytes = bytes.saturating_add(u128::from(chunk.end));
-            remaining = remaining.saturating_sub(1);
-        }
-        (self.chunks.len(), bytes, remaining)
-    }
-
-    /// A drawn size: small ones most often, now and then that of a run, which may be taken whole then, or up to the
-    /// largest.
-    fn size(&self, chance: &mut Chance) -> u64
-        ensures { 0 < result }
-    {
-        match chance.next() % 16 {
-            0..=2 => chance.next() % LARGEST + 1,
-            3..=6 => self.run_length(chance.next() as usize),
-            _ => chance.size(),
-        }
-    }
-
-    /// The length of a run, whichever the number draws. There is always one where no chunk is full.
-    fn run_length(&self, drawn: usize) -> u64
-        ensures { 0 < result }
-    {
-        let len = self.runs.len();
-        if len == 0 {
-            return 1;
-        }
-        let run = self.runs[drawn % len];
-        run.end.saturating_sub(run.start).max(1)
+        held_in(self.chunks.as_slice())
     }
 }
 
+/// On which sides of a block there are runs: before it, and behind it.
+pub(super) fn sides_of(runs: &[Range], block: Range) -> (bool, bool) {
+    let mut before = false;
+    let mut behind = false;
+    for run in runs {
+        if run.object == block.object {
+            before |= run.end == block.start;
+            behind |= run.start == block.end;
+        }
+    }
+    (before, behind)
+}
+
+/// The size of a chunk for so many bytes: the next one's, doubled until it is enough, and cut at the largest.
+pub(super) fn chunk_size(next: u64, size: u64) -> u64 {
+    let mut length = next;
+    for _ in 0..63 {
+        if length < size {
+            length <<= 1;
+        }
+    }
+    length.min(LARGEST)
+}
+
+/// How many chunks these are, of how many bytes, and how many more objects may be held.
+pub(super) fn held_in(chunks: &[Range]) -> (usize, u128, u32) {
+    let mut bytes = 0u128;
+    let mut remaining = MOST;
+    for chunk in chunks {
+        bytes = bytes.saturating_add(u128::from(chunk.end));
+        remaining = remaining.saturating_sub(1);
+    }
+    (chunks.len(), bytes, remaining)
+}
+
+/// A drawn size: small ones most often, now and then that of a run, which may be taken whole then, or up to the largest.
+pub(super) fn drawn_size(runs: &[Range], chance: &mut Chance) -> u64
+    ensures { 0 < result }
+{
+    match chance.next() % 16 {
+        0..=2 => chance.next() % LARGEST + 1,
+        3..=6 => run_length(runs, chance.next() as usize),
+        _ => chance.size(),
+    }
+}
+
+/// The length of a run, whichever the number draws. There is always one where no chunk is full.
+fn run_length(runs: &[Range], drawn: usize) -> u64
+    ensures { 0 < result }
+{
+    let len = runs.len();
+    if len == 0 {
+        return 1;
+    }
+    let run = runs[drawn % len];
+    run.end.saturating_sub(run.start).max(1)
+}
+
 /// Whether a range is one of these.
-fn is_among(range: Range, ranges: &[Range]) -> bool {
+pub(super) fn is_among(range: Range, ranges: &[Range]) -> bool {
     for other in ranges {
         if *other == range {
             return true;
@@ -560,7 +573,7 @@ fn take(
     lists: &mut Lists,
     chance: &mut Chance,
 ) -> Result<(), AllocError> {
-    let size = lists.size(chance);
+    let size = drawn_size(lists.runs.as_slice(), chance);
     let align_mask = chance.align_mask();
     let told = hand.chunks.told(rt, size, align_mask);
     let came = hand.take(rt, size, align_mask);
