@@ -303,11 +303,11 @@ impl<M: MemoryObject, A: Allocator> FitAllocator<M, A> {
     {
         let gone = self.fits.take_whole();
         self.fits.keeps_sound();
-        let Some((memory, size, _)) = gone else {
+        let Some((memory, bytes, _)) = gone else {
             return;
         };
         device.deallocate_memory(&memory);
-        booking::let_go(heap, allocations_remains, size);
+        booking::let_go(heap, allocations_remains, bytes);
     }
 
     /// The live block of this span of an object and the key under which it stands, exactly where there is one. `offset`

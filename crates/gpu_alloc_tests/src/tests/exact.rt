@@ -127,21 +127,6 @@ impl Chunks {
         )
     }
 
-    /// Takes a block back, and counts nothing.
-    fn give_back<L: Ledger>(&mut self, block: FitBlock<SimMemory>, blank: Blank)
-        requires begins { Begins blank L.name L.parts }
-        requires live { IsLiveSlot (self.old).space block }
-        ensures removed { Removes self.old block self.new }
-    {
-        self.allocator.dealloc(
-            &mut self.device,
-            block,
-            &mut self.heap,
-            &mut self.remaining,
-            &mut Steps::<L>::new(blank),
-        );
-    }
-
     /// Gives the chunk back in which no block is live, if there is one.
     fn clean(&mut self)
         ensures leaves { Leaves self.old self.new }
@@ -184,6 +169,21 @@ impl Chunks {
         holds(rt, remaining == MOST, "objects held at the end");
         allocator.close();
     }
+}
+
+/// Takes a block back, and counts nothing.
+fn put_back<L: Ledger>(chunks: &mut Chunks, block: FitBlock<SimMemory>, blank: Blank)
+    requires begins { Begins blank L.name L.parts }
+    requires live { IsLiveSlot (chunks.old).space block }
+    ensures removed { Removes chunks.old block chunks.new }
+{
+    chunks.allocator.dealloc(
+        &mut chunks.device,
+        block,
+        &mut chunks.heap,
+        &mut chunks.remaining,
+        &mut Steps::<L>::new(blank),
+    );
 }
 
 /// An allocator with the blocks that it gave out. Contracts see nothing of it.
@@ -276,7 +276,7 @@ impl Hand {
     fn give_back(&mut self, rt: &impl Abort, at: usize) {
         assert!(rt; at < self.blocks.len());
         let block = self.blocks.remove(at);
-        self.chunks.give_back::<Brand>(block, Blank::new(1));
+        put_back::<Brand>(&mut self.chunks, block, Blank::new(1));
     }
 
     /// Ends the allocator, which holds nothing.

@@ -26,7 +26,7 @@ abbrev after : (g : Over) → In-Some g → Fitting
 after g c = fitting_in c.take_whole-gone.new.self.space c.self.inside.chunk_size c.self.inside.final_chunk_size c.self.inside.memory_type (property_bits c.self.inside.props) (c.self.inside.atom_mask + 1)
 
 abbrev held : (g : Over) → In-Some g → Chunk
-held g c = record { object = g.M.MemoryObject.object c.in-Some.memory; size = c.in-Some.size }
+held g c = record { object = g.M.MemoryObject.object c.in-Some.memory; size = c.in-Some.bytes }
 
 is_held : (g : Over) (c : In-Some g) → map.get (before g c).space.chunks c.in-Some.field-0-2 ≡ Some (held g c)
 is_held g c = c.in-Some.ensures.some.1.0
@@ -54,7 +54,7 @@ invariant_of-self-2 g c =
 pub returns-clause-sound : goal.returns-clause-sound
 returns-clause-sound g c = invariant_of-self-2 g c
 
-goes : (g : Over) (c : In-Some g) (less : Heap) → less ≡ record c.args.heap.now { used = c.args.heap.now.used - c.in-Some.size }
+goes : (g : Over) (c : In-Some g) (less : Heap) → less ≡ record c.args.heap.now { used = c.args.heap.now.used - c.in-Some.bytes }
     → Goes (account (before g c) c.args.heap.now c.args.allocations_remains.now) c.in-Some.field-0-2 (Deallocated (held g c).object ∷ []) (account (after g c) less (c.args.allocations_remains.now + 1))
 goes g c less is =
     goes_so (before g c).space c.take_whole-gone.new.self.space c.self.inside.chunk_size c.self.inside.final_chunk_size c.self.inside.memory_type (property_bits c.self.inside.props) (c.self.inside.atom_mask + 1)
