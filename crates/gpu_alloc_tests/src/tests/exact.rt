@@ -352,7 +352,7 @@ impl Lists {
         Ok(())
     }
 
-    /// Whether a request has a place, and whether this run is taken whole.
+    /// Whether a request has a place.
     fn has_place(&self, size: u64, align_mask: u64) -> bool {
         for run in &self.runs {
             if tail_of(*run, size, align_mask).is_some() {
@@ -463,12 +463,12 @@ impl Lists {
     fn take_back(&mut self, rt: &impl Abort, at: usize) -> Result<(), AllocError> {
         holds(rt, at < self.live.len(), "no such block");
         let block = self.live.remove(at);
-        count(match sides_of(self.runs.as_slice(), block) {
-            (false, false) => &mut self.tally[6],
-            (false, true) => &mut self.tally[7],
-            (true, false) => &mut self.tally[8],
-            (true, true) => &mut self.tally[9],
-        });
+        match sides_of(self.runs.as_slice(), block) {
+            (false, false) => count(&mut self.tally[6]),
+            (false, true) => count(&mut self.tally[7]),
+            (true, false) => count(&mut self.tally[8]),
+            (true, true) => count(&mut self.tally[9]),
+        }
         self.find_runs()?;
         let mut free = 0u64;
         let mut own = false;
