@@ -336,9 +336,9 @@ fn end_exact_runs<M: MemoryObject, D: MemoryDevice<M>>(
     requires counted { IsCounted (allocator.space).chunks heap.old allocations_remains.old }
     requires live { set.len (allocator.space).live ≡ 0 }
 {
-    let mut allocator = allocator;
-    allocator.cleanup(device, heap, allocations_remains);
-    allocator.close();
+    let mut exact = allocator;
+    exact.cleanup(device, heap, allocations_remains);
+    exact.close();
 }
 
 /// Makes an allocator of exact runs for a memory type that the device offers, and takes and returns two blocks of at most a
