@@ -278,14 +278,14 @@ pub same_others : (T : ℕ → Option Tile) (x : ℕ) → KeepsOthers T T x
 same_others T x = record { stays = λ k a ne live. live; was = λ k a ne live. live }
 
 -- one change after another
-pub others_then : (T T1 T2 : ℕ → Option Tile) (x : ℕ) → KeepsOthers T T1 x → KeepsOthers T1 T2 x → KeepsOthers T T2 x
-others_then T T1 T2 x k1 k2 = record {
-  stays = λ k a ne h. k2.stays k a ne (k1.stays k a ne h);
-  was = λ k a ne h. k1.was k a ne (k2.was k a ne h);
+pub others_then : (old mid new : ℕ → Option Tile) (x : ℕ) → KeepsOthers old mid x → KeepsOthers mid new x → KeepsOthers old new x
+others_then old mid new x first last = record {
+  stays = λ k a ne h. last.stays k a ne (first.stays k a ne h);
+  was = λ k a ne h. first.was k a ne (last.was k a ne h);
 }
 
-pub elsewhere_then : (chunk : ℕ) (T T1 T2 : ℕ → Option Tile) → KeepsElsewhere chunk T T1 → KeepsElsewhere chunk T1 T2 → KeepsElsewhere chunk T T2
-elsewhere_then chunk T T1 T2 e1 e2 k a is other = e2 k a (e1 k a is other) other
+pub elsewhere_then : (chunk : ℕ) (old mid new : ℕ → Option Tile) → KeepsElsewhere chunk old mid → KeepsElsewhere chunk mid new → KeepsElsewhere chunk old new
+elsewhere_then chunk old mid new first last k a is other = last k a (first k a is other) other
 
 -- the chunk of a tile is held
 pub row_of_tile : {M : Type 0} (rows : Slab (Row M)) (T : ℕ → Option Tile) (k : ℕ) (a : Tile) → IsTiled (size_in rows) T → T k ≡ Some a → ContainsKey rows a.chunk
