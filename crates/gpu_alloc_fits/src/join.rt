@@ -1,7 +1,7 @@
 //! How a live tile is freed, and joined with the free tiles beside it.
 
 ghost use Rattle.std.specs.Prelude.{◌≡◌, ◌≤◌, ◌+◌, ◌↔◌, ℕ, Some, true, false, IsTrue};
-ghost use Rattle.slab.specs.Slab.{ContainsKey};
+ghost use Rattle.slab.specs.Slab.{ContainsKey, get};
 ghost use Rattle.gpu_alloc_fits.specs.Inside.{size_in};
 ghost use Rattle.gpu_alloc_fits.specs.Links.{IsBeside, IsKept};
 ghost use Rattle.gpu_alloc_fits.specs.Tiles.{GivesBack, IsFirst, IsFreeOf, IsLiveAt, KeepsElsewhere, KeepsLive, tile_in};
@@ -49,6 +49,17 @@ pub(crate) fn put_back<M: MemoryObject, A: Allocator, L: Ledger>(
     joint
 }
 
+/// Looks at a tile beside a freed one, and counts that.
+#[inline(always)]
+fn look<A: Allocator, L: Ledger>(nodes: &Slab<Node, A>, other: usize, looks: &mut Steps<L>) -> Node
+    requires { ContainsKey nodes.now other }
+    ensures node { get nodes.now other ≡ Some result }
+    ensures counted { looks.new ≡ looks.old + 1 }
+{
+    looks.tick();
+    nodes[other]
+}
+
 /// Joins a free tile with the free one before it, if there is one.
 #[inline(always)]
 fn join_before<M: MemoryObject, A: Allocator, L: Ledger>(
@@ -71,9 +82,8 @@ fn join_before<M: MemoryObject, A: Allocator, L: Ledger>(
     if node.tile.start == 0 {
         return;
     }
-    looks.tick();
     let other = node.before;
-    let front = nodes[other];
+    let front = look(nodes, other, looks);
     if !front.tile.free {
         return;
     }
@@ -112,9 +122,8 @@ fn join_after<M: MemoryObject, A: Allocator, L: Ledger>(
     if node.tile.end == whole {
         return;
     }
-    looks.tick();
     let other = node.after;
-    let back = nodes[other];
+    let back = look(nodes, other, looks);
     if !back.tile.free {
         return;
     }

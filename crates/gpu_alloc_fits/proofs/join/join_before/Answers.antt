@@ -9,37 +9,37 @@ use Rattle.gpu_alloc_fits.proofs.Tiles.{one_tile}
 use Rattle.gpu_alloc_fits.proofs.join.join_before.Given.{Over}
 use Rattle.gpu_alloc_fits.proofs.join.join_before.Goals as goal
 
-pub index-front-requires : goal.index-front-requires
-index-front-requires g c = front_key (size_in c.args.chunks.now) c.args.nodes.now c.args.key c.index-node.result.now c.requires.beside c.index-node.ensures c.if-node-eq0.false
+pub look-front-requires : goal.look-front-requires
+look-front-requires g c = front_key (size_in c.args.chunks.now) c.args.nodes.now c.args.key c.index-node.result.now c.requires.beside c.index-node.ensures c.if-node-eq0.false
 
 pub put-requires : goal.put-requires
 put-requires g c =
     put_key c.args.nodes.now c.unfile.new.nodes c.remove.new.self c.args.key c.index-node.result.now.before c.index-node.result.now c.index-node.ensures
-    (front_else (size_in c.args.chunks.now) c.args.nodes.now c.args.key c.index-node.result.now c.requires.beside c.index-node.ensures c.index-front.result.now c.if-node-eq0.false c.index-front.ensures)
+    (front_else (size_in c.args.chunks.now) c.args.nodes.now c.args.key c.index-node.result.now c.requires.beside c.index-node.ensures c.look-front.result c.if-node-eq0.false c.look-front.ensures.node)
     c.unfile.ensures.keeps c.remove.ensures.updates
 
 joined : (g : Over) (c : goal.After-set_after g) → IsJoined (size_in c.args.chunks.now) c.args.nodes.now c.set_after.new.nodes c.args.key c.index-node.result.now.tile.chunk
 joined g c =
-    left_joined (size_in c.args.chunks.now) c.args.nodes.now c.unfile.new.nodes c.remove.new.self c.put.new.nodes c.args.key c.index-node.result.now.before c.index-node.result.now c.index-front.result.now c.unlisted.result
-    c.requires.beside c.index-node.ensures c.index-front.ensures (unnot c.index-front.result.now.tile.free c.if-not-front.false)
-    (front_else (size_in c.args.chunks.now) c.args.nodes.now c.args.key c.index-node.result.now c.requires.beside c.index-node.ensures c.index-front.result.now c.if-node-eq0.false c.index-front.ensures)
+    left_joined (size_in c.args.chunks.now) c.args.nodes.now c.unfile.new.nodes c.remove.new.self c.put.new.nodes c.args.key c.index-node.result.now.before c.index-node.result.now c.look-front.result c.unlisted.result
+    c.requires.beside c.index-node.ensures c.look-front.ensures.node (unnot c.look-front.result.tile.free c.if-not-front.false)
+    (front_else (size_in c.args.chunks.now) c.args.nodes.now c.args.key c.index-node.result.now c.requires.beside c.index-node.ensures c.look-front.result c.if-node-eq0.false c.look-front.ensures.node)
     c.unfile.ensures.keeps c.remove.ensures.updates c.put.ensures.updates c.set_after.new.nodes
-    (front_near (size_in c.args.chunks.now) c.args.nodes.now c.args.key c.index-node.result.now c.requires.beside c.index-node.ensures c.index-front.result.now c.if-node-eq0.false c.index-front.ensures)
+    (front_near (size_in c.args.chunks.now) c.args.nodes.now c.args.key c.index-node.result.now c.requires.beside c.index-node.ensures c.look-front.result c.if-node-eq0.false c.look-front.ensures.node)
     c.unlisted.ensures.tile c.unlisted.ensures.before c.unlisted.ensures.after
-    _ (Decides-ltb 0 c.index-front.result.now.tile.start).1 (Decides-ltb 0 c.index-front.result.now.tile.start).0 c.set_after.ensures.sets
+    _ (Decides-ltb 0 c.look-front.result.tile.start).1 (Decides-ltb 0 c.look-front.result.tile.start).0 c.set_after.ensures.sets
 
 pub returns-clause-beside : goal.returns-clause-beside
 returns-clause-beside g c = (joined g c).beside
 
 pub returns-clause-first : goal.returns-clause-first
 returns-clause-first g c =
-    left_is_first (size_in c.args.chunks.now) c.args.nodes.now c.unfile.new.nodes c.remove.new.self c.put.new.nodes c.args.key c.index-node.result.now.before c.index-node.result.now c.index-front.result.now c.unlisted.result
-    c.requires.beside c.index-node.ensures c.index-front.ensures (unnot c.index-front.result.now.tile.free c.if-not-front.false)
-    (front_else (size_in c.args.chunks.now) c.args.nodes.now c.args.key c.index-node.result.now c.requires.beside c.index-node.ensures c.index-front.result.now c.if-node-eq0.false c.index-front.ensures)
+    left_is_first (size_in c.args.chunks.now) c.args.nodes.now c.unfile.new.nodes c.remove.new.self c.put.new.nodes c.args.key c.index-node.result.now.before c.index-node.result.now c.look-front.result c.unlisted.result
+    c.requires.beside c.index-node.ensures c.look-front.ensures.node (unnot c.look-front.result.tile.free c.if-not-front.false)
+    (front_else (size_in c.args.chunks.now) c.args.nodes.now c.args.key c.index-node.result.now c.requires.beside c.index-node.ensures c.look-front.result c.if-node-eq0.false c.look-front.ensures.node)
     c.unfile.ensures.keeps c.remove.ensures.updates c.put.ensures.updates c.set_after.new.nodes
-    (front_near (size_in c.args.chunks.now) c.args.nodes.now c.args.key c.index-node.result.now c.requires.beside c.index-node.ensures c.index-front.result.now c.if-node-eq0.false c.index-front.ensures)
+    (front_near (size_in c.args.chunks.now) c.args.nodes.now c.args.key c.index-node.result.now c.requires.beside c.index-node.ensures c.look-front.result c.if-node-eq0.false c.look-front.ensures.node)
     c.unlisted.ensures.tile c.unlisted.ensures.before c.unlisted.ensures.after
-    _ (Decides-ltb 0 c.index-front.result.now.tile.start).1 (Decides-ltb 0 c.index-front.result.now.tile.start).0 c.set_after.ensures.sets
+    _ (Decides-ltb 0 c.look-front.result.tile.start).1 (Decides-ltb 0 c.look-front.result.tile.start).0 c.set_after.ensures.sets
 
 pub returns-clause-elsewhere : goal.returns-clause-elsewhere
 returns-clause-elsewhere g c a at =
