@@ -1,4 +1,5 @@
-/* Grants and returns of one sort, for bench/calls: an object of their own, a buddy block or a block of a free list. */
+/* Grants and returns of one sort, for bench/calls: an object of their own, a block of a buddy chunk, a fit chunk or a free
+   list. */
 #include "../c/wallthyme.h"
 #include <stdio.h>
 #include <stdlib.h>
@@ -38,11 +39,12 @@ int main(int count, char **words)
     const uint64_t heap = (uint64_t)16 << 30;
     const wt_limits limits = {.max_memory_allocation_size = heap, .non_coherent_atom_size = 64,
                               .max_memory_allocation_count = 4096};
-    const wt_config config = WT_CONFIG_PROTOTYPING;
+    wt_config config = WT_CONFIG_PROTOTYPING;
     wt_request request = {0};
     wt_allocator a = {0, NULL};
     wt_block kept, block;
-    must(count == 3, "usage: calls own|buddy|transient PAIRS");
+    must(count == 3, "usage: calls own|buddy|fit|transient PAIRS");
+    config.sharing = strcmp(words[1], "fit") == 0 ? WT_FIT : WT_BUDDY;
     request.size = strcmp(words[1], "own") == 0 ? 64 << 20 : 4096;
     request.usage = strcmp(words[1], "transient") == 0 ? WT_USAGE_TRANSIENT : WT_USAGE_FAST_DEVICE_ACCESS;
     request.memory_types = 1;

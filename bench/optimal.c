@@ -1,10 +1,8 @@
 /* Prints how many bytes are held for 1,000 blocks of 4 KiB, for linear and for optimal resources: bench/held runs it.
 
    Each row is of one allocator over one device-local heap of 16 GiB that grants all. */
-#include "wallthyme.h"
+#include "granting.h"
 #include <inttypes.h>
-#include <stdio.h>
-#include <stdlib.h>
 
 enum { BLOCKS = 1000, SIZE = 4096, PAGES = 3 };
 
@@ -15,25 +13,6 @@ typedef struct held {
 
 static const wt_config CONFIGS[] = {WT_CONFIG_POTATO, WT_CONFIG_PROTOTYPING};
 static const char *const NAMES[] = {"potato", "prototyping"};
-
-static void must(int holds, const char *what)
-{
-    if (!holds) {
-        fprintf(stderr, "optimal: failed: %s\n", what);
-        exit(1);
-    }
-}
-
-static void allocate(wt_allocator *a, const wt_request *request)
-{
-    wt_question asked[WT_MAX_QUESTIONS + 1];
-    wt_block block;
-    size_t n = 0;
-    uint32_t status;
-    while ((status = wt_alloc(a, request, asked, n, &block, &asked[n])) == WT_ASK)
-        asked[n++].answer = WT_GRANTED;
-    must(status == WT_OK, wt_text(status));
-}
 
 /* What is held for the blocks. They and their allocator stay until the program ends. */
 static held held_for(const wt_config *config, uint64_t granularity, uint32_t usage, uint32_t flags)

@@ -44,7 +44,7 @@ int main(void) {
     const wt_memory_type type = { 0, WT_HOST_VISIBLE | WT_HOST_COHERENT };
     const uint64_t heap = 64 << 20;
     const wt_limits limits = { 32 << 20, 64, 64, 0, 1 };
-    const wt_config config = { 1 << 20, 1 << 16, 1 << 20, 1 << 16, 1 << 20, 256, 1 << 16 };
+    const wt_config config = { 1 << 20, 1 << 16, 1 << 20, 1 << 16, 1 << 20, 256, 1 << 16, WT_FIT };
     wt_request request = WT_REQUEST_INIT;
     wt_allocator a = { 0, NULL };
     wt_block block;

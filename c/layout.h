@@ -146,6 +146,10 @@ uint32_t wt_layout(uint32_t number);
     ROW(128, offsetof(wt_type_statistics, buddy))               \
     ROW(129, offsetof(wt_type_statistics, free_list))           \
     ROW(130, WT_WOULD_ASK)                                      \
-    ROW(131, WT_HELD_ONLY)
+    ROW(131, WT_HELD_ONLY)                                      \
+    ROW(132, WT_BUDDY)                                          \
+    ROW(133, WT_FIT)                                            \
+    ROW(134, offsetof(wt_config, sharing))                      \
+    ROW(135, offsetof(wt_type_statistics, fit))
 
 #endif

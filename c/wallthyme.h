@@ -46,8 +46,8 @@
  *   host-visible type.
  * - Sizes cost. A block in a buddy chunk is a power of two; one of a free list reaches from its start to the end of a
  *   free range, so a large alignment costs. With WT_CONFIG_PROTOTYPING 1,000 requests like a renderer's hold 1.5
- *   times what they ask, and 1.7 times after many exchanges; as WT_USAGE_TRANSIENT ones 1.0 to 1.1, and 1.5 times
- *   (doc/COSTS.md).
+ *   times what they ask, and 1.7 times after many exchanges; as WT_USAGE_TRANSIENT ones 1.0 to 1.1, and 1.5 times.
+ *   In fit chunks (WT_FIT) a block is as long as asked, in whole grains: 1.13 to 1.15 times (doc/COSTS.md).
  * - A block may be lent to several resources, one after the other or at once: the library knows blocks alone.
  * - Without a device it is a virtual allocator: grant every question, and use the ranges for what you like.
  *
@@ -64,7 +64,7 @@ extern "C" {
 #endif
 
 /* The version of header and library, their own: 0xMMmmpp. While MM is 0, those of another mm do not fit together. */
-#define WT_VERSION 0x000800u
+#define WT_VERSION 0x000900u
 
 /* What a call answers. */
 enum {
@@ -84,8 +84,9 @@ enum {
     WT_NOT_OPEN = 9,                   /* the allocator is closed */
     WT_ALREADY_OPEN = 10,              /* the allocator is open */
     WT_BAD_PROPERTIES = 11,            /* over 32 memory types, one of a heap that is not there, 2^32 heaps or more, an
-                                          atom that is not a power of two of at most 2^62, or a granularity that is
-                                          neither 0 nor a power of two of at most 2^32 */
+                                          atom that is not a power of two of at most 2^62, a granularity that is
+                                          neither 0 nor a power of two of at most 2^32, or a sharing that is neither
+                                          WT_BUDDY nor WT_FIT */
     WT_UNKNOWN_KEY = 12,               /* no live block has this key: it was freed, or is another allocator's. (Keys of
                                           two allocators may be the same numbers.) */
     WT_OTHER_QUESTION = 13,            /* an answer is to another question than is asked in its place */
@@ -142,7 +143,7 @@ enum {
 #define WT_USAGE_HOST_ACCESS 0x02u        /* the host maps it: uncached first, of those not coherent ones first */
 #define WT_USAGE_DOWNLOAD 0x04u           /* the host reads what the device wrote: cached first, then coherent ones */
 #define WT_USAGE_UPLOAD 0x08u             /* the device reads what the host wrote: uncached first, then coherent ones */
-#define WT_USAGE_TRANSIENT 0x10u          /* it lives briefly: served from a free list, and not from buddy chunks */
+#define WT_USAGE_TRANSIENT 0x10u          /* it lives briefly: served from a free list, and no other shared chunk */
 #define WT_USAGE_DEVICE_ADDRESS 0x20u     /* its address is used: bufferDeviceAddress has to be enabled */
 
 /* wt_request.dedicated: whether the block has to be a whole object of its own. WT_PREFERRED: it gets one from
@@ -199,10 +200,24 @@ typedef struct wt_limits {
     uint64_t buffer_image_granularity;    /* bufferImageGranularity, for WT_OPTIMAL; 0 counts as 1 */
 } wt_limits;
 
-/* The sizes by which the allocator decides, in bytes, as gpu-alloc's Config has them. Any values serve. A request
-   gets an object of its own, a block of a buddy chunk, or, with WT_USAGE_TRANSIENT, a block of a free list's
-   chunk; from 1/32 of its heap on always an object of its own. Sizes of chunks are cut down to 1/32 of their heap,
-   a buddy's then rounded up to a power of two. */
+/* wt_config.sharing: how requests that are not WT_USAGE_TRANSIENT, and get no object of their own, share objects. It
+   stays as long as the allocator is open.
+   WT_BUDDY: in buddy chunks. Each block is a power of two and starts at a multiple of its size. Of each memory type
+   that it tries a call looks at 63 lengths at most (proved), however many blocks are live.
+   WT_FIT: in fit chunks. Each block is as long as asked, in whole grains (256 bytes, or the atom where that is
+   larger), in a free run that has room. Requests over the first fit chunk's size (starting_free_list_chunk, cut down
+   to 1/32 of the heap; where that is less than a grain, all of them) get an object of their own, and later chunks grow
+   up to four times the first. Of each memory type at most one fit chunk stays without a live block, until wt_cleanup.
+   The same requests hold less memory; but where its lists show no place, a call looks at all blocks and free runs in
+   the fit chunks of each memory type that it tries, before it asks for a chunk. */
+enum { WT_BUDDY = 0, WT_FIT = 1 };
+
+/* The sizes by which the allocator decides, in bytes, as gpu-alloc's Config has them, and how requests share objects.
+   Any sizes serve. Zero it before you fill it, so that each field that you do not know is 0: sharing is WT_BUDDY then,
+   as in an initialiser with seven numbers.
+   A request gets an object of its own, a block of a buddy or fit chunk, or, with WT_USAGE_TRANSIENT, a block of a free
+   list's chunk; from 1/32 of its heap on always an object of its own. Sizes of chunks are cut down to 1/32 of their
+   heap, a buddy's then rounded up to a power of two. */
 typedef struct wt_config {
     /* A request of this size or more gets an object of its own. Lower it to hold fewer bytes in more objects. */
     uint64_t dedicated_threshold;
@@ -210,9 +225,11 @@ typedef struct wt_config {
     uint64_t preferred_dedicated_threshold;
     /* The same for WT_USAGE_TRANSIENT requests; the greater of this and the first counts. */
     uint64_t transient_dedicated_threshold;
-    /* The size of a free list's first chunk, in whole atoms. Each later one is twice the one before. */
+    /* The size of a free list's first chunk, in whole atoms. Each later one is twice the one before. With WT_FIT also
+       the size of the first fit chunk, in whole grains, and so the largest request that shares one. */
     uint64_t starting_free_list_chunk;
-    /* The size at which they stop growing: the greatest of this, the one before and the transient threshold. */
+    /* The size at which a free list's chunks stop growing: the greatest of this, the one before and the transient
+       threshold. */
     uint64_t final_free_list_chunk;
     /* The least block of a buddy chunk, rounded up to a power of two; a greater one counts as 1/1024 of the heap. Raise
        it where many tiny blocks would fall apart into pieces that nothing else fits; lower it to waste less on them. */
@@ -220,11 +237,13 @@ typedef struct wt_config {
     /* The least size of the first buddy chunk, rounded up to a power of two. Each has at least twice the size of its
        first block, and at least that of the chunk made before it. Raise it for fewer objects. */
     uint64_t initial_buddy_dedicated_size;
+    uint64_t sharing; /* WT_BUDDY or WT_FIT; any other number is refused (WT_BAD_PROPERTIES) */
 } wt_config;
 
-/* The two configurations of gpu-alloc as initialisers: for little device memory, and for a start. */
-#define WT_CONFIG_POTATO { 32768, 1024, 131072, 8192, 131072, 1, 8192 }
-#define WT_CONFIG_PROTOTYPING { 33554432, 1048576, 134217728, 8388608, 134217728, 1024, 8388608 }
+/* The two configurations of gpu-alloc as initialisers, which share buddy chunks: for little device memory, and for a
+   start. */
+#define WT_CONFIG_POTATO { 32768, 1024, 131072, 8192, 131072, 1, 8192, WT_BUDDY }
+#define WT_CONFIG_PROTOTYPING { 33554432, 1048576, 134217728, 8388608, 134217728, 1024, 8388608, WT_BUDDY }
 
 /* What a block has to be. Zero it before you fill it, as by WT_REQUEST_INIT, so that each field that you do not know
    is 0: that of a later version then asks for nothing. */
@@ -304,6 +323,7 @@ typedef struct wt_type_statistics {
     wt_kind_statistics imported;  /* objects of one block each, by wt_import */
     wt_kind_statistics buddy;     /* objects whose blocks are powers of two */
     wt_kind_statistics free_list; /* objects of transient blocks */
+    wt_kind_statistics fit;       /* objects whose blocks are as long as asked (WT_FIT) */
 } wt_type_statistics;
 
 /* The library's version: WT_VERSION of its header. */
@@ -381,12 +401,12 @@ uint32_t wt_unmap(wt_allocator *a, uint64_t key, uint64_t *object);
 uint32_t wt_range_of(wt_allocator *a, uint64_t key, uint64_t offset, uint64_t size, wt_range *range);
 
 /* Takes a block back, mapped or not. The device must be done with it. Its object goes with it where it was the last
-   block there, but for one chunk of a free list, which waits for wt_cleanup; wt_gone reports what goes. The key is
-   refused from then on. WT_NOT_OPEN, WT_UNKNOWN_KEY. */
+   block there, but for one chunk of a free list, and one fit chunk of a memory type, which wait for wt_cleanup; wt_gone
+   reports what goes. The key is refused from then on. WT_NOT_OPEN, WT_UNKNOWN_KEY. */
 uint32_t wt_free(wt_allocator *a, uint64_t key);
 
-/* Lets each free list's last free chunk go too; wt_gone reports them. After it no object is held without a live
-   block. WT_NOT_OPEN. */
+/* Lets the last free chunk of each free list, and of each memory type's fit chunks, go too; wt_gone reports them. After
+   it no object is held without a live block. WT_NOT_OPEN. */
 uint32_t wt_cleanup(wt_allocator *a);
 
 /* Reads names of objects that are the caller's to free (vkFreeMemory): as many as there are and as fit in room,
@@ -441,7 +461,7 @@ static inline const char *wt_text(uint32_t status) {
     case WT_MAP_FAILED: return "Failed to map memory object";
     case WT_NOT_OPEN: return "The allocator is closed";
     case WT_ALREADY_OPEN: return "The allocator is open";
-    case WT_BAD_PROPERTIES: return "No device has such properties";
+    case WT_BAD_PROPERTIES: return "No device has such properties, or there is no such way to share objects";
     case WT_UNKNOWN_KEY: return "No live block has this key";
     case WT_OTHER_QUESTION: return "An answer is to another question than is asked in its place";
     case WT_BAD_ANSWER: return "An answer or its question is invalid";

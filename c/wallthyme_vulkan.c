@@ -1036,6 +1036,7 @@ static uint32_t add_type(wtv_allocator *a, writer *w, uint32_t type)
         add_kind(w, "imported", &statistics.imported);
         add_kind(w, "buddy", &statistics.buddy);
         add_kind(w, "free_list", &statistics.free_list);
+        add_kind(w, "fit", &statistics.fit);
         add(w, "}");
     }
     return status;
@@ -1112,6 +1113,7 @@ void wtv_default_config(const VkPhysicalDeviceMemoryProperties *memory, wt_confi
         .final_free_list_chunk = 16 * unit,
         .minimal_buddy_size = 1024,
         .initial_buddy_dedicated_size = unit,
+        .sharing = WT_FIT,
     };
 }
 

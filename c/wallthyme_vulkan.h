@@ -100,7 +100,8 @@ typedef struct wtv_create_info {
     PFN_vkGetInstanceProcAddr get_instance_proc_addr; /* loads the functions; null where the table has them all */
     const wtv_functions *functions;         /* taken instead of loaded ones, but where null; copied. Or null */
     const VkAllocationCallbacks *callbacks; /* go to each call of Vulkan that takes them; copied. Or null */
-    const wt_config *config;                /* null: what wtv_default_config says */
+    const wt_config *config;                /* null: what wtv_default_config says, with WT_FIT. One that is given says by
+                                               its own sharing how requests share objects: zeros there mean WT_BUDDY */
     uint32_t other_objects; /* at most so many memory objects does the program make itself, beside this allocator */
 } wtv_create_info;
 
@@ -153,6 +154,7 @@ typedef struct wtv_range {
      flags (it is higher than what the instance was created for);
    - WTV_CREATE_MEMORY_BUDGET without properties2;
    - the device's properties are not as Vulkan has them (an atom or a granularity that is no power of two);
+   - config has a sharing that is neither WT_BUDDY nor WT_FIT;
    - header and library have different versions. */
 VkResult wtv_create(const wtv_create_info *info, wtv_allocator **allocator);
 
@@ -164,8 +166,10 @@ VkResult wtv_destroy(wtv_allocator *a, wtv_block *live, size_t room, size_t *cou
 
 /* The configuration of an allocator that is given none. With H the size of the largest device-local heap (of the
    largest heap, where none is), and U = H / 1024, rounded down to a power of two, at least 64 KiB and at most 8 MiB:
-   objects of their own from 4 U on (U / 8 where preferred, 16 U for transient ones), free lists' chunks from U to 16 U,
-   buddy chunks from U on, in blocks of at least 1 KiB. From 8 GiB on that is WT_CONFIG_PROTOTYPING. */
+   requests share fit chunks (WT_FIT) of U to 4 U, and get objects of their own over U (from U / 8 on where preferred, and
+   16 U for transient ones); free lists' chunks from U to 16 U. From 8 GiB on that is WT_CONFIG_PROTOTYPING with WT_FIT.
+   With sharing set to WT_BUDDY: buddy chunks from U on, in blocks of at least 1 KiB, and objects of their own from 4 U
+   on. */
 void wtv_default_config(const VkPhysicalDeviceMemoryProperties *memory, wt_config *config);
 
 /* ---- Buffers and images. ---- */
@@ -175,7 +179,7 @@ void wtv_default_config(const VkPhysicalDeviceMemoryProperties *memory, wt_confi
    Not for sparse buffers (VK_ERROR_FEATURE_NOT_PRESENT).
    Where the driver refuses an object with VK_ERROR_OUT_OF_DEVICE_MEMORY or VK_ERROR_TOO_MANY_OBJECTS, the next memory
    type is tried. Any other error ends the request. Whatever was made is destroyed then. Where the bind is refused, the
-   block is freed as by wtv_free: a free chunk of transient blocks may stay. */
+   block is freed as by wtv_free: a free chunk of transient blocks, or a free fit chunk, may stay. */
 VkResult wtv_create_buffer(wtv_allocator *a, const VkBufferCreateInfo *info, const wtv_request *request,
                            VkBuffer *buffer, wtv_allocation *allocation, wtv_block *block);
 
@@ -206,8 +210,8 @@ VkResult wtv_bind_buffer(wtv_allocator *a, wtv_allocation allocation, VkDeviceSi
 VkResult wtv_bind_image(wtv_allocator *a, wtv_allocation allocation, VkDeviceSize offset, VkImage image);
 
 /* Frees a block, mapped or not. The device has to be done with it, and what was bound to it destroyed. 0 does nothing.
-   Its memory object is freed with it where no other block needs it; one free chunk of transient blocks stays until
-   wtv_cleanup. */
+   Its memory object is freed with it where no other block needs it; of each memory type one free chunk of transient
+   blocks, and one free fit chunk (WT_FIT), stay until wtv_cleanup. */
 VkResult wtv_free(wtv_allocator *a, wtv_allocation allocation);
 
 /* Takes a range of a memory object of the program's as a block. The object has object_size bytes, is not mapped, and

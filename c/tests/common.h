@@ -6,6 +6,7 @@
 
 #include <stdio.h>
 #include <stdlib.h>
+#include <string.h>
 
 #define LENGTH(array) (sizeof(array) / sizeof((array)[0]))
 
@@ -59,7 +60,21 @@ static const wt_config small_config = {
     64 * KIBIBYTE, /* final_free_list_chunk */
     16,            /* minimal_buddy_size */
     8 * KIBIBYTE,  /* initial_buddy_dedicated_size */
+    WT_BUDDY,      /* sharing */
 };
+
+/* The same sizes, with the other way to share objects too. */
+static inline wt_config small_config_with(uint64_t sharing) {
+    wt_config config = small_config;
+    config.sharing = sharing;
+    return config;
+}
+
+/* How requests share objects, as a test's argument names it. */
+static inline uint64_t sharing_named(const char *name) {
+    expect(strcmp(name, "buddy") == 0 || strcmp(name, "fit") == 0, "a way to share objects is neither buddy nor fit");
+    return strcmp(name, "fit") == 0 ? WT_FIT : WT_BUDDY;
+}
 
 /* A request that is linear and has no value of its own. */
 #define REQUEST(size, align_mask, usage, types, dedicated) { size, align_mask, usage, types, dedicated, 0, 0 }
@@ -80,12 +95,13 @@ static inline int is_non_coherent(uint32_t memory_type) {
     return (memory_types[memory_type].props & (WT_HOST_VISIBLE | WT_HOST_COHERENT)) == WT_HOST_VISIBLE;
 }
 
-static inline void open_heaps(wt_allocator *a, const wt_limits *limits, const uint64_t *sizes) {
-    expect(wt_open(a, memory_types, TYPES, sizes, HEAPS, limits, &small_config) == WT_OK, "it was not opened");
+static inline void open_heaps(wt_allocator *a, const wt_limits *limits, const uint64_t *sizes, uint64_t sharing) {
+    const wt_config config = small_config_with(sharing);
+    expect(wt_open(a, memory_types, TYPES, sizes, HEAPS, limits, &config) == WT_OK, "it was not opened");
 }
 
-static inline void open_device(wt_allocator *a, const wt_limits *limits) {
-    open_heaps(a, limits, heap_sizes);
+static inline void open_device(wt_allocator *a, const wt_limits *limits, uint64_t sharing) {
+    open_heaps(a, limits, heap_sizes, sharing);
 }
 
 /* How a device answers a question. */

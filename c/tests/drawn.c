@@ -1,6 +1,6 @@
 /* Drawn calls over a device that may refuse each question, with books of what has to be so after each step.
  *
- *     drawn SEED STEPS PERCENT      PERCENT: how many of a hundred questions are refused */
+ *     drawn SEED STEPS PERCENT SHARING      PERCENT: how many of a hundred questions are refused; SHARING: buddy, fit */
 #include "common.h"
 
 #include <string.h>
@@ -11,7 +11,7 @@
 typedef struct {
     uint64_t name, size, counted;
     uint32_t memory_type;
-    int is_imported, is_own, is_mapped_whole, is_mapped;
+    int is_imported, is_own, is_transient, is_mapped_whole, is_mapped;
 } object;
 
 typedef struct {
@@ -33,7 +33,7 @@ static uint64_t percent, last_name, made, freed, granted, refused, asked;
 static uint64_t total; /* the objects that are held and that may be */
 static uint32_t has_device_address;
 static uint64_t heaps[HEAPS], heap_limits[HEAPS];
-static uint64_t granularity;
+static uint64_t granularity, sharing;
 static const wt_request *serving; /* the request that the device is asked for */
 
 static object *find_object(uint64_t name) {
@@ -57,9 +57,10 @@ static void free_pending(void) {
 }
 
 static void make_pending(const wt_question *question) {
-    object fresh = { 0, question->size, question->size, question->memory_type, 0, 0, 0, 0 };
+    object fresh = { 0, question->size, question->size, question->memory_type, 0, 0, 0, 0, 0 };
     pending = fresh;
     pending.is_own = (question->flags & WT_ALLOCATE_OWN) != 0;
+    pending.is_transient = (serving->usage & WT_USAGE_TRANSIENT) != 0;
     has_pending = 1;
     made++;
 }
@@ -76,20 +77,43 @@ static uint64_t counted_of(uint32_t heap) {
     return sum;
 }
 
-/* The size from which on a request gets an object of its own: 1/32 of its heap at most. */
+/* The grain of fit chunks: the device's atom is smaller. */
+#define GRAIN 256u
+
+static uint64_t whole(uint64_t size, uint64_t unit) {
+    return (size + unit - 1) / unit * unit;
+}
+
+/* The size by which a request is served: in whole pages, where it is optimal. */
+static uint64_t served_size(const wt_request *request) {
+    return whole(request->size, request->flags == WT_OPTIMAL && granularity ? granularity : 1);
+}
+
+/* Whether a request that shares an object shares a fit chunk. */
+static int shares_fit(const wt_request *request) {
+    return sharing == WT_FIT && !(request->usage & WT_USAGE_TRANSIENT);
+}
+
+/* The size from which on a request gets an object of its own: 1/32 of its heap at most, and more than the first chunk
+ * where it would share a fit chunk. */
 static uint64_t own_from(const wt_request *request, uint32_t memory_type) {
     uint64_t part = heaps[memory_types[memory_type].heap] / 32, size = small_config.dedicated_threshold;
     if (request->usage & WT_USAGE_TRANSIENT) size = small_config.transient_dedicated_threshold;
     if (request->dedicated == WT_PREFERRED && small_config.preferred_dedicated_threshold < size)
         size = small_config.preferred_dedicated_threshold;
     if (request->dedicated == WT_REQUIRED) size = 0;
-    return size < part ? size : part;
+    if (part < size) size = part;
+    if (shares_fit(request)) {
+        uint64_t first = small_config.starting_free_list_chunk < part ? small_config.starting_free_list_chunk : part;
+        first -= first % GRAIN;
+        if (first + 1 < size) size = first + 1;
+    }
+    return size;
 }
 
 static void check_own(const wt_question *question) {
     int is_own = (question->flags & WT_ALLOCATE_OWN) != 0;
-    uint64_t page = serving->flags == WT_OPTIMAL && granularity ? granularity : 1;
-    uint64_t served = (serving->size + page - 1) / page * page;
+    uint64_t served = served_size(serving);
     expect(!is_own || question->size == serving->size, "an object of its own has another size than its request");
     expect(is_own == (served >= own_from(serving, question->memory_type)), "an object of its own is told as shared, or not");
 }
@@ -226,6 +250,10 @@ static void check_granted(const wt_request *request, const questions *talk, cons
         expect(given->fresh && given->offset == 0 && given->size == of->size && of->size == request->size,
                "an object of its own is no whole block");
     expect(given->size >= request->size, "a block is smaller than was asked for");
+    if (!of->is_own && shares_fit(request)) {
+        expect(given->size == whole(served_size(request), GRAIN), "a block of a fit chunk is not as long as asked");
+        expect(given->offset % GRAIN == 0, "a block of a fit chunk does not start at a grain");
+    }
     expect((given->offset & request->align_mask) == 0, "a block is not aligned");
     expect(serves(request, given->memory_type), "a block is of a memory type that may not serve it");
     if (request->dedicated == WT_REQUIRED)
@@ -544,7 +572,7 @@ static void check_imported(object own, uint64_t offset, uint64_t size, const wt_
 }
 
 static void step_import(void) {
-    object own = { 0, 1 + draw(20000), 0, (uint32_t)draw(TYPES), 1, 1, 0, 0 };
+    object own = { 0, 1 + draw(20000), 0, (uint32_t)draw(TYPES), 1, 1, 0, 0, 0 };
     uint64_t offset = draw(own.size), size = 1 + draw(own.size - offset);
     uint32_t remaining = counts_of(&allocator).remaining, status;
     int is_bad_end;
@@ -635,11 +663,35 @@ static void step_free_ranges(void) {
         if (objects[i].memory_type == type) check_filled(&objects[i], free_bytes[i]);
 }
 
+/* How many objects with a live block requests of a memory type share that are not transient. */
+static uint64_t busy_objects(uint32_t type) {
+    uint64_t busy = 0;
+    for (size_t i = 0; i < objects_len; i++) {
+        int is_busy = 0;
+        if (objects[i].memory_type != type || objects[i].is_own || objects[i].is_transient) continue;
+        for (size_t j = 0; j < blocks_len; j++) is_busy |= blocks[j].at.object == objects[i].name;
+        busy += (uint64_t)is_busy;
+    }
+    return busy;
+}
+
+/* Of buddy and fit chunks there are those that were chosen. At most one fit chunk has no live block. */
+static void check_chosen(uint32_t type, const wt_type_statistics *told) {
+    uint64_t busy = busy_objects(type);
+    const wt_kind_statistics *chosen = sharing == WT_FIT ? &told->fit : &told->buddy;
+    const wt_kind_statistics *none = sharing == WT_FIT ? &told->buddy : &told->fit;
+    expect(none->objects == 0 && none->blocks == 0 && none->live_bytes == 0 && none->free_bytes == 0
+               && none->largest_free == 0,
+           "requests share objects in another way than was chosen");
+    expect(chosen->objects >= busy && chosen->objects <= busy + (sharing == WT_FIT),
+           "a chunk stays without a live block, or a second one does");
+}
+
 /* The sums of a memory type are those of the books: each object is held for one purpose. */
 static void step_statistics(void) {
     uint32_t type = (uint32_t)draw(TYPES);
     wt_type_statistics told;
-    wt_kind_statistics own = { 0, 0, 0, 0, 0, 0, 0 }, imported = own, shared = own;
+    wt_kind_statistics own = { 0, 0, 0, 0, 0, 0, 0 }, imported = own, shared = own, chosen;
     uint64_t free_bytes = 0, largest = 0;
     wt_range ranges[1];
     size_t count = 1;
@@ -663,15 +715,18 @@ static void step_statistics(void) {
     expect(told.imported.objects == imported.blocks && told.imported.blocks == imported.blocks
                && told.imported.live_bytes == imported.live_bytes && told.imported.free_bytes == 0,
            "imports are summed otherwise");
-    expect(told.buddy.blocks + told.free_list.blocks == shared.blocks
-               && told.buddy.live_bytes + told.free_list.live_bytes == shared.live_bytes
-               && told.buddy.free_bytes + told.free_list.free_bytes == free_bytes,
+    check_chosen(type, &told);
+    chosen = sharing == WT_FIT ? told.fit : told.buddy;
+    expect(chosen.blocks + told.free_list.blocks == shared.blocks
+               && chosen.live_bytes + told.free_list.live_bytes == shared.live_bytes
+               && chosen.free_bytes + told.free_list.free_bytes == free_bytes,
            "shared objects are summed otherwise");
-    expect((told.buddy.largest_free > told.free_list.largest_free ? told.buddy : told.free_list).largest_free == largest,
+    expect((chosen.largest_free > told.free_list.largest_free ? chosen : told.free_list).largest_free == largest,
            "another free range is told as the largest");
     expect(told.dedicated.live_bytes_high + told.imported.live_bytes_high + told.buddy.live_bytes_high
-               + told.free_list.live_bytes_high + told.dedicated.free_bytes_high + told.imported.free_bytes_high
-               + told.buddy.free_bytes_high + told.free_list.free_bytes_high == 0, "sums pass 64 bits");
+               + told.free_list.live_bytes_high + told.fit.live_bytes_high + told.dedicated.free_bytes_high
+               + told.imported.free_bytes_high + told.buddy.free_bytes_high + told.free_list.free_bytes_high
+               + told.fit.free_bytes_high == 0, "sums pass 64 bits");
 }
 
 /* How many times words stand in a text. */
@@ -737,7 +792,7 @@ static void fill_other(void) {
     wt_request request = REQUEST(16, 0, WT_USAGE_TRANSIENT, UINT32_MAX, WT_SHARED);
     questions talk;
     wt_block first, given;
-    open_device(&other, &limits);
+    open_device(&other, &limits, WT_BUDDY);
     for (size_t i = 0; i < LENGTH(other_keys); i++) {
         expect(allocate(&other, &request, grants, &talk, &first) == WT_OK, "another gives no block");
         expect(wt_free(&other, first.key) == WT_OK, "another takes no block back");
@@ -772,13 +827,14 @@ int main(int argc, char **argv) {
     static const uint64_t granularities[] = { 0, 1, ATOM, 1024, 4096, 65536 };
     unsigned long steps;
     wt_limits limits;
-    if (argc != 4) {
-        fprintf(stderr, "usage: drawn SEED STEPS PERCENT\n");
+    if (argc != 5) {
+        fprintf(stderr, "usage: drawn SEED STEPS PERCENT SHARING\n");
         return 2;
     }
     seed_draws(strtoull(argv[1], NULL, 10));
     steps = strtoul(argv[2], NULL, 10);
     percent = strtoull(argv[3], NULL, 10);
+    sharing = sharing_named(argv[4]);
     expect(steps < MOST, "so many steps have no room");
     has_device_address = (uint32_t)draw(2);
     limits = device_limits(MOST_OBJECTS, has_device_address);
@@ -790,7 +846,7 @@ int main(int argc, char **argv) {
         heaps[i] = heap_sizes[i] >> (draw(2) ? 3 + draw(5) : 0);
         heap_limits[i] = UINT64_MAX;
     }
-    open_heaps(&allocator, &limits, heaps);
+    open_heaps(&allocator, &limits, heaps, sharing);
     fill_other();
     for (unsigned long i = 0; i < steps; i++) {
         current_step++;
@@ -799,8 +855,8 @@ int main(int argc, char **argv) {
     }
     finish();
     close_other();
-    printf("drawn %s %s %s: %llu granted, %llu refused, %llu questions, %llu objects made and freed\n", argv[1], argv[2],
-           argv[3], (unsigned long long)granted, (unsigned long long)refused, (unsigned long long)asked,
+    printf("drawn %s %s %s %s: %llu granted, %llu refused, %llu questions, %llu objects made and freed\n", argv[1], argv[2],
+           argv[3], argv[4], (unsigned long long)granted, (unsigned long long)refused, (unsigned long long)asked,
            (unsigned long long)made);
     return 0;
 }

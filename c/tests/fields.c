@@ -26,7 +26,7 @@ static void fill_types(wt_memory_type *types) {
     }
 }
 
-static void open_it(wt_allocator *a) {
+static void open_it(wt_allocator *a, uint64_t sharing) {
     const uint64_t heaps[KINDS] = { HEAP_SIZE, HEAP_SIZE, HEAP_SIZE };
     wt_memory_type types[KINDS];
     wt_limits limits;
@@ -44,6 +44,7 @@ static void open_it(wt_allocator *a) {
     config.final_free_list_chunk = MEBIBYTE;
     config.minimal_buddy_size = 256;
     config.initial_buddy_dedicated_size = 32 * KIBIBYTE;
+    config.sharing = sharing;
     expect(wt_open(a, types, KINDS, heaps, KINDS, &limits, &config) == WT_OK, "it was not opened");
 }
 
@@ -261,14 +262,37 @@ static void check_statistics(wt_allocator *a) {
     expect(told.free_list.objects == 1 && told.free_list.blocks == 2 && told.free_list.live_bytes == 1280, "free_list");
     expect(told.free_list.free_bytes == chunk - 1280 && told.free_list.largest_free == chunk - 1280,
            "free_list: its free bytes");
+    expect(told.fit.objects == 0 && told.fit.blocks == 0 && told.fit.free_bytes == 0, "fit");
     for (size_t i = 0; i < LENGTH(blocks); i++) expect(wt_free(a, blocks[i].key) == WT_OK, "a block is not taken back");
     expect(wt_cleanup(a) == WT_OK, "it is not cleaned up");
     read_gone(a, (size_t)counts_of(a).unread);
 }
 
+/* Two blocks of a fit chunk, as long as asked in whole grains, with its sums. */
+static void check_fit(wt_allocator *a) {
+    const wt_request request = request_of(300, 0, DEVICE_SIDE, WT_SHARED);
+    wt_type_statistics told;
+    wt_block one, other;
+    questions talk;
+    current_case = "a fit chunk";
+    one = granted(a, &request, &talk);
+    expect(talk.len == 1 && talk.asked[0].size == 8 * KIBIBYTE, "sharing or starting_free_list_chunk is another");
+    other = granted(a, &request, &talk);
+    expect(one.size == 512 && other.size == 512 && one.object == other.object, "a block is not as long as asked");
+    expect(wt_statistics(a, DEVICE_SIDE, &told) == WT_OK, "they are not told");
+    expect(told.fit.objects == 1 && told.fit.blocks == 2 && told.fit.live_bytes == 1024 && told.fit.live_bytes_high == 0, "fit");
+    expect(told.fit.free_bytes == 8 * KIBIBYTE - 1024 && told.fit.free_bytes_high == 0, "fit: its free bytes");
+    expect(told.fit.largest_free == 8 * KIBIBYTE - 1024, "fit: its largest free range");
+    expect(told.buddy.objects == 0 && told.free_list.objects == 0, "buddy or free_list");
+    expect(wt_free(a, one.key) == WT_OK && wt_free(a, other.key) == WT_OK, "a block is not taken back");
+    expect(counts_of(a).held == 1, "no fit chunk waits for a cleanup");
+    expect(wt_cleanup(a) == WT_OK, "it is not cleaned up");
+    read_gone(a, 1);
+}
+
 int main(void) {
     wt_allocator allocator = { 0, NULL };
-    open_it(&allocator);
+    open_it(&allocator, WT_BUDDY);
     check_limits(&allocator);
     check_thresholds(&allocator);
     check_sizes_granted(&allocator);
@@ -280,6 +304,9 @@ int main(void) {
     check_optimal(&allocator);
     check_heap_counts(&allocator);
     check_statistics(&allocator);
+    expect(wt_close(&allocator) == WT_OK, "it is not closed");
+    open_it(&allocator, WT_FIT);
+    check_fit(&allocator);
     expect(wt_close(&allocator) == WT_OK, "it is not closed");
     printf("fields: each where the library has it\n");
     return 0;

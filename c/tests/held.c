@@ -156,23 +156,30 @@ static void end(wt_allocator *a) {
     expect(wt_close(a) == WT_OK, "it was not closed");
 }
 
-static void run(uint64_t seed) {
+static void run(uint64_t seed, uint64_t sharing) {
     wt_limits limits = device_limits(100, 0);
     limits.buffer_image_granularity = granularities[seed % LENGTH(granularities)];
     percent = seed % 3 * 20;
     seed_draws(seed);
-    open_device(&held, &limits);
-    open_device(&twin, &limits);
+    open_device(&held, &limits, sharing);
+    open_device(&twin, &limits, sharing);
     for (current_step = 1; current_step <= STEPS; current_step++) step();
     for (size_t i = 0; i < BLOCKS; i++) give_back(&blocks[i]);
     end(&held);
     end(&twin);
 }
 
-int main(void) {
-    for (uint64_t seed = 1; seed <= SEEDS; seed++) run(seed);
+static void run_all(uint64_t sharing, const char *name) {
+    current_case = name;
+    served = behind = spent = would = refused = 0;
+    for (uint64_t seed = 1; seed <= SEEDS; seed++) run(seed, sharing);
     expect(behind > 0 && spent > 0 && would > 0 && refused > 0, "a case was never drawn");
-    printf("held: %lu served, %lu of them behind a memory type that would ask, %lu with nothing remaining; %lu would ask,"
-           " %lu refused\n", served, behind, spent, would, refused);
+    printf("held, %s: %lu served, %lu of them behind a memory type that would ask, %lu with nothing remaining; %lu would"
+           " ask, %lu refused\n", name, served, behind, spent, would, refused);
+}
+
+int main(void) {
+    run_all(WT_BUDDY, "buddy");
+    run_all(WT_FIT, "fit");
     return 0;
 }

@@ -64,7 +64,7 @@ static void clean_and_close(wt_allocator *a) {
 static void begin_world(world *w) {
     wt_limits limits = device_limits(32, 0);
     memset(w, 0, sizeof *w);
-    open_device(&w->allocator, &limits);
+    open_device(&w->allocator, &limits, WT_BUDDY);
     w->freed_key = granted(&w->allocator, &shared_request).key;
     w->blocks[SHARED_BLOCK] = granted(&w->allocator, &shared_request);
     w->blocks[HOST_BLOCK] = granted(&w->allocator, &host_request);
@@ -296,15 +296,18 @@ static uint32_t open_again(world *w, const test_case *c) {
 static uint32_t open_wrongly(world *w, const test_case *c) {
     static const uint64_t bad_atoms[] = { 0, 3, 96, (uint64_t)1 << 63 };
     static const uint64_t bad_granularities[] = { 3, 96, (uint64_t)1 << 33, UINT64_MAX };
+    static const uint64_t bad_sharings[] = { WT_FIT + 1, (uint64_t)1 << 32, UINT64_MAX };
     wt_memory_type many[33];
     wt_limits limits = device_limits(32, 0);
+    wt_config config = small_config;
     size_t types_len = 1;
     for (size_t i = 0; i < LENGTH(many); i++) many[i] = memory_types[LOCAL_TYPE];
     if (c->which < LENGTH(bad_atoms)) limits.non_coherent_atom_size = bad_atoms[c->which];
     if (c->which == 4) many[0].heap = HEAPS;
     if (c->which == 5) types_len = LENGTH(many);
-    if (c->which > 5) limits.buffer_image_granularity = bad_granularities[c->which - 6];
-    return wt_open(&w->allocator, many, types_len, heap_sizes, HEAPS, &limits, &small_config);
+    if (c->which > 5 && c->which < 10) limits.buffer_image_granularity = bad_granularities[c->which - 6];
+    if (c->which > 9) config.sharing = bad_sharings[c->which - 10];
+    return wt_open(&w->allocator, many, types_len, heap_sizes, HEAPS, &limits, &config);
 }
 
 static uint32_t refused_everywhere(world *w, uint64_t key) {
@@ -323,7 +326,7 @@ static uint32_t use_keys_of_another(world *w, const test_case *c) {
     wt_block theirs[2 * BLOCKS];
     uint32_t status = WT_OK, tried = 0;
     (void)c;
-    open_device(&w->other, &limits);
+    open_device(&w->other, &limits, WT_FIT);
     for (size_t i = 0; i < LENGTH(theirs); i++) theirs[i] = granted(&w->other, &shared_request);
     for (size_t i = 0; i < LENGTH(theirs); i++) {
         int is_live = 0;
@@ -505,6 +508,9 @@ static const test_case cases[] = {
     { "a granularity of 96", WT_BAD_PROPERTIES, shut, open_wrongly, OF_OWN, NULL, 7 },
     { "a granularity of 2^33", WT_BAD_PROPERTIES, shut, open_wrongly, OF_OWN, NULL, 8 },
     { "a granularity of 2^64 - 1", WT_BAD_PROPERTIES, shut, open_wrongly, OF_OWN, NULL, 9 },
+    { "a sharing of 2", WT_BAD_PROPERTIES, shut, open_wrongly, OF_OWN, NULL, 10 },
+    { "a sharing of 2^32", WT_BAD_PROPERTIES, shut, open_wrongly, OF_OWN, NULL, 11 },
+    { "a sharing of 2^64 - 1", WT_BAD_PROPERTIES, shut, open_wrongly, OF_OWN, NULL, 12 },
 
     { "a freed key is taken", WT_UNKNOWN_KEY, NULL, use_key, OF_OWN, NULL, 0 },
     { "a key is taken that its place has not had yet", WT_UNKNOWN_KEY, NULL, use_key, OF_OWN, NULL, 1 },

@@ -6,7 +6,7 @@ enum { BLOCKS = 400, STEPS = 3000 };
 
 static const wt_memory_type types[] = { { 0, WT_DEVICE_LOCAL }, { 0, WT_DEVICE_LOCAL | WT_HOST_VISIBLE | WT_HOST_COHERENT } };
 static const uint64_t heap = 4096 * MEBIBYTE;
-static const wt_config config = WT_CONFIG_PROTOTYPING;
+static wt_config config = WT_CONFIG_PROTOTYPING;
 static const uint64_t granularities[] = { 1, 1024, 4096, 65536, 1048576 };
 
 /* How a run says of its requests what they are: as they are, that none is optimal, or that each is. */
@@ -146,7 +146,7 @@ static void check_as_ever(uint64_t seed) {
     current_case = "";
 }
 
-int main(void) {
+static size_t check_seeds(void) {
     size_t found = 0;
     for (uint64_t seed = 1; seed <= 3; seed++) {
         for (size_t i = 0; i < LENGTH(granularities); i++) {
@@ -156,7 +156,14 @@ int main(void) {
         }
         check_as_ever(seed);
     }
-    printf("pages: none shared at %u granularities; %lu where nothing is said\n", (unsigned)LENGTH(granularities),
-           (unsigned long)found);
+    return found;
+}
+
+int main(void) {
+    size_t buddy = check_seeds(), fit;
+    config.sharing = WT_FIT;
+    fit = check_seeds();
+    printf("pages: none shared at %u granularities; %lu where nothing is said, and %lu with fit chunks\n",
+           (unsigned)LENGTH(granularities), (unsigned long)buddy, (unsigned long)fit);
     return 0;
 }

@@ -14,7 +14,7 @@ int main() {
     const wt_memory_type type = { 0, WT_DEVICE_LOCAL };
     const uint64_t heap = 1u << 28;
     const wt_limits limits = { 1u << 27, 64, 512, 0, 1024 };
-    const wt_config config = { 1 << 15, 1 << 10, 1 << 17, 1 << 13, 1 << 17, 1, 1 << 13 };
+    const wt_config config = { 1 << 15, 1 << 10, 1 << 17, 1 << 13, 1 << 17, 1, 1 << 13, WT_FIT };
     wt_request request = WT_REQUEST_INIT;
     std::vector<wt_question> asked;
     wt_question question;

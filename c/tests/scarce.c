@@ -32,6 +32,7 @@ void *__wrap_realloc(void *old, size_t size) { return is_refused() ? NULL : __re
 #define BLOCKS 24
 
 static wt_allocator allocator;
+static uint64_t sharing;
 static wt_block blocks[BLOCKS];
 static size_t blocks_len;
 
@@ -44,7 +45,8 @@ static uint32_t take(const wt_request *request) {
 
 static uint32_t open_it(void) {
     wt_limits limits = device_limits(64, 0);
-    return wt_open(&allocator, memory_types, TYPES, heap_sizes, HEAPS, &limits, &small_config);
+    const wt_config config = small_config_with(sharing);
+    return wt_open(&allocator, memory_types, TYPES, heap_sizes, HEAPS, &limits, &config);
 }
 
 static uint32_t take_own(void) {
@@ -145,8 +147,10 @@ static void end_without_memory(void) {
     is_all_refused = 0;
 }
 
-int main(void) {
+/* How many requests for memory were refused in turn, where objects are shared so. */
+static long refused_in_turn(uint64_t chosen) {
     long requests = 0;
+    sharing = chosen;
     do {
         served_before = requests++;
         current_step = (unsigned)requests;
@@ -154,6 +158,11 @@ int main(void) {
         end_without_memory();
     } while (served_before < 0);
     expect(requests > 1, "the library takes no memory from malloc");
-    printf("scarce: each of %ld requests for memory refused in turn\n", requests - 1);
+    return requests - 1;
+}
+
+int main(void) {
+    long buddy = refused_in_turn(WT_BUDDY), fit = refused_in_turn(WT_FIT);
+    printf("scarce: each of %ld requests for memory refused in turn, and of %ld with fit chunks\n", buddy, fit);
     return 0;
 }

@@ -6,7 +6,7 @@ enum { BLOCKS = 200 };
 static const wt_memory_type only_type = { 0, WT_DEVICE_LOCAL };
 static const uint64_t only_heap = 64 * MEBIBYTE;
 static const wt_limits no_limits = { UINT64_MAX, 1, UINT32_MAX, 0, 0 };
-static const wt_config potato = WT_CONFIG_POTATO, prototyping = WT_CONFIG_PROTOTYPING;
+static wt_config potato = WT_CONFIG_POTATO, prototyping = WT_CONFIG_PROTOTYPING;
 
 static wt_allocator space;
 static wt_block blocks[BLOCKS];
@@ -48,6 +48,11 @@ int main(void) {
     use(&potato);
     current_case = "prototyping";
     use(&prototyping);
-    printf("virtual: %d ranges of a space without a device, twice\n", BLOCKS);
+    potato.sharing = prototyping.sharing = WT_FIT;
+    current_case = "potato, with fit chunks";
+    use(&potato);
+    current_case = "prototyping, with fit chunks";
+    use(&prototyping);
+    printf("virtual: %d ranges of a space without a device, four times\n", BLOCKS);
     return 0;
 }

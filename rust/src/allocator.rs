@@ -1,7 +1,7 @@
 //! The allocator: requests go in, blocks come out and go back.
 
 use crate::block::{Memory, MemoryBlock, Parts, Place, Shared, Start};
-use crate::config::Config;
+use crate::config::{Config, Sharing};
 use crate::error::{AllocationError, NewError};
 use crate::ffi;
 use crate::library::{unexpected, Library, ROOM};
@@ -83,7 +83,23 @@ impl<M> GpuAllocator<M> {
     /// [`alloc_optimal`]: GpuAllocator::alloc_optimal
     /// [`alloc`]: GpuAllocator::alloc
     pub fn with_granularity(config: Config, props: DeviceProperties<'_>, granularity: u64) -> Result<Self, NewError> {
-        let library = Library::open(&config, &props, granularity)?;
+        GpuAllocator::with_sharing(config, props, granularity, Sharing::Buddy)
+    }
+
+    /// As [`with_granularity`](GpuAllocator::with_granularity), with the choice how requests that are not
+    /// [`UsageFlags::TRANSIENT`](crate::UsageFlags::TRANSIENT) share memory objects. (The other three share buddy chunks,
+    /// as `gpu-alloc` does.)
+    ///
+    /// # Errors
+    ///
+    /// [`NewError`] says which. Nothing is held then.
+    pub fn with_sharing(
+        config: Config,
+        props: DeviceProperties<'_>,
+        granularity: u64,
+        sharing: Sharing,
+    ) -> Result<Self, NewError> {
+        let library = Library::open(&config, &props, granularity, sharing)?;
         let heap_sizes: Box<[u64]> = props.memory_heaps.iter().map(|heap| heap.size).collect();
         Ok(GpuAllocator {
             library,
@@ -218,8 +234,8 @@ impl<M> GpuAllocator<M> {
         self.block(block, props | coherent, Memory::Own(memory))
     }
 
-    /// Takes a block back, mapped or not. Memory objects that no block needs go back to the device, but for the last
-    /// of a free list, which [`cleanup`](GpuAllocator::cleanup) gives back.
+    /// Takes a block back, mapped or not. Memory objects that no block needs go back to the device, but for the last of a
+    /// free list and one fit chunk of a memory type, which [`cleanup`](GpuAllocator::cleanup) gives back.
     ///
     /// # Panics
     ///

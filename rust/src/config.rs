@@ -1,4 +1,4 @@
-//! The sizes by which the allocator decides.
+//! The sizes by which the allocator decides, and how requests share memory objects.
 
 /// The sizes by which the allocator decides, in bytes. Any values serve: the allocator cuts them to what a heap can
 /// hold.
@@ -16,7 +16,8 @@ pub struct Config {
     /// ([`UsageFlags::TRANSIENT`](crate::UsageFlags::TRANSIENT)). The greater of the two counts.
     pub transient_dedicated_threshold: u64,
 
-    /// The size of a free list's first memory object.
+    /// The size of a free list's first memory object. With [`Sharing::Fit`] also that of the first fit chunk, and so of
+    /// the largest request that shares one.
     pub starting_free_list_chunk: u64,
 
     /// The size that the memory objects of a free list grow to.
@@ -61,4 +62,23 @@ impl Config {
             initial_buddy_dedicated_size: 8 << 10,
         }
     }
+}
+
+/// How requests that are not of transient use ([`UsageFlags::TRANSIENT`](crate::UsageFlags::TRANSIENT)), and get no memory
+/// object of their own, share objects ([`GpuAllocator::with_sharing`](crate::GpuAllocator::with_sharing)).
+#[derive(Clone, Copy, Debug, Default, PartialEq, Eq, Hash)]
+pub enum Sharing {
+    /// In buddy chunks, as in `gpu-alloc`: each block has a power of two of bytes and starts at a multiple of its size. Of
+    /// each memory type that it tries a call looks at 63 lengths at most, however many blocks are live.
+    #[default]
+    Buddy,
+
+    /// In fit chunks: each block is as long as asked, in whole grains (256 bytes, or the non-coherent atom where that is
+    /// larger). They hold less memory for the same requests. Where its lists show no place, a call looks at all blocks and
+    /// free runs in the fit chunks of each memory type that it tries, before a chunk is asked for.
+    ///
+    /// Requests over the size of the first chunk ([`Config::starting_free_list_chunk`], at most a 32nd of the heap) get an
+    /// object of their own: all of them, where that is less than a grain. Later chunks grow up to four times the first. Of each memory type at most one fit chunk stays
+    /// without a live block, until [`GpuAllocator::cleanup`](crate::GpuAllocator::cleanup).
+    Fit,
 }

@@ -37,7 +37,7 @@ macro_rules! structs {
 }
 
 constants! {
-    VERSION: u32 = 0x0000_0800;
+    VERSION: u32 = 0x0000_0900;
 
     OK: u32 = 0;
     ASK: u32 = 1;
@@ -71,6 +71,9 @@ constants! {
     PREFERRED: u32 = 1;
     REQUIRED: u32 = 2;
 
+    BUDDY: u64 = 0;
+    FIT: u64 = 1;
+
     MAX_QUESTIONS: usize = 64;
 }
 
@@ -101,6 +104,7 @@ structs! {
         final_free_list_chunk: u64,
         minimal_buddy_size: u64,
         initial_buddy_dedicated_size: u64,
+        sharing: u64,
     }
 
     struct wt_request Request {

@@ -26,7 +26,7 @@ pub mod vulkan;
 
 pub use allocator::GpuAllocator;
 pub use block::MemoryBlock;
-pub use config::Config;
+pub use config::{Config, Sharing};
 pub use error::{AllocationError, MapError, NewError};
 pub use request::{Dedicated, Request};
 pub use types::{

@@ -2,7 +2,7 @@
 
 use crate::error::NewError;
 use crate::ffi;
-use crate::{Config, DeviceProperties};
+use crate::{Config, DeviceProperties, Sharing};
 
 /// For how many names there is room at least where they are read.
 pub(crate) const ROOM: usize = 32;
@@ -28,8 +28,13 @@ unsafe impl Send for Library {}
 unsafe impl Sync for Library {}
 
 impl Library {
-    /// Opens one for a device of this granularity of buffers and images.
-    pub(crate) fn open(config: &Config, props: &DeviceProperties<'_>, granularity: u64) -> Result<Library, NewError> {
+    /// Opens one for a device of this granularity of buffers and images, whose requests share objects so.
+    pub(crate) fn open(
+        config: &Config,
+        props: &DeviceProperties<'_>,
+        granularity: u64,
+        sharing: Sharing,
+    ) -> Result<Library, NewError> {
         // SAFETY: it has no parameters. Only the patch level, its lower eight bits, may differ: the calls are then
         // the same.
         if (unsafe { ffi::wt_version() } ^ ffi::VERSION) >> 8 != 0 {
@@ -55,7 +60,7 @@ impl Library {
                 heaps.as_ptr(),
                 heaps.len(),
                 &limits_of(props, granularity),
-                &sizes_of(config),
+                &config_of(config, sharing),
             )
         };
         match status {
@@ -215,7 +220,7 @@ fn limits_of(props: &DeviceProperties<'_>, granularity: u64) -> ffi::Limits {
     }
 }
 
-fn sizes_of(config: &Config) -> ffi::Config {
+fn config_of(config: &Config, sharing: Sharing) -> ffi::Config {
     ffi::Config {
         dedicated_threshold: config.dedicated_threshold,
         preferred_dedicated_threshold: config.preferred_dedicated_threshold,
@@ -224,6 +229,10 @@ fn sizes_of(config: &Config) -> ffi::Config {
         final_free_list_chunk: config.final_free_list_chunk,
         minimal_buddy_size: config.minimal_buddy_size,
         initial_buddy_dedicated_size: config.initial_buddy_dedicated_size,
+        sharing: match sharing {
+            Sharing::Buddy => ffi::BUDDY,
+            Sharing::Fit => ffi::FIT,
+        },
     }
 }
 

@@ -2,7 +2,7 @@
 
 use std::fs::read_to_string;
 use std::path::{Path, PathBuf};
-use wallthyme::Config;
+use wallthyme::{Config, Sharing};
 
 /// The first of these files, as paths from the folder above this crate's, that is there.
 fn found(paths: &[&str]) -> Option<PathBuf> {
@@ -23,11 +23,13 @@ fn sizes(config: &Config) -> [u64; 7] {
     ]
 }
 
-/// The numbers between the braces behind a name.
-fn numbers_behind(text: &str, name: &str) -> Vec<u64> {
+/// The sizes between the braces behind a name, where the way to share objects stands last: as it is without a choice.
+fn sizes_behind(text: &str, name: &str) -> Vec<u64> {
     let rest = text.split_once(name).unwrap_or_else(|| panic!("{name} is not there")).1;
     let inside = rest.split_once('{').unwrap().1.split_once('}').unwrap().0;
-    inside.split(',').map(|number| number.trim().parse().unwrap()).collect()
+    let (sizes, sharing) = inside.rsplit_once(',').unwrap();
+    assert_eq!((sharing.trim(), Sharing::default()), ("WT_BUDDY", Sharing::Buddy), "{name}");
+    sizes.split(',').map(|number| number.trim().parse().unwrap()).collect()
 }
 
 /// The value of a product of numbers and units, as the proved sources write sizes.
@@ -55,8 +57,8 @@ fn sizes_in(text: &str, function: &str) -> Vec<u64> {
 fn the_header_has_the_same_configurations() {
     let header = found(&["c/wallthyme.h", "include/wallthyme.h"]).expect("the header is not there");
     let header = read_to_string(header).unwrap();
-    assert_eq!(numbers_behind(&header, "define WT_CONFIG_POTATO "), sizes(&Config::i_am_potato()));
-    assert_eq!(numbers_behind(&header, "define WT_CONFIG_PROTOTYPING "), sizes(&Config::i_am_prototyping()));
+    assert_eq!(sizes_behind(&header, "define WT_CONFIG_POTATO "), sizes(&Config::i_am_potato()));
+    assert_eq!(sizes_behind(&header, "define WT_CONFIG_PROTOTYPING "), sizes(&Config::i_am_prototyping()));
 }
 
 #[test]

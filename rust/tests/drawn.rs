@@ -24,11 +24,11 @@ struct World {
 }
 
 impl World {
-    fn new(seed: u64) -> World {
+    fn new(seed: u64, sharing: Sharing) -> World {
         World {
             random: Random(seed),
             device: Device::new(),
-            allocator: allocator(OBJECTS),
+            allocator: GpuAllocator::with_sharing(Config::i_am_potato(), offer(OBJECTS), 1, sharing).unwrap(),
             live: Vec::new(),
             granted: 0,
             refused: 0,
@@ -201,8 +201,9 @@ fn again(device: &Device, mut call: impl FnMut() -> Result<(), MapError>) -> boo
 #[test]
 fn drawn_calls_keep_the_books() {
     let mut ends = BTreeMap::new();
-    for seed in 0..60 {
-        let mut world = World::new(seed);
+    for seed in 0..120 {
+        let sharing = if seed < 60 { Sharing::Buddy } else { Sharing::Fit };
+        let mut world = World::new(seed, sharing);
         for step in 0..400 {
             world.step();
             if step % 50 == 0 {

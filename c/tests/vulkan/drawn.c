@@ -911,7 +911,7 @@ static stub_plan plan_of(uint64_t seed, uint32_t percent)
 }
 
 /* Small chunks, so that many objects come and go. */
-static const wt_config small_config = {
+static wt_config small_config = {
     .dedicated_threshold = 64 << 10,
     .preferred_dedicated_threshold = 8 << 10,
     .transient_dedicated_threshold = 128 << 10,
@@ -929,6 +929,7 @@ static void begin(world *o, const fault *planted)
     o->call = stub_table;
     o->info = info = stub_info(o->driver);
     info.other_objects = o->threads;
+    small_config.sharing = o->seed % 4 == 1 ? WT_BUDDY : WT_FIT;
     info.config = o->seed % 2 == 1 ? &small_config : NULL;
     if (o->seed % 4 == 1) {
         info.functions = &stub_table;
@@ -953,8 +954,11 @@ static void check_sums(world *o, const worker *workers)
     for (uint32_t type = 0; type < STUB_TYPES; type++) {
         wt_type_statistics sums;
         must(wtv_statistics(o->allocator, type, &sums) == VK_SUCCESS, "no statistics");
-        objects += sums.dedicated.objects + sums.imported.objects + sums.buddy.objects + sums.free_list.objects;
-        blocks += sums.dedicated.blocks + sums.imported.blocks + sums.buddy.blocks + sums.free_list.blocks;
+        const wt_kind_statistics *kinds[] = {&sums.dedicated, &sums.imported, &sums.buddy, &sums.free_list, &sums.fit};
+        for (size_t i = 0; i < LENGTH(kinds); i++) {
+            objects += kinds[i]->objects;
+            blocks += kinds[i]->blocks;
+        }
     }
     must(wtv_count(o->allocator, &counts) == VK_SUCCESS, "what is held is not counted");
     must(counts.blocks == live && blocks == live, "other blocks are counted than are live");

@@ -853,6 +853,14 @@ static void change_last_number(stub *s, wtv_create_info *info)
     other_version = WT_VERSION + 1;
 }
 
+static void share_in_a_third_way(stub *s, wtv_create_info *info)
+{
+    static wt_config third = WT_CONFIG_POTATO;
+    (void)s;
+    third.sharing = WT_FIT + 1;
+    info->config = &third;
+}
+
 #define UNFIT VK_ERROR_INITIALIZATION_FAILED
 
 static const creation creations[] = {
@@ -866,6 +874,7 @@ static const creation creations[] = {
     {"a version below 1.0", UNFIT, .spoil = say_no_version},
     {"an atom of 3 bytes", UNFIT, .atom = 3},
     {"pages of 3 bytes", UNFIT, .page = 3},
+    {"neither buddy nor fit chunks", UNFIT, .spoil = share_in_a_third_way},
     {"no lock", VK_ERROR_OUT_OF_HOST_MEMORY, .spoil = refuse_lock},
     {"another version of the library", UNFIT, .spoil = change_version},
     {"a version that differs in its last number", VK_SUCCESS, .spoil = change_last_number},
@@ -1532,6 +1541,7 @@ static void put_statistics(expected_text *e, wtv_allocator *a)
         put_kind(e, "imported", &type.imported);
         put_kind(e, "buddy", &type.buddy);
         put_kind(e, "free_list", &type.free_list);
+        put_kind(e, "fit", &type.fit);
         put(e, "}");
     }
     put(e, "]}");
@@ -1677,7 +1687,7 @@ static void run_no_budget(void)
 /* The unit that the usual configuration is counted in, over a heap that is device-local, and another one. */
 static void check_config(VkDeviceSize local, VkDeviceSize other, uint64_t unit)
 {
-    const wt_config wanted = {4 * unit, unit / 8, 16 * unit, unit, 16 * unit, 1024, unit};
+    const wt_config wanted = {4 * unit, unit / 8, 16 * unit, unit, 16 * unit, 1024, unit, WT_FIT};
     for (uint32_t place = 0; place < 2; place++) {
         VkPhysicalDeviceMemoryProperties memory = {.memoryHeapCount = 2};
         wt_config config;
@@ -1688,8 +1698,8 @@ static void check_config(VkDeviceSize local, VkDeviceSize other, uint64_t unit)
     }
 }
 
-/* How many bytes the first object has that small blocks share, which the configuration decides. */
-static VkDeviceSize first_chunk(const wt_config *config)
+/* How many bytes the first object has that small blocks share, and how it is shared, which the configuration decides. */
+static VkDeviceSize first_chunk(const wt_config *config, uint64_t sharing)
 {
     const VkMemoryRequirements needs = {SMALL, 1, 1u << STUB_LOCAL};
     stub_plan plan = stub_usual_plan();
@@ -1697,10 +1707,14 @@ static VkDeviceSize first_chunk(const wt_config *config)
     wtv_create_info info = stub_info(s);
     wtv_allocator *a = NULL;
     wtv_allocation allocation;
+    wt_type_statistics sums;
     info.config = config;
     expect(wtv_create(&info, &a) == VK_SUCCESS, "no allocator is created");
     expect(wtv_allocate(a, &needs, NULL, &allocation, NULL) == VK_SUCCESS, "no block is allocated");
     VkDeviceSize size = stub_held_now(s).bytes[STUB_LOCAL_HEAP];
+    expect(wtv_statistics(a, STUB_LOCAL, &sums) == VK_SUCCESS, "no statistics");
+    expect(sums.buddy.objects == (sharing == WT_BUDDY) && sums.fit.objects == (sharing == WT_FIT),
+           "an object is shared in another way");
     expect(wtv_free(a, allocation) == VK_SUCCESS, "a block is not taken back");
     closed(s, a);
     return size;
@@ -1710,6 +1724,7 @@ static void run_configs(void)
 {
     const VkDeviceSize mebibyte = 1 << 20, gibibyte = 1 << 30;
     const wt_config prototyping = WT_CONFIG_PROTOTYPING;
+    wt_config small_fit = small_config;
     VkPhysicalDeviceMemoryProperties memory = {.memoryHeapCount = 1, .memoryHeaps[0].size = 8 * gibibyte};
     wt_config config;
     current = "configurations";
@@ -1721,9 +1736,12 @@ static void run_configs(void)
     check_config(8 * gibibyte, 0, 8 * mebibyte);
     check_config(80 * gibibyte, 0, 8 * mebibyte);
     check_config(0, 2 * gibibyte, 2 * mebibyte);
-    expect(first_chunk(NULL) == 64 << 10, "an allocator without a configuration does not take the usual one");
-    expect(first_chunk(&small_config) == 8 << 10, "an allocator does not take the program's configuration");
+    expect(first_chunk(NULL, WT_FIT) == 64 << 10, "an allocator without a configuration does not take the usual one");
+    expect(first_chunk(&small_config, WT_BUDDY) == 8 << 10, "an allocator does not take the program's configuration");
+    small_fit.sharing = WT_FIT;
+    expect(first_chunk(&small_fit, WT_FIT) == 8 << 10, "an allocator does not take the program's configuration");
     wtv_default_config(&memory, &config);
+    config.sharing = WT_BUDDY;
     expect(memcmp(&config, &prototyping, sizeof config) == 0, "8 GiB do not get WT_CONFIG_PROTOTYPING");
 }
 

@@ -12,11 +12,12 @@ use Rattle.gpu_alloc_block.specs.Agreement.{Agrees}
 use Rattle.gpu_alloc.specs.Allocation.{AllocatesBy, IsAsCounted, Plan, ObjectsAfter, ObjectsWith, strategy}
 use Rattle.gpu_alloc.specs.BuddySharing.{buddy_question, buddy_size, with_span}
 use Rattle.gpu_alloc.specs.Candidates.{candidate}
+use Rattle.gpu_alloc.specs.FitSharing.{fit_question, fit_size}
 use Rattle.gpu_alloc.specs.FreeListSharing.{latest_number, list_question, list_size}
 use Rattle.gpu_alloc_block.specs.State.{Block, HeldObject, State, is_shared, span_of}
 use Rattle.gpu_alloc.specs.declared.allocator.Strategy.{Strategy}
-use Rattle.gpu_alloc.specs.declared.allocator.Strategy.TheVariants.{OwnObject, InBuddyChunk, InFreeList}
-use Rattle.gpu_alloc_block.specs.declared.block.Kind.TheVariants.{Dedicated as DedicatedObject, Imported, BuddyChunk, FreeListChunk}
+use Rattle.gpu_alloc.specs.declared.allocator.Strategy.TheVariants.{OwnObject, InBuddyChunk, InFreeList, InFitChunk}
+use Rattle.gpu_alloc_block.specs.declared.block.Kind.TheVariants.{Dedicated as DedicatedObject, Imported, BuddyChunk, FreeListChunk, FitChunk}
 use Rattle.gpu_alloc.specs.declared.request.Request.{Request}
 use Rattle.gpu_alloc.proofs.Agreeing.{agrees_kept, agrees_with_object, agrees_with_span}
 use Rattle.gpu_alloc.proofs.Decisions.{allocates_kept, of_grant}
@@ -53,6 +54,8 @@ module _ (s : State) (p : Properties) (f g : ℕ → Option Object) (agrees : Ag
     given_agrees InBuddyChunk r t es (inr gives) = in_object (record { memory_type = t; counted = (buddy_question s t (buddy_size s r t)).size; kind = BuddyChunk }) gives.place.was_free (λ imported. absurd (cc)) (ap (λ (x : State). x.properties) gives.state) (ap (λ (x : State). x.held) gives.state) (ap (λ (x : State). x.live) gives.state)
     given_agrees InFreeList r t es (inl gives) = let own = gives.place.tail.chunk in in_chunk own.chunk own.held (ap is_shared own.of_kind) gives.state
     given_agrees InFreeList r t es (inr gives) = in_object (record { memory_type = t; counted = (list_question s t (list_size s r t)).size; kind = FreeListChunk (latest_number s t + 1) }) gives.place.was_free (λ imported. absurd (cc)) (ap (λ (x : State). x.properties) gives.state) (ap (λ (x : State). x.held) gives.state) (ap (λ (x : State). x.live) gives.state)
+    given_agrees InFitChunk r t es (inl gives) = let own = gives.place.fitting.chunk in in_chunk own.chunk own.held (ap is_shared own.of_kind) gives.state
+    given_agrees InFitChunk r t es (inr gives) = in_object (record { memory_type = t; counted = (fit_question s t (fit_size s r t)).size; kind = FitChunk }) gives.place.was_free (λ imported. absurd (cc)) (ap (λ (x : State). x.properties) gives.state) (ap (λ (x : State). x.held) gives.state) (ap (λ (x : State). x.live) gives.state)
 
   pub allocates_agrees : (q : Properties) (w : Plan) (es : List Event) (answer : Result Block AllocationError) (new : State) → q ≡ p → AllocatesBy s w es answer new → ObjectsAfter s answer new f g → Agrees new q g
   allocates_agrees q w es (Ok b) new same h objects =

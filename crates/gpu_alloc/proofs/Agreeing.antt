@@ -15,7 +15,7 @@ use Rattle.gpu_alloc.specs.Allocation.{IsAsCounted}
 use Rattle.gpu_alloc.specs.BuddySharing.{with_span}
 use Rattle.gpu_alloc_base.specs.NewObject.{HasOneMore}
 use Rattle.gpu_alloc_block.specs.declared.block.Kind.{Kind}
-use Rattle.gpu_alloc_block.specs.declared.block.Kind.TheVariants.{Dedicated, Imported, BuddyChunk, FreeListChunk}
+use Rattle.gpu_alloc_block.specs.declared.block.Kind.TheVariants.{Dedicated, Imported, BuddyChunk, FreeListChunk, FitChunk}
 use Rattle.gpu_alloc_base.proofs.Maps.{name_test, one_value, own_inserted}
 use Rattle.gpu_alloc_block.proofs.LiveSpans.{live_before, live_other}
 
@@ -28,6 +28,7 @@ counted_kept Dedicated s now name counted o same older is = is
 counted_kept Imported s now name counted o same older is = λ span live of_it. subst (λ p. IsInside p span o) (sym same) (is span (older span live of_it) of_it)
 counted_kept BuddyChunk s now name counted o same older is = (is.0, subst (λ p. IsMappedWhole p o) (sym same) is.1)
 counted_kept (FreeListChunk number) s now name counted o same older is = (is.0, subst (λ p. IsMappedWhole p o) (sym same) is.1)
+counted_kept FitChunk s now name counted o same older is = (is.0, subst (λ p. IsMappedWhole p o) (sym same) is.1)
 
 pub there_kept : (s now : State) (name : ℕ) (h : HeldObject) (o : Object) → now.properties ≡ s.properties → IsOlder s now name → IsThere s name h o → IsThere now name h o
 there_kept s now name h o same older is = record { of_type = is.of_type; of_size = counted_kept h.kind s now name h.counted o same older is.of_size }
@@ -81,6 +82,7 @@ counted_shared Dedicated s now name counted o shared same is = absurd (cc)
 counted_shared Imported s now name counted o shared same is = absurd (cc)
 counted_shared BuddyChunk s now name counted o shared same is = (is.0, subst (λ p. IsMappedWhole p o) (sym same) is.1)
 counted_shared (FreeListChunk number) s now name counted o shared same is = (is.0, subst (λ p. IsMappedWhole p o) (sym same) is.1)
+counted_shared FitChunk s now name counted o shared same is = (is.0, subst (λ p. IsMappedWhole p o) (sym same) is.1)
 
 -- in a shared object
 pub agrees_with_span : (s : State) (p : Properties) (f : ℕ → Option Object) (own : Span) (h : HeldObject) → Agrees s p f → finite.get s.held own.object ≡ Some h → is_shared h.kind ≡ true → Agrees (with_span s own) p f
@@ -114,6 +116,7 @@ counted_as_made Dedicated p s name t counted o no_import same is = is.of_size
 counted_as_made Imported p s name t counted o no_import same is = absurd (no_import refl)
 counted_as_made BuddyChunk p s name t counted o no_import same is = (is.of_size, mapped_whole p s t counted o same is.of_type is.of_size is.mapped)
 counted_as_made (FreeListChunk number) p s name t counted o no_import same is = (is.of_size, mapped_whole p s t counted o same is.of_type is.of_size is.mapped)
+counted_as_made FitChunk p s name t counted o no_import same is = (is.of_size, mapped_whole p s t counted o same is.of_type is.of_size is.mapped)
 
 -- in such an object
 pub agrees_with_object : (s now : State) (p : Properties) (f g : ℕ → Option Object) (own : Span) (h : HeldObject) → Agrees s p f → now.properties ≡ s.properties → now.held ≡ finite.insert s.held own.object h → now.live ≡ set.insert s.live own

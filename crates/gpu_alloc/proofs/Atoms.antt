@@ -1,5 +1,5 @@
--- The atom of a memory type, by its properties.
-use Rattle.std.proofs.Common.{◌≡◌, ℕ, ◌+◌, ◌-◌, ◌*◌, ◌^◌, ◌<◌, Bool, true, false, cond, not, ◌==◌, IsTrue, sym, ◌∙◌, ap, subst, arith, inl, inr}
+-- The atom of a memory type, by its properties, and the grain of its fit chunks.
+use Rattle.std.proofs.Common.{◌≡◌, ℕ, ◌+◌, ◌-◌, ◌*◌, ◌^◌, ◌<◌, Bool, true, false, cond, not, ◌==◌, IsTrue, max, refl, sym, ◌∙◌, ap, subst, arith, inl, inr}
 use Rattle.std.proofs.lemmas.Bool.{cases_eq}
 use Rattle.std.proofs.lemmas.Bool.Decides.{nat_tests}
 use Rattle.std.proofs.lemmas.Nat.{pow_pos}
@@ -7,7 +7,7 @@ use Rattle.std.proofs.lemmas.Nat.Bits.{and_pow}
 use Rattle.std.specs.Int.{bit_at, is_power_of_two}
 use Rattle.std.specs.Int.Bits.{bit_and}
 use Rattle.gpu_alloc_types.specs.Flags.{has_bit, has_all_bits}
-use Rattle.gpu_alloc_base.proofs.PowersOfTwo.{bit_of_power, power_of_bit}
+use Rattle.gpu_alloc_base.proofs.PowersOfTwo.{bit_of_power, greater_power, power_of_bit}
 
 -- a mask of one bit
 pub one_bit-all : (bits k : ℕ) → has_all_bits bits (2 ^ k) ≡ has_bit bits (2 ^ k)
@@ -35,6 +35,12 @@ atom_power size atom false power is = subst (λ n. IsTrue (is_power_of_two n)) (
 
 pub some_atom : (size atom : ℕ) (b : Bool) → IsTrue (is_power_of_two size) → atom ≡ cond b size 1 → 0 < atom
 some_atom size atom b power is = let k = power_of_bit atom (atom_power size atom b power is) in omega (arith, k.1, pow_pos k.0)
+
+-- and so is a grain
+pub grain_power : (atom g : ℕ) → IsTrue (is_power_of_two atom) → g ≡ max atom 256 → IsTrue (is_power_of_two g)
+grain_power atom g power is =
+    let both = greater_power atom 256 (power_of_bit atom power) (8, refl) in
+    subst (λ n. IsTrue (is_power_of_two n)) (sym (is ∙ both.1)) (bit_of_power both.0)
 
 pub one_more : (n : ℕ) → IsTrue (is_power_of_two n) → n - 1 + 1 ≡ n
 one_more n power = let k = power_of_bit n power in omega (arith, k.1, pow_pos k.0)

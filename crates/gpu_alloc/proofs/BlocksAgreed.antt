@@ -16,14 +16,14 @@ use Rattle.gpu_alloc_block.specs.Agreement.{Agrees, BlockAgrees, IsBeneath, IsCo
 use Rattle.gpu_alloc_block.specs.Ranges.{mapped_range}
 use Rattle.gpu_alloc_block.specs.State.{Block, HeldObject, Span, State, is_shared, span_of}
 use Rattle.gpu_alloc_block.specs.declared.block.Kind.{Kind}
-use Rattle.gpu_alloc_block.specs.declared.block.Kind.TheVariants.{Dedicated as DedicatedObject, Imported, BuddyChunk, FreeListChunk}
+use Rattle.gpu_alloc_block.specs.declared.block.Kind.TheVariants.{Dedicated as DedicatedObject, Imported, BuddyChunk, FreeListChunk, FitChunk}
 use Rattle.gpu_alloc_block.specs.declared.block.Mapping.{Mapping}
 use Rattle.gpu_alloc.specs.Allocation.{AllocatesBy, IsAsCounted, IsGranted, Plan, ObjectsAfter, ObjectsWith, strategy}
 use Rattle.gpu_alloc.specs.Candidates.{candidate}
 use Rattle.gpu_alloc.specs.Release.{Cleans, Frees, ObjectsCleaned, ObjectsFreed, without_all, without_objects, without_span}
 use Rattle.gpu_alloc.specs.Sound.{IsSound, LiesIn}
 use Rattle.gpu_alloc.specs.declared.allocator.Strategy.{Strategy}
-use Rattle.gpu_alloc.specs.declared.allocator.Strategy.TheVariants.{OwnObject, InBuddyChunk, InFreeList}
+use Rattle.gpu_alloc.specs.declared.allocator.Strategy.TheVariants.{OwnObject, InBuddyChunk, InFreeList, InFitChunk}
 use Rattle.gpu_alloc.specs.declared.request.Request.{Request}
 use Rattle.gpu_alloc.proofs.Changes.{all_same, allocates_grow, goes_same, objects_stay, owned_within}
 use Rattle.gpu_alloc.proofs.Decisions.{of_grant}
@@ -46,6 +46,8 @@ given_object InBuddyChunk s r t es b new (inl gives) = of_shared s b (ap (λ (x 
 given_object InBuddyChunk s r t es b new (inr gives) = of_shared s b (ap (λ (x : Block). is_shared x.kind) gives.place.is)
 given_object InFreeList s r t es b new (inl gives) = of_shared s b (ap (λ (x : Block). is_shared x.kind) gives.place.is)
 given_object InFreeList s r t es b new (inr gives) = of_shared s b (ap (λ (x : Block). is_shared x.kind) gives.place.is)
+given_object InFitChunk s r t es b new (inl gives) = of_shared s b (ap (λ (x : Block). is_shared x.kind) gives.place.is)
+given_object InFitChunk s r t es b new (inr gives) = of_shared s b (ap (λ (x : Block). is_shared x.kind) gives.place.is)
 
 -- What is held for a block, on the device.
 
@@ -54,12 +56,14 @@ whole_of DedicatedObject s span counted o own lies is = (lies.0, lies.1 ∙ sym 
 whole_of Imported s span counted o own lies is = absurd (cc)
 whole_of BuddyChunk s span counted o own lies is = absurd (cc)
 whole_of (FreeListChunk number) s span counted o own lies is = absurd (cc)
+whole_of FitChunk s span counted o own lies is = absurd (cc)
 
 shared_mapped : (k : Kind) (s : State) (name counted : ℕ) (o : Object) → is_shared k ≡ true → IsCounted k s name counted o → IsMappedWhole s.properties o
 shared_mapped DedicatedObject s name counted o shared is = absurd (cc)
 shared_mapped Imported s name counted o shared is = absurd (cc)
 shared_mapped BuddyChunk s name counted o shared is = is.1
 shared_mapped (FreeListChunk number) s name counted o shared is = is.1
+shared_mapped FitChunk s name counted o shared is = is.1
 
 -- a new object of one block is not mapped
 made_unmapped : (p : Properties) (h : HeldObject) (o : Object) → is_shared h.kind ≡ false → IsAsCounted p h o → o.mapped ≡ None
@@ -77,6 +81,7 @@ ends DedicatedObject n offset size end no_import whole atoms = inr (let is = who
 ends Imported n offset size end no_import whole atoms = absurd (no_import refl)
 ends BuddyChunk n offset size end no_import whole atoms = inl (let is = atoms refl in sum_whole n offset size is.0 is.1)
 ends (FreeListChunk number) n offset size end no_import whole atoms = inl (let is = atoms refl in sum_whole n offset size is.0 is.1)
+ends FitChunk n offset size end no_import whole atoms = inl (let is = atoms refl in sum_whole n offset size is.0 is.1)
 
 module _ (s new : State) (r : Request) (b : Block) (q : Properties) (f g : ℕ → Option Object) (sound : IsSound new) (agrees : Agrees new q g) (same : new.properties ≡ s.properties) (granted : IsGranted s r new b) (made : IsOfNewOrShared s b) (objects : ObjectsWith s b new f g) where
   own_unmapped : (h : HeldObject) (o : Object) → map.get new.held b.object ≡ Some h → h.kind ≡ b.kind → g b.object ≡ Some o → is_shared b.kind ≡ false → o.mapped ≡ None

@@ -17,7 +17,7 @@ use Rattle.gpu_alloc.specs.Candidates.{candidate}
 use Rattle.gpu_alloc.specs.FreeListSharing.{list_alignment, list_size}
 use Rattle.gpu_alloc.specs.Sound.{IsSound}
 use Rattle.gpu_alloc.specs.declared.allocator.Strategy.{Strategy}
-use Rattle.gpu_alloc.specs.declared.allocator.Strategy.TheVariants.{OwnObject, InBuddyChunk, InFreeList}
+use Rattle.gpu_alloc.specs.declared.allocator.Strategy.TheVariants.{OwnObject, InBuddyChunk, InFreeList, InFitChunk}
 use Rattle.gpu_alloc.specs.declared.request.Dedicated.{Dedicated}
 use Rattle.gpu_alloc.specs.declared.request.Request.{Request}
 use Rattle.gpu_alloc_base.proofs.FreeRuns.{tail_below}
@@ -55,6 +55,9 @@ place_of InFreeList s r t b fits is =
         free = λ at from to. last.run.free at (omega (arith, from, last.room.from)) (omega (arith, to, tail_below size alignment end, last.room.enough));
       },
     )
+place_of InFitChunk s r t b fits is =
+    let fitting = is.fitting in
+    (b.object, b.offset, record { aligned = fitting.aligned; free = λ at from to. fitting.free at from (omega (arith, to, fitting.exact)) })
 
 pub asked_within : (s : State) (r : Request) (hint : Option Dedicated) (t : ℕ) (es : List Event) (answer : Result (Option Block) AllocationError) (new : State) → Tries s r hint t es answer new → r.size ≤ heap_size s.properties t
     → HasQuestion (candidate (strategy s r hint t) s r t) → IsWithinBudget (candidate (strategy s r hint t) s r t) → IsDevicesAnswer (candidate (strategy s r hint t) s r t) es answer

@@ -10,20 +10,20 @@ use Rattle.gpu_alloc.specs.Allocation.{AllocatesBy, Plan, strategy}
 use Rattle.gpu_alloc_block.specs.Agreement.{Agrees, IsCounted}
 use Rattle.gpu_alloc.specs.Candidates.{candidate}
 use Rattle.gpu_alloc.specs.Owned.{HoldsWith}
-use Rattle.gpu_alloc.specs.Release.{AreAllGone, AreChunksGone, GoesWith, without_all, without_objects}
+use Rattle.gpu_alloc.specs.Release.{AreAllGone, AreChunksGone, AreFitsGone, AreGoneOfType, GoesWith, without_all, without_objects}
 use Rattle.gpu_alloc.specs.Sound.{IsSound, LiesIn}
 use Rattle.gpu_alloc_block.specs.State.{State, Block, HeldObject, Span, span_of, AreApart, IsLive, IsOwned}
 use Rattle.gpu_alloc.specs.declared.allocator.Strategy.{Strategy}
-use Rattle.gpu_alloc.specs.declared.allocator.Strategy.TheVariants.{OwnObject, InBuddyChunk, InFreeList}
+use Rattle.gpu_alloc.specs.declared.allocator.Strategy.TheVariants.{OwnObject, InBuddyChunk, InFreeList, InFitChunk}
 use Rattle.gpu_alloc_block.specs.declared.block.Kind.{Kind}
-use Rattle.gpu_alloc_block.specs.declared.block.Kind.TheVariants.{Dedicated as DedicatedObject, Imported, BuddyChunk, FreeListChunk}
+use Rattle.gpu_alloc_block.specs.declared.block.Kind.TheVariants.{Dedicated as DedicatedObject, Imported, BuddyChunk, FreeListChunk, FitChunk}
 use Rattle.gpu_alloc.specs.declared.request.Request.{Request}
 use Rattle.gpu_alloc_types.specs.Properties.{Properties}
 use Rattle.gpu_alloc_base.proofs.Lists.{contains_head, contains_later, contains_cases, contains_none}
 use Rattle.gpu_alloc_base.proofs.Maps.{one_value}
 use Rattle.gpu_alloc_base.proofs.Names.{here, one_or_two, get_removed-other, get_put-other, len_put}
 use Rattle.gpu_alloc.proofs.Decisions.{of_grant}
-use Rattle.gpu_alloc.proofs.FreeLists.Gone.{kept_was}
+use Rattle.gpu_alloc.proofs.FreeLists.Gone.{gone_held, kept_was}
 use Rattle.gpu_alloc.proofs.Ledgers.{Held}
 use Rattle.gpu_alloc_block.proofs.LiveSpans.{live_still}
 
@@ -34,6 +34,7 @@ pub record Grows (s : State) (b : Block) (new : State) : Type 0 where
   pub live : new.live ≡ set.insert s.live (span_of b)
   pub held : HoldsWith s b new
   pub properties : new.properties ≡ s.properties
+  pub sharing : new.sharing ≡ s.sharing
   pub config : new.config ≡ s.config
   pub limits : new.heap_limits ≡ s.heap_limits
 
@@ -69,11 +70,13 @@ grows_like s b like new same grows = subst (Grows s b) (sym same) grows
 
 grant_grows : (w : Strategy) (s : State) (r : Request) (t : ℕ) (es : List Event) (b : Block) (new : State) → case.Decides (candidate w s r t) es (Ok b) new → Grows s b new
 grant_grows OwnObject s r t es b new (inl gives) = absurd gives.place
-grant_grows OwnObject s r t es b new (inr gives) = grows_like s b _ new gives.state (record { live = refl; held = holds_one_more s b _ _ gives.place.was_free refl; properties = refl; config = refl; limits = refl })
-grant_grows InBuddyChunk s r t es b new (inl gives) = grows_like s b _ new gives.state (record { live = refl; held = holds_as_before s b _ refl; properties = refl; config = refl; limits = refl })
-grant_grows InBuddyChunk s r t es b new (inr gives) = grows_like s b _ new gives.state (record { live = refl; held = holds_one_more s b _ _ gives.place.was_free refl; properties = refl; config = refl; limits = refl })
-grant_grows InFreeList s r t es b new (inl gives) = grows_like s b _ new gives.state (record { live = refl; held = holds_as_before s b _ refl; properties = refl; config = refl; limits = refl })
-grant_grows InFreeList s r t es b new (inr gives) = grows_like s b _ new gives.state (record { live = refl; held = holds_one_more s b _ _ gives.place.was_free refl; properties = refl; config = refl; limits = refl })
+grant_grows OwnObject s r t es b new (inr gives) = grows_like s b _ new gives.state (record { live = refl; held = holds_one_more s b _ _ gives.place.was_free refl; properties = refl; sharing = refl; config = refl; limits = refl })
+grant_grows InBuddyChunk s r t es b new (inl gives) = grows_like s b _ new gives.state (record { live = refl; held = holds_as_before s b _ refl; properties = refl; sharing = refl; config = refl; limits = refl })
+grant_grows InBuddyChunk s r t es b new (inr gives) = grows_like s b _ new gives.state (record { live = refl; held = holds_one_more s b _ _ gives.place.was_free refl; properties = refl; sharing = refl; config = refl; limits = refl })
+grant_grows InFreeList s r t es b new (inl gives) = grows_like s b _ new gives.state (record { live = refl; held = holds_as_before s b _ refl; properties = refl; sharing = refl; config = refl; limits = refl })
+grant_grows InFreeList s r t es b new (inr gives) = grows_like s b _ new gives.state (record { live = refl; held = holds_one_more s b _ _ gives.place.was_free refl; properties = refl; sharing = refl; config = refl; limits = refl })
+grant_grows InFitChunk s r t es b new (inl gives) = grows_like s b _ new gives.state (record { live = refl; held = holds_as_before s b _ refl; properties = refl; sharing = refl; config = refl; limits = refl })
+grant_grows InFitChunk s r t es b new (inr gives) = grows_like s b _ new gives.state (record { live = refl; held = holds_one_more s b _ _ gives.place.was_free refl; properties = refl; sharing = refl; config = refl; limits = refl })
 
 pub allocates_grow : (s : State) (p : Plan) (es : List Event) (b : Block) (new : State) → AllocatesBy s p es (Ok b) new → Grows s b new
 allocates_grow s p es b new = of_grant s p b new (λ t fs chosen decides. let a = p.asked t in grant_grows (strategy s a.request a.hint t) s a.request t fs b new decides.1) es
@@ -130,18 +133,30 @@ goes_held Imported s object gone there goes name has = is_held s object name gon
 goes_held BuddyChunk s object gone there (inl went) name has = is_held s object name gone went.1 there has
 goes_held BuddyChunk s object gone there (inr stays) name has = absurd (contains_none name (subst (λ names. Contains names name) stays.1 has))
 goes_held (FreeListChunk number) s object gone there goes name has = chunk_held s goes.0.memory_type true gone goes.2 name has
+goes_held FitChunk s object gone there (inl went) name has = is_held s object name gone went.1 there has
+goes_held FitChunk s object gone there (inr stays) name has = absurd (contains_none name (subst (λ names. Contains names name) stays.1 has))
 
 pub all_held : (s : State) (n : ℕ) (gone : List ℕ) → AreAllGone s n gone → (name : ℕ) → Contains gone name → (h : HeldObject) × (map.get s.held name ≡ Some h)
 all_held s zero gone none name has = absurd (contains_none name (subst (λ names. Contains names name) none has))
 all_held s (suc n) gone (earlier, own, both, before, chunks) name has = elim (Contains-append_cases earlier own name (subst (λ names. Contains names name) both has)) [
   | inl first ↦ all_held s n earlier before name first
-  | inr now ↦ chunk_held s n false own chunks name now
+  | inr now ↦ let is = gone_held s n own chunks name now in (is.0, is.1)
 ]
 
 -- What goes is settled, up to its order.
 
 chunks_same : (s : State) (t : ℕ) (keep_last : Bool) (gone also : List ℕ) → AreChunksGone s t keep_last gone → AreChunksGone s t keep_last also → (name : ℕ) → Contains gone name → Contains also name
 chunks_same s t keep_last gone also chunks others name has = (others.all name).1 ((chunks.all name).0 has)
+
+fits_same : (s : State) (t : ℕ) (gone also : List ℕ) → AreFitsGone s t gone → AreFitsGone s t also → (name : ℕ) → Contains gone name → Contains also name
+fits_same s t gone also fits others name has = (others.all name).1 ((fits.all name).0 has)
+
+type_same : (s : State) (t : ℕ) (gone also : List ℕ) → AreGoneOfType s t gone → AreGoneOfType s t also → (name : ℕ) → Contains gone name → Contains also name
+type_same s t gone also of_type others name has =
+    subst (λ names. Contains names name) (sym others.both) (elim (Contains-append_cases of_type.listed of_type.fitted name (subst (λ names. Contains names name) of_type.both has)) [
+      | inl listed ↦ Contains-append_left others.listed others.fitted name (chunks_same s t false of_type.listed others.listed of_type.of_list others.of_list name listed)
+      | inr fitted ↦ Contains-append_right others.listed others.fitted name (fits_same s t of_type.fitted others.fitted of_type.of_fits others.of_fits name fitted)
+    ])
 
 pub goes_same : (k : Kind) (s : State) (object : ℕ) (gone also : List ℕ) → GoesWith k s object gone → GoesWith k s object also → (name : ℕ) → Contains gone name → Contains also name
 goes_same DedicatedObject s object gone also goes same name has = subst (λ names. Contains names name) (goes ∙ sym same) has
@@ -153,13 +168,17 @@ goes_same BuddyChunk s object gone also (inr goes) (inr same) name has = subst (
 goes_same (FreeListChunk number) s object gone also goes same name has =
     let one : goes.0 ≡ same.0 = one_value _ goes.0 same.0 goes.1 same.1 in
     chunks_same s same.0.memory_type true gone also (subst (λ (h : HeldObject). AreChunksGone s h.memory_type true gone) one goes.2) same.2 name has
+goes_same FitChunk s object gone also (inl goes) (inl same) name has = subst (λ names. Contains names name) (goes.1 ∙ sym same.1) has
+goes_same FitChunk s object gone also (inl goes) (inr same) name has = absurd (same.0 goes.0)
+goes_same FitChunk s object gone also (inr goes) (inl same) name has = absurd (goes.0 same.0)
+goes_same FitChunk s object gone also (inr goes) (inr same) name has = subst (λ names. Contains names name) (goes.1 ∙ sym same.1) has
 
 pub all_same : (s : State) (n : ℕ) (gone also : List ℕ) → AreAllGone s n gone → AreAllGone s n also → (name : ℕ) → Contains gone name → Contains also name
 all_same s zero gone also none same name has = subst (λ names. Contains names name) (none ∙ sym same) has
 all_same s (suc n) gone also (earlier, own, both, before, chunks) (earlier', own', both', before', chunks') name has =
     subst (λ names. Contains names name) (sym both') (elim (Contains-append_cases earlier own name (subst (λ names. Contains names name) both has)) [
       | inl first ↦ Contains-append_left earlier' own' name (all_same s n earlier earlier' before before' name first)
-      | inr now ↦ Contains-append_right earlier' own' name (chunks_same s n false own own' chunks chunks' name now)
+      | inr now ↦ Contains-append_right earlier' own' name (type_same s n own own' chunks chunks' name now)
     ])
 
 -- Blocks that stay.
@@ -185,6 +204,7 @@ lies_within DedicatedObject s span counted o live lies is = omega (arith, lies.0
 lies_within Imported s span counted o live lies is = (is span live refl).within
 lies_within BuddyChunk s span counted o live lies is = omega (arith, lies, is.0)
 lies_within (FreeListChunk number) s span counted o live lies is = omega (arith, lies, is.0)
+lies_within FitChunk s span counted o live lies is = omega (arith, lies, is.0)
 
 -- where allocator and device agree, an owned block lies inside its object, which is of the block's memory type
 pub owned_within : (s : State) (p : Properties) (objects : ℕ → Option Object) (b : Block) → IsSound s → Agrees s p objects → IsOwned s b

@@ -1,4 +1,4 @@
--- An allocator at last: where no object is held, no buddy allocator and no free list has a chunk.
+-- An allocator at last: where no object is held, no buddy allocator, no free list and no allocator of fit chunks has a chunk.
 use Rattle.std.proofs.Common.{◌≡◌, ℕ, List, [], ◌∷◌, ◌++◌, length, get_or, Option, Some, None, IfSome, refl, ◌∙◌, ap, subst, cond, arith, length-append}
 use Rattle.std.proofs.lemmas.List.{get_or_append_left}
 use Rattle.std.proofs.lemmas.Option.{slice_get-get_or}
@@ -9,14 +9,15 @@ use Rattle.std.specs.Ordering.{nat_cmp}
 use Rattle.gpu_alloc_buddy.specs.BuddyState.{Buddy}
 use Rattle.gpu_alloc_base.specs.Chunks.{Chunk}
 use Rattle.gpu_alloc_freelist.specs.FreeListState.{Listing}
-use Rattle.gpu_alloc.proofs.Linked.{HasBuddies, HasLists}
-use Rattle.gpu_alloc.specs.Opening.{AreFirstBuddies}
+use Rattle.gpu_alloc.proofs.Linked.{HasBuddies, HasFits, HasLists}
+use Rattle.gpu_alloc.specs.Opening.{AreFirstBuddies, AreFirstListings}
 use Rattle.gpu_alloc.specs.Spans.{Table}
 use Rattle.gpu_alloc_block.specs.State.{HeldObject}
 use Rattle.gpu_alloc_base.specs.declared.config.Config.{Config}
 use Rattle.gpu_alloc_types.specs.Properties.{Properties}
 use Rattle.gpu_alloc.proofs.Ledgers.{Held}
 use Rattle.gpu_alloc_base.proofs.Maps.{name_test, eq-true}
+use Rattle.gpu_alloc_fit.specs.Fit.{Fitting}
 
 -- Maps.
 
@@ -56,6 +57,12 @@ first_chunkless c p buddies are = all_of_each HasNoChunk buddies _ (λ i b is. a
 abbrev pub IsEmptyList : Listing → Type 0
 IsEmptyList l = finite.len l.space.chunks ≡ 0
 
+pub first_lists_empty : (c : Config) (p : Properties) (lists : List Listing) → AreFirstListings c p lists → All IsEmptyList lists
+first_lists_empty c p lists are = all_of_each IsEmptyList lists _ (λ i l is. ap (λ (x : Listing). finite.len x.space.chunks) is.0 ∙ finite.len-empty nat_cmp Chunk) are
+
+abbrev pub IsEmptyFit : Fitting → Type 0
+IsEmptyFit f = finite.len f.space.chunks ≡ 0
+
 module _ (c : Config) (p : Properties) (t : Table) (none : finite.len t.held ≡ 0) where
   unheld : (object : ℕ) (h : HeldObject) → finite.get t.held object ≡ Some h → ⊥
   unheld object h held =
@@ -67,3 +74,6 @@ module _ (c : Config) (p : Properties) (t : Table) (none : finite.len t.held ≡
 
   pub lists_empty : (lists : List Listing) → HasLists c p t lists → All IsEmptyList lists
   lists_empty lists has = all_of_each IsEmptyList lists _ (λ i l is. empty_without_key l.space.chunks (λ number chunk found. unheld chunk.object _ (is.linked.chunks number chunk found))) has.each
+
+  pub fits_empty : (fits : List Fitting) → HasFits c p t fits → All IsEmptyFit fits
+  fits_empty fits has = all_of_each IsEmptyFit fits _ (λ i f is. empty_without_key f.space.chunks (λ key chunk found. unheld chunk.object _ (is.linked.chunks key chunk found))) has.each

@@ -14,7 +14,7 @@ use Rattle.gpu_alloc.specs.Budget.{asked_share, is_import}
 use Rattle.gpu_alloc.specs.Inside.{IsBooked, IsKnown, IsLedger, IsOfObject, IsLiveIn, AreSmall, AreLedgers, offer_of}
 use Rattle.gpu_alloc.specs.Sound.{LiesIn}
 use Rattle.gpu_alloc_block.specs.declared.block.Kind.{Kind}
-use Rattle.gpu_alloc_block.specs.declared.block.Kind.TheVariants.{Dedicated, Imported, BuddyChunk, FreeListChunk}
+use Rattle.gpu_alloc_block.specs.declared.block.Kind.TheVariants.{Dedicated, Imported, BuddyChunk, FreeListChunk, FitChunk}
 use Rattle.gpu_alloc_base.specs.declared.heap.Heap.{Heap}
 use Rattle.gpu_alloc.proofs.Ledgers.{asked-part, ledger-bound, Held, part-none, small-insert, small-remove}
 use Rattle.gpu_alloc_base.proofs.Sums.{sum_by-insert, sum_by-remove, len_more, len_less}
@@ -29,12 +29,13 @@ test-same a b n e = grind (arith, nat_tests)
 test-other : (a b n : ℕ) → a ≢ b → cond (a == b) n 0 ≡ 0
 test-other a b n e = grind (arith, nat_tests)
 
--- a chunk is one of a buddy allocator, or has its number in a free list
-pub chunk_kinds : (kind : Kind) → is_shared kind ≡ true → (kind ≡ BuddyChunk) ⊎ ((number : ℕ) × (kind ≡ FreeListChunk number))
+-- a chunk is one of a buddy allocator, has its number in a free list, or is a fit chunk
+pub chunk_kinds : (kind : Kind) → is_shared kind ≡ true → (kind ≡ BuddyChunk) ⊎ (((number : ℕ) × (kind ≡ FreeListChunk number)) ⊎ (kind ≡ FitChunk))
 chunk_kinds Dedicated chunk = absurd (cc)
 chunk_kinds Imported chunk = absurd (cc)
 chunk_kinds BuddyChunk chunk = inl refl
-chunk_kinds (FreeListChunk number) chunk = inr (number, refl)
+chunk_kinds (FreeListChunk number) chunk = inr (inl (number, refl))
+chunk_kinds FitChunk chunk = inr (inr refl)
 
 -- a held object with a span in it, which lies there as the object's kind says where it is no chunk
 pub record IsHeldWith (p : Properties) (h : HeldObject) (span : Span) : Type 0 where

@@ -15,7 +15,7 @@ use Rattle.gpu_alloc.specs.Request.{is_required}
 use Rattle.gpu_alloc.specs.Candidates.{candidate}
 use Rattle.gpu_alloc_block.specs.State.{State, Block, HeldObject, total}
 use Rattle.gpu_alloc.specs.declared.allocator.Strategy.{Strategy}
-use Rattle.gpu_alloc.specs.declared.allocator.Strategy.TheVariants.{OwnObject, InBuddyChunk, InFreeList}
+use Rattle.gpu_alloc.specs.declared.allocator.Strategy.TheVariants.{OwnObject, InBuddyChunk, InFreeList, InFitChunk}
 use Rattle.gpu_alloc.specs.declared.request.Dedicated.{Dedicated}
 use Rattle.gpu_alloc.specs.declared.request.Request.{Request}
 use Rattle.gpu_alloc_base.proofs.Lists.{all_contained, contains_head, contains_later}
@@ -28,6 +28,7 @@ before_is : (w : Strategy) (s : State) (r : Request) (t : ℕ) → (candidate w 
 before_is OwnObject s r t = refl
 before_is InBuddyChunk s r t = refl
 before_is InFreeList s r t = refl
+before_is InFitChunk s r t = refl
 
 case_refused : (c : Case Block State) (es : List Event) (e : AllocationError) (new : State) → case.Decides c es (Err e) new → new ≡ c.before
 case_refused c es TooManyObjects new refused = refused.0
@@ -51,6 +52,8 @@ grant_total InBuddyChunk s r t es b new (inl gives) = ap total gives.state
 grant_total InBuddyChunk s r t es b new (inr gives) = ap total gives.state ∙ one_more s b.object _ _ gives.asks.has.remains.objects gives.place.was_free refl
 grant_total InFreeList s r t es b new (inl gives) = ap total gives.state
 grant_total InFreeList s r t es b new (inr gives) = ap total gives.state ∙ one_more s b.object _ _ gives.asks.has.remains.objects gives.place.was_free refl
+grant_total InFitChunk s r t es b new (inl gives) = ap total gives.state
+grant_total InFitChunk s r t es b new (inr gives) = ap total gives.state ∙ one_more s b.object _ _ gives.asks.has.remains.objects gives.place.was_free refl
 
 decides_total : (s : State) (r : Request) (hint : Option Dedicated) (t : ℕ) (es : List Event) (answer : Result Block AllocationError) (new : State) → Decides s r hint t es answer new → total new ≡ total s
 decides_total s r hint t es (Ok b) new decides = grant_total (strategy s r hint t) s r t es b new decides.1

@@ -1,5 +1,5 @@
 -- Each free byte lies in one free range, and each byte of a free range is free.
-use Rattle.std.proofs.Common.{◌≡◌, ◌⊎◌, inl, inr, ℕ, ◌+◌, ◌<◌, ◌≤◌, Bool, true, not, ◌&&◌, ◌==◌, min, max, refl, sym, ◌∙◌, ap, subst, arith}
+use Rattle.std.proofs.Common.{◌≡◌, ◌⊎◌, inl, inr, ℕ, ◌+◌, ◌<◌, ◌≤◌, Bool, true, false, not, ◌&&◌, ◌==◌, min, max, refl, sym, ◌∙◌, ap, subst, arith}
 use Rattle.std.proofs.lemmas.Nat.{pow_pos}
 use Rattle.std.proofs.lemmas.Bool.{cases_lt}
 use Rattle.std.proofs.lemmas.Bool.Decides.{nat_tests}
@@ -16,10 +16,10 @@ use Rattle.gpu_alloc_base.proofs.Lists.{seek}
 use Rattle.gpu_alloc_base.proofs.Maps.{one_value}
 use Rattle.gpu_alloc_block.specs.State.{HeldObject, Span, State, IsLive, is_shared}
 use Rattle.gpu_alloc_block.specs.declared.block.Kind.{Kind}
-use Rattle.gpu_alloc_block.specs.declared.block.Kind.TheVariants.{Dedicated, Imported, BuddyChunk, FreeListChunk}
+use Rattle.gpu_alloc_block.specs.declared.block.Kind.TheVariants.{Dedicated, Imported, BuddyChunk, FreeListChunk, FitChunk}
 use Rattle.gpu_alloc_block.proofs.LiveSpans.{span_test, span_total}
 use Rattle.gpu_alloc.specs.FreeBytes.{IsFreeByte}
-use Rattle.gpu_alloc.specs.FreeRanges.{HasByte, IsFreeOf, IsFreePieceOf, IsFreeRunOf, IsFreeRangeOf}
+use Rattle.gpu_alloc.specs.FreeRanges.{HasByte, IsFreeOf, IsFreePieceOf, IsFreeRunOf, IsFreeRangeOf, has_runs}
 use Rattle.gpu_alloc.proofs.LongestRanges.{piece_around, run_around}
 
 -- A byte can be tested.
@@ -68,6 +68,12 @@ module _ (s : State) (t : ℕ) (kind : Kind) (object at : ℕ) (free : IsFreeByt
 pub free_byte_covered : (s : State) (t object at : ℕ) → IsFreeOf s t object at → (r : FreeRange) × IsFreeRangeOf s t r × HasByte r object at
 free_byte_covered s t object at is = cases is.kind is.shared is.free
   where
+    in_run : (kind : Kind) → has_runs kind ≡ true → IsFreeByte s t kind object at → (r : FreeRange) × IsFreeRangeOf s t r × HasByte r object at
+    in_run kind runs free =
+        let a = run_around (IsFreeByte s t kind) object (test_byte s t kind object at free) free.chunk.counted (ends s t kind object at free) at free in
+        let r : FreeRange = record { object = object; start = a.start; end = a.past } in
+        (r, inr (record { kind = kind; in_runs = runs; run = a.run }), record { of = refl; from = a.from; to = a.to })
+
     cases : (kind : Kind) → is_shared kind ≡ true → IsFreeByte s t kind object at → (r : FreeRange) × IsFreeRangeOf s t r × HasByte r object at
     cases Dedicated shared free = absurd (cc)
     cases Imported shared free = absurd (cc)
@@ -75,11 +81,8 @@ free_byte_covered s t object at is = cases is.kind is.shared is.free
         let p = piece_around (IsFreeByte s t BuddyChunk) object (test_byte s t BuddyChunk object at free) free.chunk.counted (ends s t BuddyChunk object at free) at free in
         let r : FreeRange = record { object = object; start = p.start; end = p.start + p.length } in
         (r, inl (record { length = p.length; end = refl; piece = p.piece }), record { of = refl; from = p.inside.from; to = p.inside.to })
-    cases (FreeListChunk number) shared free =
-        let F = IsFreeByte s t (FreeListChunk number) in
-        let a = run_around F object (test_byte s t (FreeListChunk number) object at free) free.chunk.counted (ends s t (FreeListChunk number) object at free) at free in
-        let r : FreeRange = record { object = object; start = a.start; end = a.past } in
-        (r, inr (record { number = number; run = a.run }), record { of = refl; from = a.from; to = a.to })
+    cases (FreeListChunk number) shared free = in_run (FreeListChunk number) refl free
+    cases FitChunk shared free = in_run FitChunk refl free
 
 -- Each byte of a range is free, and two ranges share none.
 
@@ -89,10 +92,18 @@ range_nonempty s t r is = elim is [ inl piece ↦ omega (arith, piece.end, some_
     some_bytes : (p : IsFreePieceOf s t r) → 0 < p.length
     some_bytes p = let power = p.piece.place.power in let some = pow_pos power.0 in omega (arith, some, power.1)
 
+-- an object in which runs are free is shared
+runs_shared : (kind : Kind) → has_runs kind ≡ true → is_shared kind ≡ true
+runs_shared Dedicated runs = absurd (cc)
+runs_shared Imported runs = absurd (cc)
+runs_shared BuddyChunk runs = refl
+runs_shared (FreeListChunk number) runs = refl
+runs_shared FitChunk runs = refl
+
 pub range_is_free : (s : State) (t : ℕ) (r : FreeRange) → IsFreeRangeOf s t r → (object at : ℕ) → HasByte r object at → IsFreeOf s t object at
 range_is_free s t r is object at has = subst (λ o. IsFreeOf s t o at) has.of (elim is [
   | inl piece ↦ record { kind = BuddyChunk; shared = refl; free = piece.piece.place.free at (record { from = has.from; to = omega (arith, has.to, piece.end) }) }
-  | inr run ↦ record { kind = FreeListChunk run.number; shared = refl; free = run.run.free at has.from has.to }
+  | inr run ↦ record { kind = run.kind; shared = runs_shared run.kind run.in_runs; free = run.run.free at has.from has.to }
 ])
 
 -- two runs that share a byte are one
@@ -112,17 +123,21 @@ same_range : (r q : FreeRange) → r.object ≡ q.object → r.start ≡ q.start
 same_range r q o a e = λ i. record { object = o i; start = a i; end = e i }
 
 -- what the free bytes of an object are held for
-one_kind : (s : State) (t object at : ℕ) (k l : Kind) → IsFreeByte s t k object at → IsFreeByte s t l object at → k ≡ l
-one_kind s t object at k l x y = sym x.of_kind ∙ ap (λ (h : HeldObject). h.kind) (one_value _ x.chunk y.chunk x.held y.held) ∙ y.of_kind
+pub one_kind : (s : State) (t object at other : ℕ) (k l : Kind) → IsFreeByte s t k object at → IsFreeByte s t l object other → k ≡ l
+one_kind s t object at other k l x y = sym x.of_kind ∙ ap (λ (h : HeldObject). h.kind) (one_value _ x.chunk y.chunk x.held y.held) ∙ y.of_kind
+
+-- no runs are free in a buddy chunk
+not_in_runs : (kind : Kind) → has_runs kind ≡ true → BuddyChunk ≡ kind → ⊥
+not_in_runs kind runs same = let none : has_runs kind ≡ false = ap has_runs (sym same) in absurd (cc)
 
 pub ranges_apart : (s : State) (t : ℕ) (r q : FreeRange) → IsFreeRangeOf s t r → IsFreeRangeOf s t q → (object at : ℕ) → HasByte r object at → HasByte q object at → r ≡ q
 ranges_apart s t r q r_is q_is object at in_r in_q = elim r_is [
   | inl p ↦ elim q_is [
     | inl p' ↦ pieces p p'
-    | inr l ↦ absurd (let never = one_kind s t object at BuddyChunk (FreeListChunk l.number) (piece_byte r p in_r) (run_byte q l in_q) in cc)
+    | inr l ↦ absurd (not_in_runs l.kind l.in_runs (one_kind s t object at at BuddyChunk l.kind (piece_byte r p in_r) (run_byte q l in_q)))
   ]
   | inr l ↦ elim q_is [
-    | inl p ↦ absurd (let never = one_kind s t object at (FreeListChunk l.number) BuddyChunk (run_byte r l in_r) (piece_byte q p in_q) in cc)
+    | inl p ↦ absurd (not_in_runs l.kind l.in_runs (one_kind s t object at at BuddyChunk l.kind (piece_byte q p in_q) (run_byte r l in_r)))
     | inr l' ↦ runs l l'
   ]
 ]
@@ -130,8 +145,8 @@ ranges_apart s t r q r_is q_is object at in_r in_q = elim r_is [
     piece_byte : (x : FreeRange) (p : IsFreePieceOf s t x) → HasByte x object at → IsFreeByte s t BuddyChunk object at
     piece_byte x p has = subst (λ o. IsFreeByte s t BuddyChunk o at) has.of (p.piece.place.free at (record { from = has.from; to = omega (arith, has.to, p.end) }))
 
-    run_byte : (x : FreeRange) (l : IsFreeRunOf s t x) → HasByte x object at → IsFreeByte s t (FreeListChunk l.number) object at
-    run_byte x l has = subst (λ o. IsFreeByte s t (FreeListChunk l.number) o at) has.of (l.run.free at has.from has.to)
+    run_byte : (x : FreeRange) (l : IsFreeRunOf s t x) → HasByte x object at → IsFreeByte s t l.kind object at
+    run_byte x l has = subst (λ o. IsFreeByte s t l.kind o at) has.of (l.run.free at has.from has.to)
 
     pieces : IsFreePieceOf s t r → IsFreePieceOf s t q → r ≡ q
     pieces p p' =
@@ -145,8 +160,8 @@ ranges_apart s t r q r_is q_is object at in_r in_q = elim r_is [
     runs : IsFreeRunOf s t r → IsFreeRunOf s t q → r ≡ q
     runs l l' =
         let objects = in_r.of ∙ sym in_q.of in
-        let kinds = one_kind s t object at (FreeListChunk l'.number) (FreeListChunk l.number) (run_byte q l' in_q) (run_byte r l in_r) in
+        let kinds = one_kind s t object at at l'.kind l.kind (run_byte q l' in_q) (run_byte r l in_r) in
         let other = subst (λ k. IsFreeRun (IsFreeByte s t k) q.object q.start q.end) kinds l'.run in
-        let one = one_free_run (IsFreeByte s t (FreeListChunk l.number)) r.object r.start r.end q.start q.end at l.run
-        (subst (λ o. IsFreeRun (IsFreeByte s t (FreeListChunk l.number)) o q.start q.end) (sym objects) other) in_r.from in_r.to in_q.from in_q.to in
+        let one = one_free_run (IsFreeByte s t l.kind) r.object r.start r.end q.start q.end at l.run
+        (subst (λ o. IsFreeRun (IsFreeByte s t l.kind) o q.start q.end) (sym objects) other) in_r.from in_r.to in_q.from in_q.to in
         same_range r q objects one.0 one.1

@@ -1,5 +1,5 @@
--- What is free in a memory type's shared chunks, as its two parts tell it and as the whole allocator's state does.
-use Rattle.std.proofs.Common.{◌≡◌, ◌≢◌, inl, inr, ℕ, ◌↔◌, Bool, false, List, [], ◌∷◌, ◌++◌, get_or, Contains, Some, refl, sym, ◌∙◌, ap, subst, arith}
+-- What is free in a memory type's shared chunks, as its three parts tell it and as the whole allocator's state does.
+use Rattle.std.proofs.Common.{◌≡◌, ◌≢◌, ◌⊎◌, inl, inr, ℕ, ◌↔◌, Bool, true, false, List, [], ◌∷◌, ◌++◌, get_or, Contains, Some, refl, sym, ap, subst, arith}
 use Rattle.std.proofs.lemmas.List.Elements.{Contains-get_or, Contains-append_left, Contains-append_right, Contains-append_cases, recursion_from_All}
 use Rattle.std.proofs.lemmas.Map.Keys.{IsDistinct-tail, IsDistinct-cons}
 use Rattle.std.specs.FinMap as map
@@ -9,19 +9,23 @@ use Rattle.gpu_alloc_base.specs.Chunks.{Chunk}
 use Rattle.gpu_alloc_base.specs.FreeRuns.{IsFreeRun}
 use Rattle.gpu_alloc_base.specs.FreeSpace.{IsFreePiece}
 use Rattle.gpu_alloc_base.specs.RangeOrder.{same_start, AreInOrder}
-use Rattle.gpu_alloc_block.specs.State.{HeldObject, State}
+use Rattle.gpu_alloc_block.specs.State.{State}
 use Rattle.gpu_alloc_block.specs.declared.block.Kind.{Kind}
-use Rattle.gpu_alloc_block.specs.declared.block.Kind.TheVariants.{BuddyChunk, FreeListChunk}
+use Rattle.gpu_alloc_block.specs.declared.block.Kind.TheVariants.{Dedicated, Imported, BuddyChunk, FreeListChunk, FitChunk}
 use Rattle.gpu_alloc_buddy.specs.Buddy.{IsPieceOf}
 use Rattle.gpu_alloc_buddy.specs.BuddyState.{Buddy}
+use Rattle.gpu_alloc_fit.specs.Fit.{Fitting}
+use Rattle.gpu_alloc_fits.specs.Space.{IsRunOf as IsFitRunOf}
 use Rattle.gpu_alloc_freelist.specs.FreeListAllocator.{IsRunOf}
 use Rattle.gpu_alloc_freelist.specs.FreeListState.{Listing, IsFreeIn}
 use Rattle.gpu_alloc.specs.FreeBytes.{IsFreeByte}
-use Rattle.gpu_alloc.specs.FreeRanges.{IsFreePieceOf, IsFreeRunOf, IsFreeRangeOf}
+use Rattle.gpu_alloc.specs.FreeRanges.{IsFreePieceOf, IsFreeRunOf, IsFreeRangeOf, has_runs}
 use Rattle.gpu_alloc_base.proofs.Lists.{contains_head, contains_later, head_is_other}
 use Rattle.gpu_alloc_base.proofs.Maps.{one_value}
 use Rattle.gpu_alloc_base.proofs.RangeOrder.{starts_apart, order_is_distinct}
 use Rattle.gpu_alloc.proofs.Buddies.Serving.{Serves, first_byte, piece_in_object, piece_in_chunk, chunk_with}
+use Rattle.gpu_alloc.proofs.Fits.Serving.{ServesFits, run_in_chunk, run_in_object, chunk_with as fit_chunk_with}
+use Rattle.gpu_alloc.proofs.FreeCovered.{one_kind}
 use Rattle.gpu_alloc.proofs.FreeLists.Serving.{ServesList, list_chunk_was, free_byte, free_in}
 
 -- Free pieces of buddy chunks.
@@ -71,37 +75,55 @@ module _ (s : State) (index : ℕ) (l : Listing) (serves : ServesList s index l)
     byte_was : (at : ℕ) → IsFreeByte s index (FreeListChunk number) chunk.object at → IsFreeIn l.space number at
     byte_was at byte = free_in s index l serves number at (chunk.object, byte)
 
-  run_is : (r : FreeRange) → IsRunOf l.space r → IsFreeRunOf s index r
-  run_is r is =
+  run_in_bytes : (r : FreeRange) (is : IsRunOf l.space r) → IsFreeRun (IsFreeByte s index (FreeListChunk is.number)) r.object r.start r.end
+  run_in_bytes r is =
       let bytes = IsFreeByte s index (FreeListChunk is.number) in
-      record {
-        number = is.number;
-        run = subst (λ o. IsFreeRun bytes o r.start r.end) is.object
-            (run_to (IsFreeIn l.space) bytes is.number is.chunk.object (byte_is is.number is.chunk is.held) (byte_was is.number is.chunk is.held) r.start r.end is.run);
-      }
+      subst (λ o. IsFreeRun bytes o r.start r.end) is.object
+      (run_to (IsFreeIn l.space) bytes is.number is.chunk.object (byte_is is.number is.chunk is.held) (byte_was is.number is.chunk is.held) r.start r.end is.run)
 
-  run_was : (r : FreeRange) → IsFreeRunOf s index r → IsRunOf l.space r
-  run_was r is =
-      let byte = is.run.free r.start (omega arith) is.run.nonempty in
+  run_is : (r : FreeRange) → IsRunOf l.space r → IsFreeRunOf s index r
+  run_is r is = record { kind = FreeListChunk is.number; in_runs = refl; run = run_in_bytes r is }
+
+  run_was : (r : FreeRange) (number : ℕ) → IsFreeRun (IsFreeByte s index (FreeListChunk number)) r.object r.start r.end → IsRunOf l.space r
+  run_was r number run =
+      let byte = run.free r.start (omega arith) run.nonempty in
       let chunk : Chunk = record { object = r.object; size = byte.chunk.counted } in
-      let held : map.get l.space.chunks is.number ≡ Some chunk =
-      list_chunk_was s index l serves is.number r.object (record { chunk = byte.chunk; held = byte.held; of_type = byte.of_type; of_kind = byte.of_kind }) in
+      let held : map.get l.space.chunks number ≡ Some chunk =
+      list_chunk_was s index l serves number r.object (record { chunk = byte.chunk; held = byte.held; of_type = byte.of_type; of_kind = byte.of_kind }) in
       record {
-        number = is.number;
+        number = number;
         chunk = chunk;
         held = held;
         object = refl;
-        run = run_to (IsFreeByte s index (FreeListChunk is.number)) (IsFreeIn l.space) r.object is.number (byte_was is.number chunk held) (byte_is is.number chunk held) r.start r.end is.run;
+        run = run_to (IsFreeByte s index (FreeListChunk number)) (IsFreeIn l.space) r.object number (byte_was number chunk held) (byte_is number chunk held) r.start r.end run;
       }
 
--- Both as one list.
+-- Free runs of fit chunks.
 
--- an object is not held as both
-not_both : (s : State) (index number object at at' : ℕ) → IsFreeByte s index BuddyChunk object at → IsFreeByte s index (FreeListChunk number) object at' → ⊥
-not_both s index number object at at' piece run =
-    let same : piece.chunk ≡ run.chunk = one_value _ piece.chunk run.chunk piece.held run.held in
-    let kinds : ◌≡◌ {A = Kind} BuddyChunk (FreeListChunk number) = sym piece.of_kind ∙ ap (λ (h : HeldObject). h.kind) same ∙ run.of_kind in
-    absurd (cc)
+module _ (s : State) (index : ℕ) (f : Fitting) (serves : ServesFits s index f) where
+  fit_run_in_bytes : (r : FreeRange) → IsFitRunOf f.space r → IsFreeRun (IsFreeByte s index FitChunk) r.object r.start r.end
+  fit_run_in_bytes r is = subst (λ o. IsFreeRun (IsFreeByte s index FitChunk) o r.start r.end) is.object (run_in_object s index f serves is.key r.start r.end is.chunk is.held is.run)
+
+  fit_run_is : (r : FreeRange) → IsFitRunOf f.space r → IsFreeRunOf s index r
+  fit_run_is r is = record { kind = FitChunk; in_runs = refl; run = fit_run_in_bytes r is }
+
+  fit_run_was : (r : FreeRange) → IsFreeRun (IsFreeByte s index FitChunk) r.object r.start r.end → IsFitRunOf f.space r
+  fit_run_was r run =
+      let w = fit_chunk_with s index f serves r.object r.start (run.free r.start (omega arith) run.nonempty) in
+      record {
+        key = w.0;
+        chunk = w.1;
+        held = w.2.0;
+        object = sym w.2.1;
+        run = run_in_chunk s index f serves w.0 r.start r.end w.1 w.2.0 (subst (λ n. IsFreeRun (IsFreeByte s index FitChunk) n r.start r.end) w.2.1 run);
+      }
+
+-- All as one list.
+
+-- ranges of objects that are held for two purposes are of two objects
+two_objects : (s : State) (index : ℕ) (k l : Kind) → k ≢ l → (r t : FreeRange) → IsFreeByte s index k r.object r.start → IsFreeByte s index l t.object t.start → r.object ≢ t.object
+two_objects s index k l differ r t first second same =
+    differ (one_kind s index t.object r.start t.start k l (subst (λ o. IsFreeByte s index k o r.start) same first) second)
 
 pub distinct_append : {X : Type 0} (e : X → X → Bool) (xs ys : List X) → IsDistinct e xs → IsDistinct e ys → ((x y : X) → Contains xs x → Contains ys y → e x y ≡ false) → IsDistinct e (xs ++ ys)
 distinct_append e [] ys first second apart = second
@@ -114,31 +136,67 @@ distinct_append e (x ∷ xs) ys first second apart =
     ]))
     (distinct_append e xs ys (IsDistinct-tail e x xs first) second (λ a b has_a has_b. apart a b (contains_later x a xs has_a) has_b))
 
-module _ (s : State) (index : ℕ) (b : Buddy) (l : Listing) (of_buddy : Serves s index b) (of_list : ServesList s index l)
-    (pieces runs : List FreeRange) (pieces_are : (r : FreeRange) → Contains pieces r ↔ IsPieceOf b r) (runs_are : (r : FreeRange) → Contains runs r ↔ IsRunOf l.space r) where
+module _ (s : State) (index : ℕ) (b : Buddy) (l : Listing) (f : Fitting) (of_buddy : Serves s index b) (of_list : ServesList s index l) (of_fits : ServesFits s index f)
+    (pieces runs fitted : List FreeRange) (pieces_are : (r : FreeRange) → Contains pieces r ↔ IsPieceOf b r) (runs_are : (r : FreeRange) → Contains runs r ↔ IsRunOf l.space r)
+    (fitted_are : (r : FreeRange) → Contains fitted r ↔ IsFitRunOf f.space r) where
+  -- a run is one of the free list's or of the fit chunks'
+  run_listed : (r : FreeRange) (kind : Kind) → has_runs kind ≡ true → IsFreeRun (IsFreeByte s index kind) r.object r.start r.end → Contains runs r ⊎ Contains fitted r
+  run_listed r Dedicated is run = absurd (cc)
+  run_listed r Imported is run = absurd (cc)
+  run_listed r BuddyChunk is run = absurd (cc)
+  run_listed r (FreeListChunk number) is run = inl ((runs_are r).1 (run_was s index l of_list r number run))
+  run_listed r FitChunk is run = inr ((fitted_are r).1 (fit_run_was s index f of_fits r run))
+
   -- exactly the free pieces and the free runs
-  pub pieces_and_runs : (r : FreeRange) → Contains (pieces ++ runs) r ↔ IsFreeRangeOf s index r
+  pub pieces_and_runs : (r : FreeRange) → Contains ((pieces ++ runs) ++ fitted) r ↔ IsFreeRangeOf s index r
   pieces_and_runs r = (
-    (λ has. elim (Contains-append_cases pieces runs r has) [
-      | inl piece ↦ inl (piece_is s index b of_buddy r ((pieces_are r).0 piece))
-      | inr run ↦ inr (run_is s index l of_list r ((runs_are r).0 run))
+    (λ has. elim (Contains-append_cases (pieces ++ runs) fitted r has) [
+      | inl before ↦ elim (Contains-append_cases pieces runs r before) [
+        | inl piece ↦ inl (piece_is s index b of_buddy r ((pieces_are r).0 piece))
+        | inr run ↦ inr (run_is s index l of_list r ((runs_are r).0 run))
+      ]
+      | inr run ↦ inr (fit_run_is s index f of_fits r ((fitted_are r).0 run))
     ]),
     (λ is. elim is [
-      | inl piece ↦ Contains-append_left pieces runs r ((pieces_are r).1 (piece_was s index b of_buddy r piece))
-      | inr run ↦ Contains-append_right pieces runs r ((runs_are r).1 (run_was s index l of_list r run))
+      | inl piece ↦ Contains-append_left (pieces ++ runs) fitted r (Contains-append_left pieces runs r ((pieces_are r).1 (piece_was s index b of_buddy r piece)))
+      | inr run ↦ elim (run_listed r run.kind run.in_runs run.run) [
+        | inl in_list ↦ Contains-append_left (pieces ++ runs) fitted r (Contains-append_right pieces runs r in_list)
+        | inr in_fit ↦ Contains-append_right (pieces ++ runs) fitted r in_fit
+      ]
     ]),
   )
 
-  -- a piece and a run are of two objects
-  two_objects : (r t : FreeRange) → Contains pieces r → Contains runs t → r.object ≢ t.object
-  two_objects r t has_r has_t same =
-      let piece = piece_is s index b of_buddy r ((pieces_are r).0 has_r) in
-      let run = run_is s index l of_list t ((runs_are t).0 has_t) in
-      let first = first_byte (IsFreeByte s index BuddyChunk) r.object r.start piece.length piece.piece.place in
-      not_both s index run.number t.object r.start t.start (subst (λ o. IsFreeByte s index BuddyChunk o r.start) same first) (run.run.free t.start (omega arith) run.run.nonempty)
+  -- the first byte of each
+
+  of_piece : (r : FreeRange) → Contains pieces r → IsFreeByte s index BuddyChunk r.object r.start
+  of_piece r has =
+      let piece = piece_is s index b of_buddy r ((pieces_are r).0 has) in
+      first_byte (IsFreeByte s index BuddyChunk) r.object r.start piece.length piece.piece.place
+
+  of_run : (r : FreeRange) → Contains runs r → (number : ℕ) × IsFreeByte s index (FreeListChunk number) r.object r.start
+  of_run r has =
+      let its = (runs_are r).0 has in
+      let run = run_in_bytes s index l of_list r its in
+      (its.number, run.free r.start (omega arith) run.nonempty)
+
+  of_fit : (r : FreeRange) → Contains fitted r → IsFreeByte s index FitChunk r.object r.start
+  of_fit r has = let run = fit_run_in_bytes s index f of_fits r ((fitted_are r).0 has) in run.free r.start (omega arith) run.nonempty
+
+  -- two of two parts are of two objects
+
+  piece_or_run : (r t : FreeRange) → Contains pieces r → Contains runs t → r.object ≢ t.object
+  piece_or_run r t has_r has_t = let run = of_run t has_t in two_objects s index BuddyChunk (FreeListChunk run.0) (λ same. absurd (cc)) r t (of_piece r has_r) run.1
+
+  before_or_fit : (r t : FreeRange) → Contains (pieces ++ runs) r → Contains fitted t → r.object ≢ t.object
+  before_or_fit r t has_r has_t = elim (Contains-append_cases pieces runs r has_r) [
+    | inl piece ↦ two_objects s index BuddyChunk FitChunk (λ same. absurd (cc)) r t (of_piece r piece) (of_fit t has_t)
+    | inr run ↦ let its = of_run r run in two_objects s index (FreeListChunk its.0) FitChunk (λ same. absurd (cc)) r t its.1 (of_fit t has_t)
+  ]
 
   -- no two start at one byte of one object
-  pub all_apart : AreInOrder pieces → AreInOrder runs → IsDistinct same_start (pieces ++ runs)
-  all_apart pieces_rise runs_rise =
-      distinct_append same_start pieces runs (order_is_distinct pieces pieces_rise) (order_is_distinct runs runs_rise)
-      (λ r t has_r has_t. starts_apart r t (λ object start. two_objects r t has_r has_t object))
+  pub all_apart : AreInOrder pieces → AreInOrder runs → AreInOrder fitted → IsDistinct same_start ((pieces ++ runs) ++ fitted)
+  all_apart pieces_rise runs_rise fitted_rise =
+      distinct_append same_start (pieces ++ runs) fitted
+      (distinct_append same_start pieces runs (order_is_distinct pieces pieces_rise) (order_is_distinct runs runs_rise) (λ r t has_r has_t. starts_apart r t (λ object start. piece_or_run r t has_r has_t object)))
+      (order_is_distinct fitted fitted_rise)
+      (λ r t has_r has_t. starts_apart r t (λ object start. before_or_fit r t has_r has_t object))

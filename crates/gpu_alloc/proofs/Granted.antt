@@ -1,5 +1,5 @@
 -- What a caller may know of a granted block follows from the decision, by the way in which its candidate is served.
-use Rattle.std.proofs.Common.{◌≡◌, ◌≢◌, inl, inr, ℕ, ◌+◌, ◌*◌, ◌-◌, ◌%◌, ◌^◌, ◌<◌, ◌≤◌, ◌↔◌, true, false, Contains, List, length, Option, Some, None, Result, Ok, Err, IsTrue, refl, sym, ◌∙◌, ap, subst, arith}
+use Rattle.std.proofs.Common.{◌≡◌, ◌≢◌, inl, inr, ℕ, ◌+◌, ◌*◌, ◌-◌, ◌/◌, ◌%◌, ◌^◌, ◌<◌, ◌≤◌, ◌↔◌, true, false, Contains, List, length, Option, Some, None, Result, Ok, Err, IsTrue, refl, sym, ◌∙◌, ap, subst, arith}
 use Rattle.std.specs.Prelude.{IfOk, max}
 use Rattle.std.proofs.lemmas.Bool.{cases_Bool, cases_eq, cases_lt}
 use Rattle.std.proofs.lemmas.Bool.Decides.{nat_tests}
@@ -20,25 +20,27 @@ use Rattle.gpu_alloc_base.proofs.Maps.{own_inserted}
 use Rattle.gpu_alloc_base.proofs.Multiples.{mod_from_multiple, multiple_down, multiple_from_mod, multiple_min, multiple_of_lower, multiple_rest, multiple_times}
 use Rattle.gpu_alloc_base.proofs.PowersOfTwo.{greater_power, next_is_enough, power_of_bit}
 use Rattle.gpu_alloc_buddy.specs.Buddy.{Fits}
-use Rattle.gpu_alloc.specs.Allocation.{AllocatesBy, AloneIsTold, Decides, IsAloneWhereServed, IsCandidate, IsGranted, Plan, candidates_of, fits_a_chunk, is_alone, plan, serves_alone, strategy}
-use Rattle.gpu_alloc.specs.Atoms.{KeepsAtoms, IsNextListChunk}
+use Rattle.gpu_alloc.specs.Allocation.{AllocatesBy, AloneIsTold, Decides, IsAloneWhereServed, IsCandidate, IsExact, IsGranted, Plan, candidates_of, fits_a_chunk, is_alone, plan, serves_alone, strategy}
+use Rattle.gpu_alloc.specs.Atoms.{KeepsAtoms, IsNextFitChunk, IsNextListChunk}
 use Rattle.gpu_alloc.specs.BuddySharing.{IsPieceFront, buddy_question, buddy_size, front_of, with_span}
 use Rattle.gpu_alloc.specs.Candidates.{candidate}
 use Rattle.gpu_alloc.specs.FreeBytes.{IsFreeByte}
+use Rattle.gpu_alloc.specs.FitSharing.{IsInFreeRun, first_fit, fit_alignment, fit_question, fit_size, fits_first, grain_of, largest_fit_chunk, next_fit_chunk}
 use Rattle.gpu_alloc.specs.FreeListSharing.{IsFreeInChunk, IsListChunk, IsRunTail, largest_list_chunk, latest_number, list_alignment, list_question, list_size, next_list_chunk, tail_of}
 use Rattle.gpu_alloc.specs.Request.{IsAskable}
 use Rattle.gpu_alloc.specs.Sound.{IsSound}
 use Rattle.gpu_alloc_block.specs.State.{Block, HeldObject, Span, State, granted_block, is_shared, span_of}
 use Rattle.gpu_alloc.specs.declared.allocator.Strategy.{Strategy}
-use Rattle.gpu_alloc.specs.declared.allocator.Strategy.TheVariants.{OwnObject, InBuddyChunk, InFreeList}
+use Rattle.gpu_alloc.specs.declared.allocator.Strategy.TheVariants.{OwnObject, InBuddyChunk, InFreeList, InFitChunk}
 use Rattle.gpu_alloc_block.specs.declared.block.Kind.{Kind}
-use Rattle.gpu_alloc_block.specs.declared.block.Kind.TheVariants.{Dedicated as DedicatedObject, Imported, BuddyChunk, FreeListChunk}
+use Rattle.gpu_alloc_block.specs.declared.block.Kind.TheVariants.{Dedicated as DedicatedObject, Imported, BuddyChunk, FreeListChunk, FitChunk}
 use Rattle.gpu_alloc.specs.declared.request.Dedicated.{Dedicated}
 use Rattle.gpu_alloc.specs.declared.request.Dedicated.TheVariants.{Required}
 use Rattle.gpu_alloc.specs.declared.request.Request.{Request}
 use Rattle.gpu_alloc.proofs.Decisions.{candidate_known, of_grant}
+use Rattle.gpu_alloc.proofs.Fits.Grants.{first_in_largest}
 use Rattle.gpu_alloc.proofs.Soundness.{ranges_apart}
-use Rattle.gpu_alloc.proofs.Strategies.{fits_its_list}
+use Rattle.gpu_alloc.proofs.Strategies.{fits_chosen, fits_its_list}
 use Rattle.gpu_alloc_block.proofs.LiveSpans.{live_new}
 
 module _ (s : State) (r : Request) (sound : IsSound s) where
@@ -218,6 +220,42 @@ module _ (s : State) (r : Request) (sound : IsSound s) where
         let same : free.0 ≡ span.object = sound.numbers t number free.0 span.object (record { chunk = byte.chunk; held = byte.held; of_type = byte.of_type; of_kind = byte.of_kind }) tail.chunk in
         subst (λ o. IsFreeByte s t (FreeListChunk number) o at) same byte)
 
+    -- A block of a fit chunk.
+
+    abbrev g : ℕ
+    g = grain_of s t
+
+    whole_grain : IsPowerOfTwo g
+    whole_grain = greater_power 256 atom (8, refl) (atoms.atom t)
+
+    fit_sized : (span : Span) → span.size ≡ fit_size s r t → IsMultipleOf (fit_alignment s r t) span.offset → IsSized t FitChunk span
+    fit_sized span of_size starts =
+        let greater = greater_power (r.align_mask + 1) g align whole_grain in
+        let whole : IsMultipleOf g (fit_size s r t) = ((r.size + (g - 1)) / g, refl) in
+        record {
+          enough = omega (arith, up_enough r.size g asked.nonempty (omega arith), of_size);
+          aligned = mod_from_multiple (r.align_mask + 1) span.offset (multiple_of_lower (r.align_mask + 1) (fit_alignment s r t) span.offset align greater (omega arith) starts);
+          whole_atoms = λ _. (
+            mod_from_multiple atom span.offset (multiple_of_lower atom (fit_alignment s r t) span.offset (atoms.atom t) greater (omega arith) starts),
+            mod_from_multiple atom span.size (subst (IsMultipleOf atom) (sym of_size) (multiple_of_lower atom g (fit_size s r t) (atoms.atom t) whole_grain (omega arith) whole)),
+          );
+          buddy = λ chunk. absurd (cc);
+          made = λ import. absurd (cc);
+          some_atom = some_atom;
+          candidate = chosen;
+        }
+
+    fit_granted : (span : Span) → IsInFreeRun s t (fit_size s r t) (fit_alignment s r t) span → IsGranted s r (with_span s span) (granted_block s t FitChunk span)
+    fit_granted span fitting =
+        let sized = fit_sized span fitting.exact fitting.aligned in
+        in_place t FitChunk span sized (omega (arith, sized.enough, asked.nonempty)) (λ at inside. fitting.free at inside.from inside.to)
+
+    -- what is asked for a new chunk is enough
+    asked_fitting : IsNextFitChunk s t → fit_size s r t ≤ largest_fit_chunk s t → fit_size s r t ≤ (fit_question s t (fit_size s r t)).size
+    asked_fitting next fits =
+        let some = up_enough r.size g asked.nonempty (omega arith) in
+        (grown_is_least (next_fit_chunk s t) (largest_fit_chunk s t) (fit_size s r t) next.some next.most next.bound fits).enough
+
     -- what is asked for a new chunk is enough, and of whole atoms
     asked_whole : IsNextListChunk s t → size ≤ largest_list_chunk s t → (size ≤ (list_question s t size).size) × IsMultipleOf atom (list_question s t size).size
     asked_whole next fits =
@@ -228,21 +266,21 @@ module _ (s : State) (r : Request) (sound : IsSound s) where
 
     -- The candidate.
 
-    granted_by : (w : Strategy) (es : List Event) (b : Block) (new : State) → t < length s.properties.memory_types → (InFreeList ≡ w → fits_a_chunk s r t ≡ true) → case.Decides (candidate w s r t) es (Ok b) new → IsGranted s r new b
-    granted_by OwnObject es b new known fits (inl gives) = absurd gives.place
-    granted_by OwnObject es b new known fits (inr gives) =
+    granted_by : (w : Strategy) (es : List Event) (b : Block) (new : State) → t < length s.properties.memory_types → (InFreeList ≡ w → fits_a_chunk s r t ≡ true) → (InFitChunk ≡ w → fits_first s r t ≡ true) → case.Decides (candidate w s r t) es (Ok b) new → IsGranted s r new b
+    granted_by OwnObject es b new known fits first (inl gives) = absurd gives.place
+    granted_by OwnObject es b new known fits first (inr gives) =
         let span = front_of b.object r.size in
         let c = candidate OwnObject s r t in
         rw gives.state (subst (λ x. IsGranted s r (c.with_object x) x) (sym gives.place.is) (in_new_object t DedicatedObject span (c.with_object (granted_block s t DedicatedObject span)) r.size (own_sized b.object) (omega arith) gives.place.was_free refl refl))
-    granted_by InBuddyChunk es b new known fits (inl gives) = rw gives.state (subst (IsGranted s r (with_span s (span_of b))) (sym gives.place.is) (front_granted gives.fits (span_of b) gives.place.front))
-    granted_by InBuddyChunk es b new known fits (inr gives) =
+    granted_by InBuddyChunk es b new known fits first (inl gives) = rw gives.state (subst (IsGranted s r (with_span s (span_of b))) (sym gives.place.is) (front_granted gives.fits (span_of b) gives.place.front))
+    granted_by InBuddyChunk es b new known fits first (inr gives) =
         let size = buddy_size s r t in
         let span = front_of b.object size in
         let c = candidate InBuddyChunk s r t in
         rw gives.state (subst (λ x. IsGranted s r (c.with_object x) x) (sym gives.place.is) (in_new_object t BuddyChunk span (c.with_object (granted_block s t BuddyChunk span)) (buddy_question s t size).size
         (buddy_sized gives.asks.has.fits span refl (0, sym (zero-mul size))) (omega arith) gives.place.was_free refl refl))
-    granted_by InFreeList es b new known fits (inl gives) = rw gives.state (subst (IsGranted s r (with_span s (span_of b))) (sym gives.place.is) (tail_granted gives.place.number (span_of b) gives.place.tail))
-    granted_by InFreeList es b new known fits (inr gives) =
+    granted_by InFreeList es b new known fits first (inl gives) = rw gives.state (subst (IsGranted s r (with_span s (span_of b))) (sym gives.place.is) (tail_granted gives.place.number (span_of b) gives.place.tail))
+    granted_by InFreeList es b new known fits first (inr gives) =
         let whole = (list_question s t size).size in
         let span = tail_of b.object whole size alignment in
         let number = latest_number s t + 1 in
@@ -252,6 +290,16 @@ module _ (s : State) (r : Request) (sound : IsSound s) where
         let ends = tail_ends size alignment whole in
         rw gives.state (subst (λ x. IsGranted s r (c.with_object x) x) (sym gives.place.is) (in_new_object t (FreeListChunk number) span (c.with_object (granted_block s t (FreeListChunk number) span)) whole
         (tail_sized number span whole enough.0 enough.1 refl ends) (omega (arith, ends)) gives.place.was_free refl refl))
+    granted_by InFitChunk es b new known fits first (inl gives) = rw gives.state (subst (IsGranted s r (with_span s (span_of b))) (sym gives.place.is) (fit_granted (span_of b) gives.place.fitting))
+    granted_by InFitChunk es b new known fits first (inr gives) =
+        let size = fit_size s r t in
+        let span = front_of b.object size in
+        let c = candidate InFitChunk s r t in
+        let small : fits_first s r t ≡ true = first refl in
+        let below : size ≤ first_fit s.config (heap_size s.properties t) g = grind (arith, nat_tests) in
+        let enough = asked_fitting (atoms.next_fit t known) (omega (arith, below, first_in_largest s.config (heap_size s.properties t) g (omega arith))) in
+        rw gives.state (subst (λ x. IsGranted s r (c.with_object x) x) (sym gives.place.is) (in_new_object t FitChunk span (c.with_object (granted_block s t FitChunk span)) (fit_question s t size).size
+        (fit_sized span refl (0, sym (zero-mul (fit_alignment s r t)))) (omega (arith, enough)) gives.place.was_free refl refl))
 
 -- The whole allocation.
 
@@ -285,7 +333,7 @@ pub candidate_granted : (s : State) (r : Request) (hint : Option Dedicated) (t :
     → Decides s r hint t es (Ok b) new → IsGranted s r new b
 unfolding IsCandidate
 candidate_granted s r hint t es b new sound atoms askable chosen decides =
-    granted_by s r sound atoms askable t chosen (strategy s r hint t) es b new (candidate_known s r t chosen) (fits_its_list s r hint t) decides.1
+    granted_by s r sound atoms askable t chosen (strategy s r hint t) es b new (candidate_known s r t chosen) (fits_its_list s r hint t) (λ is. (fits_chosen s r hint t is).1) decides.1
 
 -- a plan for the request
 pub record IsPlanFor (s : State) (r : Request) (p : Plan) : Type 0 where
@@ -306,28 +354,43 @@ module _ (s : State) (r : Request) (p : Plan) (for : IsPlanFor s r p) (sound : I
 
 -- By which kind of object a block is served.
 
--- an object of its own, of the very size, or a shared one
-pub record IsServedSo (w : Strategy) (size t : ℕ) (b : Block) : Type 0 where
+-- an object of its own, of the very size, or a shared one, in a fit chunk of the very size in whole grains
+pub record IsServedSo (w : Strategy) (s : State) (r : Request) (t : ℕ) (b : Block) : Type 0 where
   pub of_type : b.memory_type ≡ t
-  pub alone : is_alone w ≡ true → (b.kind ≡ DedicatedObject) × (b.size ≡ size)
+  pub alone : is_alone w ≡ true → (b.kind ≡ DedicatedObject) × (b.size ≡ r.size)
   pub shared : is_alone w ≡ false → is_shared b.kind ≡ true
+  pub exact : b.kind ≡ FitChunk → b.size ≡ fit_size s r t
 
-pub served_so : (w : Strategy) (s : State) (r : Request) (t : ℕ) (es : List Event) (b : Block) (new : State) → case.Decides (candidate w s r t) es (Ok b) new → IsServedSo w r.size t b
+not_fit : {X : Type 0} (b : Block) {kind : Kind} → b.kind ≡ kind → (kind ≡ FitChunk → ⊥) → b.kind ≡ FitChunk → X
+not_fit b is other fit = absurd (other (sym is ∙ fit))
+
+in_chunk : {w : Strategy} {s : State} {r : Request} {t : ℕ} (b : Block) {kind : Kind} → b.memory_type ≡ t → b.kind ≡ kind → is_shared kind ≡ true → is_alone w ≡ false → (b.kind ≡ FitChunk → b.size ≡ fit_size s r t) → IsServedSo w s r t b
+in_chunk b typed is chunk other exact = record {
+  of_type = typed;
+  alone = λ own. (let both = sym own ∙ other in absurd (cc));
+  shared = λ _. ap is_shared is ∙ chunk;
+  exact = exact;
+}
+
+pub served_so : (w : Strategy) (s : State) (r : Request) (t : ℕ) (es : List Event) (b : Block) (new : State) → case.Decides (candidate w s r t) es (Ok b) new → IsServedSo w s r t b
 served_so OwnObject s r t es b new (inl gives) = absurd gives.place
 served_so OwnObject s r t es b new (inr gives) = record {
   of_type = ap (λ (x : Block). x.memory_type) gives.place.is;
   alone = λ own. (ap (λ (x : Block). x.kind) gives.place.is, ap (λ (x : Block). x.size) gives.place.is);
   shared = λ other. absurd (cc);
+  exact = λ fit. not_fit b (ap (λ (x : Block). x.kind) gives.place.is) (λ same. cc) fit;
 }
-served_so InBuddyChunk s r t es b new (inl gives) = record { of_type = ap (λ (x : Block). x.memory_type) gives.place.is; alone = λ own. absurd (cc); shared = λ chunk. ap (λ (x : Block). is_shared x.kind) gives.place.is }
-served_so InBuddyChunk s r t es b new (inr gives) = record { of_type = ap (λ (x : Block). x.memory_type) gives.place.is; alone = λ own. absurd (cc); shared = λ chunk. ap (λ (x : Block). is_shared x.kind) gives.place.is }
-served_so InFreeList s r t es b new (inl gives) = record { of_type = ap (λ (x : Block). x.memory_type) gives.place.is; alone = λ own. absurd (cc); shared = λ chunk. ap (λ (x : Block). is_shared x.kind) gives.place.is }
-served_so InFreeList s r t es b new (inr gives) = record { of_type = ap (λ (x : Block). x.memory_type) gives.place.is; alone = λ own. absurd (cc); shared = λ chunk. ap (λ (x : Block). is_shared x.kind) gives.place.is }
+served_so InBuddyChunk s r t es b new (inl gives) = in_chunk b (ap (λ (x : Block). x.memory_type) gives.place.is) (ap (λ (x : Block). x.kind) gives.place.is) refl refl (not_fit b (ap (λ (x : Block). x.kind) gives.place.is) (λ same. cc))
+served_so InBuddyChunk s r t es b new (inr gives) = in_chunk b (ap (λ (x : Block). x.memory_type) gives.place.is) (ap (λ (x : Block). x.kind) gives.place.is) refl refl (not_fit b (ap (λ (x : Block). x.kind) gives.place.is) (λ same. cc))
+served_so InFreeList s r t es b new (inl gives) = in_chunk b (ap (λ (x : Block). x.memory_type) gives.place.is) (ap (λ (x : Block). x.kind) gives.place.is) refl refl (not_fit b (ap (λ (x : Block). x.kind) gives.place.is) (λ same. cc))
+served_so InFreeList s r t es b new (inr gives) = in_chunk b (ap (λ (x : Block). x.memory_type) gives.place.is) (ap (λ (x : Block). x.kind) gives.place.is) refl refl (not_fit b (ap (λ (x : Block). x.kind) gives.place.is) (λ same. cc))
+served_so InFitChunk s r t es b new (inl gives) = in_chunk b (ap (λ (x : Block). x.memory_type) gives.place.is) (ap (λ (x : Block). x.kind) gives.place.is) refl refl (λ fit. gives.place.fitting.exact)
+served_so InFitChunk s r t es b new (inr gives) = in_chunk b (ap (λ (x : Block). x.memory_type) gives.place.is) (ap (λ (x : Block). x.kind) gives.place.is) refl refl (λ fit. ap (λ (x : Block). x.size) gives.place.is)
 
 -- in general: by what its memory type was asked
 pub record HasKind (s : State) (p : Plan) (b : Block) : Type 0 where
   pub t : ℕ
-  pub so : IsServedSo (strategy s (p.asked t).request (p.asked t).hint t) (p.asked t).request.size t b
+  pub so : IsServedSo (strategy s (p.asked t).request (p.asked t).hint t) s (p.asked t).request t b
 
 module _ (s : State) (p : Plan) where
   pub allocates_kind : (es : List Event) (answer : Result Block AllocationError) (new : State) → AllocatesBy s p es answer new → IfOk answer (HasKind s p)
@@ -353,6 +416,11 @@ alone_is s r hint (Ok b) is = subst (λ t. IsTrue (serves_alone s r hint t) ↔ 
     | inr other ↦ absurd (not_alone_kind b.kind (is.so.shared other) own)
   ],
 )
+
+-- In a fit chunk it is as long as asked.
+pub exact_is : (s : State) (r : Request) (hint : Option Dedicated) (answer : Result Block AllocationError) → IfOk answer (HasKind s (plan s r hint)) → IfOk answer (IsExact s r)
+exact_is s r hint (Err e) is = tt
+exact_is s r hint (Ok b) is = λ fit. is.so.exact fit ∙ ap (fit_size s r) (sym is.so.of_type)
 
 -- A required grant has an object of its own.
 pub required_granted : (s : State) (r : Request) (hint : Dedicated) → hint ≡ Required → (answer : Result Block AllocationError) → IfOk answer (IsAloneWhereServed s r (Some hint)) → IfOk answer (λ b. b.kind ≡ DedicatedObject)

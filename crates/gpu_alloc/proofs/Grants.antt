@@ -18,18 +18,19 @@ use Rattle.gpu_alloc_block.specs.declared.block.Kind.TheVariants.{Dedicated as D
 use Rattle.gpu_alloc_base.specs.declared.heap.Heap.{Heap}
 use Rattle.gpu_alloc.specs.declared.request.Request.{Request}
 use Rattle.gpu_alloc.proofs.HeapLists.{state_kept}
+use Rattle.gpu_alloc_fit.specs.Fit.{Fitting}
 
 -- the object of a block that is an object of its own
 abbrev pub own_object : ℕ → ℕ → HeldObject
 own_object size memory_type = record { memory_type = memory_type; counted = size; kind = DedicatedObject }
 
 -- what the fields stand for where an object is held with a block in it
-pub state_held : {A : Type 0} (l : Limits A) (heaps : List Heap) (buddies : List Buddy) (lists : List Listing) (i : ℕ) (h old : Heap) (t now : Table) (remaining : ℕ) (object : HeldObject) (b : Block) → old ≡ get_or heaps i old → h.size ≡ old.size → h.limit ≡ old.limit
+pub state_held : {A : Type 0} (l : Limits A) (heaps : List Heap) (buddies : List Buddy) (lists : List Listing) (fits : List Fitting) (i : ℕ) (h old : Heap) (t now : Table) (remaining : ℕ) (object : HeldObject) (b : Block) → old ≡ get_or heaps i old → h.size ≡ old.size → h.limit ≡ old.limit
     → now.held ≡ finite.insert t.held b.object object → now.live ≡ set_of.insert t.live (span_of b)
-    → state_in l (set heaps i h) buddies lists now (remaining - 1) ≡ holding (state_in l heaps buddies lists t remaining) object b
-state_held l heaps buddies lists i h old t now remaining object b at same limit held live =
-    state_kept l heaps buddies lists i h old now (remaining - 1) at same limit
-    ∙ (λ k. record (state_in l heaps buddies lists t remaining) { held = held k; live = live k; remaining = remaining - 1 })
+    → state_in l (set heaps i h) buddies lists fits now (remaining - 1) ≡ holding (state_in l heaps buddies lists fits t remaining) object b
+state_held l heaps buddies lists fits i h old t now remaining object b at same limit held live =
+    state_kept l heaps buddies lists fits i h old now (remaining - 1) at same limit
+    ∙ (λ k. record (state_in l heaps buddies lists fits t remaining) { held = held k; live = live k; remaining = remaining - 1 })
 
 -- it has a question where one more may be held
 pub has_own : {s : State} {size memory_type : ℕ} → 0 < s.remaining → HasQuestion (own_candidate s size memory_type)

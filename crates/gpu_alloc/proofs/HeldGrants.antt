@@ -13,7 +13,7 @@ use Rattle.gpu_alloc.specs.HeldOnly.{HasPlaceBy, HasPlaceFor, plan_held}
 use Rattle.gpu_alloc.specs.Request.{IsAskable, IsGranularity}
 use Rattle.gpu_alloc.specs.Sound.{IsSound}
 use Rattle.gpu_alloc.specs.declared.allocator.Strategy.{Strategy}
-use Rattle.gpu_alloc.specs.declared.allocator.Strategy.TheVariants.{OwnObject, InBuddyChunk, InFreeList}
+use Rattle.gpu_alloc.specs.declared.allocator.Strategy.TheVariants.{OwnObject, InBuddyChunk, InFreeList, InFitChunk}
 use Rattle.gpu_alloc.specs.declared.request.Dedicated.{Dedicated}
 use Rattle.gpu_alloc.specs.declared.request.Dedicated.TheVariants.{Required}
 use Rattle.gpu_alloc.specs.declared.request.Request.{Request}
@@ -44,6 +44,8 @@ placed InBuddyChunk s r t es b new has (inl gives) = (gives.state, ap (λ (x : B
 placed InBuddyChunk s r t es b new has (inr gives) = absurd (gives.asks.has.no_place has.place)
 placed InFreeList s r t es b new has (inl gives) = (gives.state, ap (λ (x : Block). is_shared x.kind) gives.place.is)
 placed InFreeList s r t es b new has (inr gives) = absurd (gives.asks.has.no_place has.place)
+placed InFitChunk s r t es b new has (inl gives) = (gives.state, ap (λ (x : Block). is_shared x.kind) gives.place.is)
+placed InFitChunk s r t es b new has (inr gives) = absurd (gives.asks.has.no_place has.place)
 
 -- the block that is answered, if there is one; for whatever else there is, a refusal
 abbrev pub block_of : Result (Option Block) AllocationError → Result Block AllocationError

@@ -34,10 +34,15 @@ use Rattle.gpu_alloc.specs.HeldOnly.{AllocatesHeld, HasPlaceBy, HasPlaceFor, IsF
 use Rattle.gpu_alloc.specs.Request.{is_required}
 use Rattle.gpu_alloc.specs.declared.allocator.Ask.{Ask}
 use Rattle.gpu_alloc.specs.declared.allocator.Strategy.{Strategy}
-use Rattle.gpu_alloc.specs.declared.allocator.Strategy.TheVariants.{OwnObject, InBuddyChunk, InFreeList}
+use Rattle.gpu_alloc.specs.declared.allocator.Strategy.TheVariants.{OwnObject, InBuddyChunk, InFreeList, InFitChunk}
 use Rattle.gpu_alloc.specs.declared.request.Dedicated.{Dedicated}
 use Rattle.gpu_alloc.specs.declared.request.Dedicated.TheVariants.{Required, Preferred}
 use Rattle.gpu_alloc.specs.declared.request.Request.{Request}
+use Rattle.gpu_alloc_fit.specs.Fit as of_fit
+use Rattle.gpu_alloc_fit.specs.Fit.{Fitting}
+use Rattle.gpu_alloc_fits.specs.Space as fit_space
+use Rattle.gpu_alloc.specs.FitSharing.{fit_alignment, fit_size}
+use Rattle.gpu_alloc.proofs.Fits.Serving as fits
 use Rattle.gpu_alloc.proofs.Buddies.Serving as buddies
 use Rattle.gpu_alloc.proofs.Decisions.{decides_refused}
 use Rattle.gpu_alloc.proofs.FreeLists.Serving as free_lists
@@ -85,6 +90,24 @@ module _ (s : State) (index : ℕ) (heap : Heap) (r : Request) (flags : ℕ) (fi
       ))
       first refuses told is
 
+  pub fit_place_told : (f : Fitting) → fits.ServesFits s index f → 0 < r.size → RefusesFirst (of_fit.case_of (account f heap 0) (wanted r.size r.align_mask flags)) first → IsTrue told ↔ HasPlaceBy InFitChunk s r index
+  fit_place_told f serves some refuses =
+      let size : of_fit.rounded f (wanted r.size r.align_mask flags) ≡ fit_size s r index = fits.rounded_is s index f serves r flags in
+      let alignment : of_fit.alignment f (wanted r.size r.align_mask flags) ≡ fit_alignment s r index = fits.alignment_is s index f serves r flags in
+      told_by_refusal (of_fit.case_of (account f heap 0) (wanted r.size r.align_mask flags)) refl
+      (λ _ place. record {
+        fits = tt;
+        place = fits.place_is s index f serves (fit_size s r index) (fit_alignment s r index)
+            (subst (λ n. fit_space.HasPlace f.space (fit_size s r index) n) alignment (subst (λ n. fit_space.HasPlace f.space n (of_fit.alignment f (wanted r.size r.align_mask flags))) size place));
+      })
+      (λ has. (
+        tt,
+        subst (λ n. fit_space.HasPlace f.space n (of_fit.alignment f (wanted r.size r.align_mask flags))) (sym size)
+            (subst (λ n. fit_space.HasPlace f.space (fit_size s r index) n) (sym alignment)
+            (fits.place_was s index f serves (fit_size s r index) (fit_alignment s r index) (fits.some_size s index f serves r some) has.place)),
+      ))
+      first refuses told is
+
 -- The walk over the ranked types. The candidates are those of the types ts that are allowed.
 
 module _ (s : State) (asked : ℕ → Ask) (allowed : ℕ → Bool) (ts : List ℕ) where
@@ -121,6 +144,7 @@ place_shared : (w : Strategy) (s : State) (r : Request) (t : ℕ) → HasPlaceBy
 place_shared OwnObject s r t has own = absurd has.place
 place_shared InBuddyChunk s r t has own = absurd (cc)
 place_shared InFreeList s r t has own = absurd (cc)
+place_shared InFitChunk s r t has own = absurd (cc)
 
 module _ (c : Case Block State) (fits : c.Fits) (place : c.HasPlace) where
   not_asked : case.Asks c → ⊥
@@ -206,11 +230,13 @@ module _ (s : State) (r : Request) (t : ℕ) (es : List Event) where
   passed_by OwnObject passed = passed
   passed_by InBuddyChunk passed = passed
   passed_by InFreeList passed = passed
+  passed_by InFitChunk passed = passed
 
   decides_by : (answer : Result Block AllocationError) (new : State) (w : Strategy) → case.Decides (candidate w s (only r t) t) es answer new → case.Decides (candidate w s r t) es answer new
   decides_by answer new OwnObject decides = decides
   decides_by answer new InBuddyChunk decides = decides
   decides_by answer new InFreeList decides = decides
+  decides_by answer new InFitChunk decides = decides
 
   module _ (hint : Option Dedicated) where
     passed_plain : IsPassed s (only r t) hint t es → IsPassed s r hint t es

@@ -47,6 +47,7 @@ module _ (s : State) (object memory_type offset size : ℕ) (new : State) (b : B
     live = ap (λ (t : State). t.live) is.state;
     held = holds_one_more s b new (imported_object memory_type size) (ap (map.get s.held) named ∙ free) (ap (λ (t : State). t.held) is.state);
     properties = ap (λ (t : State). t.properties) is.state;
+    sharing = ap (λ (t : State). t.sharing) is.state;
     config = ap (λ (t : State). t.config) is.state;
     limits = ap (λ (t : State). t.heap_limits) is.state;
   }

@@ -96,7 +96,7 @@ module _ (s : State) (r : Request) (hint : Option Dedicated) (g : ℕ) (is : IsG
   asks alone t = cond alone (ask r (Some Required) t) (ask paged hint t)
 
   abbrev ServesSo : Bool → ℕ → Block → Type 0
-  ServesSo alone t b = IsServedSo (strategy s (asks alone t).request (asks alone t).hint t) (asks alone t).request.size t b
+  ServesSo alone t b = IsServedSo (strategy s (asks alone t).request (asks alone t).hint t) s (asks alone t).request t b
 
   -- an object of its own exactly where whole pages would have one, and of the size as asked
   pub kind_in_pages : (b : Block) → HasKind s (plan_in_pages s r hint g) b → IsAloneWhereServed s paged hint b × (b.kind ≡ DedicatedObject → b.size ≡ r.size)

@@ -8,6 +8,7 @@ pub mod Changes
 pub mod Closing
 pub mod Consistency
 pub mod FreeCovered
+pub mod Fits
 pub mod FreeLists
 pub mod FreeRanges
 pub mod Decisions
@@ -39,7 +40,9 @@ pub mod Tables
 pub mod Trials
 pub mod UnderKeys
 pub mod WholeBuddies
+pub mod WholeFits
 pub mod WholeLists
 pub mod WholeOwned
 pub mod WholeParts
+pub mod WholeRows
 pub mod Wholes

@@ -1,6 +1,6 @@
 -- What an allocator's fields keep, as each memory type's buddy allocator and free list sees it: both have the same chunks and
 -- blocks as the whole.
-use Rattle.std.proofs.Common.{◌≡◌, inl, inr, ℕ, suc, ◌+◌, ◌<◌, List, length, IfSome, Option, Some, None, slice_get, refl, sym, ◌∙◌, ap, subst}
+use Rattle.std.proofs.Common.{◌≡◌, inl, inr, true, ℕ, suc, ◌+◌, ◌<◌, List, length, IfSome, Option, Some, None, slice_get, refl, sym, ◌∙◌, ap, subst}
 use Rattle.std.proofs.Math.ListN.{set}
 use Rattle.std.proofs.lemmas.List.{length-set}
 use Rattle.std.specs.FinMap as finite
@@ -23,13 +23,22 @@ use Rattle.gpu_alloc_block.proofs.Parts.Steps.{holds_of, own_part, part_span}
 use Rattle.gpu_alloc_block.proofs.Parts.Unions.{live_of}
 use Rattle.gpu_alloc_buddy.specs.BuddyState.{IsLiveLeaf}
 use Rattle.gpu_alloc_freelist.specs.FreeListState.{IsLiveSlot}
+use Rattle.gpu_alloc.specs.Inside.{fit_object, AreFits, IsChosen, IsFitChunkOf, IsFitFor, IsFitForType, IsFitLinked}
 use Rattle.gpu_alloc.specs.Inside.{chunk_object, leaf_at, list_object, properties_in, slot_at, span_of_leaf, span_of_slot, state_in, AreBuddies, AreLists, IsBooked, IsBuddyFor, IsChunkOf, IsForType, IsLinked, IsListFor, IsListForType, IsListLinked, IsNumberedChunk}
 use Rattle.gpu_alloc.specs.Own.{OwnTable}
 use Rattle.gpu_alloc.specs.declared.limits.Limits.{Limits}
-use Rattle.gpu_alloc.specs.Whole.{buddy_part, list_part, parts_of, whole, AreWhole, IsKept, IsPlace}
+use Rattle.gpu_alloc.specs.Whole.{buddy_part, fit_part, list_part, parts_of, whole, AreWhole, IsKept, IsPlace}
 use Rattle.gpu_alloc.proofs.HeapLists.{each_set}
-use Rattle.gpu_alloc.proofs.Wholes.{at_buddy, at_list, single, stands_at, within}
+use Rattle.gpu_alloc.proofs.Wholes.{at_buddy, at_fit, at_list, single, stands_at, within}
 use Rattle.gpu_alloc.specs.Spans.{Table}
+use Rattle.gpu_alloc_fit.specs.Fit.{Fitting}
+use Rattle.gpu_alloc_fit.specs.FitSound as fit
+use Rattle.gpu_alloc_fits.specs.Space.{IsLiveSlot as IsLiveFit}
+use Rattle.gpu_alloc.specs.Sound.{is_chosen}
+use Rattle.gpu_alloc_block.specs.declared.sharing.Sharing.{Sharing}
+use Rattle.gpu_alloc_base.proofs.Maps.{own_inserted}
+use Rattle.gpu_alloc_base.proofs.Names.{one_or_two, get_put-other, get_removed, get_removed-other}
+use Rattle.gpu_alloc.proofs.Ledgers.{Held}
 
 pub record IsBuddyOf (c : Config) (p : Properties) (t : Table) (index : ℕ) (b : Buddy) : Type 0 where
   pub for_type : IsForType c p index b
@@ -45,40 +54,53 @@ pub record IsListOf (c : Config) (p : Properties) (t : Table) (index : ℕ) (l :
   pub sound : list.IsSound l
   pub linked : IsListLinked t l
 
+pub record IsFitOf (c : Config) (p : Properties) (t : Table) (index : ℕ) (f : Fitting) : Type 0 where
+  pub for_type : IsFitForType c p index f
+  pub sound : fit.IsSound f
+  pub linked : IsFitLinked t f
+
+pub record HasFits (c : Config) (p : Properties) (t : Table) (fits : List Fitting) : Type 0 where
+  pub count : length fits ≡ length p.memory_types
+  pub each : (index : ℕ) → IfSome (slice_get fits index) (IsFitOf c p t index)
+
 pub record HasLists (c : Config) (p : Properties) (t : Table) (lists : List Listing) : Type 0 where
   pub count : length lists ≡ length p.memory_types
   pub each : (index : ℕ) → IfSome (slice_get lists index) (IsListOf c p t index)
 
-pub record IsConsistent (c : Config) (p : Properties) (heaps : List Heap) (buddies : List Buddy) (lists : List Listing) (t : Table) (remaining : ℕ) : Type 0 where
+pub record IsConsistent (sharing : Sharing) (c : Config) (p : Properties) (heaps : List Heap) (buddies : List Buddy) (lists : List Listing) (fits : List Fitting) (t : Table) (remaining : ℕ) : Type 0 where
   pub books : IsBooked p heaps t remaining
   pub shared : HasBuddies c p t buddies
   pub listed : HasLists c p t lists
+  pub fitted : HasFits c p t fits
+  pub chosen : IsChosen sharing t
 
 -- All but that the parts are apart.
-pub record IsRecorded (c : Config) (p : Properties) (heaps : List Heap) (buddies : List Buddy) (lists : List Listing) (t : Table) (remaining : ℕ) : Type 0 where
+pub record IsRecorded (sharing : Sharing) (c : Config) (p : Properties) (heaps : List Heap) (buddies : List Buddy) (lists : List Listing) (fits : List Fitting) (t : Table) (remaining : ℕ) : Type 0 where
   pub books : IsBooked p heaps t remaining
   pub shared : AreBuddies c p buddies
   pub listed : AreLists c p lists
+  pub fitted : AreFits c p fits
+  pub chosen : IsChosen sharing t
 
-pub kept_as : (c : Config) (p : Properties) (heaps : List Heap) (buddies : List Buddy) (lists : List Listing) (own : OwnTable) (remaining : ℕ) → IsRecorded c p heaps buddies lists (whole own buddies lists) remaining
-    → AreWhole own buddies lists → IsKept c p heaps buddies lists own remaining
-kept_as c p heaps buddies lists own remaining is apart = record { books = is.books; shared = is.shared; listed = is.listed; apart = apart }
+pub kept_as : (sharing : Sharing) (c : Config) (p : Properties) (heaps : List Heap) (buddies : List Buddy) (lists : List Listing) (fits : List Fitting) (own : OwnTable) (remaining : ℕ) → IsRecorded sharing c p heaps buddies lists fits (whole own buddies lists fits) remaining
+    → AreWhole own buddies lists fits → IsKept sharing c p heaps buddies lists fits own remaining
+kept_as sharing c p heaps buddies lists fits own remaining is apart = record { books = is.books; shared = is.shared; listed = is.listed; fitted = is.fitted; chosen = is.chosen; apart = apart }
 
 -- fields that keep what they have to, and stand for this state
-abbrev pub StandFor : {A : Type 0} → Limits A → List Heap → List Buddy → List Listing → OwnTable → ℕ → State → Type 0
-StandFor l heaps buddies lists own remaining s = IsKept l.config (properties_in l heaps) heaps buddies lists own remaining × (state_in l heaps buddies lists (whole own buddies lists) remaining ≡ s)
+abbrev pub StandFor : {A : Type 0} → Limits A → List Heap → List Buddy → List Listing → List Fitting → OwnTable → ℕ → State → Type 0
+StandFor l heaps buddies lists fits own remaining s = IsKept l.sharing l.config (properties_in l heaps) heaps buddies lists fits own remaining × (state_in l heaps buddies lists fits (whole own buddies lists fits) remaining ≡ s)
 
 -- They follow from what the parts hold.
 
-module _ (c : Config) (p : Properties) (heaps : List Heap) (own : OwnTable) (buddies : List Buddy) (lists : List Listing) (remaining : ℕ) (kept : IsKept c p heaps buddies lists own remaining) where
+module _ (sharing : Sharing) (c : Config) (p : Properties) (heaps : List Heap) (own : OwnTable) (buddies : List Buddy) (lists : List Listing) (fits : List Fitting) (remaining : ℕ) (kept : IsKept sharing c p heaps buddies lists fits own remaining) where
   abbrev t : Table
-  t = whole own buddies lists
+  t = whole own buddies lists fits
 
   abbrev ps : List Part
-  ps = parts_of own buddies lists
+  ps = parts_of own buddies lists fits
 
   abbrev Spot : ℕ → HeldObject → Type 0
-  Spot = IsPlace (length buddies)
+  Spot = IsPlace (length buddies) (length lists)
 
   buddy_linked : (index : ℕ) (b : Buddy) → slice_get buddies index ≡ Some b → IsBuddyFor c p index b → IsLinked t b
   buddy_linked index b there is = record {
@@ -100,13 +122,13 @@ module _ (c : Config) (p : Properties) (heaps : List Heap) (own : OwnTable) (bud
       known = within buddies index b there
 
       at : IsAt ps (suc index) (buddy_part b)
-      at = at_buddy own buddies lists kept.apart index b (stands_at buddies index b there) known is.sound is.for_type.memory_type
+      at = at_buddy own buddies lists fits kept.apart index b (stands_at buddies index b there) known is.sound is.for_type.memory_type
 
       named : AreNamed b.chunks
       named = is.sound.space.one_object
 
       holds : (object : ℕ) (h : HeldObject) → IsChunkOf t b.memory_type object h → Holds (buddy_part b) object h
-      holds object h of = own_part Spot ps kept.apart (single (length buddies)) (suc index) (buddy_part b) object h of.held (inl (of.of_kind, of.of_type ∙ is.for_type.memory_type, known)) at
+      holds object h of = own_part Spot ps kept.apart (single (length buddies) (length lists)) (suc index) (buddy_part b) object h of.held (inl (of.of_kind, of.of_type ∙ is.for_type.memory_type, known)) at
 
   list_linked : (index : ℕ) (l : Listing) → slice_get lists index ≡ Some l → IsListFor c p index l → IsListLinked t l
   list_linked index l there is = record {
@@ -133,20 +155,51 @@ module _ (c : Config) (p : Properties) (heaps : List Heap) (own : OwnTable) (bud
       spot = suc (length buddies + index)
 
       at : IsAt ps spot (list_part l)
-      at = at_list own buddies lists kept.apart index l (stands_at lists index l there) is.sound is.for_type.memory_type
+      at = at_list own buddies lists fits kept.apart index l (stands_at lists index l there) is.sound is.for_type.memory_type
 
       holds : (number object : ℕ) (h : HeldObject) → IsNumberedChunk t l.memory_type number object h → Holds (list_part l) object h
       holds number object h of =
-          own_part Spot ps kept.apart (single (length buddies)) spot (list_part l) object h of.held (inr (number, of.of_kind, ap (λ n. length buddies + n) (of.of_type ∙ is.for_type.memory_type))) at
+          own_part Spot ps kept.apart (single (length buddies) (length lists)) spot (list_part l) object h of.held (inr (inl (number, of.of_kind, ap (λ n. length buddies + n) (of.of_type ∙ is.for_type.memory_type)))) at
 
       whole_has : (number : ℕ) (chunk : Chunk) → finite.get l.space.chunks number ≡ Some chunk → finite.get t.held chunk.object ≡ Some (list_object l number chunk)
       whole_has number chunk held = holds_of Spot ps kept.apart spot (list_part l) chunk.object (list_object l number chunk) at (name_there (list_object l) l.space.chunks is.sound.one_object number chunk held)
 
-  pub consistent : IsConsistent c p heaps buddies lists t remaining
+  fit_linked : (index : ℕ) (f : Fitting) → slice_get fits index ≡ Some f → IsFitFor c p index f → IsFitLinked t f
+  fit_linked index f there is = record {
+    chunks = λ key chunk held. holds_of Spot ps kept.apart spot (fit_part f) chunk.object (fit_object f chunk) at (name_there object_in f.space.chunks named key chunk held);
+    objects = λ object h of.
+        let was = name_was object_in f.space.chunks named object h (holds object h of) in
+        (was.0, was.2 ∙ (λ k. Some (record { object = was.3 k; size = (was.4 k).counted })));
+    slots = λ slot live. live_of ps spot (fit_part f) (span_of_slot slot) at (span_row_live slot_total slot_exact span_of_slot f.space.live slot live);
+    spans = λ span h live of.
+        let stands = part_span Spot ps kept.apart spot (fit_part f) span h live (holds span.object h of) at in
+        let row = span_row_there slot_total slot_exact span_of_slot f.space.live span stands in
+        (row.0.chunk, subst (λ (s : Span). IsLiveFit f.space (slot_at s row.0.chunk)) row.2 row.1);
+  }
+    where
+      object_in : ℕ → Chunk → HeldObject
+      object_in key chunk = fit_object f chunk
+
+      spot : ℕ
+      spot = suc (length buddies + (length lists + index))
+
+      at : IsAt ps spot (fit_part f)
+      at = at_fit own buddies lists fits kept.apart index f (stands_at fits index f there) is.sound is.for_type.memory_type
+
+      named : AreNamed f.space.chunks
+      named = is.sound.space.one_object
+
+      holds : (object : ℕ) (h : HeldObject) → IsFitChunkOf t f.memory_type object h → Holds (fit_part f) object h
+      holds object h of =
+          own_part Spot ps kept.apart (single (length buddies) (length lists)) spot (fit_part f) object h of.held (inr (inr (of.of_kind, ap (λ n. length buddies + (length lists + n)) (of.of_type ∙ is.for_type.memory_type)))) at
+
+  pub consistent : IsConsistent sharing c p heaps buddies lists fits t remaining
   consistent = record {
     books = kept.books;
     shared = record { count = kept.shared.count; each = λ i. buddies_each i (slice_get buddies i) refl (kept.shared.each i) };
     listed = record { count = kept.listed.count; each = λ i. lists_each i (slice_get lists i) refl (kept.listed.each i) };
+    fitted = record { count = kept.fitted.count; each = λ i. fits_each i (slice_get fits i) refl (kept.fitted.each i) };
+    chosen = kept.chosen;
   }
     where
       buddies_each : (i : ℕ) (o : Option Buddy) → slice_get buddies i ≡ o → IfSome o (IsBuddyFor c p i) → IfSome o (IsBuddyOf c p t i)
@@ -156,6 +209,10 @@ module _ (c : Config) (p : Properties) (heaps : List Heap) (own : OwnTable) (bud
       lists_each : (i : ℕ) (o : Option Listing) → slice_get lists i ≡ o → IfSome o (IsListFor c p i) → IfSome o (IsListOf c p t i)
       lists_each i None there is = tt
       lists_each i (Some l) there is = record { for_type = is.for_type; sound = is.sound; linked = list_linked i l there is }
+
+      fits_each : (i : ℕ) (o : Option Fitting) → slice_get fits i ≡ o → IfSome o (IsFitFor c p i) → IfSome o (IsFitOf c p t i)
+      fits_each i None there is = tt
+      fits_each i (Some f) there is = record { for_type = is.for_type; sound = is.sound; linked = fit_linked i f there is }
 
 -- And back: what is not said of the whole.
 
@@ -169,6 +226,31 @@ buddies_for c p t buddies has = record { count = has.count; each = λ i. some_fo
 pub lists_for : (c : Config) (p : Properties) (t : Table) (lists : List Listing) → HasLists c p t lists → AreLists c p lists
 lists_for c p t lists has = record { count = has.count; each = λ i. some_for (IsListOf c p t i) (IsListFor c p i) (slice_get lists i) (λ l of. record { for_type = of.for_type; sound = of.sound }) (has.each i) }
 
+pub fits_for : (c : Config) (p : Properties) (t : Table) (fits : List Fitting) → HasFits c p t fits → AreFits c p fits
+fits_for c p t fits has = record { count = has.count; each = λ i. some_for (IsFitOf c p t i) (IsFitFor c p i) (slice_get fits i) (λ f of. record { for_type = of.for_type; sound = of.sound }) (has.each i) }
+
+-- What is held is as it was chosen: as before, with one more that is, or with fewer.
+
+pub chosen_same : (sharing : Sharing) (t now : Table) → IsChosen sharing t → now.held ≡ t.held → IsChosen sharing now
+chosen_same sharing t now chosen same object h at = chosen object h (sym (ap (λ (m : Held). finite.get m object) same) ∙ at)
+
+pub chosen_more : (sharing : Sharing) (t now : Table) (name : ℕ) (row : HeldObject) → IsChosen sharing t → is_chosen sharing row.kind ≡ true → now.held ≡ finite.insert t.held name row → IsChosen sharing now
+chosen_more sharing t now name row chosen is more object h at = elim (one_or_two object name) [
+  | inl same ↦
+      let own : Some row ≡ Some h = sym (own_inserted t.held name row) ∙ ap (finite.get (finite.insert t.held name row)) (sym same) ∙ sym (ap (λ (m : Held). finite.get m object) more) ∙ at in
+      let one : row ≡ h = cc in
+      ap (λ (x : HeldObject). is_chosen sharing x.kind) (sym one) ∙ is
+  | inr other ↦ chosen object h (sym (get_put-other t.held name row object other) ∙ sym (ap (λ (m : Held). finite.get m object) more) ∙ at)
+]
+
+pub chosen_less : (sharing : Sharing) (t now : Table) (name : ℕ) → IsChosen sharing t → now.held ≡ finite.remove t.held name → IsChosen sharing now
+chosen_less sharing t now name chosen less object h at = elim (one_or_two object name) [
+  | inl same ↦ absurd (
+      let none : None ≡ Some h = sym (get_removed t.held name) ∙ ap (finite.get (finite.remove t.held name)) (sym same) ∙ sym (ap (λ (m : Held). finite.get m object) less) ∙ at in
+      cc)
+  | inr other ↦ chosen object h (sym (get_removed-other t.held name object other) ∙ sym (ap (λ (m : Held). finite.get m object) less) ∙ at)
+]
+
 -- One of them is put in its place.
 
 pub buddies_set : (c : Config) (p : Properties) (buddies : List Buddy) (index : ℕ) (b : Buddy) → AreBuddies c p buddies → IsBuddyFor c p index b → AreBuddies c p (set buddies index b)
@@ -177,8 +259,11 @@ buddies_set c p buddies index b are is = record { count = length-set buddies ind
 pub lists_set : (c : Config) (p : Properties) (lists : List Listing) (index : ℕ) (l : Listing) → AreLists c p lists → IsListFor c p index l → AreLists c p (set lists index l)
 lists_set c p lists index l are is = record { count = length-set lists index l ∙ are.count; each = each_set (IsListFor c p) lists index l is (λ q other. are.each q) }
 
+pub fits_set : (c : Config) (p : Properties) (fits : List Fitting) (index : ℕ) (f : Fitting) → AreFits c p fits → IsFitFor c p index f → AreFits c p (set fits index f)
+fits_set c p fits index f are is = record { count = length-set fits index f ∙ are.count; each = each_set (IsFitFor c p) fits index f is (λ q other. are.each q) }
+
 -- Room is made for one more object, and nothing else changes.
-pub kept-room : (c : Config) (p : Properties) (heaps : List Heap) (buddies : List Buddy) (lists : List Listing) (own now : OwnTable) (remaining : ℕ) → now ≡ record own { room = now.room }
-    → IsKept c p heaps buddies lists own remaining → IsKept c p heaps buddies lists now remaining
-kept-room c p heaps buddies lists own now remaining kept is =
-    subst (λ (x : OwnTable). IsKept c p heaps buddies lists x remaining) (sym kept) (record { books = is.books; shared = is.shared; listed = is.listed; apart = is.apart })
+pub kept-room : (sharing : Sharing) (c : Config) (p : Properties) (heaps : List Heap) (buddies : List Buddy) (lists : List Listing) (fits : List Fitting) (own now : OwnTable) (remaining : ℕ) → now ≡ record own { room = now.room }
+    → IsKept sharing c p heaps buddies lists fits own remaining → IsKept sharing c p heaps buddies lists fits now remaining
+kept-room sharing c p heaps buddies lists fits own now remaining kept is =
+    subst (λ (x : OwnTable). IsKept sharing c p heaps buddies lists fits x remaining) (sym kept) (record { books = is.books; shared = is.shared; listed = is.listed; fitted = is.fitted; chosen = is.chosen; apart = is.apart })

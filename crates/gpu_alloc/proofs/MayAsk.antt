@@ -37,6 +37,7 @@ module _ (s new : State) (remaining : ℕ) (limits : List ℕ) (is : new ≡ rec
   pub may_ask_leaves : limits ≡ s.heap_limits → Leaves s new
   may_ask_leaves same = record {
     properties = ap (λ (t : State). t.properties) is;
+    sharing = ap (λ (t : State). t.sharing) is;
     config = ap (λ (t : State). t.config) is;
     limits = ap (λ (t : State). t.heap_limits) is ∙ same;
     owned = may_ask_owned;

@@ -1,23 +1,16 @@
 -- What calls leave of the blocks that a caller has in hand.
 use Rattle.std.proofs.Common.{◌≡◌, ◌≢◌, zero, suc, ◌+◌, ◌-◌, ◌<◌, true, false, cond, List, [], ◌∷◌, ◌++◌, append-nil, refl, sym, ◌∙◌, ap, subst, arith, Result, Ok, Err, IfOk}
-use Rattle.std.specs.FinMap as map
 use Rattle.std.specs.FinSet as set
 use Rattle.gpu_alloc_types.specs.Device.{Event}
 use Rattle.gpu_alloc.specs.Allocation.{AllocatesBy, IsGranted, Plan}
-use Rattle.gpu_alloc.specs.Owned.{AreTwo, IsBeside, AreOwned, HoldsNothing, Leaves, Adds, Removes}
-use Rattle.gpu_alloc.specs.Opening.{opened}
-use Rattle.gpu_alloc.specs.Types.Config.{Config}
-use Rattle.gpu_alloc_types.specs.Properties.{Properties}
-use Rattle.std.specs.Ordering.{nat_cmp}
-use Rattle.gpu_alloc_base.proofs.Names.{wherever}
+use Rattle.gpu_alloc.specs.Owned.{AreTwo, IsBeside, AreOwned, Leaves, Adds, Removes}
 use Rattle.gpu_alloc.specs.Release.{Cleans, Frees}
 use Rattle.gpu_alloc.specs.Sound.{IsSound}
 use Rattle.gpu_alloc.specs.declared.request.Request.{Request}
 use Rattle.gpu_alloc_base.specs.declared.error.AllocationError.{AllocationError}
 use Rattle.gpu_alloc.proofs.Decisions.{allocates_kept}
-use Rattle.gpu_alloc_block.specs.State.{HeldObject, State, Block, Span, span_of, span_cmp, AreApart, IsLive, IsOwned, is_shared}
+use Rattle.gpu_alloc_block.specs.State.{State, Block, Span, span_of, span_cmp, AreApart, IsLive, IsOwned, is_shared}
 use Rattle.gpu_alloc.proofs.Changes.{Grows, allocates_grow, granted_kept, apart_differ, still_owned}
-use Rattle.gpu_alloc.proofs.InHand.{all_outside}
 use Rattle.gpu_alloc_block.proofs.Kept.{two_back}
 use Rattle.gpu_alloc_block.proofs.LiveSpans.{span_total, live_new, live_still, live_kept, not_live, put_taken, taken_before}
 
@@ -83,7 +76,7 @@ module _ (s : State) (b : Block) (new : State) (grows : Grows s b new) where
   -- What a grant leaves and adds.
 
   pub grant_leaves : Leaves s new
-  grant_leaves = record { properties = grows.properties; config = grows.config; limits = grows.limits; owned = granted_kept s b new grows; all = granted_all }
+  grant_leaves = record { properties = grows.properties; sharing = grows.sharing; config = grows.config; limits = grows.limits; owned = granted_kept s b new grows; all = granted_all }
 
   pub grant_adds : IsSound s → ((span : Span) → IsLive s span → AreApart span (span_of b)) → IsSound new → IsOwned new b → Adds s new b
   grant_adds sound free sound_new own =
@@ -103,6 +96,7 @@ module _ (s : State) (b : Block) (new : State) (grows : Grows s b new) where
 pub left_as_it_was : (s new : State) → new ≡ s → Leaves s new
 left_as_it_was s new same = record {
   properties = ap (λ (t : State). t.properties) same;
+  sharing = ap (λ (t : State). t.sharing) same;
   config = ap (λ (t : State). t.config) same;
   limits = ap (λ (t : State). t.heap_limits) same;
   owned = λ b owned. subst (λ t. IsOwned t b) (sym same) owned;
@@ -158,6 +152,7 @@ module _ (s : State) (b : Block) (es : List Event) (new : State) (frees : Frees 
     pub frees_remove : IsOwned s b → Removes s b new
     frees_remove owned = record {
       properties = ap (λ (t : State). t.properties) frees.2.1;
+      sharing = ap (λ (t : State). t.sharing) frees.2.1;
       config = ap (λ (t : State). t.config) frees.2.1;
       limits = ap (λ (t : State). t.heap_limits) frees.2.1;
       live = returned_live;
@@ -216,6 +211,7 @@ module _ (s : State) (es : List Event) (new : State) (cleans : Cleans s es new) 
   pub cleans_leave : Leaves s new
   cleans_leave = record {
     properties = ap (λ (t : State). t.properties) cleans.2.1;
+    sharing = ap (λ (t : State). t.sharing) cleans.2.1;
     config = ap (λ (t : State). t.config) cleans.2.1;
     limits = ap (λ (t : State). t.heap_limits) cleans.2.1;
     owned = cleaned_kept;
@@ -225,17 +221,3 @@ module _ (s : State) (es : List Event) (new : State) (cleans : Cleans s es new) 
 -- none is live where there are none
 pub none_live : (live : set.FinSet span_cmp) → set.len live ≡ 0 → (span : Span) → set.contains live span ≡ true → ⊥
 none_live live none span there = let some = some_live live span there in omega (arith, some, none)
-
--- An allocator that holds nothing.
-
-pub opened_nothing : (c : Config) (p : Properties) → HoldsNothing p (opened c p)
-opened_nothing c p = record {
-  properties = refl;
-  live = set.len-empty span_cmp;
-  held = map.len-empty nat_cmp HeldObject;
-  outside = all_outside (opened c p) refl;
-  agrees = λ q same objects. record {
-    properties = same;
-    holds = λ name. wherever (map.get (map.empty {X = HeldObject} {R = nat_cmp}) name) _ (λ h at. let none = map.get-empty {X = HeldObject} nat_cmp name in absurd (cc));
-  };
-}

@@ -4,10 +4,11 @@ use Rattle.std.proofs.lemmas.List.Elements.{Contains-get_or}
 use Rattle.std.specs.FinMap as map
 use Rattle.gpu_alloc_types.specs.Device.{Event}
 use Rattle.gpu_alloc.specs.FreeListSharing.{IsListChunk}
-use Rattle.gpu_alloc.specs.Release.{AreChunksGone, Frees, GoesWith, LetsGo, MayGo, without_all, without_span}
+use Rattle.gpu_alloc.specs.Release.{AreChunksGone, AreFitsGone, Frees, GoesWith, LetsGo, MayGo, without_all, without_span}
 use Rattle.gpu_alloc_block.specs.State.{Block, HeldObject, IsOwned, State, total}
 use Rattle.gpu_alloc_block.specs.declared.block.Kind.{Kind}
-use Rattle.gpu_alloc_block.specs.declared.block.Kind.TheVariants.{Dedicated, Imported, BuddyChunk, FreeListChunk}
+use Rattle.gpu_alloc_block.specs.declared.block.Kind.TheVariants.{Dedicated, Imported, BuddyChunk, FreeListChunk, FitChunk}
+use Rattle.gpu_alloc_base.proofs.Lists.{contains_head}
 use Rattle.gpu_alloc_base.proofs.Names.{get_removed-other, len_removed}
 use Rattle.gpu_alloc.proofs.Ledgers.{Held}
 
@@ -61,6 +62,17 @@ chunks_once s t keep_last gone chunks =
 pub chunks_total : (s : State) (t : ℕ) (keep_last : Bool) (gone : List ℕ) (es : List Event) (new : State) → AreChunksGone s t keep_last gone → LetsGo s gone es new → total new ≡ total s
 chunks_total s t keep_last gone es new chunks lets = let once = chunks_once s t keep_last gone chunks in ap total lets.1 ∙ omega (arith, count_gone s.held gone once.0 once.1)
 
+-- Fit chunks.
+
+-- one at most
+fits_once : (s : State) (t : ℕ) (gone : List ℕ) → AreFitsGone s t gone → AreHeld s.held gone × AreOnce gone
+fits_once s t [] fits = (tt, tt)
+fits_once s t (object ∷ []) fits = let is = ((fits.all object).0 (contains_head object [])).chunk in (((is.chunk, is.held), tt), (tt, tt))
+fits_once s t (object ∷ (other ∷ gone)) fits = absurd (omega (arith, fits.few))
+
+pub fits_total : (s : State) (t : ℕ) (gone : List ℕ) (es : List Event) (new : State) → AreFitsGone s t gone → LetsGo s gone es new → total new ≡ total s
+fits_total s t gone es new fits lets = let once = fits_once s t gone fits in ap total lets.1 ∙ omega (arith, count_gone s.held gone once.0 once.1)
+
 -- What goes with a block.
 
 goes_once : (k : Kind) (s : State) (object : ℕ) (gone : List ℕ) → (h : HeldObject) × (map.get s.held object ≡ Some h) → GoesWith k s object gone → AreHeld s.held gone × AreOnce gone
@@ -69,6 +81,8 @@ goes_once Imported s object gone there goes = subst (λ names. AreHeld s.held na
 goes_once BuddyChunk s object gone there (inl went) = subst (λ names. AreHeld s.held names × AreOnce names) (sym went.1) ((there, tt), (tt, tt))
 goes_once BuddyChunk s object gone there (inr stays) = subst (λ names. AreHeld s.held names × AreOnce names) (sym stays.1) (tt, tt)
 goes_once (FreeListChunk number) s object gone there goes = chunks_once s goes.0.memory_type true gone goes.2
+goes_once FitChunk s object gone there (inl went) = subst (λ names. AreHeld s.held names × AreOnce names) (sym went.1) ((there, tt), (tt, tt))
+goes_once FitChunk s object gone there (inr stays) = subst (λ names. AreHeld s.held names × AreOnce names) (sym stays.1) (tt, tt)
 
 pub frees_total : (s : State) (b : Block) (es : List Event) (new : State) → IsOwned s b → Frees s b es new → total new ≡ total s
 frees_total s b es new owned frees =

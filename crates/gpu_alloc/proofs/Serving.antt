@@ -27,9 +27,10 @@ use Rattle.gpu_alloc_usage.proofs.Ranking.Candidates.{allowed-from_bit, candidat
 use Rattle.gpu_alloc_usage.proofs.Ranking.Rising.{filter-has, filter-kept, none-at, one-at}
 use Rattle.gpu_alloc.specs.Allocation.{Allocates, IsCandidate, Refuses, TriesAll, ask, candidates_of}
 use Rattle.gpu_alloc.specs.Candidates.{own_candidate}
-use Rattle.gpu_alloc.specs.Opening.{opened, size_of_heap}
+use Rattle.gpu_alloc.specs.Opening.{opened_by, size_of_heap}
 use Rattle.gpu_alloc.specs.Serving.{AsksForOwnObjects, MayServe, NeverServed, lasting_refusal}
 use Rattle.gpu_alloc_block.specs.State.{Block, HeldObject, State, heap_limit, ledger, share}
+use Rattle.gpu_alloc_block.specs.declared.sharing.Sharing.{Sharing}
 use Rattle.gpu_alloc.specs.declared.request.Dedicated.{Dedicated}
 use Rattle.gpu_alloc.specs.declared.request.Dedicated.TheVariants.{Required}
 use Rattle.gpu_alloc.specs.declared.request.Request.{Request}
@@ -125,8 +126,8 @@ never_served = never_here
 
 -- Where nothing is held, an object of the request's own is asked for.
 
-nothing_counted : (c : Config) (p : Properties) (heap : ℕ) → ledger (opened c p) heap ≡ 0
-nothing_counted c p heap = of_none (map.entries (opened c p).held) (sym (map.len-entries (opened c p).held) ∙ map.len-empty nat_cmp HeldObject)
+nothing_counted : (sharing : Sharing) (c : Config) (p : Properties) (heap : ℕ) → ledger (opened_by sharing c p) heap ≡ 0
+nothing_counted sharing c p heap = of_none (map.entries (opened_by sharing c p).held) (sym (map.len-entries (opened_by sharing c p).held) ∙ map.len-empty nat_cmp HeldObject)
   where
     of_none : (es : List (ℕ × HeldObject)) → length es ≡ 0 → sum_by (share p heap) es ≡ 0
     of_none [] none = refl
@@ -137,8 +138,8 @@ sized None = refl
 sized (Some heap) = refl
 
 -- a heap's limit is its size
-whole_limit : (c : Config) (p : Properties) (t : ℕ) → heap_limit (opened c p) (heap_at p t) ≡ heap_size p t
-whole_limit c p t =
+whole_limit : (sharing : Sharing) (c : Config) (p : Properties) (t : ℕ) → heap_limit (opened_by sharing c p) (heap_at p t) ≡ heap_size p t
+whole_limit sharing c p t =
     let heaps = p.memory_heaps in
     sym (unwrap_or-slice_get (map_list size_of_heap heaps) (heap_at p t) 0) ∙ ap (λ o. unwrap_or o 0) (slice_get-map size_of_heap heaps (heap_at p t)) ∙ sized (slice_get heaps (heap_at p t))
 
@@ -146,9 +147,9 @@ whole_limit c p t =
 abbrev Asked : List Event → Result Block AllocationError → Type 0
 Asked es answer = (es ≢ []) ⊎ (answer ≡ Err OutOfHostMemory)
 
-module _ (c : Config) (p : Properties) (r : Request) (remains : 0 < p.max_memory_allocation_count) where
+module _ (sharing : Sharing) (c : Config) (p : Properties) (r : Request) (remains : 0 < p.max_memory_allocation_count) where
   abbrev s : State
-  s = opened c p
+  s = opened_by sharing c p
 
   lacks_device : (q : ChunkQuestion) (es : List Event) → LacksDeviceMemory q es → es ≢ []
   lacks_device q es (inl is) none = let never = sym is ∙ none in absurd (cc)
@@ -157,8 +158,8 @@ module _ (c : Config) (p : Properties) (r : Request) (remains : 0 < p.max_memory
   passed_asked : (t : ℕ) (es : List Event) → r.size ≤ heap_size p t → case.IsPassed (own_candidate s r.size t) es → es ≢ []
   passed_asked t es room (inl (inl never, is)) = absurd (never tt)
   passed_asked t es room (inl (inr (has, over), is)) =
-      let empty = nothing_counted c p (heap_at p t) in
-      let whole = whole_limit c p t in
+      let empty = nothing_counted sharing c p (heap_at p t) in
+      let whole = whole_limit sharing c p t in
       let none : ⊥ = omega (arith, over, room, empty, whole) in absurd none
   passed_asked t es room (inr (asks, lacks)) = lacks_device _ es lacks
 
@@ -199,13 +200,13 @@ module _ (c : Config) (p : Properties) (r : Request) (remains : 0 < p.max_memory
 
 pub asks_for_own : AsksForOwnObjects
 unfolding Allocates IsCandidate
-asks_for_own c p r es answer new may remains h =
+asks_for_own sharing c p r es answer new may remains h =
     let small = may.small in
     let there = may.candidate.1 in
     let within : nat_lt p.max_memory_allocation_size r.size ≡ false = grind (arith, nat_tests, small) in
     let free : (true && (p.max_memory_allocation_count == 0)) ≡ false = grind (arith, nat_tests, remains) in
-    let some : nat_eq (length (candidates_of (opened c p) r)) 0 ≡ false = at_least_one (candidates_of (opened c p) r) may.candidate.0 there in
-    all_asked c p r remains (candidates_of (opened c p) r) es answer new may.candidate.0 there may.candidate.2
+    let some : nat_eq (length (candidates_of (opened_by sharing c p) r)) 0 ≡ false = at_least_one (candidates_of (opened_by sharing c p) r) may.candidate.0 there in
+    all_asked sharing c p r remains (candidates_of (opened_by sharing c p) r) es answer new may.candidate.0 there may.candidate.2
     (MatchBool-at_false _ _ some (MatchBool-at_false _ _ free (MatchBool-at_false _ _ within h)))
   where
     at_least_one : (ts : List ℕ) (t : ℕ) → Contains ts t → nat_eq (length ts) 0 ≡ false

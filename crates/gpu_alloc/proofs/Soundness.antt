@@ -1,5 +1,5 @@
 -- What the allocator's fields keep, as its state tells it.
-use Rattle.std.proofs.Common.{◌≡◌, ◌≢◌, ◌⊎◌, inl, inr, ℕ, zero, suc, ◌+◌, ◌<◌, ◌≤◌, true, false, List, [], ◌∷◌, length, get_or, Option, Some, None, IfSome, slice_get, refl, sym, ◌∙◌, ap, subst, arith}
+use Rattle.std.proofs.Common.{◌≡◌, ◌≢◌, ◌⊎◌, inl, inr, ℕ, zero, suc, ◌+◌, ◌<◌, ◌≤◌, true, false, List, [], ◌∷◌, length, get_or, Option, Some, None, IfSome, IsSome, slice_get, refl, sym, ◌∙◌, ap, subst, arith}
 use Rattle.std.proofs.lemmas.Bool.{cases_eq, cases_lt, cases_Bool}
 use Rattle.std.proofs.lemmas.Nat.{pow_pos}
 use Rattle.std.specs.FinMap as map
@@ -8,25 +8,30 @@ use Rattle.gpu_alloc_buddy.specs.BuddyState.{Buddy, IsLiveLeaf}
 use Rattle.gpu_alloc_base.specs.Chunks.{Chunk}
 use Rattle.gpu_alloc_freelist.specs.FreeListState.{Listing, IsLiveSlot}
 use Rattle.gpu_alloc_base.specs.FreeSpace.{IsIn, IsMultipleOf, IsPowerOfTwo}
-use Rattle.gpu_alloc.specs.Atoms.{KeepsAtoms, IsNextListChunk}
+use Rattle.gpu_alloc.specs.Atoms.{KeepsAtoms, IsNextFitChunk, IsNextListChunk}
+use Rattle.gpu_alloc.specs.FitSharing.{next_fit_chunk, IsFitChunk}
 use Rattle.gpu_alloc.specs.FreeListSharing.{IsListChunk, latest_number, next_list_chunk}
 use Rattle.gpu_alloc.specs.FirstTypes.{first_types, first_type_state}
-use Rattle.gpu_alloc.specs.Inside.{state_in, properties_in, types_in, span_of_leaf, leaf_at, span_of_slot, slot_at, IsLiveIn, IsChunkOf, IsNumberedChunk, IsKnown, offer_of}
-use Rattle.gpu_alloc.proofs.Linked.{IsBuddyOf, IsListOf, IsConsistent}
-use Rattle.gpu_alloc.specs.Sound.{IsSound, LiesIn, is_list_chunk}
+use Rattle.gpu_alloc.specs.Inside.{state_in, properties_in, types_in, lists_in, span_of_leaf, leaf_at, span_of_slot, slot_at, IsLiveIn, IsChunkOf, IsFitChunkOf, IsNumberedChunk, IsKnown, offer_of}
+use Rattle.gpu_alloc.proofs.Linked.{IsBuddyOf, IsFitOf, IsListOf, IsConsistent}
+use Rattle.gpu_alloc.specs.Sound.{IsSound, IsUnused, LiesIn, may_be_unused}
 use Rattle.gpu_alloc.specs.Spans.{Place, Table}
 use Rattle.gpu_alloc_block.specs.State.{HeldObject, Span, State, TypeState, AreApart, is_shared}
-use Rattle.gpu_alloc_block.specs.declared.block.Kind.TheVariants.{BuddyChunk, FreeListChunk}
+use Rattle.gpu_alloc_block.specs.declared.block.Kind.TheVariants.{BuddyChunk, FreeListChunk, FitChunk}
+use Rattle.gpu_alloc_block.specs.declared.sharing.Sharing.{Sharing}
 use Rattle.gpu_alloc_base.specs.declared.config.Config.{Config}
 use Rattle.gpu_alloc_base.specs.declared.heap.Heap.{Heap}
 use Rattle.gpu_alloc.specs.declared.limits.Limits.{Limits}
 use Rattle.gpu_alloc.proofs.Consistency.{chunk_kinds}
 use Rattle.gpu_alloc.proofs.HeapLists.{heap_is}
 use Rattle.std.proofs.lemmas.List.{length-map}
+use Rattle.gpu_alloc.proofs.Fits.States.{fit_next_at, fits_list_at, fits_number_at, lists_within}
 use Rattle.gpu_alloc.proofs.FreeLists.States.{list_latest_at, list_next_at, types_within}
 use Rattle.gpu_alloc.proofs.Atoms.{atom_power}
 use Rattle.gpu_alloc_base.proofs.Maps.{one_value}
 use Rattle.gpu_alloc_base.proofs.PowersOfTwo.{power_of_bit}
+use Rattle.gpu_alloc_fit.specs.Fit.{Fitting}
+use Rattle.gpu_alloc_fits.specs.Space.{IsWhollyFree, IsLiveSlot as IsLiveFit}
 
 -- two ranges with no byte in both are apart
 pub ranges_apart : (a m b n : ℕ) → 0 < m → 0 < n → ((at : ℕ) → IsIn a m at → IsIn b n at → ⊥) → (a + m ≤ b) ⊎ (b + n ≤ a)
@@ -50,6 +55,11 @@ element P (x ∷ xs) (suc i) inside is = element P xs i (omega (arith, inside)) 
 -- a live span of this table
 abbrev HasSpan : Table → ℕ → Type 0
 HasSpan t object = (span : Span) × IsLiveIn t span × (span.object ≡ object)
+
+-- what is found is there
+some_is : {X : Type 0} (o : Option X) (x : X) → o ≡ Some x → IsSome o
+some_is None x is = absurd (cc)
+some_is (Some y) x is = refl
 
 -- A buddy chunk.
 
@@ -130,9 +140,55 @@ module _ {c : Config} {p : Properties} {t : Table} {l : Listing} {object number 
       ranges_apart x.offset x.size y.offset y.size (of_slot x named slot).1 (of_slot y same slot').1
       (λ at i j. other (ap span_of_slot (is.sound.space.apart (slot_at x number) (slot_at y number) slot slot' refl at i j)))
 
+-- A fit chunk.
+
+module _ {c : Config} {p : Properties} {t : Table} {f : Fitting} {object : ℕ} {h : HeldObject} (is : IsFitOf c p t h.memory_type f) (held : map.get t.held object ≡ Some h) (kind : h.kind ≡ FitChunk) where
+  fit_held : IsFitChunkOf t f.memory_type object h
+  fit_held = record { held = held; of_kind = kind; of_type = sym is.for_type.memory_type }
+
+  fit_key : (key : ℕ) × (map.get f.space.chunks key ≡ Some (chunk_at object h))
+  fit_key = is.linked.objects object h fit_held
+
+  -- a live span is a live block of the chunk
+  fit_slot : (span : Span) → IsLiveIn t span → span.object ≡ object → (key : ℕ) × IsLiveFit f.space (slot_at span key)
+  fit_slot span live named =
+      let there = is.linked.spans span h live (subst (λ o. IsFitChunkOf t f.memory_type o h) (sym named) fit_held) in
+      there
+
+  of_fit : (span : Span) (key : ℕ) → IsLiveFit f.space (slot_at span key) → span.object ≡ object → (key ≡ fit_key.0) × (span.offset + span.size ≤ h.counted) × (0 < span.size)
+  of_fit span key live named =
+      let lies = is.sound.space.inside (slot_at span key) live in
+      let own = is.sound.space.one_object key fit_key.0 lies.chunk (chunk_at object h) lies.held fit_key.1 (sym lies.object ∙ named) in
+      let same : lies.chunk ≡ chunk_at object h = one_value _ lies.chunk (chunk_at object h) lies.held (ap (λ k. map.get f.space.chunks k) own ∙ fit_key.1) in
+      (own, omega (arith, lies.inside, ap (λ (x : Chunk). x.size) same), lies.nonempty)
+
+  fit_inside : (span : Span) → IsLiveIn t span → span.object ≡ object → span.offset + span.size ≤ h.counted
+  fit_inside span live named =
+      let slot = fit_slot span live named in
+      (of_fit span slot.0 slot.1 named).1
+
+  fit_apart : (x y : Span) → IsLiveIn t x → IsLiveIn t y → x.object ≡ object → y.object ≡ object → x ≢ y → (x.offset + x.size ≤ y.offset) ⊎ (y.offset + y.size ≤ x.offset)
+  fit_apart x y live also named same other =
+      let slot = fit_slot x live named in
+      let slot' = fit_slot y also same in
+      let of = of_fit x slot.0 slot.1 named in
+      let of' = of_fit y slot'.0 slot'.1 same in
+      ranges_apart x.offset x.size y.offset y.size of.2 of'.2
+      (λ at i j. other (ap span_of_slot (is.sound.space.apart (slot_at x slot.0) (slot_at y slot'.0) slot.1 slot'.1 (of.0 ∙ sym of'.0) at i j)))
+
+  -- without a live span it is wholly free
+  wholly_free : ((span : Span) → IsLiveIn t span → span.object ≢ object) → IsWhollyFree f.space fit_key.0
+  wholly_free unused = record {
+    held = some_is _ (chunk_at object h) fit_key.1;
+    unused = λ slot live there.
+        let lies = is.sound.space.inside slot live in
+        let same : lies.chunk ≡ chunk_at object h = one_value _ lies.chunk (chunk_at object h) lies.held (ap (λ k. map.get f.space.chunks k) there ∙ fit_key.1) in
+        unused (span_of_slot slot) (is.linked.slots slot live) (lies.object ∙ ap (λ (x : Chunk). x.object) same);
+  }
+
 -- Each held object.
 
-module _ {c : Config} {p : Properties} {t : Table} {buddies : List Buddy} {lists : List Listing} {heaps : List Heap} {remaining : ℕ} (is : IsConsistent c p heaps buddies lists t remaining) where
+module _ {sharing : Sharing} {c : Config} {p : Properties} {t : Table} {buddies : List Buddy} {lists : List Listing} {fits : List Fitting} {heaps : List Heap} {remaining : ℕ} (is : IsConsistent sharing c p heaps buddies lists fits t remaining) where
   known_at : (object : ℕ) (h : HeldObject) → map.get t.held object ≡ Some h → IsKnown t p object h
   known_at object h held = subst (λ (o : Option HeldObject). IfSome o (IsKnown t p object)) held (is.books.known object)
 
@@ -142,18 +198,23 @@ module _ {c : Config} {p : Properties} {t : Table} {buddies : List Buddy} {lists
   list_at : (object : ℕ) (h : HeldObject) → map.get t.held object ≡ Some h → (l : Listing) × IsListOf c p t h.memory_type l
   list_at object h held = element (IsListOf c p t h.memory_type) lists h.memory_type (omega (arith, (known_at object h held).of_type, is.listed.count)) (is.listed.each h.memory_type)
 
+  fit_at : (object : ℕ) (h : HeldObject) → map.get t.held object ≡ Some h → (f : Fitting) × IsFitOf c p t h.memory_type f
+  fit_at object h held = element (IsFitOf c p t h.memory_type) fits h.memory_type (omega (arith, (known_at object h held).of_type, is.fitted.count)) (is.fitted.each h.memory_type)
+
   -- the live spans of a chunk are inside and apart
   chunk_inside : (object : ℕ) (h : HeldObject) → map.get t.held object ≡ Some h → is_shared h.kind ≡ true → (span : Span) → IsLiveIn t span → span.object ≡ object → span.offset + span.size ≤ h.counted
   chunk_inside object h held kind = elim (chunk_kinds h.kind kind) [
     | inl of_buddy ↦ buddy_inside (buddy_at object h held).1 held of_buddy
-    | inr of_list ↦ list_inside (list_at object h held).1 held of_list.1
+    | inr (inl of_list) ↦ list_inside (list_at object h held).1 held of_list.1
+    | inr (inr of_fit) ↦ fit_inside (fit_at object h held).1 held of_fit
   ]
 
   chunk_apart : (object : ℕ) (h : HeldObject) → map.get t.held object ≡ Some h → is_shared h.kind ≡ true
       → (x y : Span) → IsLiveIn t x → IsLiveIn t y → x.object ≡ object → y.object ≡ object → x ≢ y → (x.offset + x.size ≤ y.offset) ⊎ (y.offset + y.size ≤ x.offset)
   chunk_apart object h held kind = elim (chunk_kinds h.kind kind) [
     | inl of_buddy ↦ buddy_apart (buddy_at object h held).1 held of_buddy
-    | inr of_list ↦ list_apart (list_at object h held).1 held of_list.1
+    | inr (inl of_list) ↦ list_apart (list_at object h held).1 held of_list.1
+    | inr (inr of_fit) ↦ fit_apart (fit_at object h held).1 held of_fit
   ]
 
   -- an object of one block has one live span
@@ -169,7 +230,8 @@ module _ {c : Config} {p : Properties} {t : Table} {buddies : List Buddy} {lists
         elim (cases_Bool (is_shared of.object.kind)) [
           | inl kind ↦ elim (chunk_kinds of.object.kind kind) [
             | inl of_buddy ↦ subst (λ k. LiesIn k of.object.counted span) (sym of_buddy) (in_chunk kind)
-            | inr of_list ↦ subst (λ k. LiesIn k of.object.counted span) (sym of_list.1) (in_chunk kind)
+            | inr (inl of_list) ↦ subst (λ k. LiesIn k of.object.counted span) (sym of_list.1) (in_chunk kind)
+            | inr (inr of_fit) ↦ subst (λ k. LiesIn k of.object.counted span) (sym of_fit) (in_chunk kind)
           ]
           | inr own ↦ let one = (known_at span.object of.object of.held).one_span own in subst (LiesIn of.object.kind of.object.counted) (sym (one.alone span live refl)) one.lies
         ],
@@ -186,17 +248,18 @@ module _ {c : Config} {p : Properties} {t : Table} {buddies : List Buddy} {lists
     | inr apart ↦ inl apart
   ]
 
-  -- a free list may keep a chunk in which nothing is live, and nothing else is held so
-  is_used : (object : ℕ) (h : HeldObject) → map.get t.held object ≡ Some h → is_list_chunk h.kind ≡ false → HasSpan t object
-  is_used object h held no_list = elim (cases_Bool (is_shared h.kind)) [
+  -- a chunk of a free list and a fit chunk may be kept in which nothing is live, and nothing else is held so
+  is_used : (object : ℕ) (h : HeldObject) → map.get t.held object ≡ Some h → may_be_unused h.kind ≡ false → HasSpan t object
+  is_used object h held never = elim (cases_Bool (is_shared h.kind)) [
     | inl kind ↦ elim (chunk_kinds h.kind kind) [
       | inl of_buddy ↦ chunk_used (buddy_at object h held).1 held of_buddy
-      | inr of_list ↦ absurd (let both = ap is_list_chunk (sym of_list.1) ∙ no_list in cc)
+      | inr (inl of_list) ↦ absurd (let both = ap may_be_unused (sym of_list.1) ∙ never in cc)
+      | inr (inr of_fit) ↦ absurd (let both = ap may_be_unused (sym of_fit) ∙ never in cc)
     ]
     | inr own ↦ let one = (known_at object h held).one_span own in (one.span, one.live, one.of_object)
   ]
 
-  each_used : (object : ℕ) (o : Option HeldObject) → map.get t.held object ≡ o → IfSome o (λ h. is_list_chunk h.kind ≡ false → HasSpan t object)
+  each_used : (object : ℕ) (o : Option HeldObject) → map.get t.held object ≡ o → IfSome o (λ h. may_be_unused h.kind ≡ false → HasSpan t object)
   each_used object None none = tt
   each_used object (Some h) held = is_used object h held
 
@@ -213,10 +276,10 @@ read_is [] i x is = absurd (cc)
 read_is (y ∷ xs) zero x is = let same : y ≡ x = cc is in sym same
 read_is (y ∷ xs) (suc i) x is = read_is xs i x is
 
-module _ {A : Type 0} (l : Limits A) (heaps : List Heap) (buddies : List Buddy) (lists : List Listing) (t : Table) (remaining : ℕ)
-    (is : IsConsistent l.config (properties_in l heaps) heaps buddies lists t remaining) (index number : ℕ) where
+module _ {A : Type 0} (l : Limits A) (heaps : List Heap) (buddies : List Buddy) (lists : List Listing) (fits : List Fitting) (t : Table) (remaining : ℕ)
+    (is : IsConsistent l.sharing l.config (properties_in l heaps) heaps buddies lists fits t remaining) (index number : ℕ) where
   abbrev s : State
-  s = state_in l heaps buddies lists t remaining
+  s = state_in l heaps buddies lists fits t remaining
 
   -- The free list of a memory type that is known.
 
@@ -233,11 +296,14 @@ module _ {A : Type 0} (l : Limits A) (heaps : List Heap) (buddies : List Buddy) 
     typed : index < length types
     typed = types_within (first_types l.config (properties_in l heaps)) buddies index (omega (arith, known, length-map (properties_in l heaps).memory_types (first_type_state l.config (properties_in l heaps)))) (omega (arith, known, is.shared.count))
 
+    fitted : index < length fits
+    fitted = omega (arith, known, is.fitted.count)
+
     latest_is : latest_number s index ≡ own_list.0.space.latest
-    latest_is = list_latest_at types lists index own_list.0 own_list.1 typed
+    latest_is = fits_number_at (lists_in types lists) fits index fitted ∙ list_latest_at types lists index own_list.0 own_list.1 typed
 
     next_is : next_list_chunk s index ≡ own_list.0.next_chunk
-    next_is = list_next_at types lists index own_list.0 own_list.1 typed
+    next_is = fits_list_at (lists_in types lists) fits index fitted ∙ list_next_at types lists index own_list.0 own_list.1 typed
 
     next_whole : IsNextListChunk s index
     next_whole =
@@ -250,7 +316,31 @@ module _ {A : Type 0} (l : Limits A) (heaps : List Heap) (buddies : List Buddy) 
           bound = omega (arith, given.final_chunk, sound.final_chunk.1);
         }
 
-  -- Its chunks.
+    -- Its allocator of fit chunks.
+
+    own_fitting : (f : Fitting) × (slice_get fits index ≡ Some f)
+    own_fitting = there_is fits index fitted
+
+    fitting_own : IsFitOf l.config (properties_in l heaps) t index own_fitting.0
+    fitting_own = subst (λ (o : Option Fitting). IfSome o (IsFitOf l.config (properties_in l heaps) t index)) own_fitting.1 (is.fitted.each index)
+
+    listed : index < length (lists_in types lists)
+    listed = lists_within types lists index typed (omega (arith, known, is.listed.count))
+
+    next_fit_is : next_fit_chunk s index ≡ own_fitting.0.next_chunk
+    next_fit_is = fit_next_at (lists_in types lists) fits index own_fitting.0 own_fitting.1 listed
+
+    next_fit_within : IsNextFitChunk s index
+    next_fit_within =
+        let sound = fitting_own.sound in
+        let given = fitting_own.for_type in
+        record {
+          some = omega (arith, next_fit_is, sound.next_chunk.0.1);
+          most = omega (arith, next_fit_is, given.final_chunk, sound.next_chunk.1);
+          bound = omega (arith, given.final_chunk, sound.final_chunk.1);
+        }
+
+  -- The chunks of its free list.
 
   type_known : (object : ℕ) → IsListChunk s index number object → index < length (properties_in l heaps).memory_types
   type_known object of = subst (λ n. n < length (properties_in l heaps).memory_types) of.of_type (known_at is object of.chunk of.held).of_type
@@ -290,36 +380,57 @@ module _ {A : Type 0} (l : Limits A) (heaps : List Heap) (buddies : List Buddy) 
       let own = list_own known in
       subst (λ n. IsMultipleOf n span.offset) own.for_type.atom (own.sound.slots (slot_at span number) (own.linked.spans span number of.chunk live (numbered_in (own_list known).0 own span.object of))).0
 
-pub sound_is : {A : Type 0} (l : Limits A) (heaps : List Heap) (buddies : List Buddy) (lists : List Listing) (t : Table) (remaining : ℕ) → IsConsistent l.config (properties_in l heaps) heaps buddies lists t remaining
-    → IsSound (state_in l heaps buddies lists t remaining)
-sound_is l heaps buddies lists t remaining is = record {
+  -- Its fit chunks: of those without a live span there is one.
+
+  module _ (f : Fitting) (own : IsFitOf l.config (properties_in l heaps) t index f) where
+    own_fit : (object : ℕ) (of : IsFitChunk s index object) → IsFitOf l.config (properties_in l heaps) t of.chunk.memory_type f
+    own_fit object of = subst (λ i. IsFitOf l.config (properties_in l heaps) t i f) (sym of.of_type) own
+
+    one_without : (a b : ℕ) → IsFitChunk s index a → IsFitChunk s index b → IsUnused s a → IsUnused s b → a ≡ b
+    one_without a b of also unused idle =
+        let key = fit_key (own_fit a of) of.held of.of_kind in
+        let key' = fit_key (own_fit b also) also.held also.of_kind in
+        let same = own.sound.space.one_free key.0 key'.0 (wholly_free (own_fit a of) of.held of.of_kind unused) (wholly_free (own_fit b also) also.held also.of_kind idle) in
+        ap (λ (c : Chunk). c.object) (one_value _ (chunk_at a of.chunk) (chunk_at b also.chunk) key.1 (ap (λ k. map.get f.space.chunks k) same ∙ key'.1))
+
+  one_idle : (a b : ℕ) → IsFitChunk s index a → IsFitChunk s index b → IsUnused s a → IsUnused s b → a ≡ b
+  one_idle a b of =
+      let there = fit_at is a of.chunk of.held in
+      one_without there.0 (subst (λ i. IsFitOf l.config (properties_in l heaps) t i there.0) of.of_type there.1) a b of
+
+pub sound_is : {A : Type 0} (l : Limits A) (heaps : List Heap) (buddies : List Buddy) (lists : List Listing) (fits : List Fitting) (t : Table) (remaining : ℕ) → IsConsistent l.sharing l.config (properties_in l heaps) heaps buddies lists fits t remaining
+    → IsSound (state_in l heaps buddies lists fits t remaining)
+sound_is l heaps buddies lists fits t remaining is = record {
   nonempty = λ span live. (is.books.spans span live).nonempty;
   inside = lies_inside is;
   alone = is_alone is;
   buddy = λ span h live held kind. buddy_size (buddy_at is span.object h held).1 held kind span live refl;
   apart = are_apart is;
   used = λ object. each_used is object (map.get t.held object) refl;
-  numbers = λ index number a b. one_object l heaps buddies lists t remaining is index number a b;
-  numbered = λ index number object. within l heaps buddies lists t remaining is index number object;
+  numbers = λ index number a b. one_object l heaps buddies lists fits t remaining is index number a b;
+  numbered = λ index number object. within l heaps buddies lists fits t remaining is index number object;
+  chosen = is.chosen;
+  one_unused = λ index a b. one_idle l heaps buddies lists fits t remaining is index 0 a b;
   within = λ heap inside.
       let there : heap < length heaps = omega (arith, inside, length-map heaps offer_of) in
       let own = there_is heaps heap there in
-      let of = heap_is l heaps buddies lists t remaining is.books.ledgers heap own.0 there (read_is heaps heap own.0 own.1) in
+      let of = heap_is l heaps buddies lists fits t remaining is.books.ledgers heap own.0 there (read_is heaps heap own.0 own.1) in
       omega (arith, of.asked, of.size);
   limits = λ heap inside.
       let there : heap < length heaps = omega (arith, inside, length-map heaps offer_of) in
       let own = there_is heaps heap there in
-      let of = heap_is l heaps buddies lists t remaining is.books.ledgers heap own.0 there (read_is heaps heap own.0 own.1) in
+      let of = heap_is l heaps buddies lists fits t remaining is.books.ledgers heap own.0 there (read_is heaps heap own.0 own.1) in
       omega (arith, of.limit, of.limited, of.size);
 }
 
-pub atoms_kept : {A : Type 0} (l : Limits A) (heaps : List Heap) (buddies : List Buddy) (lists : List Listing) (t : Table) (remaining : ℕ) → IsConsistent l.config (properties_in l heaps) heaps buddies lists t remaining
-    → KeepsAtoms (state_in l heaps buddies lists t remaining)
-atoms_kept l heaps buddies lists t remaining is = record {
+pub atoms_kept : {A : Type 0} (l : Limits A) (heaps : List Heap) (buddies : List Buddy) (lists : List Listing) (fits : List Fitting) (t : Table) (remaining : ℕ) → IsConsistent l.sharing l.config (properties_in l heaps) heaps buddies lists fits t remaining
+    → KeepsAtoms (state_in l heaps buddies lists fits t remaining)
+atoms_kept l heaps buddies lists fits t remaining is = record {
   atom = λ index.
       let p = properties_in l heaps in
       power_of_bit (atom_of p index) (atom_power p.non_coherent_atom_size (atom_of p index) (is_non_coherent p index) is.books.usable.atom refl);
-  ends = λ index number object. chunk_ends l heaps buddies lists t remaining is index number object;
-  begins = λ index number span. span_begins l heaps buddies lists t remaining is index number span;
-  next = λ index. next_whole l heaps buddies lists t remaining is index 0;
+  ends = λ index number object. chunk_ends l heaps buddies lists fits t remaining is index number object;
+  begins = λ index number span. span_begins l heaps buddies lists fits t remaining is index number span;
+  next = λ index. next_whole l heaps buddies lists fits t remaining is index 0;
+  next_fit = λ index. next_fit_within l heaps buddies lists fits t remaining is index 0;
 }

@@ -21,12 +21,13 @@ use Rattle.gpu_alloc_block.proofs.Parts.Entries.{first, second, later_above, t_t
 use Rattle.gpu_alloc_block.proofs.Parts.Unions.{or_else, get_join, held_at, live_at}
 use Rattle.gpu_alloc_base.specs.declared.heap.Heap.{Heap}
 use Rattle.gpu_alloc_buddy.specs.BuddyState.{Buddy}
+use Rattle.gpu_alloc_fit.specs.Fit.{Fitting}
 use Rattle.gpu_alloc_freelist.specs.FreeListState.{Listing}
-use Rattle.gpu_alloc.specs.Inside.{properties_in, IsBuddyFor, IsListFor}
+use Rattle.gpu_alloc.specs.Inside.{properties_in, IsBuddyFor, IsFitFor, IsListFor}
 use Rattle.gpu_alloc.specs.Listing.{AreOnce}
 use Rattle.gpu_alloc.specs.Own.{OwnTable}
 use Rattle.gpu_alloc.specs.Spans.{objects_in}
-use Rattle.gpu_alloc.specs.Whole.{AreWhole, IsKept, IsPlace, buddy_part, list_part, parts_of, whole}
+use Rattle.gpu_alloc.specs.Whole.{AreWhole, IsKept, IsPlace, buddy_part, fit_part, list_part, parts_of, whole}
 use Rattle.gpu_alloc.specs.declared.limits.Limits.{Limits}
 use Rattle.gpu_alloc.specs.declared.spans.HeldRow.{HeldRow}
 use Rattle.gpu_alloc.proofs.Tables.Listed.{appended_cases, distinct_append, distinct_named, once_append, spans_append}
@@ -53,13 +54,17 @@ first_holds p ps q h is = get_more p ps q ∙ ap (λ o. or_else o (finite.get (h
 pub rest_holds : (p : Part) (ps : List Part) (q : ℕ) → finite.get p.held q ≡ None → finite.get (held_in (p ∷ ps)) q ≡ finite.get (held_in ps) q
 rest_holds p ps q none = get_more p ps q ∙ ap (λ o. or_else o (finite.get (held_in ps) q)) none
 
--- Buddy allocators and free lists by memory type.
+-- Buddy allocators, free lists and allocators of fit chunks by memory type.
 
--- all that is left from the buddy allocator of a memory type on
-abbrev pub left_from : List Buddy → List Listing → ℕ → List Part
-left_from buddies lists i = map buddy_part (drop i buddies) ++ map list_part lists
+-- all that is left from the free list of a memory type on
+abbrev pub lists_from : List Listing → List Fitting → ℕ → List Part
+lists_from lists fits i = map list_part (drop i lists) ++ map fit_part fits
 
-module _ {A : Type 0} (l : Limits A) (heaps : List Heap) (buddies : List Buddy) (lists : List Listing) (own : OwnTable) (remaining : ℕ) (kept : IsKept l.config (properties_in l heaps) heaps buddies lists own remaining)
+-- and from the buddy allocator of one on
+abbrev pub left_from : List Buddy → List Listing → List Fitting → ℕ → List Part
+left_from buddies lists fits i = map buddy_part (drop i buddies) ++ lists_from lists fits 0
+
+module _ {A : Type 0} (l : Limits A) (heaps : List Heap) (buddies : List Buddy) (lists : List Listing) (fits : List Fitting) (own : OwnTable) (remaining : ℕ) (kept : IsKept l.sharing l.config (properties_in l heaps) heaps buddies lists fits own remaining)
     (count : ℕ) (counted : count ≡ length (properties_in l heaps).memory_types) (i : ℕ) where
   module _ (b : Buddy) (inside : i < count) (at : b ≡ get_or buddies i b) where
     buddy_there : slice_get buddies i ≡ Some b
@@ -70,14 +75,14 @@ module _ {A : Type 0} (l : Limits A) (heaps : List Heap) (buddies : List Buddy) 
     next_buddy = subst (λ (o : Option Buddy). IfSome o (IsBuddyFor l.config (properties_in l heaps) i)) buddy_there (kept.shared.each i)
 
     -- and the first of those that are left
-    pub next_buddy_left : left_from buddies lists i ≡ buddy_part b ∷ left_from buddies lists (i + 1)
+    pub next_buddy_left : left_from buddies lists fits i ≡ buddy_part b ∷ left_from buddies lists fits (i + 1)
     next_buddy_left =
-        ap (λ (ps : List Part). ps ++ map list_part lists) (at_drop_more (map buddy_part) buddies i b (omega (arith, kept.shared.count, counted, inside)))
-        ∙ (λ k. buddy_part (sym at k) ∷ left_from buddies lists (i + 1))
+        ap (λ (ps : List Part). ps ++ lists_from lists fits 0) (at_drop_more (map buddy_part) buddies i b (omega (arith, kept.shared.count, counted, inside)))
+        ∙ (λ k. buddy_part (sym at k) ∷ left_from buddies lists fits (i + 1))
 
   -- after the last of them there are the free lists
-  pub lists_left : count ≤ i → left_from buddies lists i ≡ map list_part (drop 0 lists)
-  lists_left past = ap (λ (ps : List Part). ps ++ map list_part lists) (at_drop_all (map buddy_part) buddies i (omega (arith, kept.shared.count, counted, past)))
+  pub lists_left : count ≤ i → left_from buddies lists fits i ≡ lists_from lists fits 0
+  lists_left past = ap (λ (ps : List Part). ps ++ lists_from lists fits 0) (at_drop_all (map buddy_part) buddies i (omega (arith, kept.shared.count, counted, past)))
 
   module _ (fl : Listing) (inside : i < count) (at : fl ≡ get_or lists i fl) where
     list_there : slice_get lists i ≡ Some fl
@@ -86,11 +91,27 @@ module _ {A : Type 0} (l : Limits A) (heaps : List Heap) (buddies : List Buddy) 
     pub next_list : IsListFor l.config (properties_in l heaps) i fl
     next_list = subst (λ (o : Option Listing). IfSome o (IsListFor l.config (properties_in l heaps) i)) list_there (kept.listed.each i)
 
-    pub next_left : map list_part (drop i lists) ≡ list_part fl ∷ map list_part (drop (i + 1) lists)
-    next_left = at_drop_more (map list_part) lists i fl (omega (arith, kept.listed.count, counted, inside)) ∙ (λ k. list_part (sym at k) ∷ map list_part (drop (i + 1) lists))
+    pub next_left : lists_from lists fits i ≡ list_part fl ∷ lists_from lists fits (i + 1)
+    next_left =
+        ap (λ (ps : List Part). ps ++ map fit_part fits) (at_drop_more (map list_part) lists i fl (omega (arith, kept.listed.count, counted, inside)))
+        ∙ (λ k. list_part (sym at k) ∷ lists_from lists fits (i + 1))
 
-  pub none_left : count ≤ i → map list_part (drop i lists) ≡ []
-  none_left past = at_drop_all (map list_part) lists i (omega (arith, kept.listed.count, counted, past))
+  -- and after the last of these the allocators of fit chunks
+  pub fits_left : count ≤ i → lists_from lists fits i ≡ map fit_part (drop 0 fits)
+  fits_left past = ap (λ (ps : List Part). ps ++ map fit_part fits) (at_drop_all (map list_part) lists i (omega (arith, kept.listed.count, counted, past)))
+
+  module _ (f : Fitting) (inside : i < count) (at : f ≡ get_or fits i f) where
+    fit_there : slice_get fits i ≡ Some f
+    fit_there = slice_get_read fits (length fits) i f refl (omega (arith, inside, counted, kept.fitted.count)) at
+
+    pub next_fit : IsFitFor l.config (properties_in l heaps) i f
+    next_fit = subst (λ (o : Option Fitting). IfSome o (IsFitFor l.config (properties_in l heaps) i)) fit_there (kept.fitted.each i)
+
+    pub next_fit_left : map fit_part (drop i fits) ≡ fit_part f ∷ map fit_part (drop (i + 1) fits)
+    next_fit_left = at_drop_more (map fit_part) fits i f (omega (arith, kept.fitted.count, counted, inside)) ∙ (λ k. fit_part (sym at k) ∷ map fit_part (drop (i + 1) fits))
+
+  pub none_left : count ≤ i → map fit_part (drop i fits) ≡ []
+  none_left past = at_drop_all (map fit_part) fits i (omega (arith, kept.fitted.count, counted, past))
 
 -- No object is held by two of them, and no span is live in two.
 
@@ -174,11 +195,11 @@ pub record AreCounted (all count : ℕ) (ps : List Part) : Type 0 where
   pub separate : AreSeparate ps
 
 -- the objects of one block are the first
-pub own_counted : (own : OwnTable) (buddies : List Buddy) (lists : List Listing) → AreWhole own buddies lists
-    → AreCounted (finite.len (whole own buddies lists).held) (finite.len own.held) (left_from buddies lists 0)
-own_counted own buddies lists apart =
-    let parts = separate (IsPlace (length buddies)) (parts_of own buddies lists) apart in
-    record { exact = sym (join_len own.held (held_in (left_from buddies lists 0)) parts.0); separate = parts.2 }
+pub own_counted : (own : OwnTable) (buddies : List Buddy) (lists : List Listing) (fits : List Fitting) → AreWhole own buddies lists fits
+    → AreCounted (finite.len (whole own buddies lists fits).held) (finite.len own.held) (left_from buddies lists fits 0)
+own_counted own buddies lists fits apart =
+    let parts = separate (IsPlace (length buddies) (length lists)) (parts_of own buddies lists fits) apart in
+    record { exact = sym (join_len own.held (held_in (left_from buddies lists fits 0)) parts.0); separate = parts.2 }
 
 pub counted_next : (all count more : ℕ) (p : Part) (ps : List Part) → AreCounted all count (p ∷ ps) → more ≡ finite.len p.held → AreCounted all (count + more) ps
 counted_next all count more p ps counted is = record {

@@ -1,4 +1,5 @@
--- What all parts hold, as one of them changes: the objects of one block, or a memory type's buddy allocator or free list.
+-- What all parts hold, as one of them changes: the objects of one block, or a memory type's buddy allocator, free list or
+-- allocator of fit chunks.
 use Rattle.std.proofs.Common.{◌≡◌, ◌≢◌, ◌⊎◌, inl, inr, false, true, ℕ, zero, suc, ◌+◌, ◌<◌, List, [], ◌∷◌, ◌++◌, length, map, get_or, slice_get, Some, None, IsTrue, refl, sym, ◌∙◌, ap, subst, arith}
 use Rattle.std.proofs.Math.ListN.{set}
 use Rattle.std.proofs.lemmas.List.{length-set}
@@ -17,7 +18,7 @@ use Rattle.gpu_alloc_base.proofs.ListViews.{named_absent}
 use Rattle.gpu_alloc_base.proofs.Slots.{slot_total, slot_exact}
 use Rattle.gpu_alloc_block.specs.Parts.{Held, Live, Part, Chunks, HasLive, IsAt, Makes, by_name, by_span}
 use Rattle.gpu_alloc_block.specs.State.{HeldObject, Span, is_shared, span_cmp}
-use Rattle.gpu_alloc_block.specs.declared.block.Kind.TheVariants.{BuddyChunk, FreeListChunk}
+use Rattle.gpu_alloc_block.specs.declared.block.Kind.TheVariants.{BuddyChunk, FreeListChunk, FitChunk}
 use Rattle.gpu_alloc_block.proofs.LiveSpans.{not_live, span_exact, span_total}
 use Rattle.gpu_alloc_block.proofs.Parts.ByName.{span_row_there}
 use Rattle.gpu_alloc_block.proofs.Parts.Entries.{there_entry}
@@ -29,22 +30,32 @@ use Rattle.gpu_alloc_buddy.specs.BuddyState.{Buddy, IsLiveLeaf, space_of}
 use Rattle.gpu_alloc_pairs.proofs.LiveSpans.{one_leaf}
 use Rattle.gpu_alloc_freelist.specs.FreeListSound.{IsSound as IsSoundList}
 use Rattle.gpu_alloc_freelist.specs.FreeListState.{Listing, IsLiveSlot}
-use Rattle.gpu_alloc.specs.Inside.{chunk_object, list_object, span_of_leaf, span_of_slot}
+use Rattle.gpu_alloc_fit.specs.FitSound.{IsSound as IsSoundFit}
+use Rattle.gpu_alloc_fits.specs.Space.{IsLiveSlot as IsLiveFit}
+use Rattle.gpu_alloc.specs.Inside.{chunk_object, fit_object, list_object, span_of_leaf, span_of_slot}
 use Rattle.gpu_alloc.specs.Own.{OwnTable, own_held, own_span, IsRowOf}
 use Rattle.gpu_alloc.specs.declared.own.OwnRow.{OwnRow}
-use Rattle.gpu_alloc.specs.Whole.{own_part as part_of_own, buddy_part, list_part, parts_of, whole, AreWhole, IsPlace}
+use Rattle.gpu_alloc.specs.Whole.{own_part as part_of_own, buddy_part, fit_part, list_part, parts_of, whole, AreWhole, IsPlace}
+use Rattle.gpu_alloc_fit.specs.Fit.{Fitting}
 
 -- an object has one place
-pub single : (types i j : ℕ) (h : HeldObject) → IsPlace types i h → IsPlace types j h → i ≡ j
-single types zero zero h a b = refl
-single types zero (suc j) h a (inl b) = let both = ap is_shared (sym b.0) ∙ a in absurd (cc)
-single types zero (suc j) h a (inr b) = let both = ap is_shared (sym b.1) ∙ a in absurd (cc)
-single types (suc i) zero h (inl a) b = let both = ap is_shared (sym a.0) ∙ b in absurd (cc)
-single types (suc i) zero h (inr a) b = let both = ap is_shared (sym a.1) ∙ b in absurd (cc)
-single types (suc i) (suc j) h (inl a) (inl b) = ap suc (sym a.1 ∙ b.1)
-single types (suc i) (suc j) h (inl a) (inr b) = let both : BuddyChunk ≡ FreeListChunk b.0 = sym a.0 ∙ b.1 in absurd (cc)
-single types (suc i) (suc j) h (inr a) (inl b) = let both : BuddyChunk ≡ FreeListChunk a.0 = sym b.0 ∙ a.1 in absurd (cc)
-single types (suc i) (suc j) h (inr a) (inr b) = ap suc (sym a.2 ∙ b.2)
+pub single : (buddies lists i j : ℕ) (h : HeldObject) → IsPlace buddies lists i h → IsPlace buddies lists j h → i ≡ j
+single buddies lists zero zero h a b = refl
+single buddies lists zero (suc j) h a (inl b) = let both = ap is_shared (sym b.0) ∙ a in absurd (cc)
+single buddies lists zero (suc j) h a (inr (inl b)) = let both = ap is_shared (sym b.1) ∙ a in absurd (cc)
+single buddies lists zero (suc j) h a (inr (inr b)) = let both = ap is_shared (sym b.0) ∙ a in absurd (cc)
+single buddies lists (suc i) zero h (inl a) b = let both = ap is_shared (sym a.0) ∙ b in absurd (cc)
+single buddies lists (suc i) zero h (inr (inl a)) b = let both = ap is_shared (sym a.1) ∙ b in absurd (cc)
+single buddies lists (suc i) zero h (inr (inr a)) b = let both = ap is_shared (sym a.0) ∙ b in absurd (cc)
+single buddies lists (suc i) (suc j) h (inl a) (inl b) = ap suc (sym a.1 ∙ b.1)
+single buddies lists (suc i) (suc j) h (inl a) (inr (inl b)) = let both : BuddyChunk ≡ FreeListChunk b.0 = sym a.0 ∙ b.1 in absurd (cc)
+single buddies lists (suc i) (suc j) h (inl a) (inr (inr b)) = let both : BuddyChunk ≡ FitChunk = sym a.0 ∙ b.0 in absurd (cc)
+single buddies lists (suc i) (suc j) h (inr (inl a)) (inl b) = let both : BuddyChunk ≡ FreeListChunk a.0 = sym b.0 ∙ a.1 in absurd (cc)
+single buddies lists (suc i) (suc j) h (inr (inl a)) (inr (inl b)) = ap suc (sym a.2 ∙ b.2)
+single buddies lists (suc i) (suc j) h (inr (inl a)) (inr (inr b)) = let both : FitChunk ≡ FreeListChunk a.0 = sym b.0 ∙ a.1 in absurd (cc)
+single buddies lists (suc i) (suc j) h (inr (inr a)) (inl b) = let both : BuddyChunk ≡ FitChunk = sym b.0 ∙ a.0 in absurd (cc)
+single buddies lists (suc i) (suc j) h (inr (inr a)) (inr (inl b)) = let both : FitChunk ≡ FreeListChunk b.0 = sym a.0 ∙ b.1 in absurd (cc)
+single buddies lists (suc i) (suc j) h (inr (inr a)) (inr (inr b)) = ap suc (sym a.1 ∙ b.1)
 
 -- Where parts stand.
 
@@ -127,55 +138,55 @@ at_of_map f (x ∷ xs) (suc i) y at = at_of_map f xs i y at
 
 -- Objects of one block.
 
-module _ (own : OwnTable) (buddies : List Buddy) (lists : List Listing) (apart : AreWhole own buddies lists) where
+module _ (own : OwnTable) (buddies : List Buddy) (lists : List Listing) (fits : List Fitting) (apart : AreWhole own buddies lists fits) where
   abbrev ps : List Part
-  ps = parts_of own buddies lists
+  ps = parts_of own buddies lists fits
 
   abbrev Place : ℕ → HeldObject → Type 0
-  Place = IsPlace (length buddies)
+  Place = IsPlace (length buddies) (length lists)
 
-  pub held_whole : (object : ℕ) (h : HeldObject) → finite.get own.held object ≡ Some h → finite.get (whole own buddies lists).held object ≡ Some h
+  pub held_whole : (object : ℕ) (h : HeldObject) → finite.get own.held object ≡ Some h → finite.get (whole own buddies lists fits).held object ≡ Some h
   held_whole object h has = holds_of Place ps apart zero (part_of_own own) object h refl has
 
-  pub held_here : (object : ℕ) (h : HeldObject) → finite.get (whole own buddies lists).held object ≡ Some h → is_shared h.kind ≡ false → finite.get own.held object ≡ Some h
-  held_here object h is kind = own_part Place ps apart (single (length buddies)) zero (part_of_own own) object h is kind refl
+  pub held_here : (object : ℕ) (h : HeldObject) → finite.get (whole own buddies lists fits).held object ≡ Some h → is_shared h.kind ≡ false → finite.get own.held object ≡ Some h
+  held_here object h is kind = own_part Place ps apart (single (length buddies) (length lists)) zero (part_of_own own) object h is kind refl
 
-  pub unheld_here : (object : ℕ) → finite.get (whole own buddies lists).held object ≡ None → finite.get own.held object ≡ None
+  pub unheld_here : (object : ℕ) → finite.get (whole own buddies lists fits).held object ≡ None → finite.get own.held object ≡ None
   unheld_here object none = none_at ps object none zero (part_of_own own) refl
 
-  pub live_here : (span : Span) (h : HeldObject) → IsTrue (set_of.contains (whole own buddies lists).live span) → finite.get own.held span.object ≡ Some h → IsTrue (set_of.contains own.live span)
+  pub live_here : (span : Span) (h : HeldObject) → IsTrue (set_of.contains (whole own buddies lists fits).live span) → finite.get own.held span.object ≡ Some h → IsTrue (set_of.contains own.live span)
   live_here span h live has = part_span Place ps apart zero (part_of_own own) span h live has refl
 
   module _ (now : OwnTable) where
-    pub own_comes : (span : Span) (h : HeldObject) → finite.get (whole own buddies lists).held span.object ≡ None → is_shared h.kind ≡ false
+    pub own_comes : (span : Span) (h : HeldObject) → finite.get (whole own buddies lists fits).held span.object ≡ None → is_shared h.kind ≡ false
         → now.held ≡ finite.insert own.held span.object h → now.live ≡ set_of.insert own.live span
-        → Makes Place (parts_of now buddies lists) (finite.insert (whole own buddies lists).held span.object h) (set_of.insert (whole own buddies lists).live span)
+        → Makes Place (parts_of now buddies lists fits) (finite.insert (whole own buddies lists fits).held span.object h) (set_of.insert (whole own buddies lists fits).live span)
     own_comes span h none kind held live = object_comes Place ps apart zero (part_of_own own) (part_of_own now) refl span h none kind held live
 
     pub own_goes : (row : OwnRow) (object : ℕ) → IsRowOf own.held own.live object row → now.held ≡ finite.remove own.held object → now.live ≡ set_of.remove own.live (own_span row)
-        → Makes Place (parts_of now buddies lists) (finite.remove (whole own buddies lists).held object) (set_of.remove (whole own buddies lists).live (own_span row))
+        → Makes Place (parts_of now buddies lists fits) (finite.remove (whole own buddies lists fits).held object) (set_of.remove (whole own buddies lists fits).live (own_span row))
     own_goes row object of held live =
-        subst (λ n. Makes Place (parts_of now buddies lists) (finite.remove (whole own buddies lists).held n) (set_of.remove (whole own buddies lists).live (own_span row))) of.named
+        subst (λ n. Makes Place (parts_of now buddies lists fits) (finite.remove (whole own buddies lists fits).held n) (set_of.remove (whole own buddies lists fits).live (own_span row))) of.named
         (last_goes Place ps apart zero (part_of_own own) (part_of_own now) refl (own_span row) (own_held row) (ap (finite.get own.held) of.named ∙ of.is_held) (λ other stood same. of.alone other stood (same ∙ of.named))
         (held ∙ ap (finite.remove own.held) (sym of.named)) live)
 
 -- Room is made for one more, and nothing else changes.
 
-module _ (own now : OwnTable) (buddies : List Buddy) (lists : List Listing) (apart : AreWhole own buddies lists) (kept : now ≡ record own { room = now.room }) (object : ℕ) (none : finite.get (whole own buddies lists).held object ≡ None) where
+module _ (own now : OwnTable) (buddies : List Buddy) (lists : List Listing) (fits : List Fitting) (apart : AreWhole own buddies lists fits) (kept : now ≡ record own { room = now.room }) (object : ℕ) (none : finite.get (whole own buddies lists fits).held object ≡ None) where
   pub unheld_then : finite.get now.held object ≡ None
-  unheld_then = ap (λ (x : OwnTable). finite.get x.held object) kept ∙ unheld_here own buddies lists apart object none
+  unheld_then = ap (λ (x : OwnTable). finite.get x.held object) kept ∙ unheld_here own buddies lists fits apart object none
 
 -- A memory type's buddy allocator.
 
-module _ (own : OwnTable) (buddies : List Buddy) (lists : List Listing) (apart : AreWhole own buddies lists) (index : ℕ) (b : Buddy) (at : IsAt buddies index b) (inside : index < length buddies) (sound : IsSound b) (typed : b.memory_type ≡ index) where
+module _ (own : OwnTable) (buddies : List Buddy) (lists : List Listing) (fits : List Fitting) (apart : AreWhole own buddies lists fits) (index : ℕ) (b : Buddy) (at : IsAt buddies index b) (inside : index < length buddies) (sound : IsSound b) (typed : b.memory_type ≡ index) where
   abbrev types : ℕ
   types = length buddies
 
   abbrev object_in : ℕ → Chunk → HeldObject
   object_in key c = chunk_object b c
 
-  pub at_buddy : IsAt (parts_of own buddies lists) (suc index) (buddy_part b)
-  at_buddy = at_first buddy_part buddies (map list_part lists) index b at
+  pub at_buddy : IsAt (parts_of own buddies lists fits) (suc index) (buddy_part b)
+  at_buddy = at_first buddy_part buddies (map list_part lists ++ map fit_part fits) index b at
 
   one_span : (x y : Leaf) → IsLiveLeaf b x → IsLiveLeaf b y → ◌≡◌ {A = Span} (span_of_leaf x) (span_of_leaf y) → x ≡ y
   one_span x y live also same = one_leaf (space_of b) sound.space x y live also (ap (λ (s : Span). s.object) same) (ap (λ (s : Span). s.offset) same)
@@ -184,36 +195,36 @@ module _ (own : OwnTable) (buddies : List Buddy) (lists : List Listing) (apart :
     buddy_held_as : (chunks : Chunks) → new.chunks ≡ chunks → (buddy_part new).held ≡ by_name object_in chunks
     buddy_held_as chunks is = λ k. by_name (λ _ c. record { memory_type = same k; counted = c.size; kind = BuddyChunk }) (is k)
 
-    makes : {held : Held} {live : Live} → Makes (IsPlace types) (set (parts_of own buddies lists) (suc index) (buddy_part new)) held live → Makes (IsPlace (length (set buddies index new))) (parts_of own (set buddies index new) lists) held live
+    makes : {held : Held} {live : Live} → Makes (IsPlace types (length lists)) (set (parts_of own buddies lists fits) (suc index) (buddy_part new)) held live → Makes (IsPlace (length (set buddies index new)) (length lists)) (parts_of own (set buddies index new) lists fits) held live
     makes {held} {live} it =
-        subst (λ n. Makes (IsPlace n) (parts_of own (set buddies index new) lists) held live) (sym (length-set buddies index new))
-        (subst (λ rest. Makes (IsPlace types) (part_of_own own ∷ rest) held live) (set_first buddy_part buddies (map list_part lists) index b new at) it)
+        subst (λ n. Makes (IsPlace n (length lists)) (parts_of own (set buddies index new) lists fits) held live) (sym (length-set buddies index new))
+        (subst (λ rest. Makes (IsPlace types (length lists)) (part_of_own own ∷ rest) held live) (set_first buddy_part buddies (map list_part lists ++ map fit_part fits) index b new at) it)
 
     pub leaf_comes : (leaf : Leaf) (c : Chunk) → finite.get b.chunks leaf.chunk ≡ Some c → leaf.object ≡ c.object → new.chunks ≡ b.chunks → new.live ≡ set_of.insert b.live leaf
-        → Makes (IsPlace (length (set buddies index new))) (parts_of own (set buddies index new) lists) (whole own buddies lists).held (set_of.insert (whole own buddies lists).live (span_of_leaf leaf))
+        → Makes (IsPlace (length (set buddies index new)) (length lists)) (parts_of own (set buddies index new) lists fits) (whole own buddies lists fits).held (set_of.insert (whole own buddies lists fits).live (span_of_leaf leaf))
     leaf_comes leaf c is named chunks live =
-        makes (store.row_comes leaf_total leaf_exact span_of_leaf (IsPlace types) (parts_of own buddies lists) apart (suc index) object_in b.chunks b.live sound.space.one_object at_buddy (buddy_part new) leaf leaf.chunk c is named
+        makes (store.row_comes leaf_total leaf_exact span_of_leaf (IsPlace types (length lists)) (parts_of own buddies lists fits) apart (suc index) object_in b.chunks b.live sound.space.one_object at_buddy (buddy_part new) leaf leaf.chunk c is named
         (buddy_held_as b.chunks chunks) (ap (by_span span_of_leaf) live))
 
-    pub buddy_chunk_comes : (leaf : Leaf) (c : Chunk) → finite.get (whole own buddies lists).held leaf.object ≡ None → leaf.object ≡ c.object → finite.get b.chunks leaf.chunk ≡ None
+    pub buddy_chunk_comes : (leaf : Leaf) (c : Chunk) → finite.get (whole own buddies lists fits).held leaf.object ≡ None → leaf.object ≡ c.object → finite.get b.chunks leaf.chunk ≡ None
         → new.chunks ≡ finite.insert b.chunks leaf.chunk c → new.live ≡ set_of.insert b.live leaf
-        → Makes (IsPlace (length (set buddies index new))) (parts_of own (set buddies index new) lists) (finite.insert (whole own buddies lists).held leaf.object (chunk_object b c)) (set_of.insert (whole own buddies lists).live (span_of_leaf leaf))
+        → Makes (IsPlace (length (set buddies index new)) (length lists)) (parts_of own (set buddies index new) lists fits) (finite.insert (whole own buddies lists fits).held leaf.object (chunk_object b c)) (set_of.insert (whole own buddies lists fits).live (span_of_leaf leaf))
     buddy_chunk_comes leaf c none named free chunks live =
-        makes (store.chunk_comes leaf_total leaf_exact span_of_leaf (IsPlace types) (parts_of own buddies lists) apart (suc index) object_in b.chunks b.live sound.space.one_object at_buddy (buddy_part new) leaf leaf.chunk c none named free
+        makes (store.chunk_comes leaf_total leaf_exact span_of_leaf (IsPlace types (length lists)) (parts_of own buddies lists fits) apart (suc index) object_in b.chunks b.live sound.space.one_object at_buddy (buddy_part new) leaf leaf.chunk c none named free
         (inl (refl, typed, inside)) (buddy_held_as _ chunks) (ap (by_span span_of_leaf) live))
 
     pub leaf_goes : (leaf : Leaf) → IsLiveLeaf b leaf → new.chunks ≡ b.chunks → new.live ≡ set_of.remove b.live leaf
-        → Makes (IsPlace (length (set buddies index new))) (parts_of own (set buddies index new) lists) (whole own buddies lists).held (set_of.remove (whole own buddies lists).live (span_of_leaf leaf))
+        → Makes (IsPlace (length (set buddies index new)) (length lists)) (parts_of own (set buddies index new) lists fits) (whole own buddies lists fits).held (set_of.remove (whole own buddies lists fits).live (span_of_leaf leaf))
     leaf_goes leaf was chunks live =
         let lies = sound.space.inside leaf was in
-        makes (store.row_goes leaf_total leaf_exact span_of_leaf (IsPlace types) (parts_of own buddies lists) apart (suc index) object_in b.chunks b.live sound.space.one_object at_buddy (buddy_part new) one_span leaf was leaf.chunk lies.chunk lies.held lies.object
+        makes (store.row_goes leaf_total leaf_exact span_of_leaf (IsPlace types (length lists)) (parts_of own buddies lists fits) apart (suc index) object_in b.chunks b.live sound.space.one_object at_buddy (buddy_part new) one_span leaf was leaf.chunk lies.chunk lies.held lies.object
         (ap (by_span span_of_leaf) live) (buddy_held_as b.chunks chunks))
 
     pub last_leaf_goes : (leaf : Leaf) → IsLiveLeaf b leaf → ((other : Leaf) → IsLiveLeaf b other → other.chunk ≡ leaf.chunk → other ≡ leaf) → new.chunks ≡ finite.remove b.chunks leaf.chunk → new.live ≡ set_of.remove b.live leaf
-        → Makes (IsPlace (length (set buddies index new))) (parts_of own (set buddies index new) lists) (finite.remove (whole own buddies lists).held leaf.object) (set_of.remove (whole own buddies lists).live (span_of_leaf leaf))
+        → Makes (IsPlace (length (set buddies index new)) (length lists)) (parts_of own (set buddies index new) lists fits) (finite.remove (whole own buddies lists fits).held leaf.object) (set_of.remove (whole own buddies lists fits).live (span_of_leaf leaf))
     last_leaf_goes leaf was last chunks live =
         let lies = sound.space.inside leaf was in
-        makes (store.last_row_goes leaf_total leaf_exact span_of_leaf (IsPlace types) (parts_of own buddies lists) apart (suc index) object_in b.chunks b.live sound.space.one_object at_buddy (buddy_part new) one_span leaf was leaf.chunk lies.chunk lies.held lies.object
+        makes (store.last_row_goes leaf_total leaf_exact span_of_leaf (IsPlace types (length lists)) (parts_of own buddies lists fits) apart (suc index) object_in b.chunks b.live sound.space.one_object at_buddy (buddy_part new) one_span leaf was leaf.chunk lies.chunk lies.held lies.object
         (ap (by_span span_of_leaf) live)
         (λ other stood named. let of = sound.space.inside other stood in last other stood (sound.space.one_object other.chunk leaf.chunk of.chunk lies.chunk of.held lies.held (sym of.object ∙ named)))
         (buddy_held_as _ chunks))
@@ -229,53 +240,128 @@ one_slot l sound a b live_a live_b same =
     let number = sound.one_object a.chunk b.chunk in_a.chunk in_b.chunk in_a.held in_b.held objects in
     λ k. record { object = (same k).object; chunk = number k; offset = (same k).offset; size = (same k).size }
 
-module _ (own : OwnTable) (buddies : List Buddy) (lists : List Listing) (apart : AreWhole own buddies lists) (index : ℕ) (l : Listing) (at : IsAt lists index l) (sound : IsSoundList l) (typed : l.memory_type ≡ index) where
+module _ (own : OwnTable) (buddies : List Buddy) (lists : List Listing) (fits : List Fitting) (apart : AreWhole own buddies lists fits) (index : ℕ) (l : Listing) (at : IsAt lists index l) (sound : IsSoundList l) (typed : l.memory_type ≡ index) where
   abbrev types_before : ℕ
   types_before = length buddies
 
-  pub at_list : IsAt (parts_of own buddies lists) (suc (types_before + index)) (list_part l)
-  at_list = at_later buddy_part buddies (map list_part lists) index (list_part l) (at_map list_part lists index l at)
+  pub at_list : IsAt (parts_of own buddies lists fits) (suc (types_before + index)) (list_part l)
+  at_list = at_later buddy_part buddies (map list_part lists ++ map fit_part fits) index (list_part l) (at_first list_part lists (map fit_part fits) index l at)
 
   module _ (new : Listing) (same : new.memory_type ≡ l.memory_type) where
     list_held_as : (chunks : Chunks) → new.space.chunks ≡ chunks → (list_part new).held ≡ by_name (list_object l) chunks
     list_held_as chunks is = λ k. by_name (λ number c. record { memory_type = same k; counted = c.size; kind = FreeListChunk number }) (is k)
 
-    makes_list : {held : Held} {live : Live} → Makes (IsPlace types_before) (set (parts_of own buddies lists) (suc (types_before + index)) (list_part new)) held live → Makes (IsPlace types_before) (parts_of own buddies (set lists index new)) held live
+    makes_list : {held : Held} {live : Live} → Makes (IsPlace types_before (length lists)) (set (parts_of own buddies lists fits) (suc (types_before + index)) (list_part new)) held live
+        → Makes (IsPlace types_before (length (set lists index new))) (parts_of own buddies (set lists index new) fits) held live
     makes_list {held} {live} it =
-        subst (λ rest. Makes (IsPlace types_before) (part_of_own own ∷ rest) held live) (set_later buddy_part buddies (map list_part lists) index (list_part new) ∙ ap (λ ys. map buddy_part buddies ++ ys) (set_map list_part lists index new)) it
+        subst (λ n. Makes (IsPlace types_before n) (parts_of own buddies (set lists index new) fits) held live) (sym (length-set lists index new))
+        (subst (λ rest. Makes (IsPlace types_before (length lists)) (part_of_own own ∷ rest) held live)
+        (set_later buddy_part buddies (map list_part lists ++ map fit_part fits) index (list_part new) ∙ ap (λ ys. map buddy_part buddies ++ ys) (set_first list_part lists (map fit_part fits) index l new at)) it)
 
     pub slot_comes : (slot : Slot) (c : Chunk) → finite.get l.space.chunks slot.chunk ≡ Some c → slot.object ≡ c.object → new.space.chunks ≡ l.space.chunks → new.space.live ≡ set_of.insert l.space.live slot
-        → Makes (IsPlace types_before) (parts_of own buddies (set lists index new)) (whole own buddies lists).held (set_of.insert (whole own buddies lists).live (span_of_slot slot))
+        → Makes (IsPlace types_before (length (set lists index new))) (parts_of own buddies (set lists index new) fits) (whole own buddies lists fits).held (set_of.insert (whole own buddies lists fits).live (span_of_slot slot))
     slot_comes slot c is named chunks live =
-        makes_list (store.row_comes slot_total slot_exact span_of_slot (IsPlace types_before) (parts_of own buddies lists) apart (suc (types_before + index)) (list_object l) l.space.chunks l.space.live sound.one_object at_list (list_part new) slot slot.chunk c is named
+        makes_list (store.row_comes slot_total slot_exact span_of_slot (IsPlace types_before (length lists)) (parts_of own buddies lists fits) apart (suc (types_before + index)) (list_object l) l.space.chunks l.space.live sound.one_object at_list (list_part new) slot slot.chunk c is named
         (list_held_as l.space.chunks chunks) (ap (by_span span_of_slot) live))
 
-    pub list_chunk_comes : (slot : Slot) (number : ℕ) (c : Chunk) → finite.get (whole own buddies lists).held slot.object ≡ None → slot.object ≡ c.object → finite.get l.space.chunks number ≡ None
+    pub list_chunk_comes : (slot : Slot) (number : ℕ) (c : Chunk) → finite.get (whole own buddies lists fits).held slot.object ≡ None → slot.object ≡ c.object → finite.get l.space.chunks number ≡ None
         → new.space.chunks ≡ finite.insert l.space.chunks number c → new.space.live ≡ set_of.insert l.space.live slot
-        → Makes (IsPlace types_before) (parts_of own buddies (set lists index new)) (finite.insert (whole own buddies lists).held slot.object (list_object l number c)) (set_of.insert (whole own buddies lists).live (span_of_slot slot))
+        → Makes (IsPlace types_before (length (set lists index new))) (parts_of own buddies (set lists index new) fits) (finite.insert (whole own buddies lists fits).held slot.object (list_object l number c)) (set_of.insert (whole own buddies lists fits).live (span_of_slot slot))
     list_chunk_comes slot number c none named free chunks live =
-        makes_list (store.chunk_comes slot_total slot_exact span_of_slot (IsPlace types_before) (parts_of own buddies lists) apart (suc (types_before + index)) (list_object l) l.space.chunks l.space.live sound.one_object at_list (list_part new) slot number c none named free
-        (inr (number, refl, ap (λ n. types_before + n) typed)) (list_held_as _ chunks) (ap (by_span span_of_slot) live))
+        makes_list (store.chunk_comes slot_total slot_exact span_of_slot (IsPlace types_before (length lists)) (parts_of own buddies lists fits) apart (suc (types_before + index)) (list_object l) l.space.chunks l.space.live sound.one_object at_list (list_part new) slot number c none named free
+        (inr (inl (number, refl, ap (λ n. types_before + n) typed))) (list_held_as _ chunks) (ap (by_span span_of_slot) live))
 
     pub slot_goes : (slot : Slot) → IsLiveSlot l.space slot → new.space.chunks ≡ l.space.chunks → new.space.live ≡ set_of.remove l.space.live slot
-        → Makes (IsPlace types_before) (parts_of own buddies (set lists index new)) (whole own buddies lists).held (set_of.remove (whole own buddies lists).live (span_of_slot slot))
+        → Makes (IsPlace types_before (length (set lists index new))) (parts_of own buddies (set lists index new) fits) (whole own buddies lists fits).held (set_of.remove (whole own buddies lists fits).live (span_of_slot slot))
     slot_goes slot was chunks live =
         let lies = sound.space.inside slot was in
-        makes_list (store.row_goes slot_total slot_exact span_of_slot (IsPlace types_before) (parts_of own buddies lists) apart (suc (types_before + index)) (list_object l) l.space.chunks l.space.live sound.one_object at_list (list_part new) (one_slot l sound) slot was slot.chunk lies.chunk lies.held lies.object
+        makes_list (store.row_goes slot_total slot_exact span_of_slot (IsPlace types_before (length lists)) (parts_of own buddies lists fits) apart (suc (types_before + index)) (list_object l) l.space.chunks l.space.live sound.one_object at_list (list_part new) (one_slot l sound) slot was slot.chunk lies.chunk lies.held lies.object
         (ap (by_span span_of_slot) live) (list_held_as l.space.chunks chunks))
 
     pub list_chunk_goes : (number : ℕ) (c : Chunk) → finite.get l.space.chunks number ≡ Some c → ((slot : Slot) → IsLiveSlot l.space slot → slot.chunk ≢ number)
         → new.space.chunks ≡ finite.remove l.space.chunks number → new.space.live ≡ l.space.live
-        → Makes (IsPlace types_before) (parts_of own buddies (set lists index new)) (finite.remove (whole own buddies lists).held c.object) (whole own buddies lists).live
+        → Makes (IsPlace types_before (length (set lists index new))) (parts_of own buddies (set lists index new) fits) (finite.remove (whole own buddies lists fits).held c.object) (whole own buddies lists fits).live
     list_chunk_goes number c is unused chunks live =
-        makes_list (store.chunk_goes slot_total slot_exact span_of_slot (IsPlace types_before) (parts_of own buddies lists) apart (suc (types_before + index)) (list_object l) l.space.chunks l.space.live sound.one_object at_list (list_part new) number c is
+        makes_list (store.chunk_goes slot_total slot_exact span_of_slot (IsPlace types_before (length lists)) (parts_of own buddies lists fits) apart (suc (types_before + index)) (list_object l) l.space.chunks l.space.live sound.one_object at_list (list_part new) number c is
         (λ slot stood named. let lies = sound.space.inside slot stood in unused slot stood (sound.one_object slot.chunk number lies.chunk c lies.held is (sym lies.object ∙ named)))
         (list_held_as _ chunks) (ap (by_span span_of_slot) live))
 
+-- A memory type's allocator of fit chunks.
+
+-- no two live slots have one span
+pub one_fit : (f : Fitting) → IsSoundFit f → (a b : Slot) → IsLiveFit f.space a → IsLiveFit f.space b → ◌≡◌ {A = Span} (span_of_slot a) (span_of_slot b) → a ≡ b
+one_fit f sound a b live_a live_b same =
+    let in_a = sound.space.inside a live_a in
+    let in_b = sound.space.inside b live_b in
+    let objects = sym in_a.object ∙ ap (λ (s : Span). s.object) same ∙ in_b.object in
+    let key = sound.space.one_object a.chunk b.chunk in_a.chunk in_b.chunk in_a.held in_b.held objects in
+    λ k. record { object = (same k).object; chunk = key k; offset = (same k).offset; size = (same k).size }
+
+module _ (own : OwnTable) (buddies : List Buddy) (lists : List Listing) (fits : List Fitting) (apart : AreWhole own buddies lists fits) (index : ℕ) (f : Fitting) (at : IsAt fits index f) (sound : IsSoundFit f) (typed : f.memory_type ≡ index) where
+  abbrev Spot : ℕ → HeldObject → Type 0
+  Spot = IsPlace (length buddies) (length lists)
+
+  abbrev fit_spot : ℕ
+  fit_spot = suc (length buddies + (length lists + index))
+
+  abbrev fit_in : ℕ → Chunk → HeldObject
+  fit_in key c = fit_object f c
+
+  pub at_fit : IsAt (parts_of own buddies lists fits) fit_spot (fit_part f)
+  at_fit = at_later buddy_part buddies (map list_part lists ++ map fit_part fits) (length lists + index) (fit_part f) (at_later list_part lists (map fit_part fits) index (fit_part f) (at_map fit_part fits index f at))
+
+  module _ (new : Fitting) (same : new.memory_type ≡ f.memory_type) where
+    fit_held_as : (chunks : Chunks) → new.space.chunks ≡ chunks → (fit_part new).held ≡ by_name fit_in chunks
+    fit_held_as chunks is = λ k. by_name (λ _ c. record { memory_type = same k; counted = c.size; kind = FitChunk }) (is k)
+
+    makes_fit : {held : Held} {live : Live} → Makes Spot (set (parts_of own buddies lists fits) fit_spot (fit_part new)) held live → Makes Spot (parts_of own buddies lists (set fits index new)) held live
+    makes_fit {held} {live} it =
+        subst (λ rest. Makes Spot (part_of_own own ∷ rest) held live)
+        (set_later buddy_part buddies (map list_part lists ++ map fit_part fits) (length lists + index) (fit_part new)
+        ∙ ap (λ ys. map buddy_part buddies ++ ys) (set_later list_part lists (map fit_part fits) index (fit_part new) ∙ ap (λ ys. map list_part lists ++ ys) (set_map fit_part fits index new))) it
+
+    pub fit_comes : (slot : Slot) (c : Chunk) → finite.get f.space.chunks slot.chunk ≡ Some c → slot.object ≡ c.object → new.space.chunks ≡ f.space.chunks → new.space.live ≡ set_of.insert f.space.live slot
+        → Makes Spot (parts_of own buddies lists (set fits index new)) (whole own buddies lists fits).held (set_of.insert (whole own buddies lists fits).live (span_of_slot slot))
+    fit_comes slot c is named chunks live =
+        makes_fit (store.row_comes slot_total slot_exact span_of_slot Spot (parts_of own buddies lists fits) apart fit_spot fit_in f.space.chunks f.space.live sound.space.one_object at_fit (fit_part new) slot slot.chunk c is named
+        (fit_held_as f.space.chunks chunks) (ap (by_span span_of_slot) live))
+
+    pub fit_chunk_comes : (slot : Slot) (c : Chunk) → finite.get (whole own buddies lists fits).held slot.object ≡ None → slot.object ≡ c.object → finite.get f.space.chunks slot.chunk ≡ None
+        → new.space.chunks ≡ finite.insert f.space.chunks slot.chunk c → new.space.live ≡ set_of.insert f.space.live slot
+        → Makes Spot (parts_of own buddies lists (set fits index new)) (finite.insert (whole own buddies lists fits).held slot.object (fit_object f c)) (set_of.insert (whole own buddies lists fits).live (span_of_slot slot))
+    fit_chunk_comes slot c none named free chunks live =
+        makes_fit (store.chunk_comes slot_total slot_exact span_of_slot Spot (parts_of own buddies lists fits) apart fit_spot fit_in f.space.chunks f.space.live sound.space.one_object at_fit (fit_part new) slot slot.chunk c none named free
+        (inr (inr (refl, ap (λ n. length buddies + (length lists + n)) typed))) (fit_held_as _ chunks) (ap (by_span span_of_slot) live))
+
+    pub fit_goes : (slot : Slot) → IsLiveFit f.space slot → new.space.chunks ≡ f.space.chunks → new.space.live ≡ set_of.remove f.space.live slot
+        → Makes Spot (parts_of own buddies lists (set fits index new)) (whole own buddies lists fits).held (set_of.remove (whole own buddies lists fits).live (span_of_slot slot))
+    fit_goes slot was chunks live =
+        let lies = sound.space.inside slot was in
+        makes_fit (store.row_goes slot_total slot_exact span_of_slot Spot (parts_of own buddies lists fits) apart fit_spot fit_in f.space.chunks f.space.live sound.space.one_object at_fit (fit_part new) (one_fit f sound) slot was slot.chunk lies.chunk lies.held lies.object
+        (ap (by_span span_of_slot) live) (fit_held_as f.space.chunks chunks))
+
+    pub last_fit_goes : (slot : Slot) → IsLiveFit f.space slot → ((other : Slot) → IsLiveFit f.space other → other.chunk ≡ slot.chunk → other ≡ slot) → new.space.chunks ≡ finite.remove f.space.chunks slot.chunk → new.space.live ≡ set_of.remove f.space.live slot
+        → Makes Spot (parts_of own buddies lists (set fits index new)) (finite.remove (whole own buddies lists fits).held slot.object) (set_of.remove (whole own buddies lists fits).live (span_of_slot slot))
+    last_fit_goes slot was last chunks live =
+        let lies = sound.space.inside slot was in
+        makes_fit (store.last_row_goes slot_total slot_exact span_of_slot Spot (parts_of own buddies lists fits) apart fit_spot fit_in f.space.chunks f.space.live sound.space.one_object at_fit (fit_part new) (one_fit f sound) slot was slot.chunk lies.chunk lies.held lies.object
+        (ap (by_span span_of_slot) live)
+        (λ other stood named. let of = sound.space.inside other stood in last other stood (sound.space.one_object other.chunk slot.chunk of.chunk lies.chunk of.held lies.held (sym of.object ∙ named)))
+        (fit_held_as _ chunks))
+
+    pub fit_chunk_goes : (key : ℕ) (c : Chunk) → finite.get f.space.chunks key ≡ Some c → ((slot : Slot) → IsLiveFit f.space slot → slot.chunk ≢ key)
+        → new.space.chunks ≡ finite.remove f.space.chunks key → new.space.live ≡ f.space.live
+        → Makes Spot (parts_of own buddies lists (set fits index new)) (finite.remove (whole own buddies lists fits).held c.object) (whole own buddies lists fits).live
+    fit_chunk_goes key c is unused chunks live =
+        makes_fit (store.chunk_goes slot_total slot_exact span_of_slot Spot (parts_of own buddies lists fits) apart fit_spot fit_in f.space.chunks f.space.live sound.space.one_object at_fit (fit_part new) key c is
+        (λ slot stood named. let lies = sound.space.inside slot stood in unused slot stood (sound.space.one_object slot.chunk key lies.chunk c lies.held is (sym lies.object ∙ named)))
+        (fit_held_as _ chunks) (ap (by_span span_of_slot) live))
+
 -- Where nothing is held.
 
-module _ (own : OwnTable) (buddies : List Buddy) (lists : List Listing) (held : own.held ≡ finite.empty) (live : own.live ≡ set_of.empty) (no_buddy : (i : ℕ) (b : Buddy) → IsAt buddies i b → (b.chunks ≡ finite.empty) × (b.live ≡ set_of.empty))
-    (no_list : (i : ℕ) (l : Listing) → IsAt lists i l → (l.space.chunks ≡ finite.empty) × (l.space.live ≡ set_of.empty)) where
+module _ (own : OwnTable) (buddies : List Buddy) (lists : List Listing) (fits : List Fitting) (held : own.held ≡ finite.empty) (live : own.live ≡ set_of.empty) (no_buddy : (i : ℕ) (b : Buddy) → IsAt buddies i b → (b.chunks ≡ finite.empty) × (b.live ≡ set_of.empty))
+    (no_list : (i : ℕ) (l : Listing) → IsAt lists i l → (l.space.chunks ≡ finite.empty) × (l.space.live ≡ set_of.empty))
+    (no_fit : (i : ℕ) (f : Fitting) → IsAt fits i f → (f.space.chunks ≡ finite.empty) × (f.space.live ≡ set_of.empty)) where
   no_name : (g : ℕ → Chunk → HeldObject) (chunks : Chunks) → chunks ≡ finite.empty → (object : ℕ) → finite.get (by_name g chunks) object ≡ None
   no_name g chunks is object =
       named_absent nat_cmp_total nat_cmp-IsAntisymmetric (λ (e : ℕ × Chunk). e.1.object) (λ e. g e.0 e.1) (finite.entries chunks) object (λ e has same.
@@ -283,39 +369,48 @@ module _ (own : OwnTable) (buddies : List Buddy) (lists : List Listing) (held : 
       let none = ap (λ (m : Chunks). finite.get m e.0) is ∙ finite.get-empty nat_cmp e.0 in
       absurd (cc))
 
-  none_held : (i : ℕ) (p : Part) (object : ℕ) → IsAt (parts_of own buddies lists) i p → finite.get p.held object ≡ None
+  none_held : (i : ℕ) (p : Part) (object : ℕ) → IsAt (parts_of own buddies lists fits) i p → finite.get p.held object ≡ None
   none_held zero p object at = ap (λ (x : Part). finite.get x.held object) (sym at) ∙ ap (λ (m : Held). finite.get m object) held ∙ finite.get-empty nat_cmp object
-  none_held (suc i) p object at = elim (at_cases buddy_part buddies (map list_part lists) i p at) [
+  none_held (suc i) p object at = elim (at_cases buddy_part buddies (map list_part lists ++ map fit_part fits) i p at) [
     | inl b ↦ ap (λ (x : Part). finite.get x.held object) (sym b.2) ∙ no_name (λ _ c. chunk_object b.0 c) b.0.chunks (no_buddy i b.0 b.1).0 object
-    | inr later ↦
-        let l = at_of_map list_part lists later.0 p later.1 in
-        ap (λ (x : Part). finite.get x.held object) (sym l.2) ∙ no_name (list_object l.0) l.0.space.chunks (no_list later.0 l.0 l.1).0 object
+    | inr later ↦ elim (at_cases list_part lists (map fit_part fits) later.0 p later.1) [
+      | inl l ↦ ap (λ (x : Part). finite.get x.held object) (sym l.2) ∙ no_name (list_object l.0) l.0.space.chunks (no_list later.0 l.0 l.1).0 object
+      | inr last ↦
+          let f = at_of_map fit_part fits last.0 p last.1 in
+          ap (λ (x : Part). finite.get x.held object) (sym f.2) ∙ no_name (λ _ c. fit_object f.0 c) f.0.space.chunks (no_fit last.0 f.0 f.1).0 object
+    ]
   ]
 
-  none_live : (i : ℕ) (p : Part) (span : Span) → IsAt (parts_of own buddies lists) i p → HasLive p span → ⊥
+  none_live : (i : ℕ) (p : Part) (span : Span) → IsAt (parts_of own buddies lists fits) i p → HasLive p span → ⊥
   none_live zero p span at has =
       let none = ap (λ (x : Part). set_of.contains x.live span) (sym at) ∙ ap (λ (l : Live). set_of.contains l span) live ∙ set_of.contains-empty span_cmp span in
       let bad : false ≡ true = sym none ∙ has in cc
-  none_live (suc i) p span at has = elim (at_cases buddy_part buddies (map list_part lists) i p at) [
+  none_live (suc i) p span at has = elim (at_cases buddy_part buddies (map list_part lists ++ map fit_part fits) i p at) [
     | inl b ↦
         let row = span_row_there leaf_total leaf_exact span_of_leaf b.0.live span (subst (λ (x : Part). HasLive x span) (sym b.2) has) in
         let none = ap (λ (s : set_of.FinSet leaf_cmp). set_of.contains s row.0) (no_buddy i b.0 b.1).1 ∙ set_of.contains-empty leaf_cmp row.0 in
         let bad : false ≡ true = sym none ∙ row.1 in cc
-    | inr later ↦
-        let l = at_of_map list_part lists later.0 p later.1 in
-        let row = span_row_there slot_total slot_exact span_of_slot l.0.space.live span (subst (λ (x : Part). HasLive x span) (sym l.2) has) in
-        let none = ap (λ (s : set_of.FinSet slot_cmp). set_of.contains s row.0) (no_list later.0 l.0 l.1).1 ∙ set_of.contains-empty slot_cmp row.0 in
-        let bad : false ≡ true = sym none ∙ row.1 in cc
+    | inr later ↦ elim (at_cases list_part lists (map fit_part fits) later.0 p later.1) [
+      | inl l ↦
+          let row = span_row_there slot_total slot_exact span_of_slot l.0.space.live span (subst (λ (x : Part). HasLive x span) (sym l.2) has) in
+          let none = ap (λ (s : set_of.FinSet slot_cmp). set_of.contains s row.0) (no_list later.0 l.0 l.1).1 ∙ set_of.contains-empty slot_cmp row.0 in
+          let bad : false ≡ true = sym none ∙ row.1 in cc
+      | inr last ↦
+          let f = at_of_map fit_part fits last.0 p last.1 in
+          let row = span_row_there slot_total slot_exact span_of_slot f.0.space.live span (subst (λ (x : Part). HasLive x span) (sym f.2) has) in
+          let none = ap (λ (s : set_of.FinSet slot_cmp). set_of.contains s row.0) (no_fit last.0 f.0 f.1).1 ∙ set_of.contains-empty slot_cmp row.0 in
+          let bad : false ≡ true = sym none ∙ row.1 in cc
+    ]
   ]
 
-  pub nothing_held : (whole own buddies lists).held ≡ finite.empty
-  nothing_held = finite.same_map nat_cmp_total nat_cmp-IsAntisymmetric _ _ (λ q. none_of (parts_of own buddies lists) q (λ i p at. none_held i p q at) ∙ sym (finite.get-empty nat_cmp q))
+  pub nothing_held : (whole own buddies lists fits).held ≡ finite.empty
+  nothing_held = finite.same_map nat_cmp_total nat_cmp-IsAntisymmetric _ _ (λ q. none_of (parts_of own buddies lists fits) q (λ i p at. none_held i p q at) ∙ sym (finite.get-empty nat_cmp q))
 
-  pub nothing_live : (whole own buddies lists).live ≡ set_of.empty
+  pub nothing_live : (whole own buddies lists fits).live ≡ set_of.empty
   nothing_live = set_of.same_set span_total span_exact _ _ (λ q.
-      not_live (whole own buddies lists).live q (λ stands. let there = live_at (parts_of own buddies lists) q stands in none_live there.0 there.1 q there.2 there.3) ∙ sym (set_of.contains-empty span_cmp q))
+      not_live (whole own buddies lists fits).live q (λ stands. let there = live_at (parts_of own buddies lists fits) q stands in none_live there.0 there.1 q there.2 there.3) ∙ sym (set_of.contains-empty span_cmp q))
 
-  pub apart_unused : AreWhole own buddies lists
+  pub apart_unused : AreWhole own buddies lists fits
   apart_unused = record {
     placed = λ i p object h at has. absurd (let none = none_held i p object at in cc);
     once = λ i j p q object h k at also has had. absurd (let none = none_held i p object at in cc);

@@ -17,12 +17,15 @@ use Rattle.gpu_alloc_base.specs.declared.error.AllocationError.TheVariants.{OutO
 use Rattle.gpu_alloc_base.specs.declared.error.AllocationError.TheVariants.{NoCompatibleMemoryTypes, TooManyObjects}
 use Rattle.gpu_alloc_usage.specs.Ranking.{candidates, compatible, implied}
 use Rattle.gpu_alloc.specs.Candidates.{candidate}
+use Rattle.gpu_alloc.specs.FitSharing.{fit_size, fits_first}
 use Rattle.gpu_alloc.specs.Request.{in_pages, is_required}
 use Rattle.gpu_alloc_block.specs.State.{HeldObject, Span, Block, span_of, State, IsLive, IsOwned, AreApart, is_shared}
 use Rattle.gpu_alloc.specs.declared.allocator.Ask.{Ask}
 use Rattle.gpu_alloc.specs.declared.allocator.Strategy.{Strategy}
-use Rattle.gpu_alloc.specs.declared.allocator.Strategy.TheVariants.{OwnObject, InBuddyChunk, InFreeList}
-use Rattle.gpu_alloc_block.specs.declared.block.Kind.TheVariants.{Dedicated as DedicatedObject, Imported, BuddyChunk}
+use Rattle.gpu_alloc.specs.declared.allocator.Strategy.TheVariants.{OwnObject, InBuddyChunk, InFreeList, InFitChunk}
+use Rattle.gpu_alloc_block.specs.declared.block.Kind.TheVariants.{Dedicated as DedicatedObject, Imported, BuddyChunk, FitChunk}
+use Rattle.gpu_alloc_block.specs.declared.sharing.Sharing.{Sharing}
+use Rattle.gpu_alloc_block.specs.declared.sharing.Sharing.TheVariants.{Buddy, Fit}
 use Rattle.gpu_alloc.specs.declared.request.Request.{Request}
 use Rattle.gpu_alloc.specs.declared.request.Dedicated.{Dedicated}
 use Rattle.gpu_alloc.specs.declared.request.Dedicated.TheVariants.{Required, Preferred}
@@ -39,11 +42,17 @@ fits_a_chunk s r t =
     let atom = atom_of s.properties t in
     nat_le (up r.size atom) (final_size s.config (heap_size s.properties t) atom)
 
+-- the chunk that a small request which isn't transient shares, by choice: where fit chunks are chosen, it has to fit the
+-- first one
+abbrev pub shares_by : Sharing → Bool → Strategy
+shares_by Buddy fits = InBuddyChunk
+shares_by Fit fits = cond fits InFitChunk OwnObject
+
 abbrev pub unhinted : State → Request → ℕ → Strategy
 unhinted s r t =
     cond (has_bit (usage_bits r.usage) transient)
     (cond (is_small s r (transient_threshold s.config) t && fits_a_chunk s r t) InFreeList OwnObject)
-    (cond (is_small s r s.config.dedicated_threshold t) InBuddyChunk OwnObject)
+    (cond (is_small s r s.config.dedicated_threshold t) (shares_by s.sharing (fits_first s r t)) OwnObject)
 
 abbrev pub strategy : State → Request → Option Dedicated → ℕ → Strategy
 strategy s r (Some Required) t = OwnObject
@@ -145,6 +154,7 @@ abbrev pub is_alone : Strategy → Bool
 is_alone OwnObject = true
 is_alone InBuddyChunk = false
 is_alone InFreeList = false
+is_alone InFitChunk = false
 
 abbrev pub serves_alone : State → Request → Option Dedicated → ℕ → Bool
 serves_alone s r hint t = is_alone (strategy s r hint t)
@@ -228,6 +238,10 @@ pub record ServesRequest (s : State) (r : Request) (t : ℕ) : Type 0 where
 -- each candidate does
 pub record CandidatesServe : Type 0 where
   pub each : (s : State) (r : Request) (t : ℕ) → IsCandidate s r t → ServesRequest s r t
+
+-- a block of a fit chunk is as long as asked, in whole grains
+abbrev pub IsExact : State → Request → Block → Type 0
+IsExact s r b = b.kind ≡ FitChunk → b.size ≡ fit_size s r b.memory_type
 
 -- what a caller may know of a granted block without following the decision
 pub record IsGranted (s : State) (r : Request) (new : State) (b : Block) : Type 0 where

@@ -2,6 +2,7 @@
 use Rattle.std.specs.Prelude.{ℕ, ◌^◌, ◌<◌, ◌≤◌, length}
 use Rattle.gpu_alloc_types.specs.Properties.{atom_of}
 use Rattle.gpu_alloc_base.specs.FreeSpace.{IsMultipleOf, IsPowerOfTwo}
+use Rattle.gpu_alloc.specs.FitSharing.{largest_fit_chunk, next_fit_chunk}
 use Rattle.gpu_alloc.specs.FreeListSharing.{IsListChunk, next_list_chunk, largest_list_chunk}
 use Rattle.gpu_alloc_block.specs.State.{Span, State, IsLive}
 
@@ -11,6 +12,12 @@ pub record IsNextListChunk (s : State) (t : ℕ) : Type 0 where
   pub whole : IsMultipleOf (atom_of s.properties t) (next_list_chunk s t)
   pub most : next_list_chunk s t ≤ largest_list_chunk s t
   pub bound : largest_list_chunk s t ≤ 2 ^ 62
+
+-- a memory type's next fit chunk is some bytes, and no larger than the largest
+pub record IsNextFitChunk (s : State) (t : ℕ) : Type 0 where
+  pub some : 0 < next_fit_chunk s t
+  pub most : next_fit_chunk s t ≤ largest_fit_chunk s t
+  pub bound : largest_fit_chunk s t ≤ 2 ^ 62
 
 -- between calls atoms are powers of two, and chunks of free lists and the blocks in them keep to them
 pub record KeepsAtoms (s : State) : Type 0 where
@@ -23,3 +30,4 @@ pub record KeepsAtoms (s : State) : Type 0 where
       → IsMultipleOf (atom_of s.properties t) span.offset
   -- what its next chunk has at least
   pub next : (t : ℕ) → t < length s.properties.memory_types → IsNextListChunk s t
+  pub next_fit : (t : ℕ) → t < length s.properties.memory_types → IsNextFitChunk s t

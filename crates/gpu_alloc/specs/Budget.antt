@@ -12,7 +12,7 @@ use Rattle.gpu_alloc_base.specs.declared.error.AllocationError.TheVariants.{NoCo
 use Rattle.gpu_alloc_block.specs.State.{HeldObject, Block, State, heap_limit, ledger, share}
 use Rattle.gpu_alloc_block.specs.declared.block.Kind.{Kind}
 use Rattle.gpu_alloc_block.specs.declared.block.Kind.TheVariants.{Dedicated as DedicatedObject, Imported, BuddyChunk}
-use Rattle.gpu_alloc_block.specs.declared.block.Kind.TheVariants.{FreeListChunk}
+use Rattle.gpu_alloc_block.specs.declared.block.Kind.TheVariants.{FreeListChunk, FitChunk}
 use Rattle.gpu_alloc.specs.Allocation.{Tries, strategy}
 use Rattle.gpu_alloc.specs.Candidates.{candidate}
 use Rattle.gpu_alloc.specs.declared.request.Dedicated.{Dedicated}
@@ -45,6 +45,7 @@ is_import DedicatedObject = false
 is_import Imported = true
 is_import BuddyChunk = false
 is_import (FreeListChunk number) = false
+is_import FitChunk = false
 
 -- what a held object adds that the device was asked for
 abbrev pub asked_share : Properties → ℕ → ℕ × HeldObject → ℕ

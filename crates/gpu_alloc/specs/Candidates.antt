@@ -7,12 +7,14 @@ use Rattle.gpu_alloc_base.specs.NewChunk.{ChunkQuestion, flags_of}
 use Rattle.gpu_alloc_buddy.specs.Buddy.{Fits}
 use Rattle.gpu_alloc.specs.BuddySharing.{buddy_size, buddy_question, buddy_block, front_of, HasBuddyPlace, IsPieceFront}
 use Rattle.gpu_alloc.specs.BuddySharing.{with_span, with_buddy_chunk}
+use Rattle.gpu_alloc.specs.FitSharing.{fit_alignment, fit_block, fit_question, fit_size, with_fit_chunk}
+use Rattle.gpu_alloc.specs.FitSharing.{HasFitPlace, IsInFreeRun}
 use Rattle.gpu_alloc.specs.FreeListSharing.{list_size, list_alignment, list_question, list_block, tail_of}
 use Rattle.gpu_alloc.specs.FreeListSharing.{latest_number, HasListNumber, HasListPlace, IsRunTail, with_list_chunk}
 use Rattle.gpu_alloc_types.specs.Properties.{heap_at}
 use Rattle.gpu_alloc_block.specs.State.{HeldObject, Block, State, granted_block, heap_limit, ledger, span_of}
 use Rattle.gpu_alloc.specs.declared.allocator.Strategy.{Strategy}
-use Rattle.gpu_alloc.specs.declared.allocator.Strategy.TheVariants.{OwnObject, InBuddyChunk, InFreeList}
+use Rattle.gpu_alloc.specs.declared.allocator.Strategy.TheVariants.{OwnObject, InBuddyChunk, InFreeList, InFitChunk}
 use Rattle.gpu_alloc_block.specs.declared.block.Kind.TheVariants.{Dedicated as DedicatedObject}
 use Rattle.gpu_alloc.specs.declared.request.Request.{Request}
 
@@ -108,8 +110,32 @@ list_candidate s size alignment t = record {
   with_object = λ b. with_span (with_list_chunk s t b.object (list_question s t size).size) (span_of b);
 }
 
+-- the block is one of a fit chunk, exactly as long as asked, in a run that has room
+pub record IsFitBlock (s : State) (t size alignment : ℕ) (b : Block) : Type 0 where
+  pub is : b ≡ fit_block s t (span_of b)
+  pub fitting : IsInFreeRun s t size alignment (span_of b)
+
+abbrev pub fit_candidate : State → ℕ → ℕ → ℕ → Case Block State
+fit_candidate s size alignment t = record {
+  before = s;
+  Fits = Unit {0};
+  HasPlace = HasFitPlace s t size alignment;
+  remaining = s.remaining;
+  HasNumber = Unit {0};
+  question = fit_question s t size;
+  ledger = ledger s (heap_at s.properties t);
+  limit = heap_limit s (heap_at s.properties t);
+  two_handles = true;
+  object = λ b. b.object;
+  IsInPlace = IsFitBlock s t size alignment;
+  with_block = λ b. with_span s (span_of b);
+  IsInNewObject = λ b. IsNewBlock s b (fit_block s t (front_of b.object size));
+  with_object = λ b. with_span (with_fit_chunk s t b.object (fit_question s t size).size) (span_of b);
+}
+
 -- a request to a candidate that is served so
 abbrev pub candidate : Strategy → State → Request → ℕ → Case Block State
 candidate OwnObject s r t = own_candidate s r.size t
 candidate InBuddyChunk s r t = buddy_candidate s (buddy_size s r t) t
 candidate InFreeList s r t = list_candidate s (list_size s r t) (list_alignment s r t) t
+candidate InFitChunk s r t = fit_candidate s (fit_size s r t) (fit_alignment s r t) t

@@ -4,6 +4,7 @@ use Rattle.gpu_alloc_types.specs.Flags.{property_bits}
 use Rattle.gpu_alloc_types.specs.Properties.{Properties, size_of, atom_for}
 use Rattle.gpu_alloc_types.specs.declared.types.MemoryType.{MemoryType}
 use Rattle.gpu_alloc_base.specs.Sizes.{minimal_size, initial_size, starting_size}
+use Rattle.gpu_alloc.specs.FitSharing.{grain}
 use Rattle.gpu_alloc_block.specs.State.{TypeState}
 use Rattle.gpu_alloc_base.specs.declared.config.Config.{Config}
 
@@ -16,6 +17,7 @@ first_type_state c p t =
       next_chunk = max (initial_size c heap) (minimal_size c heap);
       list_chunk = starting_size c heap atom;
       number = 0;
+      fit_chunk = starting_size c heap (grain atom);
     }
 
 abbrev pub first_types : Config → Properties → List TypeState

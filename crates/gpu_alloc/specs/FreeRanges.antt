@@ -1,11 +1,11 @@
 -- What is free in the shared chunks of a memory type.
-use Rattle.std.specs.Prelude.{◌≡◌, ◌⊎◌, ℕ, ◌+◌, ◌<◌, ◌≤◌, true}
+use Rattle.std.specs.Prelude.{◌≡◌, ◌⊎◌, ℕ, ◌+◌, ◌<◌, ◌≤◌, Bool, true, false}
 use Rattle.gpu_alloc_types.specs.declared.types.FreeRange.{FreeRange}
 use Rattle.gpu_alloc_base.specs.FreeRuns.{IsFreeRun}
 use Rattle.gpu_alloc_base.specs.FreeSpace.{IsFreePiece}
 use Rattle.gpu_alloc_block.specs.State.{State, is_shared}
 use Rattle.gpu_alloc_block.specs.declared.block.Kind.{Kind}
-use Rattle.gpu_alloc_block.specs.declared.block.Kind.TheVariants.{BuddyChunk, FreeListChunk}
+use Rattle.gpu_alloc_block.specs.declared.block.Kind.TheVariants.{Dedicated, Imported, BuddyChunk, FreeListChunk, FitChunk}
 use Rattle.gpu_alloc.specs.FreeBytes.{IsFreeByte}
 
 -- the range is a free piece of a buddy chunk of the memory type
@@ -14,10 +14,19 @@ pub record IsFreePieceOf (s : State) (t : ℕ) (r : FreeRange) : Type 0 where
   pub end : r.end ≡ r.start + length
   pub piece : IsFreePiece (IsFreeByte s t BuddyChunk) r.object r.start length
 
--- the range is a free run of a chunk of the memory type's free list
+-- whether what is free in an object that is held so are runs, of any length and from any byte on
+abbrev pub has_runs : Kind → Bool
+has_runs Dedicated = false
+has_runs Imported = false
+has_runs BuddyChunk = false
+has_runs (FreeListChunk number) = true
+has_runs FitChunk = true
+
+-- the range is a free run of a chunk of the memory type's free list, or of a fit chunk
 pub record IsFreeRunOf (s : State) (t : ℕ) (r : FreeRange) : Type 0 where
-  pub number : ℕ
-  pub run : IsFreeRun (IsFreeByte s t (FreeListChunk number)) r.object r.start r.end
+  pub kind : Kind
+  pub in_runs : has_runs kind ≡ true
+  pub run : IsFreeRun (IsFreeByte s t kind) r.object r.start r.end
 
 -- it is the one or the other
 abbrev pub IsFreeRangeOf : State → ℕ → FreeRange → Type 0

@@ -1,12 +1,13 @@
 -- What an allocator's fields stand for, and what they keep.
-use Rattle.std.specs.Prelude.{◌≡◌, ℕ, ◌+◌, ◌<◌, ◌≤◌, ◌^◌, false, List, [], ◌∷◌, map, length, slice_get, sum_by, Some}
+use Rattle.std.specs.Prelude.{◌≡◌, ℕ, ◌+◌, ◌<◌, ◌≤◌, ◌^◌, true, false, List, [], ◌∷◌, map, length, slice_get, sum_by, Some}
 use Rattle.std.specs.Prelude.{IfSome, IsTrue}
 use Rattle.std.specs.FinMap as map_of
 use Rattle.std.specs.FinSet as set
 use Rattle.gpu_alloc_types.specs.Properties.{Properties, IsUsable, heap_size, props_at, atom_of}
 use Rattle.gpu_alloc_types.specs.declared.types.MemoryHeap.{MemoryHeap}
 use Rattle.gpu_alloc.specs.declared.limits.Limits.{Limits}
-use Rattle.gpu_alloc_block.specs.declared.block.Kind.TheVariants.{BuddyChunk, FreeListChunk}
+use Rattle.gpu_alloc_block.specs.declared.block.Kind.TheVariants.{BuddyChunk, FreeListChunk, FitChunk}
+use Rattle.gpu_alloc_block.specs.declared.sharing.Sharing.{Sharing}
 use Rattle.gpu_alloc_base.specs.declared.buddy_block.Leaf.{Leaf}
 use Rattle.gpu_alloc_base.specs.declared.config.Config.{Config}
 use Rattle.gpu_alloc_base.specs.declared.free_list_block.Slot.{Slot}
@@ -14,12 +15,16 @@ use Rattle.gpu_alloc_base.specs.declared.heap.Heap.{Heap}
 use Rattle.gpu_alloc_buddy.specs.BuddySound.{IsSound}
 use Rattle.gpu_alloc_buddy.specs.BuddyState.{Buddy, IsLiveLeaf}
 use Rattle.gpu_alloc_base.specs.Chunks.{Chunk}
+use Rattle.gpu_alloc_fit.specs.Fit.{Fitting}
+use Rattle.gpu_alloc_fit.specs.FitSound as fit
+use Rattle.gpu_alloc_fits.specs.Space as fit_space
 use Rattle.gpu_alloc_freelist.specs.FreeListSound as list
 use Rattle.gpu_alloc_freelist.specs.FreeListState.{Listing, IsLiveSlot}
 use Rattle.gpu_alloc_base.specs.Sizes.{minimal_size, final_size}
 use Rattle.gpu_alloc.specs.Budget.{asked_share}
 use Rattle.gpu_alloc.specs.FirstTypes.{first_types}
-use Rattle.gpu_alloc.specs.Sound.{LiesIn}
+use Rattle.gpu_alloc.specs.FitSharing.{grain, largest_fit}
+use Rattle.gpu_alloc.specs.Sound.{LiesIn, is_chosen}
 use Rattle.gpu_alloc.specs.Spans.{Place, Table}
 use Rattle.gpu_alloc_block.specs.State.{HeldObject, Span, TypeState, State, share, is_shared}
 
@@ -54,13 +59,20 @@ lists_in (type ∷ types) [] = []
 lists_in (type ∷ types) (l ∷ lists) =
     record type { list_chunk = l.next_chunk; number = l.space.latest } ∷ lists_in types lists
 
-abbrev pub state_in : {A : Type 0} → Limits A → List Heap → List Buddy → List Listing → Table → ℕ → State
-state_in l heaps buddies lists t remaining = record {
+-- with the next fit chunk's least size as its allocator of fit chunks has it
+abbrev pub fits_in : List TypeState → List Fitting → List TypeState
+fits_in [] fits = []
+fits_in (type ∷ types) [] = []
+fits_in (type ∷ types) (f ∷ fits) = record type { fit_chunk = f.next_chunk } ∷ fits_in types fits
+
+abbrev pub state_in : {A : Type 0} → Limits A → List Heap → List Buddy → List Listing → List Fitting → Table → ℕ → State
+state_in l heaps buddies lists fits t remaining = record {
   held = t.held;
   live = t.live;
   remaining = remaining;
   heap_limits = map limit_of heaps;
-  types = lists_in (types_in (first_types l.config (properties_in l heaps)) buddies) lists;
+  types = fits_in (lists_in (types_in (first_types l.config (properties_in l heaps)) buddies) lists) fits;
+  sharing = l.sharing;
   config = l.config;
   properties = properties_in l heaps;
 }
@@ -194,6 +206,49 @@ pub record IsListFor (c : Config) (p : Properties) (index : ℕ) (l : Listing) :
 pub record AreLists (c : Config) (p : Properties) (lists : List Listing) : Type 0 where
   pub count : length lists ≡ length p.memory_types
   pub each : (index : ℕ) → IfSome (slice_get lists index) (IsListFor c p index)
+
+-- The table and an allocator of fit chunks.
+
+-- a held chunk as an object
+abbrev pub fit_object : Fitting → Chunk → HeldObject
+fit_object f c = record { memory_type = f.memory_type; counted = c.size; kind = FitChunk }
+
+-- the object is held as a fit chunk of this memory type
+pub record IsFitChunkOf (t : Table) (memory_type object : ℕ) (h : HeldObject) : Type 0 where
+  pub held : map_of.get t.held object ≡ Some h
+  pub of_kind : h.kind ≡ FitChunk
+  pub of_type : h.memory_type ≡ memory_type
+
+-- Both have the same chunks and the same blocks in them.
+pub record IsFitLinked (t : Table) (f : Fitting) : Type 0 where
+  pub chunks : (key : ℕ) (c : Chunk) → map_of.get f.space.chunks key ≡ Some c
+      → map_of.get t.held c.object ≡ Some (fit_object f c)
+  pub objects : (object : ℕ) (h : HeldObject) → IsFitChunkOf t f.memory_type object h → (key : ℕ)
+      × (map_of.get f.space.chunks key ≡ Some (record { object = object; size = h.counted }))
+  pub slots : (slot : Slot) → fit_space.IsLiveSlot f.space slot → IsLiveIn t (span_of_slot slot)
+  pub spans : (span : Span) (h : HeldObject) → IsLiveIn t span → IsFitChunkOf t f.memory_type span.object h
+      → (key : ℕ) × fit_space.IsLiveSlot f.space (slot_at span key)
+
+-- what a memory type's allocator of fit chunks was given
+pub record IsFitForType (c : Config) (p : Properties) (index : ℕ) (f : Fitting) : Type 0 where
+  pub memory_type : f.memory_type ≡ index
+  pub props : f.props ≡ props_at p index
+  pub atom : f.atom ≡ grain (atom_of p index)
+  pub final_chunk : f.final_chunk ≡ largest_fit c (heap_size p index) (grain (atom_of p index))
+
+-- and that it is sound
+pub record IsFitFor (c : Config) (p : Properties) (index : ℕ) (f : Fitting) : Type 0 where
+  pub for_type : IsFitForType c p index f
+  pub sound : fit.IsSound f
+
+-- each memory type has an allocator of fit chunks
+pub record AreFits (c : Config) (p : Properties) (fits : List Fitting) : Type 0 where
+  pub count : length fits ≡ length p.memory_types
+  pub each : (index : ℕ) → IfSome (slice_get fits index) (IsFitFor c p index)
+
+-- held chunks are of the kind that was chosen
+abbrev pub IsChosen : Sharing → Table → Type 0
+IsChosen sharing t = (object : ℕ) (h : HeldObject) → map_of.get t.held object ≡ Some h → is_chosen sharing h.kind ≡ true
 
 -- The table, the heaps and the count.
 pub record IsBooked (p : Properties) (heaps : List Heap) (t : Table) (remaining : ℕ) : Type 0 where

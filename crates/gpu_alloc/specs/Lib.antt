@@ -6,6 +6,7 @@ pub mod Candidates
 pub mod Codes
 pub mod Exactness
 pub mod FirstTypes
+pub mod FitSharing
 pub mod FreeBytes
 pub mod FreeListSharing
 pub mod FreeRanges
@@ -60,6 +61,9 @@ pub use Rattle.gpu_alloc_buddy.specs.Buddy
 pub use Rattle.gpu_alloc_buddy.specs.BuddySound
 pub use Rattle.gpu_alloc_buddy.specs.BuddyState
 pub use Rattle.gpu_alloc_buddy.specs.BuddySteps
+pub use Rattle.gpu_alloc_fit.specs.Fit
+pub use Rattle.gpu_alloc_fit.specs.FitSound
+pub use Rattle.gpu_alloc_fits.specs.Space as FitSpace
 pub use Rattle.gpu_alloc_freelist.specs.FreeList
 pub use Rattle.gpu_alloc_freelist.specs.FreeListAllocator
 pub use Rattle.gpu_alloc_freelist.specs.FreeListSound

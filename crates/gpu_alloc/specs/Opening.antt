@@ -7,12 +7,18 @@ use Rattle.gpu_alloc_types.specs.declared.types.MemoryHeap.{MemoryHeap}
 use Rattle.gpu_alloc_buddy.specs.Buddy as buddy
 use Rattle.gpu_alloc_buddy.specs.BuddySound.{IsSound}
 use Rattle.gpu_alloc_buddy.specs.BuddyState.{Buddy}
+use Rattle.gpu_alloc_fit.specs.Fit as fit
+use Rattle.gpu_alloc_fit.specs.Fit.{Fitting}
+use Rattle.gpu_alloc_fit.specs.FitSound as fit_sound
 use Rattle.gpu_alloc_freelist.specs.FreeListAllocator as list
 use Rattle.gpu_alloc_freelist.specs.FreeListSound as list_sound
 use Rattle.gpu_alloc_freelist.specs.FreeListState.{Listing}
 use Rattle.gpu_alloc_block.specs.State.{State}
+use Rattle.gpu_alloc_block.specs.declared.sharing.Sharing.{Sharing}
+use Rattle.gpu_alloc_block.specs.declared.sharing.Sharing.TheVariants.{Buddy as SharingBuddy}
 use Rattle.gpu_alloc_base.specs.Sizes.{minimal_size, initial_size, starting_size, final_size}
 use Rattle.gpu_alloc.specs.FirstTypes.{first_types}
+use Rattle.gpu_alloc.specs.FitSharing.{grain, largest_fit}
 use Rattle.gpu_alloc_base.specs.declared.config.Config.{Config}
 
 -- the size of a heap that is offered
@@ -20,16 +26,21 @@ abbrev pub size_of_heap : MemoryHeap → ℕ
 size_of_heap heap = heap.size
 
 -- nothing is held or live, as many objects and bytes may be held as the device allows, and the chunk sizes are the first
-abbrev pub opened : Config → Properties → State
-opened c p = record {
+abbrev pub opened_by : Sharing → Config → Properties → State
+opened_by sharing c p = record {
   held = map.empty;
   live = set.empty;
   remaining = p.max_memory_allocation_count;
   heap_limits = map_list size_of_heap p.memory_heaps;
   types = first_types c p;
+  sharing = sharing;
   config = c;
   properties = p;
 }
+
+-- where nothing is chosen, requests share buddy chunks
+abbrev pub opened : Config → Properties → State
+opened c p = opened_by SharingBuddy c p
 
 -- a memory type's buddy allocator, with no chunk
 abbrev pub first_buddy : Config → Properties → ℕ → Buddy
@@ -46,6 +57,17 @@ first_listing c p t =
     let heap = heap_size p t in
     let atom = atom_of p t in
     list.opened (starting_size c heap atom) (final_size c heap atom) t (props_at p t) atom
+
+-- a memory type's allocator of fit chunks, with no chunk
+abbrev pub first_fitting : Config → Properties → ℕ → Fitting
+first_fitting c p t =
+    let heap = heap_size p t in
+    let g = grain (atom_of p t) in
+    fit.opened (starting_size c heap g) (largest_fit c heap g) t (props_at p t) g
+
+abbrev pub AreFirstFittings : Config → Properties → List Fitting → Type 0
+AreFirstFittings c p fits =
+    (t : ℕ) → IfSome (slice_get fits t) (λ f. (f ≡ first_fitting c p t) × fit_sound.IsSound f)
 
 abbrev pub AreFirstListings : Config → Properties → List Listing → Type 0
 AreFirstListings c p lists =

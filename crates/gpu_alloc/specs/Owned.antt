@@ -12,6 +12,7 @@ use Rattle.gpu_alloc_block.specs.State.{HeldObject, State, Block, span_of, IsOwn
 -- What a call leaves that takes no block back: what was given to `new`, the heaps' limits, and each block that was owned.
 pub record Leaves (s new : State) : Type 0 where
   pub properties : new.properties ≡ s.properties
+  pub sharing : new.sharing ≡ s.sharing
   pub config : new.config ≡ s.config
   pub limits : new.heap_limits ≡ s.heap_limits
   pub owned : (b : Block) → IsOwned s b → IsOwned new b
@@ -35,6 +36,7 @@ pub record Adds (s new : State) (b : Block) : Type 0 where
 -- What a return takes away: the block's span, and no other block that is in hand.
 pub record Removes (s : State) (b : Block) (new : State) : Type 0 where
   pub properties : new.properties ≡ s.properties
+  pub sharing : new.sharing ≡ s.sharing
   pub config : new.config ≡ s.config
   pub limits : new.heap_limits ≡ s.heap_limits
   pub live : new.live ≡ set.remove s.live (span_of b)

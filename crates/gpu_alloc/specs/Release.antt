@@ -1,5 +1,5 @@
 -- How a block comes back.
-use Rattle.std.specs.Prelude.{◌≡◌, ◌≢◌, ◌⊎◌, ◌↔◌, ℕ, zero, suc, ◌+◌, ◌<◌, Bool, true, false, List, [], ◌∷◌, ◌++◌}
+use Rattle.std.specs.Prelude.{◌≡◌, ◌≢◌, ◌⊎◌, ◌↔◌, ℕ, zero, suc, ◌+◌, ◌<◌, ◌≤◌, Bool, true, false, List, [], ◌∷◌, ◌++◌}
 use Rattle.std.specs.Prelude.{length, get_or}
 use Rattle.std.specs.Prelude.{map, Option, Some, None, IsSome}
 use Rattle.std.specs.List.{Contains}
@@ -9,16 +9,14 @@ use Rattle.std.specs.Ordering.{nat_cmp}
 use Rattle.gpu_alloc_types.specs.Device.{Object, Event, Chain, put}
 use Rattle.gpu_alloc_types.specs.Device.Event.{Deallocated}
 use Rattle.gpu_alloc_block.specs.declared.block.Kind.{Kind}
-use Rattle.gpu_alloc_block.specs.declared.block.Kind.TheVariants.{Dedicated, Imported, BuddyChunk, FreeListChunk}
+use Rattle.gpu_alloc_block.specs.declared.block.Kind.TheVariants.{Dedicated, Imported, BuddyChunk, FreeListChunk, FitChunk}
 use Rattle.gpu_alloc_base.specs.declared.region.FreeListRegion.{FreeListRegion}
 use Rattle.gpu_alloc_base.specs.FreeRuns.{IsLastRun}
 use Rattle.gpu_alloc.specs.FreeListSharing.{IsListChunk, IsFreeInChunk}
-use Rattle.gpu_alloc.specs.Sound.{is_list_chunk}
-use Rattle.gpu_alloc_block.specs.State.{HeldObject, Span, span_of, Block, State, IsLive}
-
--- no span of the object is live
-abbrev pub IsUnused : State → ℕ → Type 0
-IsUnused s object = (span : Span) → IsLive s span → span.object ≢ object
+use Rattle.gpu_alloc.specs.FitSharing.{IsFitChunk}
+pub use Rattle.gpu_alloc.specs.Sound.{IsUnused}
+use Rattle.gpu_alloc.specs.Sound.{may_be_unused}
+use Rattle.gpu_alloc_block.specs.State.{HeldObject, span_of, Block, State}
 
 -- the block's span is live no more
 abbrev pub without_span : State → Block → State
@@ -65,14 +63,43 @@ pub record GivesBack (s : State) (t : ℕ) (keep_last : Bool) (gone : List ℕ) 
   pub lets : LetsGo s gone es new
   pub objects : new_objects ≡ without_objects old_objects gone
 
+-- Fit chunks of a memory type.
+
+-- the object is one, and nothing in it is live
+pub record IsUnusedFit (s : State) (t object : ℕ) : Type 0 where
+  pub chunk : IsFitChunk s t object
+  pub unused : IsUnused s object
+
+-- nothing in the object is live, and in another fit chunk of its memory type nothing is too
+pub record IsSpare (s : State) (object : ℕ) : Type 0 where
+  pub unused : IsUnused s object
+  pub chunk : HeldObject
+  pub held : finite.get s.held object ≡ Some chunk
+  pub other : ℕ
+  pub differs : other ≢ object
+  pub also : IsUnusedFit s chunk.memory_type other
+
+-- These are all the fit chunks without a live block, which is one at most.
+pub record AreFitsGone (s : State) (t : ℕ) (gone : List ℕ) : Type 0 where
+  pub few : length gone ≤ 1
+  pub all : (object : ℕ) → Contains gone object ↔ IsUnusedFit s t object
+
+-- They go back to the device, and it has the other objects then.
+pub record GivesFitsBack (s : State) (t : ℕ) (gone : List ℕ) (es : List Event) (new : State)
+    (old_objects new_objects : ℕ → Option Object) : Type 0 where
+  pub chunks : AreFitsGone s t gone
+  pub lets : LetsGo s gone es new
+  pub objects : new_objects ≡ without_objects old_objects gone
+
 -- What goes with a block whose span was taken off, by what its object is held for: an object of its own, or a buddy
--- chunk without a live block.
+-- chunk without a live block. A fit chunk without one goes where another one is kept so.
 abbrev pub GoesWith : Kind → State → ℕ → List ℕ → Type 0
 GoesWith Dedicated s object gone = gone ≡ object ∷ []
 GoesWith Imported s object gone = gone ≡ object ∷ []
 GoesWith BuddyChunk s object gone = (IsUnused s object × (gone ≡ object ∷ [])) ⊎ ((IsUnused s object → ⊥) × (gone ≡ []))
 GoesWith (FreeListChunk number) s object gone =
     (chunk : HeldObject) × (finite.get s.held object ≡ Some chunk) × AreChunksGone s chunk.memory_type true gone
+GoesWith FitChunk s object gone = (IsSpare s object × (gone ≡ object ∷ [])) ⊎ ((IsSpare s object → ⊥) × (gone ≡ []))
 
 abbrev pub Frees : State → Block → List Event → State → Type 0
 Frees s b es new =
@@ -83,12 +110,27 @@ abbrev pub ObjectsFreed : State → Block → (ℕ → Option Object) → (ℕ �
 ObjectsFreed s b old new =
     (gone : List ℕ) × GoesWith b.kind (without_span s b) b.object gone × (new ≡ without_objects old gone)
 
--- What a cleanup gives back: each memory type's chunks without a live block, the types in their order.
+-- What a cleanup gives back: each memory type's chunks without a live block, the types in their order, and of each those
+-- of its free list first.
+
+pub record AreGoneOfType (s : State) (t : ℕ) (gone : List ℕ) : Type 0 where
+  pub listed : List ℕ
+  pub fitted : List ℕ
+  pub both : gone ≡ listed ++ fitted
+  pub of_list : AreChunksGone s t false listed
+  pub of_fits : AreFitsGone s t fitted
+
+-- these are all of a memory type, and go back to the device, which has the other objects then
+pub record GivesTypeBack (s : State) (t : ℕ) (gone : List ℕ) (es : List Event) (new : State)
+    (old_objects new_objects : ℕ → Option Object) : Type 0 where
+  pub chunks : AreGoneOfType s t gone
+  pub lets : LetsGo s gone es new
+  pub objects : new_objects ≡ without_objects old_objects gone
 
 abbrev pub AreAllGone : State → ℕ → List ℕ → Type 0
 AreAllGone s zero gone = gone ≡ []
 AreAllGone s (suc t) gone =
-    (earlier own : List ℕ) × (gone ≡ earlier ++ own) × AreAllGone s t earlier × AreChunksGone s t false own
+    (earlier own : List ℕ) × (gone ≡ earlier ++ own) × AreAllGone s t earlier × AreGoneOfType s t own
 
 abbrev pub Cleans : State → List Event → State → Type 0
 Cleans s es new = (gone : List ℕ) × AreAllGone s (length s.properties.memory_types) gone × LetsGo s gone es new
@@ -97,9 +139,9 @@ abbrev pub ObjectsCleaned : State → (ℕ → Option Object) → (ℕ → Optio
 ObjectsCleaned s old new =
     (gone : List ℕ) × AreAllGone s (length s.properties.memory_types) gone × (new ≡ without_objects old gone)
 
--- What a cleanup takes: a free list's chunk in which nothing is live.
+-- What a cleanup takes: a chunk of a free list, or a fit chunk, in which nothing is live.
 abbrev pub IsCleanedUp : State → ℕ → HeldObject → Type 0
-IsCleanedUp s object h = (is_list_chunk h.kind ≡ true) × IsUnused s object
+IsCleanedUp s object h = (may_be_unused h.kind ≡ true) × IsUnused s object
 
 -- What goes back to the device with a call: some objects that were held, each once and in this order, and nothing else.
 -- They are held no more, and the device has them no more; every other object is held and on the device as before.

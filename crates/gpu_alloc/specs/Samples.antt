@@ -4,8 +4,9 @@ use Rattle.gpu_alloc_types.specs.Properties.{Properties}
 use Rattle.gpu_alloc_base.specs.declared.config.Config.{Config}
 use Rattle.gpu_alloc.specs.declared.request.Request.{Request}
 use Rattle.gpu_alloc_base.specs.Config.{potato}
-use Rattle.gpu_alloc.specs.Opening.{opened}
+use Rattle.gpu_alloc.specs.Opening.{opened, opened_by}
 use Rattle.gpu_alloc_block.specs.State.{State}
+use Rattle.gpu_alloc_block.specs.declared.sharing.Sharing.TheVariants.{Fit}
 
 -- a device with one memory type in one heap
 abbrev pub one_type : ℕ → ℕ → ℕ → Properties
@@ -21,6 +22,10 @@ one_type heap bits atom = record {
 -- the potato's allocator for a device with one type
 abbrev pub over : ℕ → ℕ → ℕ → State
 over heap bits atom = opened potato (one_type heap bits atom)
+
+-- and where fit chunks are chosen
+abbrev pub fits_over : ℕ → ℕ → ℕ → State
+fits_over heap bits atom = opened_by Fit potato (one_type heap bits atom)
 
 -- a request for so many bytes of that type, for a usage
 abbrev pub bytes_for : ℕ → ℕ → Request

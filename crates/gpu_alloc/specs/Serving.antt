@@ -8,8 +8,9 @@ use Rattle.gpu_alloc_base.specs.declared.error.AllocationError.{AllocationError}
 use Rattle.gpu_alloc_base.specs.declared.error.AllocationError.TheVariants.{OutOfDeviceMemory, OutOfHostMemory}
 use Rattle.gpu_alloc_base.specs.declared.error.AllocationError.TheVariants.{NoCompatibleMemoryTypes}
 use Rattle.gpu_alloc.specs.Allocation.{Allocates, IsCandidate, Refuses, candidates_of}
-use Rattle.gpu_alloc.specs.Opening.{opened}
+use Rattle.gpu_alloc.specs.Opening.{opened_by}
 use Rattle.gpu_alloc_block.specs.State.{Block, State}
+use Rattle.gpu_alloc_block.specs.declared.sharing.Sharing.{Sharing}
 use Rattle.gpu_alloc.specs.declared.request.Dedicated.TheVariants.{Required}
 use Rattle.gpu_alloc.specs.declared.request.Request.{Request}
 
@@ -34,6 +35,6 @@ NeverServed = (s later : State) (r : Request) (es : List Event) (answer : Result
 -- device is asked for an object of the request's own, unless the host has no memory.
 abbrev pub AsksForOwnObjects : Type 0
 AsksForOwnObjects =
-    (c : Config) (p : Properties) (r : Request) (es : List Event) (answer : Result Block AllocationError) (new : State)
-    → MayServe (opened c p) r → 0 < p.max_memory_allocation_count
-    → Allocates (opened c p) r (Some Required) es answer new → (es ≢ []) ⊎ (answer ≡ Err OutOfHostMemory)
+    (sharing : Sharing) (c : Config) (p : Properties) (r : Request) (es : List Event) (answer : Result Block AllocationError) (new : State)
+    → MayServe (opened_by sharing c p) r → 0 < p.max_memory_allocation_count
+    → Allocates (opened_by sharing c p) r (Some Required) es answer new → (es ≢ []) ⊎ (answer ≡ Err OutOfHostMemory)

@@ -3,17 +3,31 @@ use Rattle.std.specs.Prelude.{◌≡◌, ◌≢◌, ℕ, ◌+◌, ◌<◌, ◌�
 use Rattle.std.specs.FinMap as map
 use Rattle.gpu_alloc_base.specs.FreeSpace.{IsMultipleOf, IsPowerOfTwo}
 use Rattle.gpu_alloc_block.specs.declared.block.Kind.{Kind}
-use Rattle.gpu_alloc_block.specs.declared.block.Kind.TheVariants.{Dedicated, Imported, BuddyChunk, FreeListChunk}
+use Rattle.gpu_alloc_block.specs.declared.block.Kind.TheVariants.{Dedicated, Imported, BuddyChunk, FreeListChunk, FitChunk}
 use Rattle.gpu_alloc.specs.Budget.{AreLimits, IsWithinHeaps}
+use Rattle.gpu_alloc.specs.FitSharing.{IsFitChunk}
 use Rattle.gpu_alloc.specs.FreeListSharing.{IsListChunk, latest_number}
+use Rattle.gpu_alloc_block.specs.declared.sharing.Sharing.{Sharing}
+use Rattle.gpu_alloc_block.specs.declared.sharing.Sharing.TheVariants.{Buddy, Fit}
 use Rattle.gpu_alloc_block.specs.State.{HeldObject, Span, State, IsLive, AreApart, is_shared}
 
--- whether an object is held for a free list, which may keep a chunk in which nothing is live
-abbrev pub is_list_chunk : Kind → Bool
-is_list_chunk Dedicated = false
-is_list_chunk Imported = false
-is_list_chunk BuddyChunk = false
-is_list_chunk (FreeListChunk number) = true
+-- whether an object may be kept in which nothing is live: a chunk of a free list, or a fit chunk
+abbrev pub may_be_unused : Kind → Bool
+may_be_unused Dedicated = false
+may_be_unused Imported = false
+may_be_unused BuddyChunk = false
+may_be_unused (FreeListChunk number) = true
+may_be_unused FitChunk = true
+
+-- buddy chunks are held where those are chosen, and fit chunks where those are
+abbrev pub is_chosen : Sharing → Kind → Bool
+is_chosen sharing Dedicated = true
+is_chosen sharing Imported = true
+is_chosen Buddy BuddyChunk = true
+is_chosen Fit BuddyChunk = false
+is_chosen sharing (FreeListChunk number) = true
+is_chosen Buddy FitChunk = false
+is_chosen Fit FitChunk = true
 
 -- a span of the object is live
 abbrev pub HasLiveSpan : State → ℕ → Type 0
@@ -26,6 +40,11 @@ LiesIn Dedicated counted span = (span.offset ≡ 0) × (span.size ≡ counted)
 LiesIn Imported counted span = span.size ≡ counted
 LiesIn BuddyChunk counted span = span.offset + span.size ≤ counted
 LiesIn (FreeListChunk number) counted span = span.offset + span.size ≤ counted
+LiesIn FitChunk counted span = span.offset + span.size ≤ counted
+
+-- no span of the object is live
+abbrev pub IsUnused : State → ℕ → Type 0
+IsUnused s object = (span : Span) → IsLive s span → span.object ≢ object
 
 pub record IsSound (s : State) : Type 0 where
   -- a live span is not empty
@@ -42,10 +61,14 @@ pub record IsSound (s : State) : Type 0 where
   -- live spans share no byte unless they are one
   pub apart : (x y : Span) → IsLive s x → IsLive s y → x ≢ y → AreApart x y
   -- each held object of one block and each held buddy chunk has a live span
-  pub used : (object : ℕ) → IfSome (map.get s.held object) (λ h. is_list_chunk h.kind ≡ false → HasLiveSpan s object)
+  pub used : (object : ℕ) → IfSome (map.get s.held object) (λ h. may_be_unused h.kind ≡ false → HasLiveSpan s object)
   -- the chunks of a memory type's free list have numbers of their own, from 1 to the latest
   pub numbers : (t number a b : ℕ) → IsListChunk s t number a → IsListChunk s t number b → a ≡ b
   pub numbered : (t number object : ℕ) → IsListChunk s t number object → (0 < number) × (number ≤ latest_number s t)
+  -- chunks are of the kind that was chosen
+  pub chosen : (object : ℕ) (h : HeldObject) → map.get s.held object ≡ Some h → is_chosen s.sharing h.kind ≡ true
+  -- of a memory type's fit chunks at most one has no live span
+  pub one_unused : (t a b : ℕ) → IsFitChunk s t a → IsFitChunk s t b → IsUnused s a → IsUnused s b → a ≡ b
   -- of no heap is more held beside imports than it has
   pub within : IsWithinHeaps s
   -- and no limit is over its heap's size

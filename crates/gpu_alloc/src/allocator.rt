@@ -4,7 +4,7 @@ ghost use Rattle.std.specs.Prelude.{◌≡◌, ◌⊎◌, ◌↔◌, ℕ, ◌+�
 ghost use Rattle.std.specs.Prelude.{OnErr, Some, None, false, is_some, not, ◌==◌};
 ghost use Rattle.std.specs.FinMap as map;
 ghost use Rattle.std.specs.FinSet as set;
-ghost use Rattle.gpu_alloc_types.specs.Properties.{IsUsable, properties_of, heap_size};
+ghost use Rattle.gpu_alloc_types.specs.Properties.{heap_size};
 ghost use Rattle.gpu_alloc_types.specs.Flags.{usage_bits};
 ghost use Rattle.gpu_alloc_types.specs.Device.{Event, Chain};
 ghost use Rattle.gpu_alloc_block.specs.Agreement.{Agrees, BlockAgrees, KeepsBlocks};
@@ -12,17 +12,18 @@ ghost use Rattle.gpu_alloc_block.specs.Kept.{LeavesInHand, AddsInHand, RemovesIn
 ghost use Rattle.gpu_alloc.specs.Allocation.{passing, fits_a_chunk, Tries, TriesBy, TriesAll};
 ghost use Rattle.gpu_alloc_usage.specs.Ranking.{implied, named, ranking};
 ghost use Rattle.gpu_alloc.specs.Allocation.{Allocates, AllocatesBy, ObjectsAfter, ObjectsTried, IsGranted};
-ghost use Rattle.gpu_alloc.specs.Allocation.{IsAloneWhereServed, asked_of, candidates_of, plan_with};
+ghost use Rattle.gpu_alloc.specs.Allocation.{IsAloneWhereServed, IsExact, asked_of, candidates_of, plan_with};
 ghost use Rattle.gpu_alloc.specs.Atoms.{KeepsAtoms};
 ghost use Rattle.gpu_alloc.specs.Candidates.{own_candidate};
 ghost use Rattle.gpu_alloc_base.specs.Case.{IsOverBudget, IsWithinBudget};
-ghost use Rattle.gpu_alloc.specs.declared.allocator.Strategy.TheVariants.{OwnObject, InBuddyChunk, InFreeList};
-ghost use Rattle.gpu_alloc.specs.Opening.{opened};
-ghost use Rattle.gpu_alloc.specs.Owned.{HoldsNothing, Leaves, Adds, Removes, LeavesNoRest, StaysAgreed};
+ghost use Rattle.gpu_alloc.specs.declared.allocator.Strategy.TheVariants.{OwnObject, InBuddyChunk, InFreeList, InFitChunk};
+ghost use Rattle.gpu_alloc.specs.FitSharing.{fits_first};
+ghost use Rattle.gpu_alloc_block.specs.declared.sharing.Sharing.TheVariants.{Buddy as BuddyChosen, Fit as FitChosen};
+ghost use Rattle.gpu_alloc.specs.Owned.{Leaves, Adds, Removes, LeavesNoRest, StaysAgreed};
 ghost use Rattle.gpu_alloc.specs.Release.{Frees, ObjectsFreed, Cleans, ObjectsCleaned, IsCleanedUp, GoesBack};
 ghost use Rattle.gpu_alloc.specs.Request.{IsAskable};
 ghost use Rattle.gpu_alloc.specs.Sound as Sound;
-ghost use Rattle.gpu_alloc_block.specs.State.{HeldObject, Span, IsLive, IsOwned, is_shared, ledger, total};
+ghost use Rattle.gpu_alloc_block.specs.State.{HeldObject, Span, IsLive, IsOwned, ledger, total};
 
 mod by_type;
 mod candidates;
@@ -31,7 +32,9 @@ mod heaps;
 mod held_only;
 mod importing;
 mod listing;
+mod opening;
 mod optimal;
+mod owning;
 mod ranges;
 mod returning;
 mod serving;
@@ -40,17 +43,18 @@ mod uncounted;
 use crate::limits::Limits;
 use crate::own::{OwnObjects, OwnRow};
 use crate::request::is_required;
-use crate::{Dedicated, MemoryBlock, MemoryForUsage, Request};
-use by_type::{close_buddies, close_free_lists, empty_buddies, empty_free_lists, unused_heaps};
-use gpu_alloc_base::free_list_block::Slot;
+use crate::{Dedicated, MemoryBlock, Request};
+use by_type::{close_buddies, close_fits, close_free_lists};
 use gpu_alloc_base::heap::Heap;
-use gpu_alloc_base::{AllocationError, Config, booking, buddy_block, free_list_block};
-use gpu_alloc_block::Kind;
+use gpu_alloc_base::{AllocationError, booking, buddy_block, free_list_block};
+use gpu_alloc_block::{Kind, Sharing};
 use gpu_alloc_buddy::BuddyAllocator;
+use gpu_alloc_fit::FitAllocator;
+use gpu_alloc_fits::into_parts;
 use gpu_alloc_freelist::FreeListAllocator;
-use gpu_alloc_types::{DeviceProperties, MemoryObject, ObjectDevice, OutOfMemory, UsageFlags};
+use gpu_alloc_types::{MemoryObject, ObjectDevice, OutOfMemory, UsageFlags};
 use gpu_alloc_usage::meaning;
-use std::alloc::{AllocError, Allocator, Global};
+use std::alloc::{Allocator, Global};
 use std::marker::{Brand, Model};
 use std::sync::ledger::Blank;
 
@@ -65,6 +69,9 @@ enum Strategy {
 
     /// By a block of its free list.
     InFreeList,
+
+    /// By a block of a fit chunk.
+    InFitChunk,
 }
 
 /// What a memory type is asked: a request, with a hint or none.
@@ -80,6 +87,7 @@ pub struct GpuAllocator<M: MemoryObject, A: Allocator = Global> {
     heaps: Vec<Heap, A>,
     buddies: Vec<BuddyAllocator<M, A>, A>,
     free_lists: Vec<FreeListAllocator<M, A>, A>,
+    fits: Vec<FitAllocator<M, A>, A>,
     own: OwnObjects<A>,
     allocations_remains: u32,
 }
@@ -95,71 +103,11 @@ impl<M: MemoryObject, A: Allocator> Model for GpuAllocator<M, A> {
     ghost use Rattle.gpu_alloc.specs.Inside.{state_in, properties_in};
     ghost use Rattle.gpu_alloc.specs.Whole.{whole, IsKept};
 
-    ghost view = { λ a. state_in a.limits a.heaps.items a.buddies.items a.free_lists.items
-        (whole a.own a.buddies.items a.free_lists.items) a.allocations_remains };
+    ghost view = { λ a. state_in a.limits a.heaps.items a.buddies.items a.free_lists.items a.fits.items
+        (whole a.own a.buddies.items a.free_lists.items a.fits.items) a.allocations_remains };
 
-    ghost invariant = { λ a. IsKept a.limits.config (properties_in a.limits a.heaps.items) a.heaps.items
-        a.buddies.items a.free_lists.items a.own a.allocations_remains };
-}
-
-impl<M: MemoryObject, A: Allocator + Copy> GpuAllocator<M, A> {
-    /// An allocator that holds nothing, for a device with these properties, which have to be its own. The device is not
-    /// asked. It may hold `max_memory_allocation_count` objects, and `config` decides which requests share one.
-    ///
-    /// `alloc` gives the memory of its tables. The properties have to be usable (`DeviceProperties::is_usable`). The
-    /// only refusal is `OutOfHostMemory`.
-    pub fn new(
-        alloc: A,
-        config: Config,
-        props: DeviceProperties<'_>,
-    ) -> Result<Self, AllocationError>
-        requires { IsUsable (properties_of props) }
-        ensures opened { IfOk result (λ allocator. allocator ≡ opened config (properties_of props.entry)) }
-        ensures empty { IfOk result (HoldsNothing (properties_of props.entry)) }
-        ensures sound { IfOk result Sound.IsSound }
-        ensures refused { IfErr result (λ e. e ≡ AllocationError.OutOfHostMemory) }
-    {
-        match GpuAllocator::open(alloc, config, props) {
-            Ok(allocator) => {
-                allocator.keeps_sound();
-                Ok(allocator)
-            }
-            Err(_) => Err(AllocationError::OutOfHostMemory),
-        }
-    }
-
-    fn open(alloc: A, config: Config, props: DeviceProperties<'_>) -> Result<Self, AllocError>
-        requires { IsUsable (properties_of props) }
-        ensures { IfOk result (λ allocator. allocator ≡ opened config (properties_of props.entry)) }
-    {
-        let memory_types = Vec::from_slice(alloc, props.memory_types)?;
-        let heaps = unused_heaps(alloc, props.memory_heaps)?;
-        let memory_for_usage = MemoryForUsage::new(props.memory_types);
-        let buddies = empty_buddies(alloc, config, &props)?;
-        let free_lists = match empty_free_lists(alloc, config, &props) {
-            Ok(free_lists) => free_lists,
-            Err(refusal) => {
-                close_buddies(buddies);
-                return Err(refusal);
-            }
-        };
-        Ok(GpuAllocator {
-            limits: Limits {
-                config,
-                memory_types,
-                memory_for_usage,
-                max_memory_allocation_count: props.max_memory_allocation_count,
-                max_memory_allocation_size: props.max_memory_allocation_size,
-                non_coherent_atom_size: props.non_coherent_atom_size,
-                buffer_device_address: props.buffer_device_address,
-            },
-            heaps,
-            buddies,
-            free_lists,
-            own: OwnObjects::new(alloc),
-            allocations_remains: props.max_memory_allocation_count,
-        })
-    }
+    ghost invariant = { λ a. IsKept a.limits.sharing a.limits.config (properties_in a.limits a.heaps.items)
+        a.heaps.items a.buddies.items a.free_lists.items a.fits.items a.own a.allocations_remains };
 }
 
 impl<M: MemoryObject, A: Allocator> GpuAllocator<M, A> {
@@ -170,11 +118,15 @@ impl<M: MemoryObject, A: Allocator> GpuAllocator<M, A> {
     /// `TRANSIENT` it is the transient threshold in place of that one, and a request that is too large for a largest
     /// free-list chunk in whole atoms gets an object of its own too. (The thresholds are the original crate's rule.)
     ///
-    /// Any other request gets a block of a shared chunk. Each memory type has a buddy allocator and a free list.
-    /// Without `TRANSIENT` it is a buddy chunk: the block's size is the least power of two, in bytes, that is not below
+    /// Any other request gets a block of a shared chunk. Each memory type has a buddy allocator, a free list and an
+    /// allocator of fit chunks. Without `TRANSIENT`, where buddy chunks were chosen, it is a buddy chunk: the block's size is the least power of two, in bytes, that is not below
     /// the request's size and alignment, the type's atom and the least buddy block. It starts at a multiple of its
     /// size, in the shortest free place that suffices. Where none does, a chunk is asked for: the greater of twice the
-    /// block and the latest buddy chunk of the type. With `TRANSIENT` it is a free list's chunk: the block is the tail
+    /// block and the latest buddy chunk of the type. Where fit chunks were chosen, it is a fit chunk: the block has the
+    /// request's size in whole grains (256 bytes, or the atom where that is larger), and starts at a grain and with the
+    /// request's alignment, in a free run with room. Where none has, a chunk is asked for that is twice as large as the
+    /// latest one of the fit chunks, or larger where the request wants it, cut at four times the first; a request larger
+    /// than the first one gets an object of its own. With `TRANSIENT` it is a free list's chunk: the block is the tail
     /// of the last free run with room, all from the last byte that is aligned (to the request's alignment and the atom)
     /// and leaves the size in whole atoms. Where no run has room, a chunk is asked for that is twice as large as the
     /// latest one of the free list, or larger where the request wants it, cut at the largest
@@ -215,6 +167,7 @@ impl<M: MemoryObject, A: Allocator> GpuAllocator<M, A> {
         // What follows from it.
         ensures granted { IfOk result (IsGranted self.old request self.new) }
         ensures alone { IfOk result (IsAloneWhereServed self.old request None) }
+        ensures exact { IfOk result (IsExact self.old request) }
         ensures ready { IfOk result (λ block. BlockAgrees block (D.properties device.new) (D.objects device.new)) }
         ensures added { IfOk result (Adds self.old self.new) }
         ensures refused { OnErr result (self.new ≡ self.old) }
@@ -261,6 +214,7 @@ impl<M: MemoryObject, A: Allocator> GpuAllocator<M, A> {
         ensures granted { IfOk result (IsGranted self.old request self.new) }
         ensures ready { IfOk result (λ block. BlockAgrees block (D.properties device.new) (D.objects device.new)) }
         ensures alone { IfOk result (IsAloneWhereServed self.old request (Some dedicated)) }
+        ensures exact { IfOk result (IsExact self.old request) }
         ensures own { dedicated ≡ Dedicated.Required → IfOk result (λ block. block.kind ≡ Kind.Dedicated) }
         ensures added { IfOk result (Adds self.old self.new) }
         ensures refused { OnErr result (self.new ≡ self.old) }
@@ -380,6 +334,7 @@ impl<M: MemoryObject, A: Allocator> GpuAllocator<M, A> {
             Strategy::OwnObject => self.try_object(device, request, memory_type),
             Strategy::InBuddyChunk => self.try_buddy(device, request, memory_type),
             Strategy::InFreeList => self.try_free_list(device, request, memory_type),
+            Strategy::InFitChunk => self.try_fit(device, request, memory_type),
         }
     }
 
@@ -474,6 +429,7 @@ impl<M: MemoryObject, A: Allocator> GpuAllocator<M, A> {
     ) -> Result<Option<MemoryBlock<M>>, AllocationError>
         requires askable { IsAskable (self.old.properties).buffer_device_address request }
         requires known { memory_type < length (self.old.properties).memory_types }
+        requires chosen { self.old.sharing ≡ BuddyChosen }
         requires agrees { Agrees self.old (D.properties device.old) (D.objects device.old) }
         ensures tries { (es : List Event) × Chain D.step device.old es device.new
             × TriesBy InBuddyChunk self.old request memory_type es result self.new }
@@ -555,6 +511,51 @@ impl<M: MemoryObject, A: Allocator> GpuAllocator<M, A> {
         )))
     }
 
+    /// Tries one memory type for a block of a fit chunk: none where the type is passed.
+    fn try_fit<D: ObjectDevice<M>>(
+        &mut self,
+        device: &mut D,
+        request: Request,
+        memory_type: u32,
+    ) -> Result<Option<MemoryBlock<M>>, AllocationError>
+        requires askable { IsAskable (self.old.properties).buffer_device_address request }
+        requires known { memory_type < length (self.old.properties).memory_types }
+        requires chosen { self.old.sharing ≡ FitChosen }
+        requires fits { fits_first self.old request memory_type ≡ true }
+        requires agrees { Agrees self.old (D.properties device.old) (D.objects device.old) }
+        ensures tries { (es : List Event) × Chain D.step device.old es device.new
+            × TriesBy InFitChunk self.old request memory_type es result self.new }
+        ensures objects { ObjectsTried self.old result self.new (D.objects device.old) (D.objects device.new) }
+    {
+        let heap = self.limits.heap_index(memory_type);
+        let flags = self.limits.flags();
+        let answer = self.fits[memory_type as usize].alloc(
+            device,
+            request.size,
+            request.align_mask,
+            flags,
+            &mut self.heaps[heap],
+            &mut self.allocations_remains,
+        );
+        let block = match answer {
+            Ok(block) => block,
+            Err(refusal) => return passing(refusal),
+        };
+        let props = self.limits.props(memory_type);
+        let atom = self.limits.atom(memory_type);
+        let (memory, slot, key) = into_parts(block);
+        Ok(Some(MemoryBlock::new(
+            memory,
+            slot.offset,
+            slot.size,
+            memory_type,
+            props,
+            atom,
+            Kind::FitChunk,
+            key,
+        )))
+    }
+
     /// The size of a memory type's heap, in bytes.
     #[inline(always)]
     fn heap_size(&self, memory_type: u32) -> u64
@@ -567,8 +568,9 @@ impl<M: MemoryObject, A: Allocator> GpuAllocator<M, A> {
     /// Takes a block back. An object of its own, an import too, goes back to the device, and so does a buddy chunk in
     /// which no other block is live. With a block of a free list each chunk of that list goes in which no block is live,
     /// the oldest first, but not the one in which the list's last free run lies (the original crate's rule);
-    /// [`cleanup`](GpuAllocator::cleanup) gives that one back. For each object that goes, one more may be held, and the
-    /// ledger of its heap is lowered by what it counted: its size, or of an import the block's. Any other chunk stays,
+    /// [`cleanup`](GpuAllocator::cleanup) gives that one back. A fit chunk in which no other block is live goes where there
+    /// is another such chunk of its memory type, else it is kept. For each object that goes, one more may be held, and
+    /// the ledger of its heap is lowered by what it counted: its size, or of an import the block's. Any other chunk stays,
     /// and joins what is free in it.
     ///
     /// The block has to be live here (`owns` tells), and the device has to be the one that this allocator has served,
@@ -594,8 +596,9 @@ impl<M: MemoryObject, A: Allocator> GpuAllocator<M, A> {
         self.take_back(device, block);
     }
 
-    /// Gives every free-list chunk in which no block is live back to the device: by memory type, and then the oldest
-    /// first. For each, one more object may be held, and the ledger of its heap is lowered by its size.
+    /// Gives every free-list chunk and every fit chunk in which no block is live back to the device: by memory type, and of
+    /// each the chunks of its free list first, the oldest first. For each, one more object may be held, and the ledger of
+    /// its heap is lowered by its size.
     ///
     /// Where no block is live, nothing is held afterwards, and every ledger is 0. Each block that is owned agrees with
     /// the device afterwards where it did before, and has the bytes that it had. The device has to be the one that this
@@ -623,7 +626,7 @@ impl<M: MemoryObject, A: Allocator> GpuAllocator<M, A> {
     {
         let count = self.limits.memory_types.len() as u32;
         for memory_type in 0..count {
-            self.clean_list(device, memory_type);
+            self.clean_type(device, memory_type);
         }
         self.keeps_sound();
     }
@@ -636,70 +639,11 @@ impl<M: MemoryObject, A: Allocator> GpuAllocator<M, A> {
         let _ = &self.limits;
     }
 
-    /// Whether a block is live here: its object, span, memory type and kind are. Which allocator made it is not asked.
-    ///
-    /// Its contract also tells what holds of every allocator between calls (`sound`): live spans are not empty and
-    /// share no byte, each lies in its object as the object's kind says, and in a buddy chunk has a power of two of bytes
-    /// and begins at a multiple of its size; an object of one block has no other, no object but a chunk of a free list is
-    /// held without one, the chunks of a free list have numbers of their own, and of no heap is more held beside imports
-    /// than it has.
-    pub fn owns(&self, block: &MemoryBlock<M>) -> bool
-        ensures owned { IsTrue result ↔ IsOwned self.now block.now }
-        ensures sound { Sound.IsSound self.now }
+    /// How requests that are not `TRANSIENT` share objects, as it was chosen.
+    pub fn sharing(&self) -> Sharing
+        ensures { result ≡ self.now.sharing }
     {
-        self.keeps_sound();
-        match block.kind() {
-            Kind::Dedicated | Kind::Imported => self.has_own(block),
-            Kind::BuddyChunk => self.has_in_chunk(block),
-            Kind::FreeListChunk(number) => self.has_in_list(block, number),
-        }
-    }
-
-    /// Whether a block with an object of its own is live here.
-    fn has_own(&self, block: &MemoryBlock<M>) -> bool
-        requires { is_shared (block.now).kind ≡ false }
-        ensures { IsTrue result ↔ IsOwned self.now block.now }
-    {
-        match self.own.find(block.key(), block.memory().object()) {
-            Some(row) => row.is(
-                block.offset(),
-                block.size(),
-                block.memory_type(),
-                block.kind(),
-            ),
-            None => false,
-        }
-    }
-
-    /// Whether a block of a buddy chunk is live here.
-    fn has_in_chunk(&self, block: &MemoryBlock<M>) -> bool
-        requires { (block.now).kind ≡ Kind.BuddyChunk }
-        ensures { IsTrue result ↔ IsOwned self.now block.now }
-    {
-        let object = block.memory().object();
-        match self.buddies.get(block.memory_type() as usize) {
-            Some(buddy) => buddy
-                .find(block.key(), object, block.offset(), block.size())
-                .is_some(),
-            None => false,
-        }
-    }
-
-    /// Whether a block of a free list's chunk of this number is live here.
-    fn has_in_list(&self, block: &MemoryBlock<M>, number: u64) -> bool
-        requires { (block.now).kind ≡ Kind.FreeListChunk number }
-        ensures { IsTrue result ↔ IsOwned self.now block.now }
-    {
-        let slot = Slot {
-            object: block.memory().object(),
-            chunk: number,
-            offset: block.offset(),
-            size: block.size(),
-        };
-        match self.free_lists.get(block.memory_type() as usize) {
-            Some(list) => list.is_live(block.key(), slot),
-            None => false,
-        }
+        self.limits.sharing
     }
 
     /// The largest size of a request, in bytes, as `new` was given it.
@@ -746,6 +690,9 @@ impl<M: MemoryObject, A: Allocator> GpuAllocator<M, A> {
         for list in self.free_lists.iter() {
             count += list.chunks().len();
         }
+        for fit in self.fits.iter() {
+            count += fit.chunks().len();
+        }
         count as u32
     }
 
@@ -757,7 +704,7 @@ impl<M: MemoryObject, A: Allocator> GpuAllocator<M, A> {
     }
 
     /// Ends the allocator, which may hold no object: `held_objects` tells. After all returns
-    /// [`cleanup`](GpuAllocator::cleanup) gives back what free lists keep.
+    /// [`cleanup`](GpuAllocator::cleanup) gives back what free lists and fit chunks keep.
     pub fn close(self)
         requires { map.len self.held ≡ 0 }
     {
@@ -766,11 +713,13 @@ impl<M: MemoryObject, A: Allocator> GpuAllocator<M, A> {
             heaps: _,
             buddies,
             free_lists,
+            fits,
             own: _,
             allocations_remains: _,
         } = self;
         close_buddies(buddies);
         close_free_lists(free_lists);
+        close_fits(fits);
     }
 }
 

@@ -9,13 +9,15 @@ ghost use Rattle.gpu_alloc.specs.Allocation.{strategy, AloneIsTold, CandidatesSe
 ghost use Rattle.gpu_alloc.specs.Budget.{heap_budget, heap_bytes, AreLimits, HoldsNoImportOf, IsAskedWithinBudget, IsWithinHeaps};
 ghost use Rattle.gpu_alloc.specs.Exactness.{AreCanonical, AreFreePieces, AreLongEnough, ArePiecesApart};
 ghost use Rattle.gpu_alloc.specs.Exactness.{AreSpaced, AreFreeRuns, TellPlaces};
-ghost use Rattle.gpu_alloc.specs.declared.allocator.Strategy.TheVariants.{OwnObject, InBuddyChunk, InFreeList};
+ghost use Rattle.gpu_alloc.specs.declared.allocator.Strategy.TheVariants.{OwnObject, InBuddyChunk, InFreeList, InFitChunk};
 ghost use Rattle.gpu_alloc_buddy.specs.Buddy.{opened as empty_buddy, rounded, chunk_size};
 ghost use Rattle.gpu_alloc_base.specs.Wanted.{wanted};
 ghost use Rattle.gpu_alloc_buddy.specs.BuddyState.{Buddy, IsFreeAt};
 ghost use Rattle.gpu_alloc_base.specs.Config.{potato, prototyping};
 ghost use Rattle.gpu_alloc.specs.FreeBytes.{IsFreeByte};
 ghost use Rattle.gpu_alloc.specs.FreeRanges.{HasByte, IsFreeOf, IsFreeRangeOf};
+ghost use Rattle.gpu_alloc.specs.FitSharing.{HasFitPlace, fit_alignment, fit_question, fit_size, largest_fit};
+ghost use Rattle.gpu_alloc.specs.FitSharing.{with_fit_chunk};
 ghost use Rattle.gpu_alloc_freelist.specs.FreeList.{HasPlace};
 ghost use Rattle.gpu_alloc_freelist.specs.FreeListState.{Space, IsFreeIn};
 ghost use Rattle.gpu_alloc_base.specs.FreeRuns.{tail_start};
@@ -24,7 +26,7 @@ ghost use Rattle.gpu_alloc.specs.FreeListSharing.{list_question};
 ghost use Rattle.gpu_alloc_base.specs.declared.region.FreeListRegion.{FreeListRegion};
 ghost use Rattle.gpu_alloc.specs.Importing.{ImportsAgree, MadeObjects};
 ghost use Rattle.gpu_alloc.specs.Importing.{ObjectsOfOthers, WhichMayBeImported};
-ghost use Rattle.gpu_alloc.specs.Samples.{one_type, over, bytes_for, buddy_config};
+ghost use Rattle.gpu_alloc.specs.Samples.{one_type, over, fits_over, bytes_for, buddy_config};
 ghost use Rattle.gpu_alloc.specs.BuddySharing.{buddy_size, buddy_question, with_buddy_chunk};
 ghost use Rattle.gpu_alloc_base.specs.Sizes.{minimal_size, final_size, grown_chunk, doubled_chunk};
 ghost use Rattle.gpu_alloc.specs.FirstTypes.{first_types};
@@ -38,6 +40,7 @@ ghost use Rattle.gpu_alloc_block.specs.Keyed.{ComeAndGoUnderKeys};
 ghost use Rattle.gpu_alloc_block.specs.Kept.{ToldByPlace};
 ghost use Rattle.gpu_alloc_block.specs.State.{State, Block, Span, span_of, span_cmp, IsOwned, is_shared, heap_limit, ledger};
 ghost use Rattle.gpu_alloc_block.specs.declared.block.Kind.{Kind};
+ghost use Rattle.gpu_alloc_block.specs.declared.block.Kind.TheVariants.{FitChunk};
 ghost use Rattle.gpu_alloc_base.specs.declared.piece.Piece.{Piece};
 ghost use Rattle.gpu_alloc.specs.declared.request.Dedicated.TheVariants.{Required, Preferred};
 
@@ -76,8 +79,8 @@ pub fn free_pieces_are_apart()
 {}
 
 /// Regions that are not empty, of which no two overlap or touch, and which together are the free bytes, are exactly the
-/// free runs: of a free list's chunks, and of a memory type's chunks in the whole allocator. There is a place for a
-/// block exactly where some region has room for it.
+/// free runs: of a free list's chunks, of a memory type's chunks in the whole allocator, and of its fit chunks, by the
+/// names of their objects. There is a place for a block exactly where some region has room for it.
 pub fn regions_are_the_free_runs()
     ensures exact { (s : Space) (regions : List FreeListRegion)
         → AreSpaced (IsFreeIn s) regions → AreFreeRuns (IsFreeIn s) regions }
@@ -87,6 +90,10 @@ pub fn regions_are_the_free_runs()
         → AreSpaced (IsFreeInChunk s t) regions → AreFreeRuns (IsFreeInChunk s t) regions }
     ensures place_in_state { (s : State) (t : ℕ) (regions : List FreeListRegion)
         → AreSpaced (IsFreeInChunk s t) regions → TellPlaces (HasListPlace s t) regions }
+    ensures exact_in_fits { (s : State) (t : ℕ) (regions : List FreeListRegion)
+        → AreSpaced (IsFreeByte s t FitChunk) regions → AreFreeRuns (IsFreeByte s t FitChunk) regions }
+    ensures place_in_fits { (s : State) (t : ℕ) (regions : List FreeListRegion)
+        → AreSpaced (IsFreeByte s t FitChunk) regions → TellPlaces (HasFitPlace s t) regions }
 {}
 
 /// Each free byte of a memory type's shared chunks lies in a free range, of which each byte is free, and no two share one.
@@ -118,6 +125,37 @@ pub fn free_list_chunks_of_samples()
     ensures atom_aligned { list_alignment (over 3200 2 64) (bytes_for 60 16) 0 ≡ 64 }
     ensures question { (list_question (over 1048576 1 1) 0 20000).size ≡ 32768 }
     ensures seen { (list_question (over 3200 2 64) 0 64).mapped ≡ true }
+{}
+
+/// Blocks of fit chunks and those chunks, where they are chosen: sizes and alignments up to the grain, the questions for a
+/// first chunk, for one behind it and for one that has to be larger, and the largest chunk, which a small heap cuts. A
+/// request of exactly the first chunk's size is served by one, and of a byte more has an object of its own; a transient
+/// one is served by a free list.
+#[tactic(auto, unfolding(gpu_alloc_base::specs::Sizes::doubled_up, crate::specs::FitSharing::with_next_fit))]
+pub fn fit_chunks_of_samples()
+    ensures one_grain { fit_size (fits_over 1048576 1 1) (bytes_for 1 0) 0 ≡ 256 }
+    ensures whole_grain { fit_size (fits_over 1048576 1 1) (bytes_for 256 0) 0 ≡ 256 }
+    ensures next_grain { fit_size (fits_over 1048576 1 1) (bytes_for 257 0) 0 ≡ 512 }
+    ensures small_atom { fit_size (fits_over 3200 2 64) (bytes_for 60 0) 0 ≡ 256 }
+    ensures large_atom { fit_size (fits_over 1048576 2 1024) (bytes_for 257 0) 0 ≡ 1024 }
+    ensures aligned { fit_alignment (fits_over 1048576 1 1) (bytes_for 1 0) 0 ≡ 256 }
+    ensures atom_aligned { fit_alignment (fits_over 1048576 2 1024) (bytes_for 1 0) 0 ≡ 1024 }
+    ensures first { (fit_question (fits_over 1048576 1 1) 0 256).size ≡ 8192 }
+    ensures as_large { (fit_question (fits_over 1048576 1 1) 0 8192).size ≡ 8192 }
+    ensures larger { (fit_question (fits_over 1048576 1 1) 0 8448).size ≡ 16384 }
+    ensures second { (fit_question (with_fit_chunk (fits_over 1048576 1 1) 0 1 8192) 0 256).size ≡ 16384 }
+    ensures last { (fit_question (with_fit_chunk (fits_over 1048576 1 1) 0 1 32768) 0 256).size ≡ 32768 }
+    ensures seen { (fit_question (fits_over 3200 2 64) 0 256).mapped ≡ true }
+    ensures unseen { (fit_question (fits_over 1048576 1 1) 0 256).mapped ≡ false }
+    ensures four_times { largest_fit potato 4194304 256 ≡ 32768 }
+    ensures cut { largest_fit potato 524288 256 ≡ 16384 }
+    ensures one_grain_at_most { largest_fit potato 3200 256 ≡ 256 }
+    ensures fits { strategy (fits_over 1048576 1 1) (bytes_for 8192 0) None 0 ≡ InFitChunk }
+    ensures over_the_first { strategy (fits_over 1048576 1 1) (bytes_for 8193 0) None 0 ≡ OwnObject }
+    ensures preferred { strategy (fits_over 1048576 1 1) (bytes_for 1024 0) (Some Preferred) 0 ≡ OwnObject }
+    ensures preferred_below { strategy (fits_over 1048576 1 1) (bytes_for 1023 0) (Some Preferred) 0 ≡ InFitChunk }
+    ensures below_a_grain { strategy (fits_over 3200 2 64) (bytes_for 1 0) None 0 ≡ OwnObject }
+    ensures transient { strategy (fits_over 1048576 1 1) (bytes_for 20000 16) None 0 ≡ InFreeList }
 {}
 
 /// Sizes of buddy blocks and of the chunks for them, over a least block of 1 and a first chunk of 8192, with an atom,
@@ -153,21 +191,21 @@ pub fn shared_chunks_of_samples()
 #[tactic(auto, unfolding(gpu_alloc_base::specs::Sizes::doubled_up))]
 pub fn first_sizes_of_samples()
     ensures potato { first_types potato (one_type 1048576 1 1)
-        ≡ record { next_chunk = 8192; list_chunk = 8192; number = 0 } ∷ [] }
+        ≡ record { next_chunk = 8192; list_chunk = 8192; number = 0; fit_chunk = 8192 } ∷ [] }
     ensures potato_final { final_size potato 1048576 1 ≡ 32768 }
     ensures potato_minimal { minimal_size potato 1048576 ≡ 1 }
     ensures prototyping { first_types prototyping (one_type 4294967296 1 1)
-        ≡ record { next_chunk = 8388608; list_chunk = 8388608; number = 0 } ∷ [] }
+        ≡ record { next_chunk = 8388608; list_chunk = 8388608; number = 0; fit_chunk = 8388608 } ∷ [] }
     ensures prototyping_final { final_size prototyping 4294967296 1 ≡ 134217728 }
     ensures atoms { first_types potato (one_type 3200 2 64)
-        ≡ record { next_chunk = 128; list_chunk = 64; number = 0 } ∷ [] }
+        ≡ record { next_chunk = 128; list_chunk = 64; number = 0; fit_chunk = 256 } ∷ [] }
     ensures one_atom { first_types potato (one_type 1024 2 64)
-        ≡ record { next_chunk = 32; list_chunk = 64; number = 0 } ∷ [] }
+        ≡ record { next_chunk = 32; list_chunk = 64; number = 0; fit_chunk = 256 } ∷ [] }
     ensures one_atom_at_most { final_size potato 1024 64 ≡ 64 }
     ensures empty_heap { first_types potato (one_type 0 1 1)
-        ≡ record { next_chunk = 1; list_chunk = 1; number = 0 } ∷ [] }
+        ≡ record { next_chunk = 1; list_chunk = 1; number = 0; fit_chunk = 256 } ∷ [] }
     ensures minimum_wins { first_types (buddy_config 1024 1) (one_type 1048576 1 1)
-        ≡ record { next_chunk = 1024; list_chunk = 1; number = 0 } ∷ [] }
+        ≡ record { next_chunk = 1024; list_chunk = 1; number = 0; fit_chunk = 256 } ∷ [] }
 {}
 
 /// The strategy at its thresholds: exactly at one a request has an object of its own.

@@ -14,7 +14,7 @@ pub mod steps;
 
 pub use allocator::GpuAllocator;
 pub use gpu_alloc_base::{AllocationError, Config, MapError};
-pub use gpu_alloc_block::{Kind, Mapping, MemoryBlock};
+pub use gpu_alloc_block::{Kind, Mapping, MemoryBlock, Sharing};
 pub use gpu_alloc_types::{
     AllocationFlags, DeviceMapError, DeviceProperties, FreeRange, MappedMemoryRange, MemoryDevice,
     MemoryHeap, MemoryObject, MemoryPropertyFlags, MemoryType, ObjectDevice, OutOfMemory,

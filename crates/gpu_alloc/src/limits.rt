@@ -7,6 +7,7 @@ ghost use Rattle.gpu_alloc_base.specs.Sizes.{atom_where};
 ghost use Rattle.gpu_alloc_usage.specs.Ranking.{IsTable};
 
 use gpu_alloc_base::Config;
+use gpu_alloc_block::Sharing;
 use gpu_alloc_types::{AllocationFlags, MemoryPropertyFlags, MemoryType};
 use gpu_alloc_usage::MemoryForUsage;
 use std::alloc::{Allocator, Global};
@@ -15,6 +16,7 @@ use std::alloc::{Allocator, Global};
 #[derive(Drop)]
 pub(crate) struct Limits<A: Allocator = Global> {
     pub(crate) config: Config,
+    pub(crate) sharing: Sharing,
     pub(crate) memory_types: Vec<MemoryType, A>,
     pub(crate) memory_for_usage: MemoryForUsage,
     pub(crate) max_memory_allocation_count: u32,
@@ -73,3 +75,6 @@ pub(crate) fn atom_of(props: MemoryPropertyFlags, non_coherent_atom_size: u64) -
         1
     }
 }
+
+/// The least grain of fit chunks, in bytes: it is the atom where that is larger.
+pub(crate) const LEAST_GRAIN: u64 = 256;

@@ -13,7 +13,7 @@ use Rattle.gpu_alloc_block.specs.InHand.{AreTwo, IsBeside, AreOwned, IsSameBlock
 use Rattle.gpu_alloc_block.specs.Ranges.{own_mapping}
 use Rattle.gpu_alloc_block.specs.State.{HeldObject, State, Span, Block, IsOwned, is_shared}
 use Rattle.gpu_alloc_block.specs.declared.block.Kind.{Kind}
-use Rattle.gpu_alloc_block.specs.declared.block.Kind.TheVariants.{Dedicated, Imported, BuddyChunk, FreeListChunk}
+use Rattle.gpu_alloc_block.specs.declared.block.Kind.TheVariants.{Dedicated, Imported, BuddyChunk, FreeListChunk, FitChunk}
 use Rattle.gpu_alloc_block.specs.declared.block.Mapping.{Mapping}
 
 -- the object beneath a block has its type and its size, and where it is shared what was mapped of it
@@ -44,6 +44,7 @@ module _ (s : State) (name counted : ℕ) (o new : Object) (of_type : new.memory
   counted_same Imported mapping is = λ span live of_object. inside_same s.properties span o new of_type of_size (is span live of_object)
   counted_same BuddyChunk mapping is = (of_size ∙ is.0, mapped_whole s.properties o new of_type of_size (mapping refl) is.1)
   counted_same (FreeListChunk number) mapping is = (of_size ∙ is.0, mapped_whole s.properties o new of_type of_size (mapping refl) is.1)
+  counted_same FitChunk mapping is = (of_size ∙ is.0, mapped_whole s.properties o new of_type of_size (mapping refl) is.1)
 
 pub beneath_same : (p : Properties) (c : Block) (o new : Object) → new.memory_type ≡ o.memory_type → new.size ≡ o.size → new.mapped ≡ o.mapped → IsBeneath p c o → IsBeneath p c new
 beneath_same p c o new of_type of_size mapping is = record {

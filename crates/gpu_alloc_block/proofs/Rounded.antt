@@ -8,7 +8,7 @@ use Rattle.gpu_alloc_block.specs.Agreement.{BlockAgrees, LiesInBlock}
 use Rattle.gpu_alloc_block.specs.Ranges.{rounded, atom_end}
 use Rattle.gpu_alloc_block.specs.State.{Block, is_shared}
 use Rattle.gpu_alloc_block.specs.declared.block.Kind.{Kind}
-use Rattle.gpu_alloc_block.specs.declared.block.Kind.TheVariants.{Dedicated, Imported, BuddyChunk, FreeListChunk}
+use Rattle.gpu_alloc_block.specs.declared.block.Kind.TheVariants.{Dedicated, Imported, BuddyChunk, FreeListChunk, FitChunk}
 use Rattle.gpu_alloc_types.specs.Device.{Object}
 use Rattle.gpu_alloc_types.specs.Properties.{Properties}
 
@@ -125,6 +125,7 @@ starts Dedicated offset atom whole atoms other = ap (λ n. n % atom) (whole refl
 starts Imported offset atom whole atoms other = absurd (other refl)
 starts BuddyChunk offset atom whole atoms other = atoms refl
 starts (FreeListChunk number) offset atom whole atoms other = atoms refl
+starts FitChunk offset atom whole atoms other = atoms refl
 
 pub lies_in_block : (b : Block) (p : Properties) (objects : ℕ → Option Object) (offset len : ℕ) → 0 < b.atom
     → BlockAgrees b p objects → offset + len ≤ b.size → LiesInBlock b (rounded b offset len)

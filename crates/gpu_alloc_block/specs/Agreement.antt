@@ -9,7 +9,7 @@ use Rattle.gpu_alloc_block.specs.InHand.{AreTwo}
 use Rattle.gpu_alloc_block.specs.Ranges.{own_mapping}
 use Rattle.gpu_alloc_block.specs.declared.block.Mapping.{Mapping}
 use Rattle.gpu_alloc_block.specs.declared.block.Kind.{Kind}
-use Rattle.gpu_alloc_block.specs.declared.block.Kind.TheVariants.{Dedicated, Imported, BuddyChunk, FreeListChunk}
+use Rattle.gpu_alloc_block.specs.declared.block.Kind.TheVariants.{Dedicated, Imported, BuddyChunk, FreeListChunk, FitChunk}
 use Rattle.gpu_alloc_block.specs.State.{HeldObject, Span, State, Block, IsLive, IsOwned, is_shared}
 
 -- a shared object is mapped whole where the host sees it
@@ -28,6 +28,7 @@ IsCounted Dedicated s name counted o = o.size ≡ counted
 IsCounted Imported s name counted o = (span : Span) → IsLive s span → span.object ≡ name → IsInside s.properties span o
 IsCounted BuddyChunk s name counted o = (o.size ≡ counted) × IsMappedWhole s.properties o
 IsCounted (FreeListChunk number) s name counted o = (o.size ≡ counted) × IsMappedWhole s.properties o
+IsCounted FitChunk s name counted o = (o.size ≡ counted) × IsMappedWhole s.properties o
 
 pub record IsThere (s : State) (name : ℕ) (h : HeldObject) (o : Object) : Type 0 where
   pub of_type : o.memory_type ≡ h.memory_type

@@ -3,8 +3,10 @@ use Rattle.std.specs.Prelude.{◌≡◌, ℕ, ◌==◌, cond, Option, refl}
 use Rattle.std.specs.Coded.{Coded, code_by, coded×, coded_ℕ, coded_option}
 use Rattle.gpu_alloc_block.specs.State.{Span, Block, span_of}
 use Rattle.gpu_alloc_block.specs.declared.block.Kind.{Kind}
-use Rattle.gpu_alloc_block.specs.declared.block.Kind.TheVariants.{Dedicated, Imported, BuddyChunk, FreeListChunk}
+use Rattle.gpu_alloc_block.specs.declared.block.Kind.TheVariants.{Dedicated, Imported, BuddyChunk, FreeListChunk, FitChunk}
 use Rattle.gpu_alloc_block.specs.declared.block.Mapping.{Mapping}
+use Rattle.gpu_alloc_block.specs.declared.sharing.Sharing.{Sharing}
+use Rattle.gpu_alloc_block.specs.declared.sharing.Sharing.TheVariants.{Buddy, Fit}
 
 -- a kind as a number and the number of its chunk
 abbrev pub kind_numbers : Kind → ℕ × ℕ
@@ -12,18 +14,37 @@ kind_numbers Dedicated = (0, 0)
 kind_numbers Imported = (1, 0)
 kind_numbers BuddyChunk = (2, 0)
 kind_numbers (FreeListChunk number) = (3, number)
+kind_numbers FitChunk = (4, 0)
 
 abbrev pub numbers_kind : ℕ × ℕ → Kind
-numbers_kind p = cond (p.0 == 0) Dedicated (cond (p.0 == 1) Imported (cond (p.0 == 2) BuddyChunk (FreeListChunk p.1)))
+numbers_kind p =
+    cond (p.0 == 0) Dedicated
+    (cond (p.0 == 1) Imported (cond (p.0 == 2) BuddyChunk (cond (p.0 == 3) (FreeListChunk p.1) FitChunk)))
 
 pub numbers_kind-kind_numbers : (k : Kind) → numbers_kind (kind_numbers k) ≡ k
 numbers_kind-kind_numbers Dedicated = refl
 numbers_kind-kind_numbers Imported = refl
 numbers_kind-kind_numbers BuddyChunk = refl
 numbers_kind-kind_numbers (FreeListChunk number) = refl
+numbers_kind-kind_numbers FitChunk = refl
 
 abbrev pub kind_code : Coded Kind
 kind_code = code_by (ℕ × ℕ) (coded× coded_ℕ coded_ℕ) kind_numbers numbers_kind numbers_kind-kind_numbers
+
+-- a choice as a number
+abbrev pub sharing_number : Sharing → ℕ
+sharing_number Buddy = 0
+sharing_number Fit = 1
+
+abbrev pub number_sharing : ℕ → Sharing
+number_sharing n = cond (n == 0) Buddy Fit
+
+pub number_sharing-sharing_number : (c : Sharing) → number_sharing (sharing_number c) ≡ c
+number_sharing-sharing_number Buddy = refl
+number_sharing-sharing_number Fit = refl
+
+abbrev pub sharing_code : Coded Sharing
+sharing_code = code_by ℕ coded_ℕ sharing_number number_sharing number_sharing-sharing_number
 
 abbrev pub span_code : Coded Span
 span_code =

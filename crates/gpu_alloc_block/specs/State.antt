@@ -8,8 +8,9 @@ use Rattle.std.specs.Ordering.{nat_cmp}
 use Rattle.std.specs.Cmp.Lexicographic.{slice_cmp}
 use Rattle.gpu_alloc_types.specs.Properties.{Properties, heap_at, props_at, atom_of}
 use Rattle.gpu_alloc_block.specs.declared.block.Kind.{Kind}
-use Rattle.gpu_alloc_block.specs.declared.block.Kind.TheVariants.{Dedicated, Imported, BuddyChunk, FreeListChunk}
+use Rattle.gpu_alloc_block.specs.declared.block.Kind.TheVariants.{Dedicated, Imported, BuddyChunk, FreeListChunk, FitChunk}
 use Rattle.gpu_alloc_block.specs.declared.block.Mapping.{Mapping}
+use Rattle.gpu_alloc_block.specs.declared.sharing.Sharing.{Sharing}
 use Rattle.gpu_alloc_base.specs.declared.config.Config.{Config}
 
 -- whether many blocks may lie in an object that is held so
@@ -18,6 +19,7 @@ is_shared Dedicated = false
 is_shared Imported = false
 is_shared BuddyChunk = true
 is_shared (FreeListChunk number) = true
+is_shared FitChunk = true
 
 -- a held object: its memory type, what it adds to its heap's ledger, and what it is held for
 pub record HeldObject : Type 0 where
@@ -57,21 +59,23 @@ pub record Block : Type 0 where
 abbrev pub span_of : Block → Span
 span_of b = record { object = b.object; offset = b.offset; size = b.size }
 
--- of one memory type: the next buddy chunk's least size, the next free-list chunk's, and the number of the latest
--- free-list chunk
+-- of one memory type: the next buddy chunk's least size, the next free-list chunk's, the number of the latest free-list
+-- chunk, and the next fit chunk's least size
 pub record TypeState : Type 0 where
   pub next_chunk : ℕ
   pub list_chunk : ℕ
   pub number : ℕ
+  pub fit_chunk : ℕ
 
 -- An allocator: the held objects by name, the live spans, how many more objects may be held, how many bytes may be asked
--- of each heap in all, the chunk sizes of each memory type, and what `new` was given.
+-- of each heap in all, the chunk sizes of each memory type, how requests share objects, and what `new` was given.
 pub record State : Type 0 where
   pub held : map.FinMap nat_cmp HeldObject
   pub live : set.FinSet span_cmp
   pub remaining : ℕ
   pub heap_limits : List ℕ
   pub types : List TypeState
+  pub sharing : Sharing
   pub config : Config
   pub properties : Properties
 

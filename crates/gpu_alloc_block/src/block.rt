@@ -43,6 +43,9 @@ pub enum Kind {
 
     /// The blocks of a free list, whose chunks are numbered.
     FreeListChunk(u64),
+
+    /// Blocks that are as long as asked, in whole grains (`Sharing::Fit`).
+    FitChunk,
 }
 
 impl Kind {
@@ -53,7 +56,7 @@ impl Kind {
     {
         match self {
             Kind::Dedicated | Kind::Imported => false,
-            Kind::BuddyChunk | Kind::FreeListChunk(_) => true,
+            Kind::BuddyChunk | Kind::FreeListChunk(_) | Kind::FitChunk => true,
         }
     }
 }

@@ -5,5 +5,7 @@ pub mod block;
 mod kept_mapping;
 mod kept_props;
 pub mod laws;
+mod sharing;
 
 pub use block::{Kind, Mapping, MemoryBlock};
+pub use sharing::Sharing;

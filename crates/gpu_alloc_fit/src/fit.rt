@@ -22,6 +22,7 @@ ghost use Rattle.gpu_alloc_fit.specs.FitSound.{FitsAChunk, IsSound};
 ghost use Rattle.gpu_alloc_fits.specs.Listed.{AddsSlots, ListsChunks};
 ghost use Rattle.gpu_alloc_fits.specs.Space.{IsLiveSlot, IsLiveSpan, IsNoLiveSpan, IsRunOf};
 
+use gpu_alloc_base::buddy_block::Leaf;
 use gpu_alloc_base::free_list_block::Slot;
 use gpu_alloc_base::heap::Heap;
 use gpu_alloc_base::new_chunk::new_chunk_with_handle;
@@ -332,14 +333,14 @@ impl<M: MemoryObject, A: Allocator> FitAllocator<M, A> {
         self.fits.chunks()
     }
 
-    /// Adds to a list each live block, once, in no order that is told. The time grows with the number of live blocks and
-    /// free runs.
+    /// Adds to a list each live block, once, in no order that is told, as a buddy allocator's are listed: with its chunk's
+    /// key, and an index of 0. The time grows with the number of live blocks and free runs.
     ///
     /// The only refusal is want of host memory, after which nothing is said of the list.
-    pub fn list_live<B: Allocator>(&self, slots: &mut Vec<Slot, B>) -> Result<(), AllocError>
-        ensures { OnOk result (AddsSlots ((self.now).space).live slots.old.items slots.new.items) }
+    pub fn list_live<B: Allocator>(&self, rows: &mut Vec<Leaf, B>) -> Result<(), AllocError>
+        ensures { OnOk result (AddsSlots ((self.now).space).live rows.old.items rows.new.items) }
     {
-        self.fits.list_live(slots)
+        self.fits.list_live(rows)
     }
 
     /// How many times all live blocks and free runs were searched for a place, modulo 2^64. Tests look at it, and no

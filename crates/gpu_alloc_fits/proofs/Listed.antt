@@ -1,5 +1,5 @@
 -- The lists of live blocks and of free ranges.
-use Rattle.std.proofs.Common.{◌≡◌, ◌≢◌, ◌↔◌, inl, inr, ℕ, true, false, cond, [], Contains, Some, None, refl, sym, ◌∙◌, ap, subst, arith}
+use Rattle.std.proofs.Common.{◌≡◌, ◌≢◌, ◌↔◌, inl, inr, ℕ, true, false, cond, List, [], ◌∷◌, map as map_list, Contains, Some, None, refl, sym, ◌∙◌, ap, subst, arith}
 use Rattle.std.specs.FinMap as map
 use Rattle.std.specs.FinSet as set
 use Rattle.std.specs.List.{IsDistinct}
@@ -19,7 +19,7 @@ use Rattle.gpu_alloc_base.proofs.ListedRanges.{told_object}
 use Rattle.gpu_alloc_base.proofs.RangeOrder.{starts_apart}
 use Rattle.gpu_alloc_base.proofs.SlabViews.{found_by_key}
 use Rattle.gpu_alloc_base.proofs.Slots.{slot_test}
-use Rattle.gpu_alloc_fits.specs.Inside.{chunk_of, chunks_in, free_range, live_in, live_slot, made_of, size_in, slot_of, space_in}
+use Rattle.gpu_alloc_fits.specs.Inside.{chunk_of, chunks_in, free_range, live_in, live_row, live_slot, made_of, row_of, size_in, slot_of, space_in}
 use Rattle.gpu_alloc_fits.specs.Links.{IsKept}
 use Rattle.gpu_alloc_fits.specs.Space.{IsFreeIn, IsRunOf}
 use Rattle.gpu_alloc_fits.specs.Tiles.{HasRun, region_of, tile_in}
@@ -31,6 +31,14 @@ use Rattle.gpu_alloc_fits.proofs.Made.{made_once}
 use Rattle.gpu_alloc_fits.proofs.Nodes.{node_of_tile, tile_of_node}
 use Rattle.gpu_alloc_fits.proofs.Runs.{canonical, held_chunk}
 use Rattle.gpu_alloc_fits.proofs.Tiles.{bit}
+
+-- the rows of live tiles are those of the blocks that they are
+pub rows_made : (chunks : HeldChunks) (es : List (ℕ × Node)) → made_of (live_row chunks) es ≡ map_list row_of (made_of (live_slot chunks) es)
+rows_made chunks [] = refl
+rows_made chunks (e ∷ es) = elim (bit e.1.tile.free) [
+  | inl free ↦ rw free (rows_made chunks es)
+  | inr live ↦ rw live (ap (λ rest. row_of (slot_of chunks e.1.tile) ∷ rest) (rows_made chunks es))
+]
 
 module _ {M : Type 0} (object : M → ℕ) (rows : Slab (Row M)) (nodes : Slab Node) (kept : IsKept (size_in rows) nodes) where
   abbrev chunks : HeldChunks

@@ -9,6 +9,7 @@ use Rattle.gpu_alloc_base.specs.AlignMasks.{IsAlignMask}
 use Rattle.gpu_alloc_base.specs.Chunks.{Chunk, object_in}
 use Rattle.gpu_alloc_base.specs.SlabViews.{by_key, HasOneKeyEach}
 use Rattle.gpu_alloc_base.specs.Slots.{slot_cmp}
+use Rattle.gpu_alloc_base.specs.declared.buddy_block.Leaf.{Leaf}
 use Rattle.gpu_alloc_base.specs.declared.free_list_block.Slot.{Slot}
 use Rattle.gpu_alloc_fits.specs.Fits.{Store}
 use Rattle.gpu_alloc_fits.specs.Links.{IsKept}
@@ -42,6 +43,13 @@ slot_of chunks t =
 
 abbrev pub live_slot : HeldChunks → Tile → Option Slot
 live_slot chunks t = cond t.free None (Some (slot_of chunks t))
+
+-- a live block as a row of a list, as buddies' are
+abbrev pub row_of : Slot → Leaf
+row_of b = record { object = b.object; chunk = b.chunk; offset = b.offset; size = b.size; index = 0 }
+
+abbrev pub live_row : HeldChunks → Tile → Option Leaf
+live_row chunks t = cond t.free None (Some (row_of (slot_of chunks t)))
 
 -- what is made of the tiles of a slab, where something is
 abbrev pub made_of : {Y : Type 0} → (Tile → Option Y) → List (ℕ × Node) → List Y

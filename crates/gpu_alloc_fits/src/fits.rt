@@ -11,7 +11,7 @@ ghost use Rattle.gpu_alloc_base.specs.RangeOrder.{AreInOrder};
 ghost use Rattle.gpu_alloc_base.specs.declared.free_list_block.Slot.{Slot as LiveSlot};
 ghost use Rattle.gpu_alloc_fits.specs.Fits.{HasRooms, TakesPlace};
 ghost use Rattle.gpu_alloc_fits.specs.Inside.{IsAtKey, IsBlock, IsLiveTile, IsWholeTile, IsWithout, chunks_in};
-ghost use Rattle.gpu_alloc_fits.specs.Inside.{free_range, listed, live_slot, size_in};
+ghost use Rattle.gpu_alloc_fits.specs.Inside.{free_range, listed, live_row, size_in};
 ghost use Rattle.gpu_alloc_fits.specs.Links.{IsKept};
 ghost use Rattle.gpu_alloc_fits.specs.Listed.{AddsSlots, ListsChunks};
 ghost use Rattle.gpu_alloc_fits.specs.Space.{Adds, BeginsChunk, HasPlace, IsLiveSlot, IsLiveSpan, IsNoLiveSpan, IsRunOf};
@@ -25,6 +25,7 @@ use crate::cut::cut_out;
 use crate::join::put_back;
 use crate::search::{Known, find_place, last_start};
 use crate::tile::{NONE, Node, Tile, unlisted};
+use gpu_alloc_base::buddy_block::Leaf;
 use gpu_alloc_base::free_list_block::Slot;
 use gpu_alloc_base::range_order::put_in_order;
 use gpu_alloc_base::steps::Steps;
@@ -356,14 +357,15 @@ impl<M: MemoryObject, A: Allocator> Fits<M, A> {
         self.chunks.iter()
     }
 
-    /// Adds to a list each live block, once, in no order that is told. The time grows with the number of tiles.
+    /// Adds to a list each live block, once, in no order that is told, as a buddy allocator's are listed: with its chunk's
+    /// key, and an index of 0. The time grows with the number of tiles.
     ///
     /// The only refusal is want of memory, after which nothing is said of the list.
-    pub fn list_live<B: Allocator>(&self, slots: &mut Vec<Slot, B>) -> Result<(), AllocError>
-        ensures { OnOk result (AddsSlots ((self.now).space).live slots.old.items slots.new.items) }
+    pub fn list_live<B: Allocator>(&self, rows: &mut Vec<Leaf, B>) -> Result<(), AllocError>
+        ensures { OnOk result (AddsSlots ((self.now).space).live rows.old.items rows.new.items) }
     {
         for (_, node) in self.tiles.iter() {
-            list_live(&self.chunks, node.tile, slots)?;
+            list_live(&self.chunks, node.tile, rows)?;
         }
         Ok(())
     }
@@ -510,21 +512,22 @@ fn is_live_tile(tile: Tile, offset: u64, size: u64) -> bool
 fn list_live<M: MemoryObject, A: Allocator, B: Allocator>(
     chunks: &Slab<Chunk<M>, A>,
     tile: Tile,
-    slots: &mut Vec<Slot, B>,
+    rows: &mut Vec<Leaf, B>,
 ) -> Result<(), AllocError>
     requires nonempty { tile.start ≤ tile.end }
     requires held { ContainsKey chunks.now tile.chunk }
-    ensures { OnOk result (slots.new.items ≡ slots.old.items
-        ++ listed (live_slot (chunks_in M.object chunks.now) tile)) }
+    ensures { OnOk result (rows.new.items ≡ rows.old.items
+        ++ listed (live_row (chunks_in M.object chunks.now) tile)) }
 {
     if tile.free {
         return Ok(());
     }
-    slots.push(Slot {
+    rows.push(Leaf {
         object: chunks[tile.chunk].memory.object(),
-        chunk: tile.chunk as u64,
+        chunk: tile.chunk,
         offset: tile.start,
         size: tile.end - tile.start,
+        index: 0,
     })?;
     Ok(())
 }

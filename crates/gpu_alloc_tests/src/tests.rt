@@ -8,6 +8,7 @@ mod config;
 mod dump;
 mod errors;
 mod exact;
+mod fit;
 mod flags;
 mod freelist;
 mod growths;

@@ -11,12 +11,15 @@ use Rattle.gpu_alloc_base.specs.Case.{Case}
 use Rattle.gpu_alloc_base.specs.NewChunk.{ChunkQuestion, LacksDeviceMemory, LacksHostMemory, IsGivenBack, made, whole_of}
 use Rattle.gpu_alloc_base.specs.Sizes.{preferred_threshold, transient_threshold}
 use Rattle.gpu_alloc_usage.proofs.Ranking.Candidates.{candidates-within}
-use Rattle.gpu_alloc.specs.Allocation.{Allocates, AllocatesBy, AllocatesOptimal, IsAloneWhereServed, IsGranted, IsInPages, IsPassed, Plan, Refuses, TriesAll, fits_a_chunk, is_alone, is_small, plan, plan_in_pages, serves_alone, strategy, unhinted}
+use Rattle.gpu_alloc.specs.Allocation.{Allocates, AllocatesBy, AllocatesOptimal, IsAloneWhereServed, IsGranted, IsInPages, IsPassed, Plan, Refuses, TriesAll, fits_a_chunk, is_alone, is_small, plan, plan_in_pages, serves_alone, shares_by, strategy, unhinted}
 use Rattle.gpu_alloc.specs.Candidates.{candidate}
+use Rattle.gpu_alloc.specs.FitSharing.{fits_first}
 use Rattle.gpu_alloc.specs.Request.{in_pages, is_required}
 use Rattle.gpu_alloc.specs.State.{Block, State}
 use Rattle.gpu_alloc.specs.Types.AllocationError.{AllocationError}
 use Rattle.gpu_alloc.specs.Types.AllocationError.TheVariants.{OutOfDeviceMemory, OutOfHostMemory, TooManyObjects, NoCompatibleMemoryTypes}
+use Rattle.gpu_alloc_block.specs.declared.sharing.Sharing.{Sharing}
+use Rattle.gpu_alloc_block.specs.declared.sharing.Sharing.TheVariants.{Buddy, Fit}
 use Rattle.gpu_alloc.specs.declared.request.Dedicated.{Dedicated}
 use Rattle.gpu_alloc.specs.declared.request.Dedicated.TheVariants.{Required, Preferred}
 use Rattle.gpu_alloc.specs.declared.request.Request.{Request}
@@ -98,6 +101,12 @@ module _ (P : ℕ → ℕ → Type 0) where
 
 -- a candidate is asked for an object of its memory type, of the request's size where it serves by an object of its own
 module _ (s : State) (r : Request) (t : ℕ) where
+  shared_asks : (sharing : Sharing) (fits : Bool) → ((candidate (shares_by sharing fits) s r t).question.memory_type ≡ t)
+      × (is_alone (shares_by sharing fits) ≡ true → (candidate (shares_by sharing fits) s r t).question.size ≡ r.size)
+  shared_asks Buddy fits = (refl, λ alone. absurd (let not : false ≡ true = alone in cc))
+  shared_asks Fit true = (refl, λ alone. absurd (let not : false ≡ true = alone in cc))
+  shared_asks Fit false = (refl, λ alone. refl)
+
   unhinted_asks : ((candidate (unhinted s r t) s r t).question.memory_type ≡ t) × (is_alone (unhinted s r t) ≡ true → (candidate (unhinted s r t) s r t).question.size ≡ r.size)
   unhinted_asks = by (has_bit (usage_bits r.usage) transient) refl (is_small s r (transient_threshold s.config) t && fits_a_chunk s r t) refl (is_small s r s.config.dedicated_threshold t) refl
     where
@@ -106,7 +115,7 @@ module _ (s : State) (r : Request) (t : ℕ) where
           → ((candidate (unhinted s r t) s r t).question.memory_type ≡ t) × (is_alone (unhinted s r t) ≡ true → (candidate (unhinted s r t) s r t).question.size ≡ r.size)
       by true a true b c e = rw (a, b) (refl, λ alone. absurd (let not : false ≡ true = alone in cc))
       by true a false b c e = rw (a, b) (refl, λ alone. refl)
-      by false a b e true c = rw (a, c) (refl, λ alone. absurd (let not : false ≡ true = alone in cc))
+      by false a b e true c = rw (a, c) (shared_asks s.sharing (fits_first s r t))
       by false a b e false c = rw (a, c) (refl, λ alone. refl)
 
   pub strategy_asks : (hint : Option Dedicated) → ((candidate (strategy s r hint t) s r t).question.memory_type ≡ t)

@@ -3,7 +3,7 @@
 ghost use Rattle.std.specs.Prelude.{◌≡◌, [], IfOk, OnOk, Err};
 ghost use Rattle.std.specs.FinMap as map;
 ghost use Rattle.gpu_alloc_types.specs.Properties.{IsUsable, properties_of};
-ghost use Rattle.gpu_alloc.specs.Opening.{opened};
+ghost use Rattle.gpu_alloc.specs.Opening.{opened, opened_by};
 ghost use Rattle.gpu_alloc.specs.Request.{IsGranularity};
 ghost use Rattle.gpu_slots.specs.SlotMap as slots;
 ghost use Rattle.gpu_desk.specs.Desk.{IsEmpty, IsSound, page_of};
@@ -17,7 +17,7 @@ mod walking;
 
 use crate::wish::Tag;
 use crate::{Config, DeviceProperties, OpenError};
-use gpu_alloc::{GpuAllocator, MemoryBlock};
+use gpu_alloc::{GpuAllocator, MemoryBlock, Sharing};
 use gpu_answers::{AnsweredDevice, ObjectName};
 use gpu_session::Offer;
 use gpu_slots::SlotMap;
@@ -96,11 +96,30 @@ impl Desk {
         ensures bad { result ≡ Err OpenError.BadProperties → IsUsable (properties_of props.entry)
             → IsGranularity (page_of granularity) → ⊥ }
     {
+        Desk::with_sharing(alloc, config, props, granularity, Sharing::Buddy)
+    }
+
+    /// As [`new`](Desk::new), with the choice how requests that are not `TRANSIENT` share objects: in buddy chunks, or in
+    /// fit chunks.
+    pub fn with_sharing(
+        alloc: Global,
+        config: Config,
+        props: DeviceProperties<'_>,
+        granularity: u64,
+        sharing: Sharing,
+    ) -> Result<Desk, OpenError>
+        ensures opened { IfOk result (λ desk. desk.allocator ≡ opened_by sharing config (properties_of props.entry)) }
+        ensures empty { IfOk result IsEmpty }
+        ensures page { IfOk result (λ desk. desk.granularity ≡ page_of granularity) }
+        ensures usable { OnOk result (IsUsable (properties_of props.entry) × IsGranularity (page_of granularity)) }
+        ensures bad { result ≡ Err OpenError.BadProperties → IsUsable (properties_of props.entry)
+            → IsGranularity (page_of granularity) → ⊥ }
+    {
         let page = page_of(granularity);
         if !props.is_usable() || page > LARGEST_PAGE || !page.is_power_of_two() {
             return Err(OpenError::BadProperties);
         }
-        match Desk::over(alloc, config, props, page) {
+        match Desk::over(alloc, config, props, page, sharing) {
             Ok(desk) => Ok(desk),
             Err(_) => Err(OpenError::OutOfHostMemory),
         }
@@ -111,16 +130,17 @@ impl Desk {
         config: Config,
         props: DeviceProperties<'_>,
         page: u64,
+        sharing: Sharing,
     ) -> Result<Desk, AllocError>
         requires usable { IsUsable (properties_of props) }
         requires page { IsGranularity page }
-        ensures opened { IfOk result (λ desk. desk.allocator ≡ opened config (properties_of props.entry)) }
+        ensures opened { IfOk result (λ desk. desk.allocator ≡ opened_by sharing config (properties_of props.entry)) }
         ensures empty { IfOk result IsEmpty }
         ensures page { IfOk result (λ desk. desk.granularity ≡ page) }
     {
         let offer = Offer::of(alloc, &props)?;
         let device = AnsweredDevice::new(alloc, again(&props))?;
-        let Ok(allocator) = GpuAllocator::new(alloc, config, props) else {
+        let Ok(allocator) = GpuAllocator::with_sharing(alloc, config, props, sharing) else {
             return Err(AllocError);
         };
         Ok(Desk {

@@ -12,7 +12,7 @@ pub use denial::{Denial, OpenError};
 pub use desk::Desk;
 pub use gpu_alloc::{
     AllocationError, Config, Dedicated, DeviceProperties, FreeRange, MapError, MemoryHeap,
-    MemoryPropertyFlags, MemoryType, Request, UsageFlags,
+    MemoryPropertyFlags, MemoryType, Request, Sharing, UsageFlags,
 };
 pub use gpu_answers::{Answer, Answered, Question};
 pub use gpu_session::Fault;

@@ -17,7 +17,7 @@ use Rattle.gpu_alloc_base.specs.RangeOrder.{same_start}
 use Rattle.gpu_alloc_base.proofs.RangeOrder.{order_is_distinct, start_test}
 use Rattle.gpu_alloc.proofs.FreeRanges.{distinct_append}
 use Rattle.gpu_alloc_block.specs.declared.block.Kind.{Kind}
-use Rattle.gpu_alloc_block.specs.declared.block.Kind.TheVariants.{Dedicated, Imported, BuddyChunk, FreeListChunk}
+use Rattle.gpu_alloc_block.specs.declared.block.Kind.TheVariants.{Dedicated, Imported, BuddyChunk, FreeListChunk, FitChunk}
 use Rattle.gpu_alloc.specs.FreeRanges.{HasByte, IsFreeOf, IsFreeRangeOf}
 use Rattle.gpu_alloc.specs.Sound.{IsSound, LiesIn}
 use Rattle.gpu_alloc.specs.State.{HeldObject, Span, State, IsLive, is_shared}
@@ -35,6 +35,7 @@ lies_within Dedicated counted span shared lies = absurd (cc)
 lies_within Imported counted span shared lies = absurd (cc)
 lies_within BuddyChunk counted span shared lies = lies
 lies_within (FreeListChunk number) counted span shared lies = lies
+lies_within FitChunk counted span shared lies = lies
 
 -- What is known of the lists, and of the object.
 pub record IsKnownOf (s : State) (object : ℕ) (h : HeldObject) (live : List LiveBlock) (free : List FreeRange) : Type 0 where

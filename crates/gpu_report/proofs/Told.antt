@@ -96,6 +96,7 @@ is_shared_chunk kinds.Dedicated e = e
 is_shared_chunk kinds.Imported e = e
 is_shared_chunk kinds.BuddyChunk e = e
 is_shared_chunk (kinds.FreeListChunk number) e = e
+is_shared_chunk kinds.FitChunk e = e
 
 module _ (s : State) (held : List (ℕ × HeldObject)) (live : List LiveBlock) (free : List FreeRange) (p : Part) (sound : IsSound s) (are_held : AreHeld s held) (are_live : AreLive s live)
     (are_free : AreFree s p.memory_type free) (law : AreTheFree s p.memory_type) where
@@ -142,6 +143,7 @@ has_kind t objects.Dedicated = (0, omega arith, refl)
 has_kind t objects.Imported = (1, omega arith, refl)
 has_kind t objects.BuddyChunk = (2, omega arith, refl)
 has_kind t objects.FreeListChunk = (3, omega arith, refl)
+has_kind t objects.FitChunk = (4, omega arith, refl)
 
 has_part : (n t : ℕ) (kind : ObjectKind) → t < n → Contains (parts n) (part_of t kind)
 has_part zero t kind lt = absurd (omega (arith, lt))

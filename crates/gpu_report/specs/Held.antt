@@ -9,7 +9,7 @@ use Rattle.gpu_alloc.specs.Types.Kind.{Kind}
 use Rattle.gpu_alloc.specs.Types.Kind.TheVariants as kind
 use Rattle.gpu_report.specs.declared.part.Part.{Part}
 use Rattle.gpu_report.specs.declared.report.ObjectKind.{ObjectKind}
-use Rattle.gpu_report.specs.declared.report.ObjectKind.TheVariants.{Dedicated, Imported, BuddyChunk, FreeListChunk}
+use Rattle.gpu_report.specs.declared.report.ObjectKind.TheVariants.{Dedicated, Imported, BuddyChunk, FreeListChunk, FitChunk}
 
 -- what an object is reported to be held for: which number a free list's chunk has is not told
 abbrev pub kind_of : Kind → ObjectKind
@@ -17,6 +17,7 @@ kind_of kind.Dedicated = Dedicated
 kind_of kind.Imported = Imported
 kind_of kind.BuddyChunk = BuddyChunk
 kind_of (kind.FreeListChunk number) = FreeListChunk
+kind_of kind.FitChunk = FitChunk
 
 -- the order of kinds
 abbrev pub rank : ObjectKind → ℕ
@@ -24,6 +25,7 @@ rank Dedicated = 0
 rank Imported = 1
 rank BuddyChunk = 2
 rank FreeListChunk = 3
+rank FitChunk = 4
 
 -- whether an object is held as this: a memory type, and what objects of it are held for
 abbrev pub is_of : Part → HeldObject → Bool
@@ -39,7 +41,8 @@ part_of t kind = record { memory_type = t; kind = kind }
 
 -- the kinds of the first so many memory types, by memory type, then kind
 abbrev pub parts_of : ℕ → List Part
-parts_of t = part_of t Dedicated ∷ part_of t Imported ∷ part_of t BuddyChunk ∷ part_of t FreeListChunk ∷ []
+parts_of t =
+    part_of t Dedicated ∷ part_of t Imported ∷ part_of t BuddyChunk ∷ part_of t FreeListChunk ∷ part_of t FitChunk ∷ []
 
 abbrev pub parts : ℕ → List Part
 parts zero = []

@@ -14,7 +14,7 @@ use Rattle.gpu_report.specs.declared.live.LiveBlock.{LiveBlock}
 use Rattle.gpu_report.specs.declared.report.HeapReport.{HeapReport}
 use Rattle.gpu_report.specs.declared.report.KindReport.{KindReport}
 use Rattle.gpu_report.specs.declared.report.ObjectKind.{ObjectKind}
-use Rattle.gpu_report.specs.declared.report.ObjectKind.TheVariants.{Dedicated, Imported, BuddyChunk, FreeListChunk}
+use Rattle.gpu_report.specs.declared.report.ObjectKind.TheVariants.{Dedicated, Imported, BuddyChunk, FreeListChunk, FitChunk}
 use Rattle.gpu_report.specs.declared.report.ObjectReport.{ObjectReport}
 use Rattle.gpu_report.specs.declared.report.Report.{Report}
 
@@ -46,6 +46,7 @@ is_chunk Dedicated = false
 is_chunk Imported = false
 is_chunk BuddyChunk = true
 is_chunk FreeListChunk = true
+is_chunk FitChunk = true
 
 -- its places are those of the object, each once and in order
 abbrev pub HasPlaces : List LiveBlock → List FreeRange → ObjectReport → Type 0

@@ -7,7 +7,7 @@ use Rattle.gpu_report.specs.Report.{AreSums, part_told}
 use Rattle.gpu_report.specs.declared.live.LiveBlock.{LiveBlock}
 use Rattle.gpu_report.specs.declared.report.KindReport.{KindReport}
 use Rattle.gpu_report.specs.declared.report.ObjectKind.{ObjectKind}
-use Rattle.gpu_report.specs.declared.report.ObjectKind.TheVariants.{Dedicated, Imported, BuddyChunk, FreeListChunk}
+use Rattle.gpu_report.specs.declared.report.ObjectKind.TheVariants.{Dedicated, Imported, BuddyChunk, FreeListChunk, FitChunk}
 use Rattle.gpu_report.specs.declared.statistics.Statistics.{Statistics}
 
 -- the sums of a memory type and a kind
@@ -24,3 +24,4 @@ pub record AreStatistics (s : State) (t : ℕ) (a : Statistics) : Type 0 where
   pub imported : AreSumsOf s held live t Imported a.imported
   pub buddy : AreSumsOf s held live t BuddyChunk a.buddy
   pub free_list : AreSumsOf s held live t FreeListChunk a.free_list
+  pub fit : AreSumsOf s held live t FitChunk a.fit

@@ -6,7 +6,7 @@ use Rattle.gpu_alloc_types.specs.declared.types.MemoryType.{MemoryType}
 use Rattle.gpu_report.specs.declared.report.HeapReport.{HeapReport}
 use Rattle.gpu_report.specs.declared.report.KindReport.{KindReport}
 use Rattle.gpu_report.specs.declared.report.ObjectKind.{ObjectKind}
-use Rattle.gpu_report.specs.declared.report.ObjectKind.TheVariants.{Dedicated, Imported, BuddyChunk, FreeListChunk}
+use Rattle.gpu_report.specs.declared.report.ObjectKind.TheVariants.{Dedicated, Imported, BuddyChunk, FreeListChunk, FitChunk}
 use Rattle.gpu_report.specs.declared.report.ObjectReport.{ObjectReport}
 use Rattle.gpu_report.specs.declared.report.Place.{Place}
 use Rattle.gpu_report.specs.declared.report.Report.{Report}
@@ -29,6 +29,7 @@ kind_words Dedicated = codes "Dedicated"
 kind_words Imported = codes "Imported"
 kind_words BuddyChunk = codes "BuddyChunk"
 kind_words FreeListChunk = codes "FreeListChunk"
+kind_words FitChunk = codes "FitChunk"
 
 -- a memory type, and what objects of it are held for
 abbrev pub part_text : ℕ → ObjectKind → List ℕ

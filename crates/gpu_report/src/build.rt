@@ -154,6 +154,11 @@ fn add_type<M: MemoryObject, A: Allocator + Copy>(
         kind: ObjectKind::FreeListChunk,
     };
     add_kind(alloc, allocator, lists, held, live, &free, kinds, objects)?;
+    let fits = Part {
+        memory_type,
+        kind: ObjectKind::FitChunk,
+    };
+    add_kind(alloc, allocator, fits, held, live, &free, kinds, objects)?;
     Ok(())
 }
 

@@ -27,6 +27,7 @@ impl ObjectKind {
             Kind::Imported => ObjectKind::Imported,
             Kind::BuddyChunk => ObjectKind::BuddyChunk,
             Kind::FreeListChunk(_) => ObjectKind::FreeListChunk,
+            Kind::FitChunk => ObjectKind::FitChunk,
         }
     }
 
@@ -36,7 +37,7 @@ impl ObjectKind {
     {
         match self {
             ObjectKind::Dedicated | ObjectKind::Imported => false,
-            ObjectKind::BuddyChunk | ObjectKind::FreeListChunk => true,
+            ObjectKind::BuddyChunk | ObjectKind::FreeListChunk | ObjectKind::FitChunk => true,
         }
     }
 
@@ -49,6 +50,7 @@ impl ObjectKind {
             ObjectKind::Imported => 1,
             ObjectKind::BuddyChunk => 2,
             ObjectKind::FreeListChunk => 3,
+            ObjectKind::FitChunk => 4,
         }
     }
 }

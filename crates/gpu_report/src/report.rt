@@ -42,6 +42,9 @@ pub enum ObjectKind {
 
     /// The blocks of a free list.
     FreeListChunk,
+
+    /// Blocks that are exactly as long as asked.
+    FitChunk,
 }
 
 /// The held objects of a memory type that are held for the same.

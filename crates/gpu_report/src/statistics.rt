@@ -27,6 +27,9 @@ pub struct Statistics {
 
     /// Objects of free lists.
     pub free_list: KindReport,
+
+    /// Fit chunks.
+    pub fit: KindReport,
 }
 
 impl Statistics {
@@ -60,11 +63,16 @@ impl Statistics {
             memory_type,
             kind: ObjectKind::FreeListChunk,
         };
+        let fit = Part {
+            memory_type,
+            kind: ObjectKind::FitChunk,
+        };
         Ok(Statistics {
             dedicated: kind_report(alloc, allocator, dedicated, &held, &live, &free)?,
             imported: kind_report(alloc, allocator, imported, &held, &live, &free)?,
             buddy: kind_report(alloc, allocator, buddy, &held, &live, &free)?,
             free_list: kind_report(alloc, allocator, free_list, &held, &live, &free)?,
+            fit: kind_report(alloc, allocator, fit, &held, &live, &free)?,
         })
     }
 

@@ -149,6 +149,7 @@ fn kind_words(kind: ObjectKind) -> &'static str
         ObjectKind::Imported => "Imported",
         ObjectKind::BuddyChunk => "BuddyChunk",
         ObjectKind::FreeListChunk => "FreeListChunk",
+        ObjectKind::FitChunk => "FitChunk",
     }
 }
 

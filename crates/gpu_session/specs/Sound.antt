@@ -59,6 +59,7 @@ pub record IsKept {A : Type 0} (p : Properties) (objects : ℕ → Option Object
 pub record KeepsGiven (s new : State) : Type 0 where
   pub properties : new.properties ≡ s.properties
   pub config : new.config ≡ s.config
+  pub sharing : new.sharing ≡ s.sharing
 
 -- A block is granted as the command asks: large enough and aligned, an object of its own where it has to be one, and of
 -- an import exactly the span that was given.

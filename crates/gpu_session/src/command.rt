@@ -143,7 +143,8 @@ pub enum Command<A: Allocator = Global> {
         remaining: u32,
     },
 
-    /// Gives back what free lists keep without a live block, by `GpuAllocator::cleanup`. It is answered by `Done`.
+    /// Gives back the shared objects that are kept without a live block, by `GpuAllocator::cleanup`. It is answered by
+    /// `Done`.
     Cleanup,
 
     /// Asks for the free ranges of a memory type's shared chunks. Faults: `BadType`, `NoMemory`. Else it is answered by

@@ -4,7 +4,7 @@ ghost use Rattle.std.specs.Prelude.{◌≡◌, ℕ, List, IfOk, IfErr, OnErr, No
 ghost use Rattle.std.specs.FinMap as map;
 ghost use Rattle.gpu_alloc_types.specs.Properties.{IsUsable, properties_of};
 ghost use Rattle.gpu_alloc_types.specs.Device.{Event, Chain};
-ghost use Rattle.gpu_alloc.specs.Opening.{opened};
+ghost use Rattle.gpu_alloc.specs.Opening.{opened, opened_by};
 ghost use Rattle.gpu_session.specs.Books.{Books, SessionState};
 ghost use Rattle.gpu_session.specs.Isolation.{HoldsAlong, TellAlong};
 ghost use Rattle.gpu_session.specs.Run.{Step, Run};
@@ -17,7 +17,7 @@ mod moving;
 
 use crate::offer::Offer;
 use crate::{Command, Reply};
-use gpu_alloc::{Config, DeviceProperties, GpuAllocator, MemoryBlock};
+use gpu_alloc::{Config, DeviceProperties, GpuAllocator, MemoryBlock, Sharing};
 use gpu_alloc_types::{MemoryDevice, MemoryObject};
 use indexmap::IndexMap;
 pub use listing::NamedSpan;
@@ -86,10 +86,33 @@ impl<M: MemoryObject, D: MemoryDevice<M>, A: Allocator + Copy> Session<M, D, A> 
         ensures whole { IfOk result (HasWholeObjects D.objects) }
         ensures given_back { IfErr result (λ e. e.device ≡ device) }
     {
+        Session::with_sharing(alloc, config, props, device, Sharing::Buddy)
+    }
+
+    /// As [`new`](Session::new), with the choice how requests that are not `TRANSIENT` share objects: in buddy chunks, as
+    /// `new` has it, or in fit chunks. Each run leaves it as it is.
+    pub fn with_sharing(
+        alloc: A,
+        config: Config,
+        props: DeviceProperties<'_>,
+        device: D,
+        sharing: Sharing,
+    ) -> Result<Self, SessionOpenError<D>>
+        requires usable { IsUsable (properties_of props) }
+        requires same { D.properties device ≡ properties_of props }
+
+        ensures opened { IfOk result (λ session. session ≡ record {
+          books = record { allocator = opened_by sharing config (properties_of props.entry); blocks = map.empty };
+          device = device;
+        }) }
+        ensures sound { IfOk result (λ session. IsSound (D.properties device) (D.objects device) session.books) }
+        ensures whole { IfOk result (HasWholeObjects D.objects) }
+        ensures given_back { IfErr result (λ e. e.device ≡ device) }
+    {
         let Ok(offer) = Offer::of(alloc, &props) else {
             return Err(SessionOpenError { device });
         };
-        match GpuAllocator::new(alloc, config, props) {
+        match GpuAllocator::with_sharing(alloc, config, props, sharing) {
             Ok(allocator) => {
                 let session = Session {
                     alloc,

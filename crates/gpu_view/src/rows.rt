@@ -311,6 +311,7 @@ impl<'n> Members<'n> {
             1 => Ok(ObjectKind::Imported),
             2 => Ok(ObjectKind::BuddyChunk),
             3 => Ok(ObjectKind::FreeListChunk),
+            4 => Ok(ObjectKind::FitChunk),
             _ => Err(from.unknown_variant()),
         }
     }
@@ -332,6 +333,7 @@ fn member<F: Format>(
         Name::exact("Imported"),
         Name::exact("BuddyChunk"),
         Name::exact("FreeListChunk"),
+        Name::exact("FitChunk"),
     ];
     let kind = from.variant(&kinds)?;
     Ok(Some(kind as u128))

@@ -5,11 +5,12 @@ use gpu_report::{ObjectKind, Place};
 use std::fmt;
 
 /// The kinds, in the order of the legend.
-pub const KINDS: [ObjectKind; 4] = [
+pub const KINDS: [ObjectKind; 5] = [
     ObjectKind::Dedicated,
     ObjectKind::Imported,
     ObjectKind::BuddyChunk,
     ObjectKind::FreeListChunk,
+    ObjectKind::FitChunk,
 ];
 
 /// The properties of memory types that are told, by name.
@@ -22,14 +23,16 @@ pub const PROPERTIES: [(MemoryPropertyFlags, &str); 6] = [
     (MemoryPropertyFlags::PROTECTED, "protected"),
 ];
 
-/// The hatching of imported blocks and the dots of those of free lists, over colours that the colour-blind tell apart,
-/// as dark blue and orange are; so each kind differs in print too.
+/// The hatching of imported blocks, the dots of those of free lists and the stripes of those of fit chunks, over colours
+/// that the colour-blind tell apart, as dark blue and orange are; so each kind differs in print too.
 pub const PATTERNS: &str = "\
 <defs>\
 <pattern id=\"imported\" width=\"6\" height=\"6\" patternUnits=\"userSpaceOnUse\" patternTransform=\"rotate(45)\">\
 <rect width=\"6\" height=\"6\" fill=\"#cc79a7\"/><rect width=\"2\" height=\"6\" fill=\"#f6e4ee\"/></pattern>\
 <pattern id=\"listed\" width=\"5\" height=\"5\" patternUnits=\"userSpaceOnUse\">\
 <rect width=\"5\" height=\"5\" fill=\"#009e73\"/><circle cx=\"2.5\" cy=\"2.5\" r=\"1\" fill=\"#d5f2e8\"/></pattern>\
+<pattern id=\"fitted\" width=\"4\" height=\"4\" patternUnits=\"userSpaceOnUse\">\
+<rect width=\"4\" height=\"4\" fill=\"#56b4e9\"/><rect width=\"4\" height=\"1\" fill=\"#e3f3fc\"/></pattern>\
 </defs>\n";
 
 /// What is said below the picture.
@@ -46,6 +49,7 @@ pub(crate) fn fill(kind: ObjectKind) -> &'static str {
         ObjectKind::Imported => "url(#imported)",
         ObjectKind::BuddyChunk => "#e69f00",
         ObjectKind::FreeListChunk => "url(#listed)",
+        ObjectKind::FitChunk => "url(#fitted)",
     }
 }
 
@@ -54,7 +58,7 @@ pub(crate) fn ink(kind: ObjectKind) -> &'static str {
     match kind {
         ObjectKind::Dedicated => "fill=\"#fff\"",
         ObjectKind::BuddyChunk => "fill=\"#000\"",
-        ObjectKind::Imported | ObjectKind::FreeListChunk => {
+        ObjectKind::Imported | ObjectKind::FreeListChunk | ObjectKind::FitChunk => {
             "fill=\"#000\" stroke=\"#fff\" stroke-width=\"3\" paint-order=\"stroke\""
         }
     }
@@ -67,6 +71,7 @@ pub(crate) fn name(kind: ObjectKind) -> &'static str {
         ObjectKind::Imported => "imported",
         ObjectKind::BuddyChunk => "buddy chunks",
         ObjectKind::FreeListChunk => "free-list chunks",
+        ObjectKind::FitChunk => "fit chunks",
     }
 }
 

@@ -8,6 +8,6 @@ pub IsAsBefore-same : (s : DeskState) → IsAsBefore s s
 IsAsBefore-same s = record { allocator = refl; live = refl; keys = refl; objects = refl; names = refl; tags = refl; page = refl }
 
 pub Keeps-same : (s : DeskState) → Keeps s s
-Keeps-same s = record { given = record { properties = refl; config = refl }; limits = refl; total = refl; gone = λ key gone. gone; names = names_stay s.device.held; tags = λ key was is. refl; page = refl }
+Keeps-same s = record { given = record { properties = refl; config = refl; sharing = refl }; limits = refl; total = refl; gone = λ key gone. gone; names = names_stay s.device.held; tags = λ key was is. refl; page = refl }
 
 pub ruleset same = (IsAsBefore-same, Keeps-same)

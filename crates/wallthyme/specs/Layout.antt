@@ -11,6 +11,8 @@ use Rattle.gpu_answers.specs.declared.question.Answer.TheVariants.{Granted, OutO
 use Rattle.gpu_answers.specs.declared.question.Answered.{Answered}
 use Rattle.gpu_answers.specs.declared.question.Question as desk_question
 use Rattle.gpu_answers.specs.declared.question.Question.TheVariants.{Allocate, MapMade, Map}
+use Rattle.gpu_alloc_block.specs.declared.sharing.Sharing.{Sharing}
+use Rattle.gpu_alloc_block.specs.declared.sharing.Sharing.TheVariants.{Buddy, Fit}
 use Rattle.gpu_alloc.specs.declared.request.Dedicated.{Dedicated}
 use Rattle.gpu_alloc.specs.declared.request.Dedicated.TheVariants.{Required, Preferred}
 use Rattle.gpu_alloc.specs.declared.request.Request as desk_request
@@ -59,6 +61,10 @@ config_of c = record {
   minimal_buddy_size = c.minimal_buddy_size;
   initial_buddy_dedicated_size = c.initial_buddy_dedicated_size;
 }
+
+-- how requests share objects; any other number is refused
+abbrev pub sharing_of : ℕ → Sharing
+sharing_of n = if n == number.BUDDY then Buddy else Fit
 
 abbrev pub request_of : Request → desk_request.Request
 request_of r = record {

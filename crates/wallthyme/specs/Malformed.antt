@@ -11,6 +11,10 @@ use Rattle.wallthyme.specs.declared.status.TheConstants as status
 abbrev pub IsUsage : ℕ → Type 0
 IsUsage bits = IsTrue (has_all_bits named_usage_bits bits)
 
+-- it says how requests share objects
+abbrev pub IsSharing : ℕ → Type 0
+IsSharing n = n ≤ number.FIT
+
 -- all flags of a request
 abbrev pub all_flags : ℕ
 all_flags = number.OPTIMAL + number.HELD_ONLY

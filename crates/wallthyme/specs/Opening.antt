@@ -3,12 +3,14 @@ use Rattle.std.specs.Prelude.{◌≡◌, ℕ, []}
 use Rattle.std.specs.FinMap as map
 use Rattle.gpu_alloc_base.specs.declared.config.Config.{Config}
 use Rattle.gpu_alloc_types.specs.Properties.{Properties}
-use Rattle.gpu_alloc.specs.Opening.{opened}
+use Rattle.gpu_alloc.specs.Opening.{opened_by}
+use Rattle.gpu_alloc_block.specs.declared.sharing.Sharing.{Sharing}
 use Rattle.gpu_desk.specs.Desk.{DeskState, IsEmpty, page_of}
 
--- a desk for such a device, of this granularity of buffers and images, with nothing held
-pub record IsOpened (config : Config) (properties : Properties) (granularity : ℕ) (s : DeskState) : Type 0 where
-  pub allocator : s.allocator ≡ opened config properties
+-- a desk for such a device, of this granularity of buffers and images, whose requests share objects so, with nothing held
+pub record IsOpened (sharing : Sharing) (config : Config) (properties : Properties) (granularity : ℕ) (s : DeskState)
+    : Type 0 where
+  pub allocator : s.allocator ≡ opened_by sharing config properties
   pub page : s.granularity ≡ page_of granularity
   pub empty : IsEmpty s
 

@@ -25,6 +25,7 @@ pub record AreTypeSums (s : Statistics) (c : TypeStatistics) : Type 0 where
   pub imported : AreKindSums s.imported c.imported
   pub buddy : AreKindSums s.buddy c.buddy
   pub free_list : AreKindSums s.free_list c.free_list
+  pub fit : AreKindSums s.fit c.fit
 
 -- what the desk holds of a memory type is told
 abbrev pub SumsUp : DeskState → (memory_type : ℕ) → TypeStatistics → Type 0

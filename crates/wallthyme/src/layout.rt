@@ -2,12 +2,13 @@
 
 ghost use Rattle.std.specs.Prelude.{◌≡◌, ◌≢◌, None, true, false, IfErr, IfOk, OnOk, IfSome};
 ghost use Rattle.wallthyme.specs.Candidates.{usage_of as usage_with};
-ghost use Rattle.wallthyme.specs.Malformed.{IsUsage};
+ghost use Rattle.wallthyme.specs.Layout.{sharing_of as sharing_by};
+ghost use Rattle.wallthyme.specs.Malformed.{IsSharing, IsUsage};
 
 use crate::status::{ASK, BAD_DEDICATED, BAD_FLAGS, BAD_USAGE, NOT_OPEN, OK};
 use gpu_desk::{
-    Answer, Answered, Dedicated, FreeRange, Grant, MemoryPropertyFlags, ObjectRange, UsageFlags,
-    Wish,
+    Answer, Answered, Dedicated, FreeRange, Grant, MemoryPropertyFlags, ObjectRange, Sharing,
+    UsageFlags, Wish,
 };
 use gpu_report::{KindReport, Statistics};
 
@@ -46,6 +47,12 @@ pub(crate) const PREFERRED: u32 = 1;
 
 /// A [`Request::dedicated`]: the block must have an object of its own.
 pub(crate) const REQUIRED: u32 = 2;
+
+/// A [`Config::sharing`]: requests share buddy chunks.
+pub(crate) const BUDDY: u64 = 0;
+
+/// A [`Config::sharing`]: requests share fit chunks.
+pub(crate) const FIT: u64 = 1;
 
 /// A bit of [`Question::flags`] of an object to make: it will hold the request's block alone. It stands above the bits of
 /// the desk's flags.
@@ -87,6 +94,7 @@ pub struct Config {
     pub final_free_list_chunk: u64,
     pub minimal_buddy_size: u64,
     pub initial_buddy_dedicated_size: u64,
+    pub sharing: u64,
 }
 
 /// `wt_request`.
@@ -181,6 +189,7 @@ pub struct TypeStatistics {
     pub imported: KindStatistics,
     pub buddy: KindStatistics,
     pub free_list: KindStatistics,
+    pub fit: KindStatistics,
 }
 
 impl From<MemoryType> for gpu_desk::MemoryType {
@@ -211,6 +220,19 @@ impl From<Config> for gpu_desk::Config {
             minimal_buddy_size: config.minimal_buddy_size,
             initial_buddy_dedicated_size: config.initial_buddy_dedicated_size,
         }
+    }
+}
+
+/// How requests share objects by this number, if it is one of the two.
+pub(crate) fn sharing_of(number: u64) -> Option<Sharing>
+    ensures sharing { IfSome result (λ sharing. sharing ≡ sharing_by number) }
+    ensures some { result ≢ None → IsSharing number }
+    ensures none { result ≡ None → IsSharing number → ⊥ }
+{
+    match number {
+        BUDDY => Some(Sharing::Buddy),
+        FIT => Some(Sharing::Fit),
+        _ => None,
     }
 }
 
@@ -482,6 +504,7 @@ impl From<Statistics> for TypeStatistics {
             imported: sums.imported.into(),
             buddy: sums.buddy.into(),
             free_list: sums.free_list.into(),
+            fit: sums.fit.into(),
         }
     }
 }

@@ -2,8 +2,8 @@
 
 use crate::handle::Handle;
 use crate::layout::{
-    ALLOCATE, ALLOCATE_OWN, Block, Config, Counts, DEVICE_MAP_FAILED, GRANTED, HELD_ONLY,
-    HeapCounts, KindStatistics, Limits, MAP, MAP_MADE, MemoryType, NO_DEVICE_MEMORY,
+    ALLOCATE, ALLOCATE_OWN, BUDDY, Block, Config, Counts, DEVICE_MAP_FAILED, FIT, GRANTED,
+    HELD_ONLY, HeapCounts, KindStatistics, Limits, MAP, MAP_MADE, MemoryType, NO_DEVICE_MEMORY,
     NO_HOST_MEMORY, OPTIMAL, PREFERRED, Question, REQUIRED, Range, Request, SHARED, TypeStatistics,
 };
 use crate::opening::VERSION;
@@ -77,9 +77,9 @@ static PLACES: [u32; 53] = [
     size_of::<HeapCounts>() as u32, 0, 8, 16,
 ];
 
-/// What came later: statuses, flags, the offsets of the last fields of `Limits`, `Request`, `Block` and `HeapCounts`,
-/// and the size of each struct of statistics, with the offsets of its fields.
-static LATER: [u32; 26] = [
+/// What came later: statuses, flags, the ways to share objects, the offsets of the last fields of `Limits`, `Config`,
+/// `Request`, `Block` and `HeapCounts`, and the size of each struct of statistics, with the offsets of its fields.
+static LATER: [u32; 30] = [
     status::BAD_FLAGS,
     ALLOCATE_OWN,
     OPTIMAL,
@@ -106,6 +106,10 @@ static LATER: [u32; 26] = [
     168,
     status::WOULD_ASK,
     HELD_ONLY,
+    BUDDY as u32,
+    FIT as u32,
+    56,
+    224,
 ];
 
 /// The bits of flags, which stand between the numbers and the places.

@@ -6,12 +6,13 @@ ghost use Rattle.gpu_alloc_types.specs.Properties.{IsUsable};
 ghost use Rattle.gpu_alloc.specs.Request.{IsGranularity};
 ghost use Rattle.gpu_desk.specs.Desk.{IsEmpty, page_of};
 ghost use Rattle.wallthyme.specs.Handles.{desk_of};
-ghost use Rattle.wallthyme.specs.Layout.{config_of, heap_of, memory_type_of, properties_of};
+ghost use Rattle.wallthyme.specs.Layout.{config_of, heap_of, memory_type_of, properties_of, sharing_of as sharing_by};
+ghost use Rattle.wallthyme.specs.Malformed.{IsSharing};
 ghost use Rattle.wallthyme.specs.Opening.{HasNothing, IsOpened};
 
 use crate::handle::Handle;
 use crate::kept::KeptDesk;
-use crate::layout;
+use crate::layout::{self, sharing_of};
 use crate::status::{
     ALREADY_OPEN, BAD_PROPERTIES, NOT_OPEN, OK, OUT_OF_HOST_MEMORY, STILL_HELD, UNREAD_NAMES,
     not_opened,
@@ -20,7 +21,7 @@ use gpu_desk::{Desk, DeviceProperties, MemoryHeap, MemoryType, OpenError};
 use std::alloc::{AllocError, Global};
 
 /// `WT_VERSION` of the header that this library is built for.
-pub(crate) const VERSION: u32 = 0x000800;
+pub(crate) const VERSION: u32 = 0x000900;
 
 #[unsafe(no_mangle)]
 pub extern "C" fn wt_version() -> u32
@@ -40,13 +41,14 @@ pub extern "C" fn wt_open(
 ) -> u32
     ensures already { (result ≡ ALREADY_OPEN) ↔ IsSome (desk_of handle.old) }
     ensures opened { result ≡ OK → IsSomeAnd (desk_of handle.new)
-        (IsOpened (config_of config.now) (properties_of types.now heap_sizes.now limits.now)
-        limits.now.buffer_image_granularity) }
+        (IsOpened (sharing_by config.now.sharing) (config_of config.now)
+        (properties_of types.now heap_sizes.now limits.now) limits.now.buffer_image_granularity) }
     ensures usable { result ≡ OK → IsUsable (properties_of types.now heap_sizes.now limits.now) }
     ensures page { result ≡ OK → IsGranularity (page_of limits.now.buffer_image_granularity) }
+    ensures sharing { result ≡ OK → IsSharing config.now.sharing }
     ensures status { (result ≡ OK) ⊎ ((result ≡ ALREADY_OPEN) ⊎ ((result ≡ BAD_PROPERTIES) ⊎ (result ≡ OUT_OF_HOST_MEMORY))) }
     ensures bad { result ≡ BAD_PROPERTIES → IsUsable (properties_of types.now heap_sizes.now limits.now)
-        → IsGranularity (page_of limits.now.buffer_image_granularity) → ⊥ }
+        → IsGranularity (page_of limits.now.buffer_image_granularity) → IsSharing config.now.sharing → ⊥ }
     ensures refused { result ≢ OK → desk_of handle.new ≡ desk_of handle.old }
 {
     if handle.is_open() {
@@ -68,15 +70,18 @@ fn opened(
     limits: &layout::Limits,
     config: &layout::Config,
 ) -> Result<Box<KeptDesk>, OpenError>
-    ensures opened { IfOk result (λ kept.
-        IsOpened (config_of config.now) (properties_of types.now heap_sizes.now limits.now)
-        limits.now.buffer_image_granularity kept.value) }
+    ensures opened { IfOk result (λ kept. IsOpened (sharing_by config.now.sharing) (config_of config.now)
+        (properties_of types.now heap_sizes.now limits.now) limits.now.buffer_image_granularity kept.value) }
     ensures usable { OnOk result (IsUsable (properties_of types.now heap_sizes.now limits.now)) }
     ensures page { OnOk result (IsGranularity (page_of limits.now.buffer_image_granularity)) }
+    ensures sharing { OnOk result (IsSharing config.now.sharing) }
     ensures bad { result ≡ Err OpenError.BadProperties
         → IsUsable (properties_of types.now heap_sizes.now limits.now)
-        → IsGranularity (page_of limits.now.buffer_image_granularity) → ⊥ }
+        → IsGranularity (page_of limits.now.buffer_image_granularity) → IsSharing config.now.sharing → ⊥ }
 {
+    let Some(sharing) = sharing_of(config.sharing) else {
+        return Err(OpenError::BadProperties);
+    };
     let Ok(memory_types) = memory_types(alloc, types) else {
         return Err(OpenError::OutOfHostMemory);
     };
@@ -91,11 +96,12 @@ fn opened(
         non_coherent_atom_size: limits.non_coherent_atom_size,
         buffer_device_address: limits.buffer_device_address != 0,
     };
-    let desk = Desk::new(
+    let desk = Desk::with_sharing(
         alloc,
         (*config).into(),
         props,
         limits.buffer_image_granularity,
+        sharing,
     )?;
     boxed(alloc, desk)
 }

@@ -1,11 +1,12 @@
 /* Wallthyme over a Vulkan device: buffers and images in drawn order, from several threads over one allocator, with each
    of their bytes compared.
 
-       vulkan SEED RESOURCES REFUSED_PERCENT THREADS [--incoherent] [--report FILE]
+       vulkan SEED RESOURCES REFUSED_PERCENT THREADS [--buddy] [--incoherent] [--report FILE]
               [--shift] [--half-page] [--unflushed] [--unlocked]
 
    The threads try as many resources, a few hundred of them alive at once. The percent of the driver's calls that may
    fail is refused. Budgets limit the heaps, real ones where the driver reports them.
+   --buddy has requests share buddy chunks. Else they share fit chunks, as without a configuration.
    --incoherent reports no memory as coherent, so that there are ranges to flush.
    --report writes what the allocator holds once all resources are tried, as JSON.
 
@@ -47,7 +48,7 @@ static const wt_config CONFIG = {
 typedef struct arguments {
     uint64_t seed;
     uint32_t resources, refused_percent, threads;
-    bool is_incoherent, is_shifted, is_half, is_unflushed, is_unlocked;
+    bool is_buddy, is_incoherent, is_shifted, is_half, is_unflushed, is_unlocked;
     const char *report; /* or null */
 } arguments;
 
@@ -78,8 +79,8 @@ static bool read_arguments(int count, char **texts, arguments *read)
         const char *name;
         bool *is_given;
     } flags[] = {
-        {"--incoherent", &read->is_incoherent}, {"--shift", &read->is_shifted},       {"--half-page", &read->is_half},
-        {"--unflushed", &read->is_unflushed},   {"--unlocked", &read->is_unlocked},
+        {"--buddy", &read->is_buddy},    {"--incoherent", &read->is_incoherent}, {"--shift", &read->is_shifted},
+        {"--half-page", &read->is_half}, {"--unflushed", &read->is_unflushed},   {"--unlocked", &read->is_unlocked},
     };
     const size_t flags_count = sizeof flags / sizeof *flags;
     if (!has_numbers(count, texts, read))
@@ -123,9 +124,15 @@ static void open_driver(run *r, const arguments *given, uint64_t *random)
     pages_open(&r->pages, granularity);
 }
 
-static void open_allocator(run *r, const arguments *given, const wt_config *config)
+/* With small chunks, or with the usual configuration. */
+static void open_allocator(run *r, const arguments *given, bool has_small_chunks)
 {
     const device *d = r->device;
+    const VkPhysicalDeviceMemoryProperties memory = driver_memory();
+    wt_config config = CONFIG;
+    if (!has_small_chunks)
+        wtv_default_config(&memory, &config);
+    config.sharing = given->is_buddy ? WT_BUDDY : WT_FIT;
     const wtv_create_info info = {
         .instance = d->instance,
         .physical_device = d->physical,
@@ -135,7 +142,7 @@ static void open_allocator(run *r, const arguments *given, const wt_config *conf
         .api_version = d->api_version,
         .functions = driver_functions(),
         .callbacks = callbacks_of_program(),
-        .config = config,
+        .config = has_small_chunks || given->is_buddy ? &config : NULL,
         .other_objects = given->threads,
     };
     must(wtv_create(&info, &r->allocator) == VK_SUCCESS, "wtv_create");
@@ -306,7 +313,7 @@ int main(int count, char **texts)
     static device d;
     arguments given = {0};
     if (!read_arguments(count, texts, &given)) {
-        fprintf(stderr, "usage: vulkan SEED RESOURCES REFUSED_PERCENT THREADS [--incoherent] [--report FILE]"
+        fprintf(stderr, "usage: vulkan SEED RESOURCES REFUSED_PERCENT THREADS [--buddy] [--incoherent] [--report FILE]"
                         " [--shift] [--half-page] [--unflushed] [--unlocked]\n");
         return 2;
     }
@@ -317,7 +324,7 @@ int main(int count, char **texts)
     share *shares = calloc(r.threads, sizeof *shares);
     must(shares != NULL, "there is no memory for the threads");
     open_driver(&r, &given, &random);
-    open_allocator(&r, &given, random_in_hundred(&random, 50) ? &CONFIG : NULL);
+    open_allocator(&r, &given, random_in_hundred(&random, 50));
     work(&r, shares, &given, &random);
     pages_close(&r.pages);
     device_close(&d);

@@ -6,7 +6,7 @@ use super::device_for::DeviceFor;
 use super::error::Error;
 use super::info::{Enabled, MemoryRequest};
 use super::raw::{self, BufferCreateInfo, ImageCreateInfo, Memory, Tiling};
-use crate::{AllocationError, Config, Dedicated, GpuAllocator, MemoryBlock, Request, UsageFlags};
+use crate::{AllocationError, Config, Dedicated, GpuAllocator, MemoryBlock, Request, Sharing, UsageFlags};
 use std::mem::forget;
 
 /// A buffer and its memory, to be destroyed by [`Allocator::destroy_buffer`]. One that is dropped is reported on
@@ -62,24 +62,34 @@ pub struct Allocator {
 }
 
 impl Allocator {
-    /// Makes an allocator with the sizes of [`Device::default_config`].
+    /// Makes an allocator with the sizes of [`Device::default_config`], whose requests share fit chunks
+    /// ([`Sharing::Fit`]), as `wtv_create` does without a configuration.
     ///
     /// # Errors
     ///
     /// [`Error::New`]. Nothing is held then.
     pub fn new(device: Device) -> Result<Self, Error> {
         let config = device.default_config();
-        Allocator::with_config(device, config)
+        Allocator::with_sharing(device, config, Sharing::Fit)
     }
 
-    /// Makes an allocator with these sizes.
+    /// Makes an allocator with these sizes, whose requests share buddy chunks ([`Sharing::Buddy`]).
     ///
     /// # Errors
     ///
     /// [`Error::New`]. Nothing is held then.
     pub fn with_config(device: Device, config: Config) -> Result<Self, Error> {
+        Allocator::with_sharing(device, config, Sharing::Buddy)
+    }
+
+    /// Makes an allocator with these sizes, whose requests share memory objects so.
+    ///
+    /// # Errors
+    ///
+    /// [`Error::New`]. Nothing is held then.
+    pub fn with_sharing(device: Device, config: Config, sharing: Sharing) -> Result<Self, Error> {
         let granularity = device.buffer_image_granularity();
-        let core = GpuAllocator::with_granularity(config, device.device_properties(), granularity)?;
+        let core = GpuAllocator::with_sharing(config, device.device_properties(), granularity, sharing)?;
         Ok(Allocator { device, core })
     }
 

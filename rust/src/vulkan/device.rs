@@ -141,16 +141,20 @@ impl Device {
         self.known_types
     }
 
-    /// `VkPhysicalDeviceLimits::bufferImageGranularity` in bytes, for [`GpuAllocator::with_granularity`].
+    /// `VkPhysicalDeviceLimits::bufferImageGranularity` in bytes, for [`GpuAllocator::with_granularity`] and
+    /// [`GpuAllocator::with_sharing`].
     pub fn buffer_image_granularity(&self) -> u64 {
         self.limits.buffer_image_granularity
     }
 
     /// Sizes for an allocator of this device, as `wtv_default_config` has them. With H the size of the largest
     /// device-local heap (of the largest heap, where there is no such), and U = H / 1,024, rounded down to a power of
-    /// two, at least 64 KiB and at most 8 MiB: objects of their own from 4 U on (U / 8 where preferred, 16 U for
-    /// transient ones), free lists' chunks from U to 16 U, buddy chunks from U on, in blocks of at least 1 KiB. From 8
-    /// GiB on that is [`Config::i_am_prototyping`].
+    /// two, at least 64 KiB and at most 8 MiB: objects of their own from U / 8 on where preferred, and from 16 U on for
+    /// transient requests; free lists' chunks from U to 16 U. With [`Sharing::Fit`](crate::Sharing::Fit) fit chunks from U
+    /// to 4 U, and objects of their own over U; with [`Sharing::Buddy`](crate::Sharing::Buddy) buddy chunks from U on, in
+    /// blocks of at least 1 KiB, and objects of their own from 4 U on. From 8 GiB on that is
+    /// [`Config::i_am_prototyping`]. [`Allocator::new`](super::Allocator::new) takes fit chunks with it, and
+    /// [`Allocator::with_config`](super::Allocator::with_config) buddy chunks.
     pub fn default_config(&self) -> Config {
         let local = self.memory_heaps().iter().filter(|heap| heap.flags & raw::HEAP_DEVICE_LOCAL != 0);
         let largest = local.map(|heap| heap.size).max();

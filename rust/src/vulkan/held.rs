@@ -6,8 +6,9 @@ use super::raw::Memory;
 use crate::{AllocationError, MemoryBlock};
 
 impl Allocator {
-    /// Frees a block, mapped or not. Its memory object is freed with it where no other block needs it; one free chunk
-    /// of transient blocks stays until [`cleanup`](Allocator::cleanup), or until the allocator is dropped.
+    /// Frees a block, mapped or not. Its memory object is freed with it where no other block needs it; of each memory type
+    /// one free chunk of transient blocks, and one free fit chunk ([`Sharing::Fit`](crate::Sharing::Fit)), stay until
+    /// [`cleanup`](Allocator::cleanup), or until the allocator is dropped.
     ///
     /// # Panics
     ///

@@ -33,6 +33,7 @@ use Rattle.gpu_alloc.specs.declared.limits.Limits.{Limits}
 use Rattle.gpu_alloc.proofs.Agreeing.{not_held}
 use Rattle.gpu_alloc.proofs.Ledgers.{Held}
 use Rattle.gpu_alloc_base.proofs.Maps.{own_inserted}
+use Rattle.gpu_alloc_block.specs.declared.sharing.Sharing.TheVariants.{Buddy as BuddiesChosen}
 use Rattle.gpu_alloc.proofs.Buddies.States.{HasLeafMore}
 use Rattle.gpu_alloc_block.proofs.LiveSpans.{not_live}
 use Rattle.gpu_alloc.proofs.Tables.LiveSpans.{not_live_new}
@@ -44,20 +45,21 @@ use Rattle.gpu_alloc.proofs.NewObjects.{counted_new}
 use Rattle.gpu_alloc.proofs.HeapLists.{type_heap_is}
 use Rattle.gpu_alloc.proofs.Buddies.Serving.{Serves, front_is, told_with}
 use Rattle.gpu_alloc.proofs.Buddies.Grants.{serves, buddy_of, recorded_with_leaf, state_with_leaf, recorded_with_chunk, state_with_chunk, asked_size}
+use Rattle.gpu_alloc_fit.specs.Fit.{Fitting}
 
 -- A request to a buddy allocator among the fields, and the block that it gave.
 
-module _ {A : Type 0} {l : Limits A} {heaps : List Heap} {buddies : List Buddy} {lists : List Listing} {remaining index i : ℕ} {b : Buddy} {heap : Heap} {flags : ℕ} {leaf : Leaf} {q : Properties} {old : ℕ → Option Object}
-    (own : OwnTable) (given : Given l heaps buddies lists (whole own buddies lists) remaining index i buddies b heap flags q old) (apart : AreWhole own buddies lists) (new : ℕ → Option Object) (size : ℕ) (es : List Event) (after : Account Buddy)
+module _ {A : Type 0} {l : Limits A} {heaps : List Heap} {buddies : List Buddy} {lists : List Listing} {fits : List Fitting} {remaining index i : ℕ} {b : Buddy} {heap : Heap} {flags : ℕ} {leaf : Leaf} {q : Properties} {old : ℕ → Option Object}
+    (own : OwnTable) (given : Given l heaps buddies lists fits (whole own buddies lists fits) remaining index i buddies b heap flags q old) (apart : AreWhole own buddies lists fits) (choice : l.sharing ≡ BuddiesChosen) (new : ℕ → Option Object) (size : ℕ) (es : List Event) (after : Account Buddy)
     (answers : Answers (buddy_case (account b heap remaining) size flags) es (Ok leaf) after) (objects : ObjectsAfter b (Ok leaf) after.allocator old new) (nonempty : 0 < leaf.size) where
   abbrev t : Table
-  t = whole own buddies lists
+  t = whole own buddies lists fits
 
   abbrev before : State
-  before = state_in l heaps buddies lists t remaining
+  before = state_in l heaps buddies lists fits t remaining
 
   serving : Serves before index b
-  serving = serves l heaps buddies lists t remaining index b given.is given.known given.at
+  serving = serves l heaps buddies lists fits t remaining index b given.is given.known given.at
 
   -- the object of a new chunk is not held
   not_held_yet : old leaf.object ≡ None → finite.get t.held leaf.object ≡ None
@@ -83,7 +85,7 @@ module _ {A : Type 0} {l : Limits A} {heaps : List Heap} {buddies : List Buddy} 
 
   there : (front : IsFront b size leaf) → finite.get t.held leaf.object ≡ Some (chunk_object b front.chunk)
   there front =
-      let chunk_found = buddy_of l heaps buddies lists t remaining index b given.is given.known given.at in
+      let chunk_found = buddy_of l heaps buddies lists fits t remaining index b given.is given.known given.at in
       ap (finite.get t.held) front.object ∙ chunk_found.linked.chunks leaf.chunk front.chunk front.held
 
   stands : IsAt buddies index b
@@ -95,15 +97,15 @@ module _ {A : Type 0} {l : Limits A} {heaps : List Heap} {buddies : List Buddy} 
   -- What the fields are with another buddy allocator.
   module _ (sound : IsSound after.allocator) where
     abbrev now : Account Buddy → Table
-    now a = whole own (set buddies index a.allocator) lists
+    now a = whole own (set buddies index a.allocator) lists fits
 
     abbrev state_of : Account Buddy → State
-    state_of a = state_in l (set heaps i a.heap) (set buddies index a.allocator) lists (now a) a.remaining
+    state_of a = state_in l (set heaps i a.heap) (set buddies index a.allocator) lists fits (now a) a.remaining
 
     -- what is left of it
     pub record IsServed (a : Account Buddy) : Type 0 where
-      pub recorded : IsRecorded l.config (properties_in l (set heaps i a.heap)) (set heaps i a.heap) (set buddies index a.allocator) lists (now a) a.remaining
-      pub parts : AreWhole own (set buddies index a.allocator) lists
+      pub recorded : IsRecorded l.sharing l.config (properties_in l (set heaps i a.heap)) (set heaps i a.heap) (set buddies index a.allocator) lists fits (now a) a.remaining
+      pub parts : AreWhole own (set buddies index a.allocator) lists fits
       pub gives : GivesInPlace (buddy_candidate before size index) es block (state_of a) ⊎ GivesInNewObject (buddy_candidate before size index) es block (state_of a)
       pub objects_are : ObjectsWith before block (state_of a) old new
 
@@ -112,13 +114,13 @@ module _ {A : Type 0} {l : Limits A} {heaps : List Heap} {buddies : List Buddy} 
         → GivesInPlace (buddy_candidate before size index) es block (with_span before (span_of_leaf leaf)) → IsServed after
     in_chunk front same_objects after_is gives =
         let buddy_now : Buddy = with_leaf b leaf in
-        let made = leaf_comes own buddies lists apart index b stands in_range serving.of.sound serving.of.for_type.memory_type buddy_now refl leaf front.chunk front.held front.object refl refl in
-        let now_is : Table = whole own (set buddies index buddy_now) lists in
+        let made = leaf_comes own buddies lists fits apart index b stands in_range serving.of.sound serving.of.for_type.memory_type buddy_now refl leaf front.chunk front.held front.object refl refl in
+        let now_is : Table = whole own (set buddies index buddy_now) lists fits in
         let more : HasLeafMore t now_is leaf = record { free = span_is_free; live = made.live_is } in
         let sound_now = subst IsSound (ap (λ (a : Account Buddy). a.allocator) after_is) sound in
-        let state = state_with_leaf l heaps buddies lists t remaining index b given.is given.known given.at i heap given.here given.at_heap leaf front.chunk now_is front.held front.object sound_now made.held_is more in
+        let state = state_with_leaf l heaps buddies lists fits t remaining index b given.is given.known given.at i heap given.here given.at_heap leaf front.chunk now_is front.held front.object sound_now made.held_is more in
         subst IsServed (sym after_is) (record {
-          recorded = recorded_with_leaf l heaps buddies lists t remaining index b given.is given.known given.at i heap given.here given.at_heap leaf front.chunk now_is front.held front.object sound_now made.held_is more;
+          recorded = recorded_with_leaf l heaps buddies lists fits t remaining index b given.is given.known given.at i heap given.here given.at_heap leaf front.chunk now_is front.held front.object sound_now made.held_is more;
           parts = made.apart;
           gives = inl (subst (GivesInPlace (buddy_candidate before size index) es block) (sym state) gives);
           objects_are = rw (there front) same_objects;
@@ -140,19 +142,19 @@ module _ {A : Type 0} {l : Limits A} {heaps : List Heap} {buddies : List Buddy} 
         let chunk_now : finite.get after.allocator.chunks leaf.chunk ≡ Some chunk = ap (λ (x : Buddy). finite.get x.chunks leaf.chunk) after_buddy ∙ own_inserted b.chunks leaf.chunk chunk in
         let row : HeldObject = record { memory_type = index; counted = n; kind = BuddyChunk } in
         let row_is : chunk_object b chunk ≡ row = λ k. record row { memory_type = for_type.memory_type k } in
-        let made = buddy_chunk_comes own buddies lists apart index b stands in_range serving.of.sound for_type.memory_type buddy_now refl leaf chunk free refl begins.free_key refl refl in
-        let now_is : Table = whole own (set buddies index buddy_now) lists in
+        let made = buddy_chunk_comes own buddies lists fits apart index b stands in_range serving.of.sound for_type.memory_type buddy_now refl leaf chunk free refl begins.free_key refl refl in
+        let now_is : Table = whole own (set buddies index buddy_now) lists fits in
         let held_now : now_is.held ≡ finite.insert t.held leaf.object row = made.held_is ∙ ap (finite.insert t.held leaf.object) row_is in
         let more : HasLeafMore t now_is leaf = record { free = span_is_free; live = made.live_is } in
         let power = sound.space.powers leaf.chunk chunk chunk_now in
         let small : n < 2 ^ 64 = omega (arith, power.1.1, pow-le power.0 63 power.1.0) in
         let sound_now = subst IsSound after_buddy sound in
-        let state = state_with_chunk l heaps buddies lists t remaining index b given.is given.known given.at i heap given.here given.at_heap leaf n now_is changed free some small sound_now held_now more refl within in
-        let asked = asked_size l heaps buddies lists t remaining index b given.is given.known given.at i heap given.here given.at_heap size in
+        let state = state_with_chunk l heaps buddies lists fits t remaining index b given.is given.known given.at i heap given.here given.at_heap leaf n now_is changed free some small sound_now held_now more refl within choice in
+        let asked = asked_size l heaps buddies lists fits t remaining index b given.is given.known given.at i heap given.here given.at_heap size in
         let state_asked = state ∙ ap (λ m. with_span (with_buddy_chunk before index leaf.object m) (span_of_leaf leaf)) asked in
         let found_now = ap (λ (x : Held). finite.get x leaf.object) held_now ∙ own_inserted t.held leaf.object row in
         subst IsServed (sym after_is) (record {
-          recorded = recorded_with_chunk l heaps buddies lists t remaining index b given.is given.known given.at i heap given.here given.at_heap leaf n now_is changed free some small sound_now held_now more refl within;
+          recorded = recorded_with_chunk l heaps buddies lists fits t remaining index b given.is given.known given.at i heap given.here given.at_heap leaf n now_is changed free some small sound_now held_now more refl within choice;
           parts = made.apart;
           gives = inr (subst (GivesInNewObject (buddy_candidate before size index) es block) (sym state_asked) gives);
           objects_are = rw free (counted_new before.properties b.memory_type (sees_chunks b) chunk row leaf.object _ _ old new chunk_now found_now for_type.memory_type refl (ap (λ bits. has_bit bits 2) for_type.props) one_more);
@@ -167,7 +169,7 @@ module _ {A : Type 0} {l : Limits A} {heaps : List Heap} {buddies : List Buddy} 
       | inr gives ↦
           let begins = gives.place in
           let more = more_in begins.free_key in
-          let told = told_with before index b serving heap size flags (type_heap_is l heaps buddies lists t remaining given.is.books index i heap given.known given.here given.at_heap) given.flags_are in
+          let told = told_with before index b serving heap size flags (type_heap_is l heaps buddies lists fits t remaining given.is.books index i heap given.known given.here given.at_heap) given.flags_are in
           let asked : question b size flags ≡ buddy_question before index size = told.question in
           let free = not_held_yet more.was_free in
           in_new_chunk begins free gives.asks.has.remains.objects gives.asks.within gives.state more (record {

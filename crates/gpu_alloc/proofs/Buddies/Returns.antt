@@ -16,10 +16,10 @@ use Rattle.gpu_alloc_buddy.specs.BuddyState.{Buddy, IsLiveLeaf, IsLiveSpan, IsNo
 use Rattle.gpu_alloc_base.proofs.Leaves.{leaf_same_or_left}
 use Rattle.gpu_alloc_base.specs.Chunks.{Chunk}
 use Rattle.gpu_alloc_freelist.specs.FreeListState.{Listing}
-use Rattle.gpu_alloc.specs.Inside.{state_in, properties_in, lists_in, chunk_object, span_of_leaf, leaf_at}
+use Rattle.gpu_alloc.specs.Inside.{fits_in, state_in, properties_in, lists_in, chunk_object, span_of_leaf, leaf_at}
 use Rattle.gpu_alloc.specs.Own.{OwnTable}
 use Rattle.gpu_alloc.specs.Whole.{whole, IsKept}
-use Rattle.gpu_alloc.proofs.Linked.{IsConsistent, IsBuddyOf, StandFor, buddies_set, consistent}
+use Rattle.gpu_alloc.proofs.Linked.{chosen_less, chosen_same, IsConsistent, IsBuddyOf, StandFor, buddies_set, consistent}
 use Rattle.gpu_alloc.proofs.Wholes.{at_read, leaf_goes, last_leaf_goes}
 use Rattle.gpu_alloc.specs.Release.{Frees, ObjectsFreed, GoesWith, IsUnused, without_all, without_objects, without_span}
 use Rattle.gpu_alloc.specs.FirstTypes.{first_types}
@@ -39,6 +39,7 @@ use Rattle.gpu_alloc.proofs.Buddies.Served.{buddy_agrees, unused_is, unused_was}
 use Rattle.gpu_alloc.proofs.Buddies.Serving.{Serves}
 use Rattle.gpu_alloc.proofs.Buddies.Grants.{same_set, serves, buddy_of, same_for, counted_before}
 use Rattle.gpu_alloc.proofs.Buddies.States.{types_kept}
+use Rattle.gpu_alloc_fit.specs.Fit.{Fitting}
 
 -- the only span of an object is live no more where no span of it is left
 pub only_span : (live : set_of.FinSet span_cmp) (span other : Span) → ((left : Span) → IsTrue (set_of.contains (set_of.remove live span) left) → left.object ≢ span.object)
@@ -49,8 +50,8 @@ only_span live span other none was of_it = elim (eq_by_cmp span_cmp other span) 
 ] refl
 
 -- a block of a buddy allocator among the fields, as it comes back
-pub record Given {A : Type 0} (l : Limits A) (heaps : List Heap) (buddies : List Buddy) (lists : List Listing) (own : OwnTable) (remaining index i : ℕ) (b : Buddy) (heap : Heap) (leaf : Leaf) (block : Block) : Type 0 where
-  pub kept : IsKept l.config (properties_in l heaps) heaps buddies lists own remaining
+pub record Given {A : Type 0} (l : Limits A) (heaps : List Heap) (buddies : List Buddy) (lists : List Listing) (fits : List Fitting) (own : OwnTable) (remaining index i : ℕ) (b : Buddy) (heap : Heap) (leaf : Leaf) (block : Block) : Type 0 where
+  pub kept : IsKept l.sharing l.config (properties_in l heaps) heaps buddies lists fits own remaining
   pub known : index < length (properties_in l heaps).memory_types
   pub at : b ≡ get_or buddies index b
   pub here : i ≡ heap_at (properties_in l heaps) index
@@ -61,18 +62,18 @@ pub record Given {A : Type 0} (l : Limits A) (heaps : List Heap) (buddies : List
 
 -- A live block of the whole allocator is one of its memory type's buddy allocator, which finds it by its span.
 
-module _ {A : Type 0} (l : Limits A) {heaps : List Heap} {buddies : List Buddy} {lists : List Listing} {own : OwnTable} {remaining index : ℕ} {b : Buddy} {block : Block} (kept : IsKept l.config (properties_in l heaps) heaps buddies lists own remaining)
-    (owned : IsOwned (state_in l heaps buddies lists (whole own buddies lists) remaining) block) (shared : block.kind ≡ BuddyChunk) (typed : index ≡ block.memory_type) (at : b ≡ get_or buddies index b) where
+module _ {A : Type 0} (l : Limits A) {heaps : List Heap} {buddies : List Buddy} {lists : List Listing} {fits : List Fitting} {own : OwnTable} {remaining index : ℕ} {b : Buddy} {block : Block} (kept : IsKept l.sharing l.config (properties_in l heaps) heaps buddies lists fits own remaining)
+    (owned : IsOwned (state_in l heaps buddies lists fits (whole own buddies lists fits) remaining) block) (shared : block.kind ≡ BuddyChunk) (typed : index ≡ block.memory_type) (at : b ≡ get_or buddies index b) where
   pub known_type : index < length (properties_in l heaps).memory_types
-  known_type = omega (arith, typed, owned.held.2, (known_object (properties_in l heaps) heaps (whole own buddies lists) remaining kept.books refl block.object owned.held.0 owned.held.1).of_type)
+  known_type = omega (arith, typed, owned.held.2, (known_object (properties_in l heaps) heaps (whole own buddies lists fits) remaining kept.books refl block.object owned.held.0 owned.held.1).of_type)
 
   pub leaf_found : IsNoLiveSpan b block.object block.offset block.size → ⊥
   leaf_found none =
-      let of = buddy_of l heaps buddies lists (whole own buddies lists) remaining index b (consistent l.config (properties_in l heaps) heaps own buddies lists remaining kept) known_type at in
+      let of = buddy_of l heaps buddies lists fits (whole own buddies lists fits) remaining index b (consistent l.sharing l.config (properties_in l heaps) heaps own buddies lists fits remaining kept) known_type at in
       let there = of.linked.spans (span_of block) owned.held.0 owned.live (record { held = owned.held.1; of_kind = owned.held.3 ∙ shared; of_type = owned.held.2 ∙ sym typed ∙ sym of.for_type.memory_type }) in
       none (leaf_at (span_of block) there.0) (record { live = there.1; of_object = refl; starts = refl; of_size = refl })
 
-  pub given_back : {leaf : Leaf} {i : ℕ} {heap : Heap} → i ≡ heap_at (properties_in l heaps) index → heap ≡ get_or heaps i heap → IsLiveSpan b block.object block.offset block.size leaf → Given l heaps buddies lists own remaining index i b heap leaf block
+  pub given_back : {leaf : Leaf} {i : ℕ} {heap : Heap} → i ≡ heap_at (properties_in l heaps) index → heap ≡ get_or heaps i heap → IsLiveSpan b block.object block.offset block.size leaf → Given l heaps buddies lists fits own remaining index i b heap leaf block
   given_back here at_heap of = record {
     kept = kept;
     known = known_type;
@@ -84,24 +85,24 @@ module _ {A : Type 0} (l : Limits A) {heaps : List Heap} {buddies : List Buddy} 
     shared = shared;
   }
 
-module _ {A : Type 0} {l : Limits A} {heaps : List Heap} {buddies : List Buddy} {lists : List Listing} {own : OwnTable} {remaining index i : ℕ} {b : Buddy} {heap : Heap} {leaf : Leaf} {block : Block} (given : Given l heaps buddies lists own remaining index i b heap leaf block) where
+module _ {A : Type 0} {l : Limits A} {heaps : List Heap} {buddies : List Buddy} {lists : List Listing} {fits : List Fitting} {own : OwnTable} {remaining index i : ℕ} {b : Buddy} {heap : Heap} {leaf : Leaf} {block : Block} (given : Given l heaps buddies lists fits own remaining index i b heap leaf block) where
   abbrev p : Properties
   p = properties_in l heaps
 
   abbrev t : Table
-  t = whole own buddies lists
+  t = whole own buddies lists fits
 
   abbrev before : State
-  before = state_in l heaps buddies lists t remaining
+  before = state_in l heaps buddies lists fits t remaining
 
-  is : IsConsistent l.config p heaps buddies lists t remaining
-  is = consistent l.config p heaps own buddies lists remaining given.kept
+  is : IsConsistent l.sharing l.config p heaps buddies lists fits t remaining
+  is = consistent l.sharing l.config p heaps own buddies lists fits remaining given.kept
 
   serving : Serves before index b
-  serving = serves l heaps buddies lists t remaining index b is given.known given.at
+  serving = serves l heaps buddies lists fits t remaining index b is given.known given.at
 
   of : IsBuddyOf l.config p t index b
-  of = buddy_of l heaps buddies lists t remaining index b is given.known given.at
+  of = buddy_of l heaps buddies lists fits t remaining index b is given.known given.at
 
   in_range : index < length buddies
   in_range = omega (arith, given.known, given.kept.shared.count)
@@ -115,7 +116,7 @@ module _ {A : Type 0} {l : Limits A} {heaps : List Heap} {buddies : List Buddy} 
   agrees_before q objects agrees = buddy_agrees before index b serving q objects given.known agrees
 
   pub counted_first : IsCounted b.chunks heap remaining
-  counted_first = counted_before l heaps buddies lists t remaining index b is given.known given.at i heap given.here given.at_heap
+  counted_first = counted_before l heaps buddies lists fits t remaining index b is given.known given.at i heap given.here given.at_heap
 
   -- Its chunk.
 
@@ -151,24 +152,26 @@ module _ {A : Type 0} {l : Limits A} {heaps : List Heap} {buddies : List Buddy} 
   -- What the fields stand for then.
 
   abbrev With : Account Buddy → State → Type 0
-  With a s = StandFor l (set heaps i a.heap) (set buddies index a.allocator) lists own a.remaining s
+  With a s = StandFor l (set heaps i a.heap) (set buddies index a.allocator) lists fits own a.remaining s
 
   -- with a block fewer in a chunk that stays
   stays : IsSound (without_leaf b leaf) → With (account (without_leaf b leaf) heap remaining) (without_span before block)
   stays sound =
       let after : Buddy = without_leaf b leaf in
-      let made = leaf_goes own buddies lists given.kept.apart index b (at_read buddies index b in_range given.at) in_range of.sound of.for_type.memory_type after refl leaf given.live refl refl in
-      subst (λ (hs : List Heap). StandFor l hs (set buddies index after) lists own remaining (without_span before block)) (sym (same_set heaps i heap heap given.at_heap refl)) (
+      let made = leaf_goes own buddies lists fits given.kept.apart index b (at_read buddies index b in_range given.at) in_range of.sound of.for_type.memory_type after refl leaf given.live refl refl in
+      subst (λ (hs : List Heap). StandFor l hs (set buddies index after) lists fits own remaining (without_span before block)) (sym (same_set heaps i heap heap given.at_heap refl)) (
         record {
-          books = booked-span_gone p heaps t remaining given.kept.books refl (whole own (set buddies index after) lists) row (span_of_leaf leaf) found refl made.held_is made.live_is;
-          shared = buddies_set l.config p buddies index after given.kept.shared (record { for_type = same_for l heaps buddies lists t remaining index b is given.known given.at after refl refl refl refl; sound = sound });
+          books = booked-span_gone p heaps t remaining given.kept.books refl (whole own (set buddies index after) lists fits) row (span_of_leaf leaf) found refl made.held_is made.live_is;
+          shared = buddies_set l.config p buddies index after given.kept.shared (record { for_type = same_for l heaps buddies lists fits t remaining index b is given.known given.at after refl refl refl refl; sound = sound });
           listed = given.kept.listed;
+          fitted = given.kept.fitted;
+          chosen = chosen_same l.sharing t (whole own (set buddies index after) lists fits) given.kept.chosen made.held_is;
           apart = made.apart;
         },
         λ k. record before {
           held = made.held_is k;
           live = (made.live_is ∙ ap (set_of.remove t.live) (sym given.span)) k;
-          types = lists_in (types_kept (first_types l.config p) buddies index after b given.at refl k) lists;
+          types = fits_in (lists_in (types_kept (first_types l.config p) buddies index after b given.at refl k) lists) fits;
         },
       )
 
@@ -178,31 +181,33 @@ module _ {A : Type 0} {l : Limits A} {heaps : List Heap} {buddies : List Buddy} 
   goes unused sound =
       let after : Buddy = record (without_leaf b leaf) { chunks = finite.remove b.chunks leaf.chunk } in
       let changed : Heap = record heap { used = heap.used - lies.chunk.size } in
-      let made = last_leaf_goes own buddies lists given.kept.apart index b (at_read buddies index b in_range given.at) in_range of.sound of.for_type.memory_type after refl leaf given.live (last_leaf unused) refl refl in
-      let now : Table = whole own (set buddies index after) lists in (
-        subst (λ (q : Properties). IsKept l.config q (set heaps i changed) (set buddies index after) lists own (remaining + 1)) (sym (properties_kept l heaps i changed heap given.at_heap refl)) (record {
+      let made = last_leaf_goes own buddies lists fits given.kept.apart index b (at_read buddies index b in_range given.at) in_range of.sound of.for_type.memory_type after refl leaf given.live (last_leaf unused) refl refl in
+      let now : Table = whole own (set buddies index after) lists fits in (
+        subst (λ (q : Properties). IsKept l.sharing l.config q (set heaps i changed) (set buddies index after) lists fits own (remaining + 1)) (sym (properties_kept l heaps i changed heap given.at_heap refl)) (record {
           books = booked-gone p heaps t remaining given.kept.books refl now row (span_of_leaf leaf) (record { found = found; last = last_of unused; held = made.held_is; live = made.live_is })
               heap changed i (given.here ∙ ap (heap_at p) (sym of.for_type.memory_type)) given.at_heap refl;
-          shared = buddies_set l.config p buddies index after given.kept.shared (record { for_type = same_for l heaps buddies lists t remaining index b is given.known given.at after refl refl refl refl; sound = sound });
+          shared = buddies_set l.config p buddies index after given.kept.shared (record { for_type = same_for l heaps buddies lists fits t remaining index b is given.known given.at after refl refl refl refl; sound = sound });
           listed = given.kept.listed;
+          fitted = given.kept.fitted;
+          chosen = chosen_less l.sharing t now leaf.object given.kept.chosen made.held_is;
           apart = made.apart;
         }),
-        state_kept l heaps (set buddies index after) lists i changed heap now (remaining + 1) given.at_heap refl refl
+        state_kept l heaps (set buddies index after) lists fits i changed heap now (remaining + 1) given.at_heap refl refl
             ∙ (λ k. record before {
               held = (made.held_is ∙ ap (finite.remove t.held) (sym object_is)) k;
               live = (made.live_is ∙ ap (set_of.remove t.live) (sym given.span)) k;
               remaining = remaining + 1;
-              types = lists_in (types_kept (first_types l.config p) buddies index after b given.at refl k) lists;
+              types = fits_in (lists_in (types_kept (first_types l.config p) buddies index after b given.at refl k) lists) fits;
             }),
       )
 
   -- What the call of the buddy allocator comes to.
 
   abbrev state_with : Account Buddy → State
-  state_with a = state_in l (set heaps i a.heap) (set buddies index a.allocator) lists (whole own (set buddies index a.allocator) lists) a.remaining
+  state_with a = state_in l (set heaps i a.heap) (set buddies index a.allocator) lists fits (whole own (set buddies index a.allocator) lists fits) a.remaining
 
   pub record IsReturned (after : Account Buddy) (es : List Event) (r : Properties) (old new : ℕ → Option Object) : Type 0 where
-    pub kept : IsKept l.config (properties_in l (set heaps i after.heap)) (set heaps i after.heap) (set buddies index after.allocator) lists own after.remaining
+    pub kept : IsKept l.sharing l.config (properties_in l (set heaps i after.heap)) (set heaps i after.heap) (set buddies index after.allocator) lists fits own after.remaining
     pub frees : Frees before block es (state_with after)
     pub freed : ObjectsFreed before block old new
     pub agreed : agreement.Agrees (state_with after) r new

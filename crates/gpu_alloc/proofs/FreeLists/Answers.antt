@@ -48,20 +48,21 @@ use Rattle.gpu_alloc.proofs.HeapLists.{type_heap_is}
 use Rattle.gpu_alloc.proofs.FreeLists.Serving.{ServesList, tail_is, question_is, told_with}
 use Rattle.gpu_alloc_base.proofs.Maps.{own_inserted}
 use Rattle.gpu_alloc.proofs.FreeLists.Types.{own_listing, serves_own}
+use Rattle.gpu_alloc_fit.specs.Fit.{Fitting}
 
 -- A request to a free list among the fields, and the block that it gave.
 
-module _ {A : Type 0} {limits : Limits A} {heaps : List Heap} {buddies : List Buddy} {lists : List Listing} {remaining index i : ℕ} {l : Listing} {heap : Heap} {flags : ℕ} {slot : Slot} {q : Properties} {old : ℕ → Option Object}
-    (own : OwnTable) (given : Given limits heaps buddies lists (whole own buddies lists) remaining index i lists l heap flags q old) (apart : AreWhole own buddies lists) (new : ℕ → Option Object) (size alignment : ℕ) (es : List Event) (after : Account Listing)
+module _ {A : Type 0} {limits : Limits A} {heaps : List Heap} {buddies : List Buddy} {lists : List Listing} {fits : List Fitting} {remaining index i : ℕ} {l : Listing} {heap : Heap} {flags : ℕ} {slot : Slot} {q : Properties} {old : ℕ → Option Object}
+    (own : OwnTable) (given : Given limits heaps buddies lists fits (whole own buddies lists fits) remaining index i lists l heap flags q old) (apart : AreWhole own buddies lists fits) (new : ℕ → Option Object) (size alignment : ℕ) (es : List Event) (after : Account Listing)
     (answers : Answers (list_case (account l heap remaining) size alignment flags) es (Ok slot) after) (objects : ObjectsAfter l (Ok slot) after.allocator old new) (nonempty : 0 < slot.size) where
   abbrev t : Table
-  t = whole own buddies lists
+  t = whole own buddies lists fits
 
   abbrev before : State
-  before = state_in limits heaps buddies lists t remaining
+  before = state_in limits heaps buddies lists fits t remaining
 
   serving : ServesList before index l
-  serving = serves_own limits heaps buddies lists t remaining index l given.is given.known given.at
+  serving = serves_own limits heaps buddies lists fits t remaining index l given.is given.known given.at
 
   -- the object of a new chunk is not held
   not_held_yet : old slot.object ≡ None → finite.get t.held slot.object ≡ None
@@ -92,7 +93,7 @@ module _ {A : Type 0} {limits : Limits A} {heaps : List Heap} {buddies : List Bu
 
   there : (tail : IsTail l.space size alignment slot) → finite.get t.held slot.object ≡ Some (list_object l slot.chunk tail.object.0)
   there tail =
-      let of = own_listing limits heaps buddies lists t remaining index l given.is given.known given.at in
+      let of = own_listing limits heaps buddies lists fits t remaining index l given.is given.known given.at in
       ap (finite.get t.held) tail.object.2 ∙ of.linked.chunks slot.chunk tail.object.0 tail.object.1
 
   stands : IsAt lists index l
@@ -101,15 +102,15 @@ module _ {A : Type 0} {limits : Limits A} {heaps : List Heap} {buddies : List Bu
   -- What the fields are with another free list.
   module _ (sound : IsSound after.allocator) where
     abbrev now : Account Listing → Table
-    now a = whole own buddies (set lists index a.allocator)
+    now a = whole own buddies (set lists index a.allocator) fits
 
     abbrev state_of : Account Listing → State
-    state_of a = state_in limits (set heaps i a.heap) buddies (set lists index a.allocator) (now a) a.remaining
+    state_of a = state_in limits (set heaps i a.heap) buddies (set lists index a.allocator) fits (now a) a.remaining
 
     -- what is left of it
     pub record IsServed (a : Account Listing) : Type 0 where
-      pub recorded : IsRecorded limits.config (properties_in limits (set heaps i a.heap)) (set heaps i a.heap) buddies (set lists index a.allocator) (now a) a.remaining
-      pub parts : AreWhole own buddies (set lists index a.allocator)
+      pub recorded : IsRecorded limits.sharing limits.config (properties_in limits (set heaps i a.heap)) (set heaps i a.heap) buddies (set lists index a.allocator) fits (now a) a.remaining
+      pub parts : AreWhole own buddies (set lists index a.allocator) fits
       pub gives : GivesInPlace (list_candidate before size alignment index) es block (state_of a) ⊎ GivesInNewObject (list_candidate before size alignment index) es block (state_of a)
       pub objects_are : ObjectsWith before block (state_of a) old new
 
@@ -120,13 +121,13 @@ module _ {A : Type 0} {limits : Limits A} {heaps : List Heap} {buddies : List Bu
         let chunk : Chunk = tail.object.0 in
         let found = tail.object.1 in
         let list_now : Listing = listing_with_slot l slot in
-        let made = slot_comes own buddies lists apart index l stands serving.of.sound serving.of.for_type.memory_type list_now refl slot chunk found tail.object.2 refl refl in
-        let now_is : Table = whole own buddies (set lists index list_now) in
+        let made = slot_comes own buddies lists fits apart index l stands serving.of.sound serving.of.for_type.memory_type list_now refl slot chunk found tail.object.2 refl refl in
+        let now_is : Table = whole own buddies (set lists index list_now) fits in
         let more : HasSlotMore t now_is slot = record { free = slot_is_free; live = made.live_is } in
         let sound_now = subst IsSound (ap (λ (a : Account Listing). a.allocator) after_is) sound in
-        let state = state_with_slot limits heaps buddies lists t remaining index l given.is given.known given.at i heap given.here given.at_heap slot chunk now_is found tail.object.2 sound_now made.held_is more in
+        let state = state_with_slot limits heaps buddies lists fits t remaining index l given.is given.known given.at i heap given.here given.at_heap slot chunk now_is found tail.object.2 sound_now made.held_is more in
         subst IsServed (sym after_is) (record {
-          recorded = recorded_with_slot limits heaps buddies lists t remaining index l given.is given.known given.at i heap given.here given.at_heap slot chunk now_is found tail.object.2 sound_now made.held_is more;
+          recorded = recorded_with_slot limits heaps buddies lists fits t remaining index l given.is given.known given.at i heap given.here given.at_heap slot chunk now_is found tail.object.2 sound_now made.held_is more;
           parts = made.apart;
           gives = inl (subst (GivesInPlace (list_candidate before size alignment index) es block) (sym state) gives);
           objects_are = rw (there tail) same_objects;
@@ -151,18 +152,18 @@ module _ {A : Type 0} {limits : Limits A} {heaps : List Heap} {buddies : List Bu
         let row : HeldObject = record { memory_type = index; counted = n; kind = FreeListChunk slot.chunk } in
         let latest : ℕ = l.space.latest + 1 in
         let row_is : list_object l latest chunk ≡ row = λ k. record { memory_type = for_type.memory_type k; counted = n; kind = FreeListChunk (sym number k) } in
-        let made = list_chunk_comes own buddies lists apart index l stands serving.of.sound for_type.memory_type list_now refl slot latest chunk free refl (next_is_new l.space serving.of.sound.space) refl refl in
-        let now_is : Table = whole own buddies (set lists index list_now) in
+        let made = list_chunk_comes own buddies lists fits apart index l stands serving.of.sound for_type.memory_type list_now refl slot latest chunk free refl (next_is_new l.space serving.of.sound.space) refl refl in
+        let now_is : Table = whole own buddies (set lists index list_now) fits in
         let held_now : now_is.held ≡ finite.insert t.held slot.object row = made.held_is ∙ ap (finite.insert t.held slot.object) row_is in
         let more : HasSlotMore t now_is slot = record { free = slot_is_free; live = made.live_is } in
         let small : n < 2 ^ 64 = (sound.space.sizes slot.chunk chunk chunk_now).1 in
         let sound_now = subst IsSound after_list sound in
-        let state = state_with_list_chunk limits heaps buddies lists t remaining index l given.is given.known given.at i heap given.here given.at_heap slot n now_is changed number free some small sound_now held_now more refl within in
-        let asked = asked_size limits heaps buddies lists t remaining index l given.is given.known given.at size in
+        let state = state_with_list_chunk limits heaps buddies lists fits t remaining index l given.is given.known given.at i heap given.here given.at_heap slot n now_is changed number free some small sound_now held_now more refl within in
+        let asked = asked_size limits heaps buddies lists fits t remaining index l given.is given.known given.at size in
         let state_asked = state ∙ ap (λ m. with_span (with_list_chunk before index slot.object m) (span_of_slot slot)) asked in
         let found_now = ap (λ (x : Held). finite.get x slot.object) held_now ∙ own_inserted t.held slot.object row in
         subst IsServed (sym after_is) (record {
-          recorded = recorded_with_list_chunk limits heaps buddies lists t remaining index l given.is given.known given.at i heap given.here given.at_heap slot n now_is changed number free some small sound_now held_now more refl within;
+          recorded = recorded_with_list_chunk limits heaps buddies lists fits t remaining index l given.is given.known given.at i heap given.here given.at_heap slot n now_is changed number free some small sound_now held_now more refl within;
           parts = made.apart;
           gives = inr (subst (GivesInNewObject (list_candidate before size alignment index) es block) (sym state_asked) gives);
           objects_are = rw free (counted_new before.properties l.memory_type (sees_chunks l) chunk row slot.object _ _ old new chunk_now found_now for_type.memory_type refl (ap (λ bits. has_bit bits 2) for_type.props) one_more);
@@ -201,7 +202,7 @@ module _ {A : Type 0} {limits : Limits A} {heaps : List Heap} {buddies : List Bu
           let free = not_held_yet more.was_free in
           let after_is = gives.state ∙ account_is first in
           in_new_run chunk_number free gives.asks.has.remains.objects gives.asks.within after_is more (record {
-            asks = asks_is (told_with before index l serving heap size alignment flags (type_heap_is limits heaps buddies lists t remaining given.is.books index i heap given.known given.here given.at_heap) given.flags_are) gives.asks;
+            asks = asks_is (told_with before index l serving heap size alignment flags (type_heap_is limits heaps buddies lists fits t remaining given.is.books index i heap given.known given.here given.at_heap) given.flags_are) gives.asks;
             place = record { is = (λ k. list_block before index (number k) (span_is k)); was_free = free };
             asked = gives.asked ∙ ap (λ x. made x slot.object) asked_is;
             state = refl;

@@ -1,5 +1,5 @@
--- What goes of each memory type's free list as all of them are cleaned up in turn.
-use Rattle.std.proofs.Common.{◌≡◌, inl, inr, ℕ, zero, suc, ◌+◌, ◌<◌, ◌↔◌, false, List, [], ◌∷◌, ◌++◌, length, Option, Some, None, IfSome, Contains, refl, sym, ◌∙◌, ap, subst, arith}
+-- What goes of each memory type's free list and fit chunks as all of them are cleaned up in turn.
+use Rattle.std.proofs.Common.{◌≡◌, ◌⊎◌, inl, inr, ℕ, zero, suc, ◌+◌, ◌<◌, ◌↔◌, true, false, List, [], ◌∷◌, ◌++◌, length, Option, Some, None, IfSome, Contains, refl, sym, ◌∙◌, ap, subst, arith}
 use Rattle.std.proofs.lemmas.Bool.{cases_eq}
 use Rattle.std.proofs.lemmas.List.Elements.{Contains-append_left, Contains-append_right, Contains-append_cases}
 use Rattle.std.proofs.Math.Numerals.{add-one}
@@ -15,22 +15,61 @@ use Rattle.gpu_alloc_buddy.specs.BuddyState.{Buddy}
 use Rattle.gpu_alloc_freelist.specs.FreeListState.{Listing}
 use Rattle.gpu_alloc.specs.Inside.{state_in, properties_in}
 use Rattle.gpu_alloc.proofs.Linked.{IsConsistent}
+use Rattle.gpu_alloc.specs.FitSharing.{IsFitChunk}
 use Rattle.gpu_alloc.specs.FreeListSharing.{IsListChunk}
-use Rattle.gpu_alloc.specs.Release.{AreChunksGone, AreAllGone, LetsGo, IsCleanedUp, without_all, without_objects}
-use Rattle.gpu_alloc.specs.Sound.{is_list_chunk, HasLiveSpan, IsSound}
+use Rattle.gpu_alloc.specs.Release.{AreAllGone, AreChunksGone, AreGoneOfType, GivesBack, GivesFitsBack, GivesTypeBack, IsCleanedUp, LetsGo, without_all, without_objects}
+use Rattle.gpu_alloc.specs.Sound.{may_be_unused, HasLiveSpan, IsSound}
 use Rattle.gpu_alloc.specs.Spans.{Table}
 use Rattle.gpu_alloc_block.specs.State.{HeldObject, Span, State, IsLive, share, ledger, total}
 use Rattle.gpu_alloc_block.specs.declared.block.Kind.{Kind}
-use Rattle.gpu_alloc_block.specs.declared.block.Kind.TheVariants.{Dedicated, Imported, BuddyChunk, FreeListChunk}
+use Rattle.gpu_alloc_block.specs.declared.block.Kind.TheVariants.{Dedicated, Imported, BuddyChunk, FreeListChunk, FitChunk}
 use Rattle.gpu_alloc_base.specs.declared.heap.Heap.{Heap}
 use Rattle.gpu_alloc.specs.declared.limits.Limits.{Limits}
 use Rattle.gpu_alloc.proofs.Consistency.{known_object}
 use Rattle.gpu_alloc.proofs.Ledgers.{Held}
 use Rattle.gpu_alloc.proofs.FreeLists.Going.{objects_more, lets_more}
-use Rattle.gpu_alloc.proofs.FreeLists.Gone.{AgreeOnType, agree_back, agree_after, gone_agrees, kept_was, kept_is}
+use Rattle.gpu_alloc.proofs.FreeLists.Gone.{AgreeOnFits, AgreeOnType, agree_back, agree_after, fits_agree, fits_back, type_agrees, kept_was, kept_is}
 use Rattle.gpu_alloc_base.proofs.Lists.{contains_none}
 use Rattle.gpu_alloc_base.proofs.Maps.{one_value}
 use Rattle.gpu_alloc.proofs.Soundness.{sound_is}
+use Rattle.gpu_alloc_fit.specs.Fit.{Fitting}
+
+-- One memory type: what its free list gives back, and then its fit chunks.
+
+-- what went of the free list leaves the fit chunks
+fits_stay : (s now : State) (t : ℕ) (listed : List ℕ) → AreChunksGone s t false listed → now.held ≡ without_all s.held listed → now.live ≡ s.live → AgreeOnFits s now t
+fits_stay s now t listed chunks held live = record {
+  to = λ object is. record {
+    chunk = is.chunk;
+    held = ap (λ (m : Held). finite.get m object) held ∙ kept_is s.held listed object (λ has. other object is has) ∙ is.held;
+    of_type = is.of_type;
+    of_kind = is.of_kind;
+  };
+  from = λ object is. record {
+    chunk = is.chunk;
+    held = (kept_was s.held listed object is.chunk (ap (λ (m : Held). finite.get m object) (sym held) ∙ is.held)).1;
+    of_type = is.of_type;
+    of_kind = is.of_kind;
+  };
+  live = live;
+}
+  where
+    other : (object : ℕ) → IsFitChunk s t object → Contains listed object → ⊥
+    other object is has =
+        let may = (chunks.all object).0 has in
+        let one : is.chunk ≡ may.1.chunk.chunk = one_value _ is.chunk may.1.chunk.chunk is.held may.1.chunk.held in
+        let kinds : FitChunk ≡ FreeListChunk may.0 = sym is.of_kind ∙ ap (λ (h : HeldObject). h.kind) one ∙ may.1.chunk.of_kind in
+        cc
+
+pub type_goes : (s now after : State) (objects objects_now objects_after : ℕ → Option Object) (t : ℕ) (listed fitted : List ℕ) (es fs : List Event) → GivesBack s t false listed es now objects objects_now
+    → GivesFitsBack now t fitted fs after objects_now objects_after → GivesTypeBack s t (listed ++ fitted) (es ++ fs) after objects objects_after
+type_goes s now after objects objects_now objects_after t listed fitted es fs first then =
+    let stay = fits_stay s now t listed first.chunks (ap (λ (x : State). x.held) first.lets.1) (ap (λ (x : State). x.live) first.lets.1) in
+    record {
+      chunks = record { listed = listed; fitted = fitted; both = refl; of_list = first.chunks; of_fits = fits_agree now s t (fits_back s now t stay) fitted then.chunks };
+      lets = lets_more s now after listed fitted es fs first.lets then.lets;
+      objects = then.objects ∙ ap (λ f. without_objects f fitted) first.objects ∙ sym (objects_more objects listed fitted);
+    }
 
 -- The way of the loop: what may go of the memory types before this one went.
 pub record IsCleaning (s : State) (objects : ℕ → Option Object) (t : ℕ) (gone : List ℕ) (es : List Event) (now : State) (p : Properties) (objects_now : ℕ → Option Object) : Type 0 where
@@ -42,12 +81,12 @@ pub record IsCleaning (s : State) (objects : ℕ → Option Object) (t : ℕ) (g
 
 -- one memory type more
 pub cleaning_goes_on : (s now after : State) (p q : Properties) (objects objects_now objects_after : ℕ → Option Object) (t : ℕ) (gone own : List ℕ) (es fs : List Event) → IsCleaning s objects t gone es now p objects_now
-    → AreChunksGone now t false own → LetsGo now own fs after → objects_after ≡ without_objects objects_now own → Agrees after q objects_after → total after ≡ total now
+    → GivesTypeBack now t own fs after objects_now objects_after → Agrees after q objects_after → total after ≡ total now
     → IsCleaning s objects (t + 1) (gone ++ own) (es ++ fs) after q objects_after
-cleaning_goes_on s now after p q objects objects_now objects_after t gone own es fs w chunks lets objects_are agrees whole = record {
-  all = subst (λ n. AreAllGone s n (gone ++ own)) (sym (add-one t)) (gone, own, refl, w.all, gone_agrees now s t (agree_back s now t same_type) false own chunks);
-  lets = lets_more s now after gone own es fs w.lets lets;
-  objects_are = objects_are ∙ ap (λ f. without_objects f own) w.objects_are ∙ sym (objects_more objects gone own);
+cleaning_goes_on s now after p q objects objects_now objects_after t gone own es fs w gives agrees whole = record {
+  all = subst (λ n. AreAllGone s n (gone ++ own)) (sym (add-one t)) (gone, own, refl, w.all, type_agrees now s t (agree_back s now t same_type) own gives.chunks);
+  lets = lets_more s now after gone own es fs w.lets gives.lets;
+  objects_are = gives.objects ∙ ap (λ f. without_objects f own) w.objects_are ∙ sym (objects_more objects gone own);
   agrees = agrees;
   whole = whole ∙ w.whole;
 }
@@ -58,43 +97,75 @@ cleaning_goes_on s now after p q objects objects_now objects_after t gone own es
 -- Where no block is live, all is gone.
 
 -- what went of a memory type is among what went of all
-among_all : (s : State) (n t : ℕ) (gone : List ℕ) → t < n → AreAllGone s n gone → (own : List ℕ) × AreChunksGone s t false own × ((name : ℕ) → Contains own name → Contains gone name)
+among_all : (s : State) (n t : ℕ) (gone : List ℕ) → t < n → AreAllGone s n gone → (own : List ℕ) × AreGoneOfType s t own × ((name : ℕ) → Contains own name → Contains gone name)
 among_all s zero t gone lt all = absurd (omega (arith, lt))
 among_all s (suc n) t gone lt (earlier, own, both, all, chunks) = elim (cases_eq t n) [
-  | inl last ↦ (own, subst (λ k. AreChunksGone s k false own) (sym last) chunks, λ name has. subst (λ xs. Contains xs name) (sym both) (Contains-append_right earlier own name has))
+  | inl last ↦ (own, subst (λ k. AreGoneOfType s k own) (sym last) chunks, λ name has. subst (λ xs. Contains xs name) (sym both) (Contains-append_right earlier own name has))
   | inr before ↦
       let rest = among_all s n t earlier (omega (arith, lt, before)) all in
       (rest.0, rest.1, λ name has. subst (λ xs. Contains xs name) (sym both) (Contains-append_left earlier own name (rest.2 name has)))
 ]
 
--- an object that is held without a live span is a chunk of a free list
-list_kind : (kind : Kind) → (is_list_chunk kind ≡ false → ⊥) → (number : ℕ) × (kind ≡ FreeListChunk number)
-list_kind Dedicated none = absurd (none refl)
-list_kind Imported none = absurd (none refl)
-list_kind BuddyChunk none = absurd (none refl)
-list_kind (FreeListChunk number) none = (number, refl)
+-- an object that may be held without a live span is a chunk of a free list, or a fit chunk
+unused_kind : (kind : Kind) → may_be_unused kind ≡ true → ((number : ℕ) × (kind ≡ FreeListChunk number)) ⊎ (kind ≡ FitChunk)
+unused_kind Dedicated may = absurd (cc)
+unused_kind Imported may = absurd (cc)
+unused_kind BuddyChunk may = absurd (cc)
+unused_kind (FreeListChunk number) may = inl (number, refl)
+unused_kind FitChunk may = inr refl
+
+-- without one it goes with its memory type
+unused_goes : (s : State) (own : List ℕ) (name : ℕ) (h : HeldObject) → AreGoneOfType s h.memory_type own → finite.get s.held name ≡ Some h → IsCleanedUp s name h → Contains own name
+unused_goes s own name h of_type found cleaned = elim (unused_kind h.kind cleaned.0) [
+  | inl listed ↦
+      let chunk : IsListChunk s h.memory_type listed.0 name = record { chunk = h; held = found; of_type = refl; of_kind = listed.1 } in
+      let has = (of_type.of_list.all name).1 (listed.0, record { chunk = chunk; unused = cleaned.1; not_last = λ kept. absurd (cc) }) in
+      subst (λ names. Contains names name) (sym of_type.both) (Contains-append_left of_type.listed of_type.fitted name has)
+  | inr fitted ↦
+      let chunk : IsFitChunk s h.memory_type name = record { chunk = h; held = found; of_type = refl; of_kind = fitted } in
+      let has = (of_type.of_fits.all name).1 (record { chunk = chunk; unused = cleaned.1 }) in
+      subst (λ names. Contains names name) (sym of_type.both) (Contains-append_right of_type.listed of_type.fitted name has)
+]
+
+-- and what goes with its memory type is one without
+goes_unused : (s : State) (t : ℕ) (own : List ℕ) (name : ℕ) (h : HeldObject) → AreGoneOfType s t own → finite.get s.held name ≡ Some h → Contains own name → IsCleanedUp s name h
+goes_unused s t own name h of_type found has = elim (Contains-append_cases of_type.listed of_type.fitted name (subst (λ names. Contains names name) of_type.both has)) [
+  | inl listed ↦
+      let may = ((of_type.of_list.all name).0 listed).1 in
+      let same : h ≡ may.chunk.chunk = one_value _ h may.chunk.chunk found may.chunk.held in
+      (ap (λ (x : HeldObject). may_be_unused x.kind) same ∙ ap may_be_unused may.chunk.of_kind, may.unused)
+  | inr fitted ↦
+      let is = (of_type.of_fits.all name).0 fitted in
+      let same : h ≡ is.chunk.chunk = one_value _ h is.chunk.chunk found is.chunk.held in
+      (ap (λ (x : HeldObject). may_be_unused x.kind) same ∙ ap may_be_unused is.chunk.of_kind, is.unused)
+]
+
+may_be : (kind : Kind) → (may_be_unused kind ≡ false → ⊥) → may_be_unused kind ≡ true
+may_be Dedicated used = absurd (used refl)
+may_be Imported used = absurd (used refl)
+may_be BuddyChunk used = absurd (used refl)
+may_be (FreeListChunk number) used = refl
+may_be FitChunk used = refl
 
 -- nothing sums up to nothing
 no_sum : {X : Type 0} (f : X → ℕ) (xs : List X) → length xs ≡ 0 → sum_by f xs ≡ 0
 no_sum f [] none = refl
 no_sum f (x ∷ xs) none = absurd (omega (arith, none))
 
-module _ {A : Type 0} (l : Limits A) (heaps : List Heap) (buddies : List Buddy) (lists : List Listing) (t : Table) (remaining : ℕ) (is : IsConsistent l.config (properties_in l heaps) heaps buddies lists t remaining) where
+module _ {A : Type 0} (l : Limits A) (heaps : List Heap) (buddies : List Buddy) (lists : List Listing) (fits : List Fitting) (t : Table) (remaining : ℕ) (is : IsConsistent l.sharing l.config (properties_in l heaps) heaps buddies lists fits t remaining) where
   abbrev s : State
-  s = state_in l heaps buddies lists t remaining
+  s = state_in l heaps buddies lists fits t remaining
 
   sound : IsSound s
-  sound = sound_is l heaps buddies lists t remaining is
+  sound = sound_is l heaps buddies lists fits t remaining is
 
   module _ (gone : List ℕ) (all : AreAllGone s (length (properties_in l heaps).memory_types) gone) where
-    -- a free list's chunk in which nothing is live goes
+    -- a chunk in which nothing is live goes
     cleaned_goes : (name : ℕ) (h : HeldObject) → finite.get t.held name ≡ Some h → IsCleanedUp s name h → Contains gone name
     cleaned_goes name h found cleaned =
         let known = known_object (properties_in l heaps) heaps t remaining is.books refl name h found in
-        let kind = list_kind h.kind (λ no_list. let both = cleaned.0 in cc) in
-        let chunk : IsListChunk s h.memory_type kind.0 name = record { chunk = h; held = found; of_type = refl; of_kind = kind.1 } in
         let own = among_all s (length (properties_in l heaps).memory_types) h.memory_type gone known.of_type all in
-        own.2 name ((own.1.all name).1 (kind.0, record { chunk = chunk; unused = cleaned.1; not_last = λ kept. absurd (cc) }))
+        own.2 name (unused_goes s own.0 name h own.1 found cleaned)
 
     -- and nothing else
     is_cleaned : (n : ℕ) (some : List ℕ) → AreAllGone s n some → (name : ℕ) (h : HeldObject) → finite.get t.held name ≡ Some h → Contains some name → IsCleanedUp s name h
@@ -102,10 +173,7 @@ module _ {A : Type 0} (l : Limits A) (heaps : List Heap) (buddies : List Buddy) 
     is_cleaned (suc n) some (earlier, own, both, before, chunks) name h found has =
         elim (Contains-append_cases earlier own name (subst (λ names. Contains names name) both has)) [
           | inl first ↦ is_cleaned n earlier before name h found first
-          | inr now ↦
-              let may = ((chunks.all name).0 now).1 in
-              let same : h ≡ may.chunk.chunk = one_value _ h may.chunk.chunk found may.chunk.held in
-              (ap (λ (x : HeldObject). is_list_chunk x.kind) same ∙ ap is_list_chunk may.chunk.of_kind, may.unused)
+          | inr now ↦ goes_unused s n own name h chunks found now
         ]
 
     -- what stays is what was held and is not cleaned up
@@ -119,9 +187,9 @@ module _ {A : Type 0} (l : Limits A) (heaps : List Heap) (buddies : List Buddy) 
   module _ (unused : (span : Span) → IsLive s span → ⊥) (gone : List ℕ) (all : AreAllGone s (length (properties_in l heaps).memory_types) gone) where
     held_goes : (name : ℕ) (h : HeldObject) → finite.get t.held name ≡ Some h → Contains gone name
     held_goes name h found =
-        let used = subst (λ (o : Option HeldObject). IfSome o (λ x. is_list_chunk x.kind ≡ false → HasLiveSpan s name)) found (sound.used name) in
-        let kind = list_kind h.kind (λ no_list. let span = used no_list in unused span.0 span.1) in
-        cleaned_goes gone all name h found (ap is_list_chunk kind.1, λ span live named. unused span live)
+        let used = subst (λ (o : Option HeldObject). IfSome o (λ x. may_be_unused x.kind ≡ false → HasLiveSpan s name)) found (sound.used name) in
+        let may : may_be_unused h.kind ≡ true = may_be h.kind (λ no_chunk. let span = used no_chunk in unused span.0 span.1) in
+        cleaned_goes gone all name h found (may, λ span live named. unused span live)
 
     none_held : (name : ℕ) (o : Option HeldObject) → finite.get (without_all t.held gone) name ≡ o → o ≡ None
     none_held name None is = refl

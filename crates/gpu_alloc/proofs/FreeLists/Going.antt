@@ -17,9 +17,9 @@ use Rattle.gpu_alloc_freelist.specs.FreeListAllocator as list
 use Rattle.gpu_alloc_freelist.specs.FreeListSound.{IsSound}
 use Rattle.gpu_alloc_freelist.specs.FreeListState.{Listing, Space}
 use Rattle.gpu_alloc_freelist.proofs.ForCallers.{account_without_chunk, all_go, sound_without_chunk}
-use Rattle.gpu_alloc.specs.Inside.{state_in, properties_in, types_in, list_object, slot_at, IsLiveIn}
+use Rattle.gpu_alloc.specs.Inside.{state_in, properties_in, fits_in, types_in, list_object, slot_at, IsLiveIn}
 use Rattle.gpu_alloc.specs.Own.{OwnTable}
-use Rattle.gpu_alloc.proofs.Linked.{IsConsistent, IsListOf, StandFor, consistent, lists_set}
+use Rattle.gpu_alloc.proofs.Linked.{IsConsistent, IsListOf, StandFor, chosen_less, consistent, lists_set}
 use Rattle.gpu_alloc.specs.Release.{AreChunksGone, GivesBack, LetsGo, without_all, without_objects}
 use Rattle.gpu_alloc.specs.FirstTypes.{first_types}
 use Rattle.gpu_alloc.specs.Spans.{Table}
@@ -39,6 +39,7 @@ use Rattle.gpu_alloc.proofs.FreeLists.Serving.{ServesList}
 use Rattle.gpu_alloc.proofs.FreeLists.States.{list_types_kept}
 use Rattle.gpu_alloc.proofs.Buddies.Grants.{same_set}
 use Rattle.gpu_alloc.proofs.FreeLists.Types.{own_listing, serves_own, same_listing_for}
+use Rattle.gpu_alloc_fit.specs.Fit.{Fitting}
 
 -- the state with an object fewer, which went back
 abbrev pub without_object : State → ℕ → State
@@ -49,35 +50,35 @@ abbrev pub without_these : State → List ℕ → State
 without_these s names = record s { held = without_all s.held names; remaining = s.remaining + length names }
 
 -- a memory type's free list and its heap, as a call is handed them
-pub record Handed {A : Type 0} (l : Limits A) (heaps : List Heap) (buddies : List Buddy) (lists : List Listing) (own : OwnTable) (remaining index i : ℕ) (fl : Listing) (heap : Heap) : Type 0 where
-  pub kept : IsKept l.config (properties_in l heaps) heaps buddies lists own remaining
+pub record Handed {A : Type 0} (l : Limits A) (heaps : List Heap) (buddies : List Buddy) (lists : List Listing) (fits : List Fitting) (own : OwnTable) (remaining index i : ℕ) (fl : Listing) (heap : Heap) : Type 0 where
+  pub kept : IsKept l.sharing l.config (properties_in l heaps) heaps buddies lists fits own remaining
   pub known : index < length (properties_in l heaps).memory_types
   pub at : fl ≡ get_or lists index fl
   pub here : i ≡ heap_at (properties_in l heaps) index
   pub at_heap : heap ≡ get_or heaps i heap
 
-pub handed : {A : Type 0} (l : Limits A) {heaps : List Heap} {buddies : List Buddy} {lists : List Listing} {own : OwnTable} {remaining index i : ℕ} {fl : Listing} {heap : Heap} → IsKept l.config (properties_in l heaps) heaps buddies lists own remaining
-    → index < length (properties_in l heaps).memory_types → fl ≡ get_or lists index fl → i ≡ heap_at (properties_in l heaps) index → heap ≡ get_or heaps i heap → Handed l heaps buddies lists own remaining index i fl heap
+pub handed : {A : Type 0} (l : Limits A) {heaps : List Heap} {buddies : List Buddy} {lists : List Listing} {fits : List Fitting} {own : OwnTable} {remaining index i : ℕ} {fl : Listing} {heap : Heap} → IsKept l.sharing l.config (properties_in l heaps) heaps buddies lists fits own remaining
+    → index < length (properties_in l heaps).memory_types → fl ≡ get_or lists index fl → i ≡ heap_at (properties_in l heaps) index → heap ≡ get_or heaps i heap → Handed l heaps buddies lists fits own remaining index i fl heap
 handed l kept known at here at_heap = record { kept = kept; known = known; at = at; here = here; at_heap = at_heap }
 
-module _ {A : Type 0} {l : Limits A} {heaps : List Heap} {buddies : List Buddy} {lists : List Listing} {own : OwnTable} {remaining index i : ℕ} {fl : Listing} {heap : Heap} (h : Handed l heaps buddies lists own remaining index i fl heap) where
+module _ {A : Type 0} {l : Limits A} {heaps : List Heap} {buddies : List Buddy} {lists : List Listing} {fits : List Fitting} {own : OwnTable} {remaining index i : ℕ} {fl : Listing} {heap : Heap} (h : Handed l heaps buddies lists fits own remaining index i fl heap) where
   abbrev p : Properties
   p = properties_in l heaps
 
   abbrev t : Table
-  t = whole own buddies lists
+  t = whole own buddies lists fits
 
   abbrev state : State
-  state = state_in l heaps buddies lists t remaining
+  state = state_in l heaps buddies lists fits t remaining
 
-  is : IsConsistent l.config p heaps buddies lists t remaining
-  is = consistent l.config p heaps own buddies lists remaining h.kept
+  is : IsConsistent l.sharing l.config p heaps buddies lists fits t remaining
+  is = consistent l.sharing l.config p heaps own buddies lists fits remaining h.kept
 
   pub of : IsListOf l.config p t index fl
-  of = own_listing l heaps buddies lists t remaining index fl is h.known h.at
+  of = own_listing l heaps buddies lists fits t remaining index fl is h.known h.at
 
   serves : ServesList state index fl
-  serves = serves_own l heaps buddies lists t remaining index fl is h.known h.at
+  serves = serves_own l heaps buddies lists fits t remaining index fl is h.known h.at
 
   pub list_in : index < length lists
   list_in = omega (arith, h.known, h.kept.listed.count)
@@ -111,24 +112,26 @@ module _ {A : Type 0} {l : Limits A} {heaps : List Heap} {buddies : List Buddy} 
     unused : (span : Span) → IsLiveIn t span → span.object ≢ chunk.object
     unused span live same = free.unused (slot_at span n) (span_is_slot state index fl serves n chunk span found same live) refl
 
-    made : Makes (IsPlace (length buddies)) (parts_of own buddies (set lists index after.allocator)) (finite.remove t.held chunk.object) t.live
-    made = list_chunk_goes own buddies lists h.kept.apart index fl (at_read lists index fl list_in h.at) of.sound of.for_type.memory_type after.allocator refl n chunk found free.unused refl refl
+    made : Makes (IsPlace (length buddies) (length (set lists index after.allocator))) (parts_of own buddies (set lists index after.allocator) fits) (finite.remove t.held chunk.object) t.live
+    made = list_chunk_goes own buddies lists fits h.kept.apart index fl (at_read lists index fl list_in h.at) of.sound of.for_type.memory_type after.allocator refl n chunk found free.unused refl refl
 
-    pub chunk_goes : StandFor l (set heaps i after.heap) buddies (set lists index after.allocator) own (remaining + 1) (without_object state chunk.object)
+    pub chunk_goes : StandFor l (set heaps i after.heap) buddies (set lists index after.allocator) fits own (remaining + 1) (without_object state chunk.object)
     chunk_goes = (
-      subst (λ (q : Properties). IsKept l.config q (set heaps i after.heap) buddies (set lists index after.allocator) own (remaining + 1)) (sym (properties_kept l heaps i after.heap heap h.at_heap refl)) (record {
-        books = booked-let_go p heaps t remaining h.kept.books refl (whole own buddies (set lists index after.allocator)) row chunk.object (record { found = of.linked.chunks n chunk found; unused = unused; held = made.held_is; live = made.live_is })
+      subst (λ (q : Properties). IsKept l.sharing l.config q (set heaps i after.heap) buddies (set lists index after.allocator) fits own (remaining + 1)) (sym (properties_kept l heaps i after.heap heap h.at_heap refl)) (record {
+        books = booked-let_go p heaps t remaining h.kept.books refl (whole own buddies (set lists index after.allocator) fits) row chunk.object (record { found = of.linked.chunks n chunk found; unused = unused; held = made.held_is; live = made.live_is })
             heap after.heap i (h.here ∙ ap (heap_at p) (sym of.for_type.memory_type)) h.at_heap refl;
         shared = h.kept.shared;
         listed = lists_set l.config p lists index after.allocator h.kept.listed (record { for_type = same_listing_for l heaps t index fl after.allocator of refl refl refl refl; sound = sound_without_chunk fl n of.sound free });
+        fitted = h.kept.fitted;
+        chosen = chosen_less l.sharing t (whole own buddies (set lists index after.allocator) fits) chunk.object h.kept.chosen made.held_is;
         apart = made.apart;
       }),
-      state_kept l heaps buddies (set lists index after.allocator) i after.heap heap (whole own buddies (set lists index after.allocator)) (remaining + 1) h.at_heap refl refl
+      state_kept l heaps buddies (set lists index after.allocator) fits i after.heap heap (whole own buddies (set lists index after.allocator) fits) (remaining + 1) h.at_heap refl refl
           ∙ (λ k. record state {
             held = made.held_is k;
             live = made.live_is k;
             remaining = remaining + 1;
-            types = list_types_kept (types_in (first_types l.config p) buddies) lists index after.allocator fl h.at refl refl k;
+            types = fits_in (list_types_kept (types_in (first_types l.config p) buddies) lists index after.allocator fl h.at refl refl k) fits;
           }),
     )
 
@@ -165,28 +168,28 @@ pub record IsGivenBack (index : ℕ) (keep_last : Bool) (s : State) (es : List E
   pub agrees : Agrees now p new
   pub whole : total now ≡ total s
 
-module _ {A : Type 0} {l : Limits A} {heaps : List Heap} {buddies : List Buddy} {lists : List Listing} {own : OwnTable} {remaining index i : ℕ} {fl : Listing} {heap : Heap} (h : Handed l heaps buddies lists own remaining index i fl heap) where
+module _ {A : Type 0} {l : Limits A} {heaps : List Heap} {buddies : List Buddy} {lists : List Listing} {fits : List Fitting} {own : OwnTable} {remaining index i : ℕ} {fl : Listing} {heap : Heap} (h : Handed l heaps buddies lists fits own remaining index i fl heap) where
   -- the fields with this free list, heap and count
   abbrev pub With : Account Listing → State → Type 0
-  With a s = StandFor l (set heaps i a.heap) buddies (set lists index a.allocator) own a.remaining s
+  With a s = StandFor l (set heaps i a.heap) buddies (set lists index a.allocator) fits own a.remaining s
 
   abbrev pub state_with : Account Listing → State
-  state_with a = state_in l (set heaps i a.heap) buddies (set lists index a.allocator) (whole own buddies (set lists index a.allocator)) a.remaining
+  state_with a = state_in l (set heaps i a.heap) buddies (set lists index a.allocator) fits (whole own buddies (set lists index a.allocator) fits) a.remaining
 
   -- what is left of them
   abbrev pub IsLeft : Bool → State → List Event → Account Listing → Properties → (ℕ → Option Object) → (ℕ → Option Object) → Type 0
   IsLeft keep_last s es new p old now =
-      IsKept l.config (properties_in l (set heaps i new.heap)) (set heaps i new.heap) buddies (set lists index new.allocator) own new.remaining × IsGivenBack index keep_last s es (state_with new) p old now
+      IsKept l.sharing l.config (properties_in l (set heaps i new.heap)) (set heaps i new.heap) buddies (set lists index new.allocator) fits own new.remaining × IsGivenBack index keep_last s es (state_with new) p old now
 
-  handed_with : (a : Account Listing) (s : State) → With a s → Handed l (set heaps i a.heap) buddies (set lists index a.allocator) own a.remaining index i a.allocator a.heap
+  handed_with : (a : Account Listing) (s : State) → With a s → Handed l (set heaps i a.heap) buddies (set lists index a.allocator) fits own a.remaining index i a.allocator a.heap
   handed_with a s fields = handed l fields.0 h.known (sym (get_or-set_same lists index a.allocator a.allocator (list_in h))) h.here (sym (get_or-set_same heaps i a.heap a.heap (heap_in h)))
 
   -- as they are handed on
-  pub unchanged : {left : ℕ} {ls : List Listing} {s : State} → StandFor l heaps buddies ls own left s → StandFor l (set heaps i heap) buddies ls own left s
-  unchanged {left} {ls} {s} fields = subst (λ hs. StandFor l hs buddies ls own left s) (sym (same_set heaps i heap heap h.at_heap refl)) fields
+  pub unchanged : {left : ℕ} {ls : List Listing} {s : State} → StandFor l heaps buddies ls fits own left s → StandFor l (set heaps i heap) buddies ls fits own left s
+  unchanged {left} {ls} {s} fields = subst (λ hs. StandFor l hs buddies ls fits own left s) (sym (same_set heaps i heap heap h.at_heap refl)) fields
 
-  pub unchanged_list : StandFor l heaps buddies (set lists index fl) own remaining (state h)
-  unchanged_list = subst (λ ls. StandFor l heaps buddies ls own remaining (state h)) (sym (same_set lists index fl fl h.at refl)) (h.kept, refl)
+  pub unchanged_list : StandFor l heaps buddies (set lists index fl) fits own remaining (state h)
+  unchanged_list = subst (λ ls. StandFor l heaps buddies ls fits own remaining (state h)) (sym (same_set lists index fl fl h.at refl)) (h.kept, refl)
 
   abbrev Goes : Account Listing → List ℕ → Account Listing → Type 0
   Goes a names new = (s : State) (p : Properties) (objects : ℕ → Option Object) → With a s → Agrees s p objects → With new (without_these s names) × Agrees (without_these s names) p (without_objects objects names)
@@ -202,8 +205,8 @@ module _ {A : Type 0} {l : Limits A} {heaps : List Heap} {buddies : List Buddy} 
       let after = account_without_chunk a n chunk in
       let goes = chunk_goes (handed_with a s fields) n chunk found free in
       let less : With after (without_object s chunk.object) =
-      subst (λ hs. StandFor l hs buddies (set lists index after.allocator) own after.remaining (without_object s chunk.object)) (set-set heaps i a.heap after.heap)
-      (subst (λ ls. StandFor l (set (set heaps i a.heap) i after.heap) buddies ls own after.remaining (without_object s chunk.object)) (set-set lists index a.allocator after.allocator)
+      subst (λ hs. StandFor l hs buddies (set lists index after.allocator) fits own after.remaining (without_object s chunk.object)) (set-set heaps i a.heap after.heap)
+      (subst (λ ls. StandFor l (set (set heaps i a.heap) i after.heap) buddies ls fits own after.remaining (without_object s chunk.object)) (set-set lists index a.allocator after.allocator)
       (goes.0, goes.1 ∙ ap (λ (x : State). without_object x chunk.object) fields.1))
       in
       subst (λ r. With new (record (without_these s (chunk.object ∷ names)) { remaining = r }) × Agrees (record (without_these s (chunk.object ∷ names)) { remaining = r }) p (without_objects objects (chunk.object ∷ names))) count

@@ -1,5 +1,5 @@
 -- Which chunks of a memory type's free list may go, as the free list and as the whole allocator's state tell.
-use Rattle.std.proofs.Common.{◌≡◌, ◌≢◌, inl, inr, ℕ, zero, suc, ◌<◌, Bool, List, [], ◌∷◌, length, get_or, map, Some, IsSome, IsTrue, Contains, refl, sym, ◌∙◌, ap, subst, arith}
+use Rattle.std.proofs.Common.{◌≡◌, ◌≢◌, inl, inr, ℕ, zero, suc, ◌<◌, Bool, false, List, [], ◌∷◌, length, get_or, map, Some, IsSome, IsTrue, Contains, refl, sym, ◌∙◌, ap, subst, arith}
 use Rattle.std.proofs.lemmas.List.{get_or-map, length-map}
 use Rattle.std.proofs.lemmas.List.Elements.{Contains-append_cases, Contains-get_or}
 use Rattle.std.specs.FinMap as finite
@@ -9,11 +9,12 @@ use Rattle.gpu_alloc_freelist.specs.FreeList as list
 use Rattle.gpu_alloc_freelist.specs.FreeListAllocator.{AreGone, object_of}
 use Rattle.gpu_alloc_freelist.specs.FreeListState.{Listing}
 use Rattle.gpu_alloc.specs.Inside.{IsNumberedChunk, list_object, span_of_slot, slot_at}
+use Rattle.gpu_alloc.specs.FitSharing.{IsFitChunk}
 use Rattle.gpu_alloc.specs.FreeListSharing.{IsListChunk, IsFreeInChunk}
-use Rattle.gpu_alloc.specs.Release.{IsUnused, HasLastRun, MayGo, AreChunksGone, AreAllGone, without_all}
+use Rattle.gpu_alloc.specs.Release.{IsUnused, IsUnusedFit, HasLastRun, MayGo, AreChunksGone, AreFitsGone, AreGoneOfType, AreAllGone, without_all}
 use Rattle.gpu_alloc_block.specs.State.{HeldObject, Span, span_cmp, State, IsLive}
 use Rattle.gpu_alloc_block.specs.declared.block.Kind.{Kind}
-use Rattle.gpu_alloc_block.specs.declared.block.Kind.TheVariants.{Dedicated, Imported, BuddyChunk, FreeListChunk}
+use Rattle.gpu_alloc_block.specs.declared.block.Kind.TheVariants.{Dedicated, Imported, BuddyChunk, FreeListChunk, FitChunk}
 use Rattle.gpu_alloc.proofs.Ledgers.{Held}
 use Rattle.gpu_alloc_base.proofs.Lists.{contains_head, contains_later, contains_cases, contains_none}
 use Rattle.gpu_alloc.proofs.FreeLists.Serving.{ServesList, numbered_held, list_chunk_is, list_chunk_was, same_bytes}
@@ -30,6 +31,7 @@ number_in Dedicated = 0
 number_in Imported = 0
 number_in BuddyChunk = 0
 number_in (FreeListChunk number) = number
+number_in FitChunk = 0
 
 -- a held chunk has one number
 pub one_number : (s : State) (t m n object : ℕ) → IsListChunk s t m object → IsListChunk s t n object → m ≡ n
@@ -179,6 +181,49 @@ gone_agrees s s' t agree keep_last gone chunks =
       );
     }
 
+-- The same of its fit chunks.
+
+-- the same fit chunks of this memory type are held, and the same spans are live
+pub record AgreeOnFits (s s' : State) (t : ℕ) : Type 0 where
+  pub to : (object : ℕ) → IsFitChunk s t object → IsFitChunk s' t object
+  pub from : (object : ℕ) → IsFitChunk s' t object → IsFitChunk s t object
+  pub live : s'.live ≡ s.live
+
+pub fits_back : (s s' : State) (t : ℕ) → AgreeOnFits s s' t → AgreeOnFits s' s t
+fits_back s s' t agree = record { to = agree.from; from = agree.to; live = sym agree.live }
+
+fit_chunk_agrees : (s s' : State) (t : ℕ) → AgreeOnType s s' t → (object : ℕ) → IsFitChunk s t object → IsFitChunk s' t object
+fit_chunk_agrees s s' t agree object is = record { chunk = is.chunk; held = agree.to object is.chunk is.of_type is.held; of_type = is.of_type; of_kind = is.of_kind }
+
+pub agree_on_fits : (s s' : State) (t : ℕ) → AgreeOnType s s' t → AgreeOnFits s s' t
+agree_on_fits s s' t agree = record { to = fit_chunk_agrees s s' t agree; from = fit_chunk_agrees s' s t (agree_back s s' t agree); live = agree.live }
+
+unused_fit_agrees : (s s' : State) (t : ℕ) → AgreeOnFits s s' t → (object : ℕ) → IsUnusedFit s t object → IsUnusedFit s' t object
+unused_fit_agrees s s' t agree object is = record {
+  chunk = agree.to object is.chunk;
+  unused = λ span live. is.unused span (subst (λ (spans : set.FinSet span_cmp). IsTrue (set.contains spans span)) agree.live live);
+}
+
+-- what goes of them in one goes in the other
+pub fits_agree : (s s' : State) (t : ℕ) → AgreeOnFits s s' t → (gone : List ℕ) → AreFitsGone s t gone → AreFitsGone s' t gone
+fits_agree s s' t agree gone fits = record {
+  few = fits.few;
+  all = λ object. (
+    (λ has. unused_fit_agrees s s' t agree object ((fits.all object).0 has)),
+    (λ unused. (fits.all object).1 (unused_fit_agrees s' s t (fits_back s s' t agree) object unused)),
+  );
+}
+
+-- what a cleanup takes of the memory type in one it takes in the other
+pub type_agrees : (s s' : State) (t : ℕ) → AgreeOnType s s' t → (gone : List ℕ) → AreGoneOfType s t gone → AreGoneOfType s' t gone
+type_agrees s s' t agree gone of_type = record {
+  listed = of_type.listed;
+  fitted = of_type.fitted;
+  both = of_type.both;
+  of_list = gone_agrees s s' t agree false of_type.listed of_type.of_list;
+  of_fits = fits_agree s s' t (agree_on_fits s s' t agree) of_type.fitted of_type.of_fits;
+}
+
 -- Some objects of another memory type fewer.
 
 -- what is held once some objects are gone was held, and has another name
@@ -206,6 +251,13 @@ agree_without s s' t gone held live other = record {
 
 -- What went of each memory type before one.
 
+-- what goes of a memory type is held of it
+pub gone_held : (s : State) (t : ℕ) (gone : List ℕ) → AreGoneOfType s t gone → (object : ℕ) → Contains gone object → (h : HeldObject) × (finite.get s.held object ≡ Some h) × (h.memory_type ≡ t)
+gone_held s t gone of_type object has = elim (Contains-append_cases of_type.listed of_type.fitted object (subst (λ names. Contains names object) of_type.both has)) [
+  | inl listed ↦ let is = ((of_type.of_list.all object).0 listed).1.chunk in (is.chunk, is.held, is.of_type)
+  | inr fitted ↦ let is = ((of_type.of_fits.all object).0 fitted).chunk in (is.chunk, is.held, is.of_type)
+]
+
 -- each is of an earlier memory type
 pub earlier_type : (s : State) (t : ℕ) (gone : List ℕ) → AreAllGone s t gone → (object : ℕ) (h : HeldObject) → Contains gone object → finite.get s.held object ≡ Some h → h.memory_type < t
 earlier_type s zero gone none object h has is = absurd (contains_none object (subst (λ names. Contains names object) none has))
@@ -213,8 +265,8 @@ earlier_type s (suc t) gone (earlier, own, both, all, chunks) object h has is =
     elim (Contains-append_cases earlier own object (subst (λ names. Contains names object) both has)) [
       | inl before ↦ omega (arith, earlier_type s t earlier all object h before is)
       | inr now ↦
-          let of = ((chunks.all object).0 now).1.chunk in
-          omega (arith, ap (λ (x : HeldObject). x.memory_type) (one_value _ h of.chunk is of.held), of.of_type)
+          let own_held = gone_held s t own chunks object now in
+          omega (arith, ap (λ (x : HeldObject). x.memory_type) (one_value _ h own_held.0 is own_held.1), own_held.2)
     ]
 
 -- so the rest of the memory types are as they were

@@ -12,9 +12,9 @@ use Rattle.gpu_alloc_freelist.specs.FreeList.{without_slot}
 use Rattle.gpu_alloc_freelist.specs.FreeListAllocator.{GivesBack, account_without}
 use Rattle.gpu_alloc_freelist.specs.FreeListState.{Listing, IsLiveSlot}
 use Rattle.gpu_alloc_freelist.proofs.ForCallers.{sound_without_slot}
-use Rattle.gpu_alloc.specs.Inside.{state_in, properties_in, types_in, list_object, span_of_slot, slot_at, IsNumberedChunk}
+use Rattle.gpu_alloc.specs.Inside.{state_in, properties_in, fits_in, types_in, list_object, span_of_slot, slot_at, IsNumberedChunk}
 use Rattle.gpu_alloc.specs.Own.{OwnTable}
-use Rattle.gpu_alloc.proofs.Linked.{StandFor, lists_set}
+use Rattle.gpu_alloc.proofs.Linked.{StandFor, chosen_same, lists_set}
 use Rattle.gpu_alloc.specs.Release.{AreChunksGone, GoesWith, without_span}
 use Rattle.gpu_alloc.specs.FirstTypes.{first_types}
 use Rattle.gpu_alloc.specs.Spans.{Table}
@@ -31,19 +31,20 @@ use Rattle.gpu_alloc.proofs.Consistency.{known_object, booked-span_gone}
 use Rattle.gpu_alloc.proofs.FreeLists.Going.{Handed, IsLeft, given_back, handed, list_in, of, unchanged}
 use Rattle.gpu_alloc.proofs.FreeLists.States.{list_types_kept}
 use Rattle.gpu_alloc.proofs.FreeLists.Types.{same_listing_for}
+use Rattle.gpu_alloc_fit.specs.Fit.{Fitting}
 
 -- A block comes back.
 
 -- its free list and heap
-pub handed_back : {A : Type 0} (l : Limits A) {heaps : List Heap} {buddies : List Buddy} {lists : List Listing} {own : OwnTable} {remaining index i : ℕ} {fl : Listing} {heap : Heap} {block : Block} → IsKept l.config (properties_in l heaps) heaps buddies lists own remaining
-    → IsOwned (state_in l heaps buddies lists (whole own buddies lists) remaining) block → index ≡ block.memory_type → fl ≡ get_or lists index fl → i ≡ heap_at (properties_in l heaps) index → heap ≡ get_or heaps i heap → Handed l heaps buddies lists own remaining index i fl heap
-handed_back l {heaps} {buddies} {lists} {own} {remaining} {index} {block = block} kept owned type at here at_heap =
-    handed l kept (omega (arith, type, owned.held.2, (known_object (properties_in l heaps) heaps (whole own buddies lists) remaining kept.books refl block.object owned.held.0 owned.held.1).of_type)) at here at_heap
+pub handed_back : {A : Type 0} (l : Limits A) {heaps : List Heap} {buddies : List Buddy} {lists : List Listing} {fits : List Fitting} {own : OwnTable} {remaining index i : ℕ} {fl : Listing} {heap : Heap} {block : Block} → IsKept l.sharing l.config (properties_in l heaps) heaps buddies lists fits own remaining
+    → IsOwned (state_in l heaps buddies lists fits (whole own buddies lists fits) remaining) block → index ≡ block.memory_type → fl ≡ get_or lists index fl → i ≡ heap_at (properties_in l heaps) index → heap ≡ get_or heaps i heap → Handed l heaps buddies lists fits own remaining index i fl heap
+handed_back l {heaps} {buddies} {lists} {fits} {own} {remaining} {index} {block = block} kept owned type at here at_heap =
+    handed l kept (omega (arith, type, owned.held.2, (known_object (properties_in l heaps) heaps (whole own buddies lists fits) remaining kept.books refl block.object owned.held.0 owned.held.1).of_type)) at here at_heap
 
-module _ {A : Type 0} {l : Limits A} {heaps : List Heap} {buddies : List Buddy} {lists : List Listing} {own : OwnTable} {remaining index i number : ℕ} {fl : Listing} {heap : Heap} {slot : Slot} {block : Block} (h : Handed l heaps buddies lists own remaining index i fl heap)
-    (owned : IsOwned (state_in l heaps buddies lists (whole own buddies lists) remaining) block) (listed : block.kind ≡ FreeListChunk number) (type : index ≡ block.memory_type) (slot_is : slot ≡ slot_at (span_of block) number) where
+module _ {A : Type 0} {l : Limits A} {heaps : List Heap} {buddies : List Buddy} {lists : List Listing} {fits : List Fitting} {own : OwnTable} {remaining index i number : ℕ} {fl : Listing} {heap : Heap} {slot : Slot} {block : Block} (h : Handed l heaps buddies lists fits own remaining index i fl heap)
+    (owned : IsOwned (state_in l heaps buddies lists fits (whole own buddies lists fits) remaining) block) (listed : block.kind ≡ FreeListChunk number) (type : index ≡ block.memory_type) (slot_is : slot ≡ slot_at (span_of block) number) where
   abbrev t : Table
-  t = whole own buddies lists
+  t = whole own buddies lists fits
 
   -- it is live in the chunk of its number
   pub slot_live : IsLiveSlot fl.space slot
@@ -54,32 +55,34 @@ module _ {A : Type 0} {l : Limits A} {heaps : List Heap} {buddies : List Buddy} 
   abbrev less : Listing
   less = record fl { space = without_slot fl.space slot }
 
-  made : Makes (IsPlace (length buddies)) (parts_of own buddies (set lists index less)) t.held (set_of.remove t.live (span_of_slot slot))
-  made = slot_goes own buddies lists h.kept.apart index fl (at_read lists index fl (list_in h) h.at) (of h).sound (of h).for_type.memory_type less refl slot slot_live refl refl
+  made : Makes (IsPlace (length buddies) (length (set lists index less))) (parts_of own buddies (set lists index less) fits) t.held (set_of.remove t.live (span_of_slot slot))
+  made = slot_goes own buddies lists fits h.kept.apart index fl (at_read lists index fl (list_in h) h.at) (of h).sound (of h).for_type.memory_type less refl slot slot_live refl refl
 
   -- with it taken back, before any chunk goes
-  pub freed : StandFor l heaps buddies (set lists index less) own remaining (without_span (state_in l heaps buddies lists t remaining) block)
+  pub freed : StandFor l heaps buddies (set lists index less) fits own remaining (without_span (state_in l heaps buddies lists fits t remaining) block)
   freed =
       let lies = (of h).sound.space.inside slot slot_live in
-      let now : Table = whole own buddies (set lists index less) in (
+      let now : Table = whole own buddies (set lists index less) fits in (
         record {
           books = booked-span_gone (properties_in l heaps) heaps t remaining h.kept.books refl now (list_object fl slot.chunk lies.chunk) (span_of_slot slot)
               (ap (finite.get t.held) lies.object ∙ (of h).linked.chunks slot.chunk lies.chunk lies.held) refl made.held_is made.live_is;
           shared = h.kept.shared;
           listed = lists_set l.config (properties_in l heaps) lists index less h.kept.listed (record { for_type = same_listing_for l heaps t index fl less (of h) refl refl refl refl; sound = sound_without_slot fl slot (of h).sound });
+          fitted = h.kept.fitted;
+          chosen = chosen_same l.sharing t now h.kept.chosen made.held_is;
           apart = made.apart;
         },
-        λ k. record (state_in l heaps buddies lists t remaining) {
+        λ k. record (state_in l heaps buddies lists fits t remaining) {
           held = made.held_is k;
           live = (made.live_is ∙ ap (λ (x : Slot). set_of.remove t.live (span_of_slot x)) slot_is) k;
-          types = list_types_kept (types_in (first_types l.config (properties_in l heaps)) buddies) lists index less fl h.at refl refl k;
+          types = fits_in (list_types_kept (types_in (first_types l.config (properties_in l heaps)) buddies) lists index less fl h.at refl refl k) fits;
         },
       )
 
   -- and with the chunks gone
-  pub came_back : {gone : List ℕ} {es : List Event} {new : Account Listing} {p : Properties} {old now : ℕ → Option Object} → GivesBack true (account_without (account fl heap remaining) slot) gone es new old now → Agrees (state_in l heaps buddies lists t remaining) p old
-      → IsLeft h true (without_span (state_in l heaps buddies lists t remaining) block) es new p old now
-  came_back {p = p} {old = old} gives agrees = given_back h (account_without (account fl heap remaining) slot) gives (unchanged h freed) (agrees_without_span (state_in l heaps buddies lists t remaining) p p old block agrees refl)
+  pub came_back : {gone : List ℕ} {es : List Event} {new : Account Listing} {p : Properties} {old now : ℕ → Option Object} → GivesBack true (account_without (account fl heap remaining) slot) gone es new old now → Agrees (state_in l heaps buddies lists fits t remaining) p old
+      → IsLeft h true (without_span (state_in l heaps buddies lists fits t remaining) block) es new p old now
+  came_back {p = p} {old = old} gives agrees = given_back h (account_without (account fl heap remaining) slot) gives (unchanged h freed) (agrees_without_span (state_in l heaps buddies lists fits t remaining) p p old block agrees refl)
 
 -- what goes with a block of a free list: all chunks of its memory type that may go
 pub goes_with_list : (s : State) (block : Block) (number index : ℕ) (names : List ℕ) → IsOwned s block → block.kind ≡ FreeListChunk number → index ≡ block.memory_type

@@ -5,17 +5,19 @@ use Rattle.std.proofs.lemmas.Option.{slice_get_read}
 use Rattle.std.specs.List.{slice_get}
 use Rattle.gpu_alloc_buddy.specs.BuddyState.{Buddy}
 use Rattle.gpu_alloc_freelist.specs.FreeListState.{Listing}
-use Rattle.gpu_alloc.specs.Inside.{state_in, properties_in, types_in, IsListForType}
+use Rattle.gpu_alloc.specs.Inside.{state_in, properties_in, lists_in, types_in, IsListForType}
 use Rattle.gpu_alloc.proofs.Linked.{IsConsistent, IsListOf}
 use Rattle.gpu_alloc.specs.FirstTypes.{first_types, first_type_state}
 use Rattle.gpu_alloc.specs.Spans.{Table}
 use Rattle.gpu_alloc_base.specs.declared.heap.Heap.{Heap}
 use Rattle.gpu_alloc.specs.declared.limits.Limits.{Limits}
 use Rattle.gpu_alloc.proofs.FreeLists.Serving.{ServesList}
+use Rattle.gpu_alloc.proofs.Fits.States.{fits_list_at, fits_number_at}
 use Rattle.gpu_alloc.proofs.FreeLists.States.{list_next_at, list_latest_at, types_within}
+use Rattle.gpu_alloc_fit.specs.Fit.{Fitting}
 
-module _ {A : Type 0} (l : Limits A) (heaps : List Heap) (buddies : List Buddy) (lists : List Listing) (t : Table) (remaining index : ℕ) (fl : Listing)
-    (is : IsConsistent l.config (properties_in l heaps) heaps buddies lists t remaining) (known : index < length (properties_in l heaps).memory_types) (at : fl ≡ get_or lists index fl) where
+module _ {A : Type 0} (l : Limits A) (heaps : List Heap) (buddies : List Buddy) (lists : List Listing) (fits : List Fitting) (t : Table) (remaining index : ℕ) (fl : Listing)
+    (is : IsConsistent l.sharing l.config (properties_in l heaps) heaps buddies lists fits t remaining) (known : index < length (properties_in l heaps).memory_types) (at : fl ≡ get_or lists index fl) where
   there : slice_get lists index ≡ Some fl
   there = slice_get_read lists (length lists) index fl refl (omega (arith, known, is.listed.count)) at
 
@@ -27,11 +29,11 @@ module _ {A : Type 0} (l : Limits A) (heaps : List Heap) (buddies : List Buddy) 
   pub own_listing : IsListOf l.config (properties_in l heaps) t index fl
   own_listing = subst (λ (o : Option Listing). IfSome o (IsListOf l.config (properties_in l heaps) t index)) there (is.listed.each index)
 
-  pub serves_own : ServesList (state_in l heaps buddies lists t remaining) index fl
+  pub serves_own : ServesList (state_in l heaps buddies lists fits t remaining) index fl
   serves_own = record {
     of = own_listing;
-    next = list_next_at (types_in (first_types l.config (properties_in l heaps)) buddies) lists index fl there typed_list;
-    number = list_latest_at (types_in (first_types l.config (properties_in l heaps)) buddies) lists index fl there typed_list;
+    next = fits_list_at (lists_in (types_in (first_types l.config (properties_in l heaps)) buddies) lists) fits index (omega (arith, known, is.fitted.count)) ∙ list_next_at (types_in (first_types l.config (properties_in l heaps)) buddies) lists index fl there typed_list;
+    number = fits_number_at (lists_in (types_in (first_types l.config (properties_in l heaps)) buddies) lists) fits index (omega (arith, known, is.fitted.count)) ∙ list_latest_at (types_in (first_types l.config (properties_in l heaps)) buddies) lists index fl there typed_list;
   }
 
 -- what it was given stays

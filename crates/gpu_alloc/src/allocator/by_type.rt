@@ -1,4 +1,5 @@
-//! What each heap and each memory type has: a ledger, a buddy allocator and a free list, opened and closed.
+//! What each heap and each memory type has: a ledger, a buddy allocator, a free list and an allocator of fit chunks, opened
+//! and closed.
 
 ghost use Rattle.std.specs.Prelude.{◌≡◌, ◌<◌, length, map as map_list, All, IfOk};
 ghost use Rattle.std.specs.FinMap as map;
@@ -6,12 +7,15 @@ ghost use Rattle.gpu_alloc_types.specs.Properties.{IsUsable, properties_of};
 ghost use Rattle.gpu_alloc_base.specs.Heap.{unused};
 ghost use Rattle.gpu_alloc_buddy.specs.BuddySound.{IsSound};
 ghost use Rattle.gpu_alloc_freelist.specs.FreeListSound.{IsSound as IsSoundListing};
+ghost use Rattle.gpu_alloc_fit.specs.FitSound.{IsSound as IsSoundFitting};
 ghost use Rattle.gpu_alloc.specs.Opening.{first_buddy, AreFirstBuddies, first_listing, AreFirstListings};
+ghost use Rattle.gpu_alloc.specs.Opening.{first_fitting, AreFirstFittings};
 
-use crate::limits::atom_of;
+use crate::limits::{LEAST_GRAIN, atom_of};
 use gpu_alloc_base::heap::Heap;
 use gpu_alloc_base::{AllocationError, Config};
 use gpu_alloc_buddy::BuddyAllocator;
+use gpu_alloc_fit::FitAllocator;
 use gpu_alloc_freelist::FreeListAllocator;
 use gpu_alloc_types::{DeviceProperties, MemoryHeap, MemoryObject};
 use std::alloc::{AllocError, Allocator};
@@ -140,4 +144,60 @@ pub(super) fn close_free_lists<M: MemoryObject, A: Allocator>(
         list.close();
     }
     lists.destroy_empty();
+}
+
+/// An allocator of fit chunks for each memory type, with no chunk.
+pub(super) fn empty_fits<M: MemoryObject, A: Allocator + Copy>(
+    alloc: A,
+    config: Config,
+    props: &DeviceProperties<'_>,
+) -> Result<Vec<FitAllocator<M, A>, A>, AllocError>
+    requires { IsUsable (properties_of props.now) }
+    ensures count { IfOk result (λ fits. length fits.items ≡ length (properties_of props.now).memory_types) }
+    ensures each { IfOk result (λ fits. AreFirstFittings config (properties_of props.now) fits.items) }
+{
+    let count = props.memory_types.len();
+    let mut fits = Vec::with_capacity(alloc, count)?;
+    for memory_type in 0..count {
+        fits.push_reserved(empty_fit(alloc, config, props, memory_type));
+    }
+    Ok(fits)
+}
+
+/// A memory type's allocator of fit chunks, with no chunk.
+fn empty_fit<M: MemoryObject, A: Allocator + Copy>(
+    alloc: A,
+    config: Config,
+    props: &DeviceProperties<'_>,
+    memory_type: usize,
+) -> FitAllocator<M, A>
+    requires usable { IsUsable (properties_of props.now) }
+    requires known { memory_type < length (properties_of props.now).memory_types }
+    ensures first { result ≡ first_fitting config (properties_of props.now) memory_type }
+    ensures sound { IsSoundFitting result }
+{
+    let own = props.memory_types[memory_type];
+    let heap = props.memory_heaps[own.heap as usize].size;
+    let grain = atom_of(own.props, props.non_coherent_atom_size).max(LEAST_GRAIN);
+    let starting = config.starting_size(heap, grain);
+    FitAllocator::new(
+        alloc,
+        starting,
+        starting
+            .saturating_mul(4)
+            .min(config.final_size(heap, grain)),
+        memory_type as u32,
+        own.props,
+        grain - 1,
+    )
+}
+
+/// Ends allocators of fit chunks that hold no chunk.
+pub(super) fn close_fits<M: MemoryObject, A: Allocator>(mut fits: Vec<FitAllocator<M, A>, A>)
+    requires { All (λ f. map.len (f.space).chunks ≡ 0) fits.items }
+{
+    while let Some(fit) = fits.pop() {
+        fit.close();
+    }
+    fits.destroy_empty();
 }

@@ -1,10 +1,13 @@
 //! Which way a memory type serves a request.
 
 ghost use Rattle.std.specs.Prelude.{◌≡◌, ◌<◌, length};
-ghost use Rattle.gpu_alloc.specs.Allocation.{strategy, unhinted, fits_a_chunk};
+ghost use Rattle.gpu_alloc.specs.Allocation.{strategy, unhinted, fits_a_chunk, shares_by};
+ghost use Rattle.gpu_alloc.specs.FitSharing.{fits_first};
 
 use super::{GpuAllocator, Strategy};
+use crate::limits::LEAST_GRAIN;
 use crate::{Dedicated, Request};
+use gpu_alloc_block::Sharing;
 use gpu_alloc_types::{MemoryObject, UsageFlags};
 use std::alloc::Allocator;
 
@@ -47,10 +50,34 @@ impl<M: MemoryObject, A: Allocator> GpuAllocator<M, A> {
                 Strategy::OwnObject
             }
         } else if request.size < config.dedicated_threshold.min(part) {
-            Strategy::InBuddyChunk
+            self.shared(request, memory_type)
         } else {
             Strategy::OwnObject
         }
+    }
+
+    /// Which way a memory type serves a request that is small and not transient: by a chunk of the kind that was chosen.
+    #[inline(always)]
+    fn shared(&self, request: Request, memory_type: u32) -> Strategy
+        requires known { memory_type < length (self.now.properties).memory_types }
+        ensures { result ≡ shares_by self.now.sharing (fits_first self.now request memory_type) }
+    {
+        match self.limits.sharing {
+            Sharing::Buddy => Strategy::InBuddyChunk,
+            Sharing::Fit if self.fits_first(request, memory_type) => Strategy::InFitChunk,
+            Sharing::Fit => Strategy::OwnObject,
+        }
+    }
+
+    /// Whether a request in whole grains is no larger than a first fit chunk.
+    fn fits_first(&self, request: Request, memory_type: u32) -> bool
+        requires known { memory_type < length (self.now.properties).memory_types }
+        ensures { result ≡ fits_first self.now request memory_type }
+    {
+        let part = self.heap_size(memory_type) / 32;
+        let grain = self.limits.atom(memory_type).max(LEAST_GRAIN);
+        // (a first chunk is of whole grains itself)
+        request.size <= self.limits.config.starting_free_list_chunk.min(part) / grain * grain
     }
 
     /// Whether a request in whole atoms fits a largest free-list chunk.

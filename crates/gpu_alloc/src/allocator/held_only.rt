@@ -13,7 +13,8 @@ ghost use Rattle.gpu_alloc.specs.HeldOnly.{AllocatesHeld, HasPlaceBy, HasPlaceFo
 ghost use Rattle.gpu_alloc.specs.Owned.{Leaves, Adds};
 ghost use Rattle.gpu_alloc.specs.Request.{IsAskable, IsGranularity};
 ghost use Rattle.gpu_alloc.specs.Sound as Sound;
-ghost use Rattle.gpu_alloc.specs.declared.allocator.Strategy.TheVariants.{InBuddyChunk, InFreeList};
+ghost use Rattle.gpu_alloc.specs.FitSharing.{fits_first};
+ghost use Rattle.gpu_alloc.specs.declared.allocator.Strategy.TheVariants.{InBuddyChunk, InFreeList, InFitChunk};
 
 use super::{GpuAllocator, Strategy, uncounted};
 use crate::{Dedicated, MemoryBlock, Request};
@@ -149,18 +150,19 @@ impl<M: MemoryObject, A: Allocator> GpuAllocator<M, A> {
 
     /// The first candidate in rank that has a place for what it is asked. None where none has.
     fn first_with_place(
-        &self,
+        &mut self,
         request: &Request,
         hint: Option<Dedicated>,
         paged: &Option<Request>,
         usage: UsageFlags,
     ) -> Option<u32>
-        requires askable { IsAskable (self.now.properties).buffer_device_address request.now }
-        requires pages { IfSome paged.now (IsAskable (self.now.properties).buffer_device_address) }
+        requires askable { IsAskable (self.old.properties).buffer_device_address request.now }
+        requires pages { IfSome paged.now (IsAskable (self.old.properties).buffer_device_address) }
         requires meant { usage_bits usage ≡ implied (usage_bits (request.now).usage) }
-        ensures first { IsFirstWithPlace self.now (asked_of self.now request.now hint paged.now)
-            (candidates_of self.now request.now) result }
+        ensures first { IsFirstWithPlace self.old (asked_of self.old request.now hint paged.now)
+            (candidates_of self.old request.now) result }
         ensures few { IfSome result (λ t. t < 32) }
+        ensures kept { self.new ≡ self.old }
     {
         for rank in 0..self.ranked(usage).len() {
             let memory_type = self.ranked(usage)[rank];
@@ -174,16 +176,18 @@ impl<M: MemoryObject, A: Allocator> GpuAllocator<M, A> {
 
     /// Whether a memory type has a place for what it is asked, for whole pages where the same request in them is given.
     fn has_place_asked(
-        &self,
+        &mut self,
         request: &Request,
         hint: Option<Dedicated>,
         paged: &Option<Request>,
         memory_type: u32,
     ) -> bool
-        requires askable { IsAskable (self.now.properties).buffer_device_address request.now }
-        requires pages { IfSome paged.now (IsAskable (self.now.properties).buffer_device_address) }
-        requires known { memory_type < length (self.now.properties).memory_types }
-        ensures { IsTrue result ↔ HasPlaceFor self.now (asked_of self.now request.now hint paged.now) memory_type }
+        requires askable { IsAskable (self.old.properties).buffer_device_address request.now }
+        requires pages { IfSome paged.now (IsAskable (self.old.properties).buffer_device_address) }
+        requires known { memory_type < length (self.old.properties).memory_types }
+        ensures place { IsTrue result
+            ↔ HasPlaceFor self.old (asked_of self.old request.now hint paged.now) memory_type }
+        ensures kept { self.new ≡ self.old }
     {
         match paged {
             None => self.has_place(*request, hint, memory_type),
@@ -194,16 +198,19 @@ impl<M: MemoryObject, A: Allocator> GpuAllocator<M, A> {
         }
     }
 
-    /// Whether a memory type has a place for a request, with a hint or none.
-    fn has_place(&self, request: Request, hint: Option<Dedicated>, memory_type: u32) -> bool
-        requires askable { IsAskable (self.now.properties).buffer_device_address request }
-        requires known { memory_type < length (self.now.properties).memory_types }
-        ensures { IsTrue result ↔ HasPlaceFor self.now (ask request hint) memory_type }
+    /// Whether a memory type has a place for a request, with a hint or none. (What has none in fit chunks is remembered
+    /// there.)
+    fn has_place(&mut self, request: Request, hint: Option<Dedicated>, memory_type: u32) -> bool
+        requires askable { IsAskable (self.old.properties).buffer_device_address request }
+        requires known { memory_type < length (self.old.properties).memory_types }
+        ensures place { IsTrue result ↔ HasPlaceFor self.old (ask request hint) memory_type }
+        ensures kept { self.new ≡ self.old }
     {
         match self.strategy(request, hint, memory_type) {
             Strategy::OwnObject => false,
             Strategy::InBuddyChunk => self.has_buddy_place(request, memory_type),
             Strategy::InFreeList => self.has_list_place(request, memory_type),
+            Strategy::InFitChunk => self.has_fit_place(request, memory_type),
         }
     }
 
@@ -235,6 +242,19 @@ impl<M: MemoryObject, A: Allocator> GpuAllocator<M, A> {
         let heap = &self.heaps[self.limits.heap_index(memory_type)];
         let list = &self.free_lists[memory_type as usize];
         list.refuses(request.size, request.align_mask, heap, 0)
+            .is_none()
+    }
+    /// Whether a fit chunk of a memory type has a place: its allocator does not refuse, though nothing remains.
+    fn has_fit_place(&mut self, request: Request, memory_type: u32) -> bool
+        requires askable { IsAskable (self.old.properties).buffer_device_address request }
+        requires known { memory_type < length (self.old.properties).memory_types }
+        requires fits { fits_first self.old request memory_type ≡ true }
+        ensures place { IsTrue result ↔ HasPlaceBy InFitChunk self.old request memory_type }
+        ensures kept { self.new ≡ self.old }
+    {
+        let heap = self.limits.heap_index(memory_type);
+        let fit = &mut self.fits[memory_type as usize];
+        fit.refuses(request.size, request.align_mask, &self.heaps[heap], 0)
             .is_none()
     }
 }

@@ -10,7 +10,8 @@ ghost use Rattle.gpu_alloc.specs.Budget.{heap_bytes};
 ghost use Rattle.gpu_alloc.specs.Sound as Sound;
 ghost use Rattle.gpu_alloc.specs.Spans.{held_of, objects_in, span_in};
 ghost use Rattle.gpu_alloc.specs.Listing.{AreOfKnownTypes, AreOnce};
-ghost use Rattle.gpu_alloc.specs.Whole.{buddy_part, list_part};
+ghost use Rattle.gpu_alloc.specs.Whole.{buddy_part, fit_part, list_part};
+ghost use Rattle.gpu_alloc_fit.specs.FitSound.{IsSound as IsSoundFit};
 ghost use Rattle.gpu_alloc_block.specs.Parts.{AreNamed};
 ghost use Rattle.gpu_alloc_freelist.specs.FreeListSound.{IsSound as IsSoundList};
 
@@ -18,6 +19,7 @@ use super::GpuAllocator;
 use crate::spans::{HeldRow, LiveSpan};
 use gpu_alloc_block::Kind;
 use gpu_alloc_buddy::{BuddyAllocator, Chunk};
+use gpu_alloc_fit::{Chunk as FitChunk, FitAllocator};
 use gpu_alloc_freelist::{FreeListAllocator, NumberedChunk};
 use gpu_alloc_types::MemoryObject;
 use std::alloc::{AllocError, Allocator};
@@ -64,6 +66,12 @@ impl<M: MemoryObject, A: Allocator> GpuAllocator<M, A> {
                 return Some(row);
             }
         }
+        for memory_type in 0..self.type_count() {
+            let fit = &self.fits[memory_type as usize];
+            if let Some(row) = fit_chunk_of(fit, memory_type, object) {
+                return Some(row);
+            }
+        }
         None
     }
 
@@ -85,6 +93,10 @@ impl<M: MemoryObject, A: Allocator> GpuAllocator<M, A> {
             let list = &self.free_lists[memory_type as usize];
             list_chunks(list, memory_type, &mut rows)?;
         }
+        for memory_type in 0..self.type_count() {
+            let fit = &self.fits[memory_type as usize];
+            list_fit_chunks(fit, memory_type, &mut rows)?;
+        }
         Ok(rows)
     }
 
@@ -104,6 +116,9 @@ impl<M: MemoryObject, A: Allocator> GpuAllocator<M, A> {
         }
         for list in self.free_lists.iter() {
             list_slots(list, &mut rows)?;
+        }
+        for fit in self.fits.iter() {
+            fit.list_live(&mut rows)?;
         }
         Ok(rows)
     }
@@ -231,6 +246,54 @@ fn list_slots<M: MemoryObject, A: Allocator, B: Allocator>(
             chunk: 0,
             index: key,
         })?;
+    }
+    Ok(())
+}
+
+/// What a fit chunk of a memory type is.
+fn fit_row_of<M: MemoryObject>(chunk: &FitChunk<M>, memory_type: u32) -> HeldRow
+    ensures { result ≡ record { memory_type = memory_type; counted = (chunk.now).size; kind = Kind.FitChunk } }
+{
+    HeldRow {
+        memory_type,
+        counted: chunk.size(),
+        kind: Kind::FitChunk,
+    }
+}
+
+/// What an object of this name is, exactly where it is a fit chunk of a memory type. It looks at all of them.
+fn fit_chunk_of<M: MemoryObject, A: Allocator>(
+    fit: &FitAllocator<M, A>,
+    memory_type: u32,
+    object: u64,
+) -> Option<HeldRow>
+    requires typed { (fit.now).memory_type ≡ memory_type }
+    requires named { AreNamed (fit.now).space.chunks }
+    ensures { option_map held_of result ≡ map.get (fit_part fit.now).held object }
+{
+    for (_, chunk) in fit.chunks() {
+        if chunk.object() == object {
+            return Some(fit_row_of(chunk, memory_type));
+        }
+    }
+    None
+}
+
+/// Adds to a list what each fit chunk of a memory type is, each once with its name, in no order that is told.
+///
+/// The only refusal is want of memory. Nothing else changes.
+fn list_fit_chunks<M: MemoryObject, A: Allocator, B: Allocator>(
+    fit: &FitAllocator<M, A>,
+    memory_type: u32,
+    rows: &mut Vec<(u64, HeldRow), B>,
+) -> Result<(), AllocError>
+    requires typed { (fit.now).memory_type ≡ memory_type }
+    requires named { AreNamed (fit.now).space.chunks }
+    ensures { OnOk result ((chunks : List (ℕ × HeldRow)) × (rows.new.items ≡ rows.old.items ++ chunks)
+        × ((objects_in chunks ≡ (fit_part fit.now).held) × IsDistinct nat_eq (keys_of chunks))) }
+{
+    for (_, chunk) in fit.chunks() {
+        rows.push((chunk.object(), fit_row_of(chunk, memory_type)))?;
     }
     Ok(())
 }

@@ -96,8 +96,8 @@ impl<M: MemoryObject, A: Allocator> GpuAllocator<M, A> {
         }
     }
 
-    /// Whether a memory type serves a request, with a hint or none, by an object of the block's own: by the request, the
-    /// configuration and the size of the type's heap alone, whatever is held. The memory type has to be there.
+    /// Whether a memory type serves a request, with a hint or none, by an object of the block's own: by the request, what the
+    /// allocator was opened with and the memory type alone, whatever is held. The memory type has to be there.
     #[inline(always)]
     pub fn serves_alone(
         &self,
@@ -110,7 +110,7 @@ impl<M: MemoryObject, A: Allocator> GpuAllocator<M, A> {
     {
         match self.strategy(request, dedicated, memory_type) {
             Strategy::OwnObject => true,
-            Strategy::InBuddyChunk | Strategy::InFreeList => false,
+            Strategy::InBuddyChunk | Strategy::InFreeList | Strategy::InFitChunk => false,
         }
     }
 

@@ -16,8 +16,8 @@ impl<M: MemoryObject, A: Allocator + Copy> GpuAllocator<M, A> {
     /// of its object.
     ///
     /// Of a buddy chunk these are the free pieces: the longest ranges of a power of two of bytes, at a multiple of
-    /// their length, that lie in no live block. Of a free list's chunk they are the free runs: the longest ranges that
-    /// lie in none. An object of one block has none.
+    /// their length, that lie in no live block. Of a free list's chunk and of a fit chunk they are the free runs: the
+    /// longest ranges that lie in none. An object of one block has none.
     ///
     /// The memory type has to be there. The only refusal is `OutOfHostMemory`, since the answer and the list of each
     /// part take host memory. Nothing changes.
@@ -34,7 +34,7 @@ impl<M: MemoryObject, A: Allocator + Copy> GpuAllocator<M, A> {
         }
     }
 
-    /// The free pieces of the buddy chunks and the free runs of the free list, as one list.
+    /// The free pieces of the buddy chunks and the free runs of the free list and of the fit chunks, as one list.
     fn pieces_and_runs(&self, memory_type: u32) -> Result<Vec<FreeRange, A>, AllocError>
         requires { memory_type < length (self.now.properties).memory_types }
         ensures exact { IfOk result
@@ -44,6 +44,9 @@ impl<M: MemoryObject, A: Allocator + Copy> GpuAllocator<M, A> {
         let mut ranges = self.buddies[memory_type as usize].free_ranges()?;
         let runs = self.free_lists[memory_type as usize].free_ranges()?;
         ranges.extend_from_slice(runs.as_slice())?;
+        let alloc = *ranges.allocator();
+        let fitted = self.fits[memory_type as usize].free_ranges(alloc)?;
+        ranges.extend_from_slice(fitted.as_slice())?;
         put_in_order(&mut ranges);
         Ok(ranges)
     }

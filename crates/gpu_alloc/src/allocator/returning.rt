@@ -3,7 +3,7 @@
 ghost use Rattle.std.specs.Prelude.{◌≡◌, ℕ, ◌<◌, List, length, false};
 ghost use Rattle.gpu_alloc_types.specs.Device.{Event, Chain};
 ghost use Rattle.gpu_alloc_block.specs.Agreement.{Agrees};
-ghost use Rattle.gpu_alloc.specs.Release.{Frees, ObjectsFreed, GivesBack};
+ghost use Rattle.gpu_alloc.specs.Release.{Frees, ObjectsFreed, GivesBack, GivesFitsBack, GivesTypeBack};
 ghost use Rattle.gpu_alloc.specs.Sound as Sound;
 ghost use Rattle.gpu_alloc_block.specs.State.{IsOwned, is_shared, total};
 
@@ -13,6 +13,7 @@ use gpu_alloc_base::free_list_block::Slot;
 use gpu_alloc_base::{BuddyBlock, FreeListBlock, booking};
 use gpu_alloc_block::Kind;
 use gpu_alloc_block::block::into_memory;
+use gpu_alloc_fit::FitBlock;
 use gpu_alloc_types::{MemoryObject, ObjectDevice};
 use std::alloc::Allocator;
 use std::marker::Brand;
@@ -32,6 +33,7 @@ impl<M: MemoryObject, A: Allocator> GpuAllocator<M, A> {
             Kind::Dedicated | Kind::Imported => self.dealloc_object(device, block),
             Kind::BuddyChunk => self.dealloc_in_chunk(device, block),
             Kind::FreeListChunk(number) => self.dealloc_in_list(device, block, number),
+            Kind::FitChunk => self.dealloc_in_fit(device, block),
         }
     }
 
@@ -118,8 +120,68 @@ impl<M: MemoryObject, A: Allocator> GpuAllocator<M, A> {
         );
     }
 
+    /// Takes back a block of a fit chunk.
+    fn dealloc_in_fit<D: ObjectDevice<M>>(&mut self, device: &mut D, block: MemoryBlock<M>)
+        requires shared { block.kind ≡ Kind.FitChunk }
+        requires owned { IsOwned self.old block }
+        requires agrees { Agrees self.old (D.properties device.old) (D.objects device.old) }
+        ensures freed { (es : List Event) × Chain D.step device.old es device.new × Frees self.old block es self.new }
+        ensures objects { ObjectsFreed self.old block (D.objects device.old) (D.objects device.new) }
+        ensures agrees { Agrees self.new (D.properties device.new) (D.objects device.new) }
+        ensures sound { Sound.IsSound self.new }
+    {
+        let (key, memory_type) = (block.key(), block.memory_type());
+        let (offset, size) = (block.offset(), block.size());
+        let memory = into_memory(block);
+        let object = memory.object();
+        let heap = self.limits.heap_index(memory_type);
+        let found = self.fits[memory_type as usize].find(key, object, offset, size);
+        let Some((slot, place)) = found else {
+            unreachable!()
+        };
+        uncounted::dealloc_fit::<M, A, D, Brand>(
+            &mut self.fits[memory_type as usize],
+            device,
+            FitBlock::new(memory, slot, place),
+            &mut self.heaps[heap],
+            &mut self.allocations_remains,
+            Blank::new(1),
+        );
+    }
+
+    /// Gives a memory type's chunks in which no block is live back to the device: those of its free list, the oldest
+    /// first, and then its fit chunk.
+    pub(super) fn clean_type<D: ObjectDevice<M>>(&mut self, device: &mut D, memory_type: u32)
+        requires known { memory_type < length (self.old.properties).memory_types }
+        requires agrees { Agrees self.old (D.properties device.old) (D.objects device.old) }
+        ensures gives { (gone : List ℕ) × (es : List Event) × Chain D.step device.old es device.new
+            × GivesTypeBack self.old memory_type gone es self.new (D.objects device.old) (D.objects device.new) }
+        ensures agrees { Agrees self.new (D.properties device.new) (D.objects device.new) }
+        ensures total { total self.new ≡ total self.old }
+    {
+        self.clean_list(device, memory_type);
+        self.clean_fit(device, memory_type);
+    }
+
+    /// Gives a memory type's fit chunk in which no block is live back to the device, if there is one.
+    fn clean_fit<D: ObjectDevice<M>>(&mut self, device: &mut D, memory_type: u32)
+        requires known { memory_type < length (self.old.properties).memory_types }
+        requires agrees { Agrees self.old (D.properties device.old) (D.objects device.old) }
+        ensures gives { (gone : List ℕ) × (es : List Event) × Chain D.step device.old es device.new
+            × GivesFitsBack self.old memory_type gone es self.new (D.objects device.old) (D.objects device.new) }
+        ensures agrees { Agrees self.new (D.properties device.new) (D.objects device.new) }
+        ensures total { total self.new ≡ total self.old }
+    {
+        let heap = self.limits.heap_index(memory_type);
+        self.fits[memory_type as usize].cleanup(
+            device,
+            &mut self.heaps[heap],
+            &mut self.allocations_remains,
+        );
+    }
+
     /// Gives a memory type's free-list chunks in which no block is live back to the device, the oldest first.
-    pub(super) fn clean_list<D: ObjectDevice<M>>(&mut self, device: &mut D, memory_type: u32)
+    fn clean_list<D: ObjectDevice<M>>(&mut self, device: &mut D, memory_type: u32)
         requires known { memory_type < length (self.old.properties).memory_types }
         requires agrees { Agrees self.old (D.properties device.old) (D.objects device.old) }
         ensures gives { (gone : List ℕ) × (es : List Event) × Chain D.step device.old es device.new

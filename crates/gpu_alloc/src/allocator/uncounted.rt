@@ -1,4 +1,5 @@
-//! Calls of a buddy allocator that count nothing: each begins ledgers of counts that nobody reads.
+//! Calls of a buddy allocator, and a return of a fit chunk's block, that count nothing: each begins ledgers of counts that
+//! nobody reads.
 
 ghost use Rattle.std.specs.Prelude.{◌≡◌, ℕ, ◌≤◌, ◌<◌, ◌↔◌, ◌^◌, IfOk, OnErr, IsTrue};
 ghost use Rattle.gpu_alloc_types.specs.Flags.{allocation_bits, has_bit, with_device_address};
@@ -12,11 +13,15 @@ ghost use Rattle.gpu_alloc_buddy.specs.Buddy.{Agrees, CallAllocates, case_of, Fr
 ghost use Rattle.gpu_alloc_buddy.specs.Buddy.{ObjectsAfter, ObjectsFreed};
 ghost use Rattle.gpu_alloc_buddy.specs.BuddySound.{IsSound};
 ghost use Rattle.gpu_alloc_buddy.specs.BuddyState.{IsLiveLeaf};
+ghost use Rattle.gpu_alloc_fit.specs.Fit as fit;
+ghost use Rattle.gpu_alloc_fit.specs.FitSound as fit_sound;
+ghost use Rattle.gpu_alloc_fits.specs.Space.{IsLiveSlot};
 
 use gpu_alloc_base::heap::Heap;
 use gpu_alloc_base::steps::Steps;
 use gpu_alloc_base::{AllocationError, BuddyBlock};
 use gpu_alloc_buddy::BuddyAllocator;
+use gpu_alloc_fit::{FitAllocator, FitBlock};
 use gpu_alloc_types::{AllocationFlags, MemoryObject, ObjectDevice};
 use std::alloc::Allocator;
 use std::sync::ledger::{Blank, Ledger};
@@ -104,4 +109,28 @@ pub(super) fn dealloc<M: MemoryObject, A: Allocator, D: ObjectDevice<M>, L: Ledg
 {
     let mut releases = Steps::<L>::new(blank);
     buddy.dealloc(device, block, heap, allocations_remains, &mut releases);
+}
+
+/// Takes a block of a fit chunk back, as `FitAllocator::dealloc` does.
+pub(super) fn dealloc_fit<M: MemoryObject, A: Allocator, D: ObjectDevice<M>, L: Ledger>(
+    fits: &mut FitAllocator<M, A>,
+    device: &mut D,
+    block: FitBlock<M>,
+    heap: &mut Heap,
+    allocations_remains: &mut u32,
+    blank: Blank,
+)
+    requires begins { Begins blank L.name L.parts }
+    requires live { IsLiveSlot (fits.old).space block }
+    requires agrees { fit.Agrees fits.old (D.properties device.old) (D.objects device.old) }
+    requires counted { IsCounted (fits.old).space.chunks heap.old allocations_remains.old }
+    ensures frees { Asked D.step device.old device.new
+        (λ es. fit.Frees (account fits.old heap.old allocations_remains.old) block es
+        (account fits.new heap.new allocations_remains.new)) }
+    ensures objects { fit.ObjectsFreed fits.old block (D.objects device.old) (D.objects device.new) }
+    ensures properties { D.properties device.new ≡ D.properties device.old }
+    ensures sound { fit_sound.IsSound fits.new }
+{
+    let mut looks = Steps::<L>::new(blank);
+    fits.dealloc(device, block, heap, allocations_remains, &mut looks);
 }

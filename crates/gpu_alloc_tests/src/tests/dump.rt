@@ -223,6 +223,7 @@ fn compare(rt: &impl Abort, alloc: Global, desk: &Desk) -> Result<(), Fail> {
             ObjectKind::Imported => all.imported,
             ObjectKind::BuddyChunk => all.buddy,
             ObjectKind::FreeListChunk => all.free_list,
+            ObjectKind::FitChunk => all.fit,
         };
         same(rt, "the same sums alone", &told, kind);
     }

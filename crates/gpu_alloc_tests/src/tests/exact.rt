@@ -437,7 +437,7 @@ impl Lists {
             count(&mut self.tally[4]);
             return Ok(Err(AllocationError::TooManyObjects));
         }
-        let length = chunk_size(self.next, size);
+        let length = chunk_size(self.next, size, LARGEST);
         count(&mut self.asked.0);
         self.asked.1 = Some(length);
         if self.asked.0 == self.refused {
@@ -509,7 +509,7 @@ impl Lists {
 }
 
 /// Whether a range lies in another.
-fn lies_in(range: Range, other: Range) -> bool {
+pub(super) fn lies_in(range: Range, other: Range) -> bool {
     range.object == other.object && other.start <= range.start && range.end <= other.end
 }
 

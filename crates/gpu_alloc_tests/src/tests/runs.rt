@@ -311,7 +311,7 @@ impl Lists {
             count(&mut self.tally.too_many);
             return Ok(Err(AllocationError::TooManyObjects));
         }
-        let length = chunk_size(self.next, size);
+        let length = chunk_size(self.next, size, LARGEST);
         count(&mut self.asked.0);
         self.asked.1 = Some(length);
         if self.asked.0 == self.refused {
@@ -411,14 +411,14 @@ pub(super) fn sides_of(runs: &[Range], block: Range) -> (bool, bool) {
 }
 
 /// The size of a chunk for so many bytes: the next one's, doubled until it is enough, and cut at the largest.
-pub(super) fn chunk_size(next: u64, size: u64) -> u64 {
+pub(super) fn chunk_size(next: u64, size: u64, largest: u64) -> u64 {
     let mut length = next;
     for _ in 0..63 {
         if length < size {
             length <<= 1;
         }
     }
-    length.min(LARGEST)
+    length.min(largest)
 }
 
 /// How many chunks these are, of how many bytes, and how many more objects may be held.

@@ -8,7 +8,7 @@ mod resources;
 mod stub;
 
 use super::*;
-use crate::{Dedicated, MemoryBlock, UsageFlags};
+use crate::{Dedicated, MemoryBlock, Sharing, UsageFlags};
 use stub::Stub;
 
 const fn is_send_and_sync<T: Send + Sync>() {}
@@ -37,6 +37,13 @@ fn image_info(side: u32) -> ImageCreateInfo {
 
 fn allocator(stub: &Stub) -> Allocator {
     Allocator::new(stub.device()).expect("the stub has good properties")
+}
+
+/// One with the usual sizes, whose requests share memory objects so.
+fn allocator_with(stub: &Stub, sharing: Sharing) -> Allocator {
+    let device = stub.device();
+    let config = device.default_config();
+    Allocator::with_sharing(device, config, sharing).expect("the stub has good properties")
 }
 
 fn dedicated(usage: UsageFlags, dedicated: Dedicated) -> MemoryRequest {

@@ -110,14 +110,20 @@ fn bound_to_the_block() {
 /// A linear image lies beside buffers.
 #[test]
 fn a_linear_image_is_no_optimal_block() {
+    a_linear_image_lies_beside(Sharing::Buddy, 1024);
+    a_linear_image_lies_beside(Sharing::Fit, 256);
+}
+
+/// The blocks of 100 bytes then have this size.
+fn a_linear_image_lies_beside(sharing: Sharing, size: u64) {
     let stub = Stub::new();
-    let mut allocator = allocator(&stub);
+    let mut allocator = allocator_with(&stub, sharing);
     let first = buffer(&mut allocator, 100, LOCAL);
     let info = ImageCreateInfo { tiling: Tiling::LINEAR, ..image_info(5) };
     // SAFETY: the stub allows it.
     let linear = unsafe { allocator.create_image(&info, LOCAL) }.unwrap();
     let optimal = image(&mut allocator, 5, LOCAL);
-    assert_eq!((first.block.size(), linear.block.size()), (1024, 1024));
+    assert_eq!((first.block.size(), linear.block.size()), (size, size));
     assert_eq!(optimal.block.offset() % stub::PAGE, 0);
     // SAFETY: as above.
     unsafe {

@@ -3,7 +3,9 @@ use Rattle.std.proofs.lemmas.Nat.{pow_pos}
 use Rattle.gpu_alloc_base.specs.declared.region.FreeListRegion.{FreeListRegion}
 use Rattle.gpu_alloc_base.specs.FreeRuns.{IsSpaced, IsListPlace, HasRoom, tail_start}
 use Rattle.gpu_alloc_freelist.specs.FreeListState.{IsFreeIn}
+use Rattle.gpu_alloc.specs.FreeBytes.{IsFreeByte}
 use Rattle.gpu_alloc.specs.FreeListSharing.{IsFreeInChunk}
+use Rattle.gpu_alloc_block.specs.declared.block.Kind.TheVariants.{FitChunk}
 use Rattle.gpu_alloc_base.proofs.FreeRuns.{region_is_run, run_is_region, place_has_run, run_has_place}
 use Rattle.gpu_alloc.proofs.laws.regions_are_the_free_runs.Goals as goal
 
@@ -27,3 +29,9 @@ returns-clause-exact_in_state c s t regions spaced r = (region_is_run (IsFreeInC
 
 pub returns-clause-place_in_state : goal.returns-clause-place_in_state
 returns-clause-place_in_state c s t regions spaced size order some = (has_room (IsFreeInChunk s t) regions spaced size order some, has_place (IsFreeInChunk s t) regions spaced size order some)
+
+pub returns-clause-exact_in_fits : goal.returns-clause-exact_in_fits
+returns-clause-exact_in_fits c s t regions spaced r = (region_is_run (IsFreeByte s t FitChunk) (Contains regions) spaced r, run_is_region (IsFreeByte s t FitChunk) (Contains regions) spaced r)
+
+pub returns-clause-place_in_fits : goal.returns-clause-place_in_fits
+returns-clause-place_in_fits c s t regions spaced size order some = (has_room (IsFreeByte s t FitChunk) regions spaced size order some, has_place (IsFreeByte s t FitChunk) regions spaced size order some)

@@ -3,7 +3,7 @@ use Rattle.std.specs.FinMap as map
 use Rattle.gpu_alloc_base.specs.Chunks.{object_in}
 use Rattle.gpu_alloc_base.proofs.ListedRanges.{told_object}
 use Rattle.gpu_alloc_base.proofs.SlabViews.{get_by_key}
-use Rattle.gpu_alloc_fits.specs.Inside.{chunk_of, chunks_in, live_slot, listed, slot_of}
+use Rattle.gpu_alloc_fits.specs.Inside.{chunk_of, chunks_in, live_row, listed, row_of, slot_of}
 use Rattle.gpu_alloc_fits.proofs.fits.list_live.Goals as goal
 
 pub returns : goal.returns
@@ -12,5 +12,5 @@ returns g c =
     let chunks = chunks_in object c.args.chunks.now in
     let named : c.object.result ≡ object_in (map.get chunks c.args.tile.chunk) =
     c.object.ensures ∙ sym (told_object (map.get chunks c.args.tile.chunk) (chunk_of object c.index.result.now) (get_by_key (chunk_of object) c.args.chunks.now c.args.tile.chunk ∙ ap (option_map (chunk_of object)) c.index.ensures)) in
-    let made : live_slot chunks c.args.tile ≡ Some (_) = ap (λ b. cond b None (Some (slot_of chunks c.args.tile))) c.if-tile.false in
-    c.in_ok-push.ensures.items ∙ (λ i. c.args.slots.now.items ++ listed (Some (record { object = named i; chunk = c.args.tile.chunk; offset = c.args.tile.start; size = c.args.tile.end - c.args.tile.start }))) ∙ ap (λ o. c.args.slots.now.items ++ listed o) (sym made)
+    let made : live_row chunks c.args.tile ≡ Some (_) = ap (λ b. cond b None (Some (row_of (slot_of chunks c.args.tile)))) c.if-tile.false in
+    c.in_ok-push.ensures.items ∙ (λ i. c.args.rows.now.items ++ listed (Some (record { object = named i; chunk = c.args.tile.chunk; offset = c.args.tile.start; size = c.args.tile.end - c.args.tile.start; index = 0 }))) ∙ ap (λ o. c.args.rows.now.items ++ listed o) (sym made)

@@ -4,8 +4,8 @@ use Rattle.gpu_report.specs.Report.{AreTold}
 use Rattle.gpu_report.specs.declared.part.Part.{Part}
 use Rattle.gpu_report.proofs.build.add_type.Goals as goal
 
-four_more : (ps : List Part) (a b d e : Part) → (((ps ++ a ∷ []) ++ b ∷ []) ++ d ∷ []) ++ e ∷ [] ≡ ps ++ a ∷ b ∷ d ∷ e ∷ []
-four_more ps a b d e = simp append_assoc
+five_more : (ps : List Part) (a b d e f : Part) → ((((ps ++ a ∷ []) ++ b ∷ []) ++ d ∷ []) ++ e ∷ []) ++ f ∷ [] ≡ ps ++ a ∷ b ∷ d ∷ e ∷ f ∷ []
+five_more ps a b d e f = simp append_assoc
 
 pub returns : goal.returns
 returns g c ps told =
@@ -13,4 +13,5 @@ returns g c ps told =
     let two = c.in_ok-add_kind-2.ensures _ one in
     let three = c.in_ok-add_kind-3.ensures _ two in
     let four = c.in_ok-add_kind-4.ensures _ three in
-    subst (λ (xs : List Part). AreTold c.args.allocator.now (map entry_of c.args.held.now) c.args.live.now xs c.add_kind-4.new.kinds.items c.add_kind-4.new.objects.items) (four_more ps _ _ _ _) four
+    let five = c.in_ok-add_kind-5.ensures _ four in
+    subst (λ (xs : List Part). AreTold c.args.allocator.now (map entry_of c.args.held.now) c.args.live.now xs c.add_kind-5.new.kinds.items c.add_kind-5.new.objects.items) (five_more ps _ _ _ _ _) five

@@ -3,7 +3,7 @@ use Rattle.gpu_alloc.proofs.Agreed.{allocates_agrees, chain_keeps}
 use Rattle.gpu_alloc.proofs.BlocksAgreed.{allocates_agrees_block, allocation_keeps_blocks}
 use Rattle.gpu_alloc.proofs.Decisions.{allocates_kept, allocates_total}
 use Rattle.gpu_alloc.specs.Allocation.{Allocates, plan}
-use Rattle.gpu_alloc.proofs.Granted.{allocates_granted, allocates_kind, alone_is, is_plan, required_granted}
+use Rattle.gpu_alloc.proofs.Granted.{allocates_granted, allocates_kind, alone_is, exact_is, is_plan, required_granted}
 use Rattle.gpu_alloc.proofs.InHand.{adds_in_hand, allocation_in_hand}
 use Rattle.gpu_alloc.proofs.Owning.{allocates_add, allocates_leave}
 use Rattle.gpu_alloc.proofs.allocator.GpuAllocator.alloc_with_dedicated.Goals as goal
@@ -20,6 +20,9 @@ returns-clause-decided g c = c.allocate-answer.ensures.decided
 
 pub returns-clause-alone : goal.returns-clause-alone
 returns-clause-alone g c = alone_is c.args.self.now c.args.request (Some c.args.dedicated) _ (allocates_kind c.args.self.now (plan c.args.self.now c.args.request (Some c.args.dedicated)) _ _ _ c.allocate-answer.ensures.decided.2)
+
+pub returns-clause-exact : goal.returns-clause-exact
+returns-clause-exact g c = exact_is c.args.self.now c.args.request (Some c.args.dedicated) _ (allocates_kind c.args.self.now (plan c.args.self.now c.args.request (Some c.args.dedicated)) _ _ _ c.allocate-answer.ensures.decided.2)
 
 pub returns-clause-granted : goal.returns-clause-granted
 returns-clause-granted g c = allocates_granted c.args.self.now c.args.request (plan c.args.self.now c.args.request (Some c.args.dedicated)) (is_plan c.args.self.now c.args.request (Some c.args.dedicated) c.requires.askable) c.keeps_sound.ensures.sound c.keeps_sound.ensures.atoms _ _ _ c.allocate-answer.ensures.decided.2

@@ -18,7 +18,7 @@ cleanup-requires-clause-counted g c =
 -- What its call did, and what it comes to.
 
 given : (g : Over) (c : goal.After-self-2-1 g)
-    → Handed c.self.inside.limits c.self.inside.heaps.items c.self.inside.buddies.items c.self.inside.free_lists.items c.self.inside.own c.self.inside.allocations_remains c.args.memory_type c.heap_index-heap.result c.index_mut.result.now c.index_mut-2.result.now
+    → Handed c.self.inside.limits c.self.inside.heaps.items c.self.inside.buddies.items c.self.inside.free_lists.items c.self.inside.fits.items c.self.inside.own c.self.inside.allocations_remains c.args.memory_type c.heap_index-heap.result c.index_mut.result.now c.index_mut-2.result.now
 given g c = let known = rw (← c.self.view_is) at c.requires.known in handed c.self.inside.limits c.self.invariant known c.index_mut.ensures.value c.heap_index-heap.ensures c.index_mut-2.ensures.value
 
 left : (g : Over) (c : goal.After-self-2-1 g) → IsLeft (given g c) false c.args.self.now c.cleanup.ensures.gives.1.0 (account c.cleanup.new.self c.cleanup.new.heap c.cleanup.new.allocations_remains)

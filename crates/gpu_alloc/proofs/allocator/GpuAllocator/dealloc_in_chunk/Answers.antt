@@ -18,7 +18,7 @@ unreachable-requires g c =
     leaf_found c.self.inside.limits c.self.invariant owned c.requires.shared c.memory_type-memory_type.ensures c.index.ensures (rw (← name, ← c.offset-offset.ensures, ← c.size-size.ensures) (c.in_default.ensures.found))
 
 given : (g : Over) (c : goal.After-new-2 g)
-    → Given c.self.inside.limits c.self.inside.heaps.items c.self.inside.buddies.items c.self.inside.free_lists.items c.self.inside.own c.self.inside.allocations_remains c.memory_type-memory_type.result c.heap_index-heap.result c.index_mut.result.now c.index_mut-2.result.now c.new.result c.args.block
+    → Given c.self.inside.limits c.self.inside.heaps.items c.self.inside.buddies.items c.self.inside.free_lists.items c.self.inside.fits.items c.self.inside.own c.self.inside.allocations_remains c.memory_type-memory_type.result c.heap_index-heap.result c.index_mut.result.now c.index_mut-2.result.now c.new.result c.args.block
 given g c =
     let owned = rw (← c.self.view_is) at c.requires.owned in
     let name = c.object-object.ensures ∙ c.into_memory-memory.ensures in
@@ -41,7 +41,7 @@ dealloc-requires-clause-counted g c = counted_first (given g c)
 -- What its call did, and what it comes to.
 
 given_after : (g : Over) (c : goal.After-self-2-1 g)
-    → Given c.self.inside.limits c.self.inside.heaps.items c.self.inside.buddies.items c.self.inside.free_lists.items c.self.inside.own c.self.inside.allocations_remains c.memory_type-memory_type.result c.heap_index-heap.result c.index_mut.result.now c.index_mut-2.result.now c.new.result c.args.block
+    → Given c.self.inside.limits c.self.inside.heaps.items c.self.inside.buddies.items c.self.inside.free_lists.items c.self.inside.fits.items c.self.inside.own c.self.inside.allocations_remains c.memory_type-memory_type.result c.heap_index-heap.result c.index_mut.result.now c.index_mut-2.result.now c.new.result c.args.block
 given_after g c =
     let owned = rw (← c.self.view_is) at c.requires.owned in
     let name = c.object-object.ensures ∙ c.into_memory-memory.ensures in
@@ -69,4 +69,4 @@ pub returns-clause-agrees : goal.returns-clause-agrees
 returns-clause-agrees g c = (returned_by g c).agreed
 
 pub returns-clause-sound : goal.returns-clause-sound
-returns-clause-sound g c = sound_is c.self.inside.limits _ _ _ _ _ (consistent _ _ _ _ _ _ _ (invariant_of-self g c))
+returns-clause-sound g c = sound_is c.self.inside.limits _ _ _ _ _ _ (consistent _ _ _ _ _ _ _ _ _ (invariant_of-self g c))

@@ -12,7 +12,7 @@ use Rattle.gpu_alloc.proofs.allocator.GpuAllocator.dealloc_in_list.Goals as goal
 -- What the free list asks.
 
 handed : (g : Over) (c : goal.After-dealloc-arg-2-1 g)
-    → Handed c.self.inside.limits c.self.inside.heaps.items c.self.inside.buddies.items c.self.inside.free_lists.items c.self.inside.own c.self.inside.allocations_remains c.memory_type-memory_type.result c.heap_index-heap.result c.index_mut.result.now c.index_mut-2.result.now
+    → Handed c.self.inside.limits c.self.inside.heaps.items c.self.inside.buddies.items c.self.inside.free_lists.items c.self.inside.fits.items c.self.inside.own c.self.inside.allocations_remains c.memory_type-memory_type.result c.heap_index-heap.result c.index_mut.result.now c.index_mut-2.result.now
 handed g c =
     let owned = rw (← c.self.view_is) at c.requires.owned in
     handed_back c.self.inside.limits c.self.invariant owned c.memory_type-memory_type.ensures c.index_mut.ensures.value c.heap_index-heap.ensures c.index_mut-2.ensures.value
@@ -32,7 +32,7 @@ dealloc-requires-clause-counted g c = counted_first (handed g c)
 -- What its call did, and what it comes to.
 
 handed_after : (g : Over) (c : goal.After-self-2-1 g)
-    → Handed c.self.inside.limits c.self.inside.heaps.items c.self.inside.buddies.items c.self.inside.free_lists.items c.self.inside.own c.self.inside.allocations_remains c.memory_type-memory_type.result c.heap_index-heap.result c.index_mut.result.now c.index_mut-2.result.now
+    → Handed c.self.inside.limits c.self.inside.heaps.items c.self.inside.buddies.items c.self.inside.free_lists.items c.self.inside.fits.items c.self.inside.own c.self.inside.allocations_remains c.memory_type-memory_type.result c.heap_index-heap.result c.index_mut.result.now c.index_mut-2.result.now
 handed_after g c =
     let owned = rw (← c.self.view_is) at c.requires.owned in
     handed_back c.self.inside.limits c.self.invariant owned c.memory_type-memory_type.ensures c.index_mut.ensures.value c.heap_index-heap.ensures c.index_mut-2.ensures.value
@@ -62,4 +62,4 @@ pub returns-clause-agrees : goal.returns-clause-agrees
 returns-clause-agrees g c = rw (c.dealloc.ensures.properties) (left g c).1.agrees
 
 pub returns-clause-sound : goal.returns-clause-sound
-returns-clause-sound g c = sound_is c.self.inside.limits _ _ _ _ _ (consistent _ _ _ _ _ _ _ (invariant_of-self g c))
+returns-clause-sound g c = sound_is c.self.inside.limits _ _ _ _ _ _ (consistent _ _ _ _ _ _ _ _ _ (invariant_of-self g c))

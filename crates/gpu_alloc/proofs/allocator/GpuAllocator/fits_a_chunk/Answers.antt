@@ -11,5 +11,5 @@ index-requires g c = below refl (c.self.inside.free_lists.ok.0 ∙ c.self.invari
 pub returns : goal.returns
 returns g c =
     let known = rw (← c.self.view_is) at c.requires.known in
-    let given = (own_listing c.self.inside.limits _ _ _ _ _ c.args.memory_type c.index.result.now (consistent _ _ _ _ _ _ _ c.self.invariant) known c.index.ensures).for_type in
+    let given = (own_listing c.self.inside.limits _ _ _ _ _ _ c.args.memory_type c.index.result.now (consistent _ _ _ _ _ _ _ _ _ c.self.invariant) known c.index.ensures).for_type in
     rw (← c.self.view_is) (c.fits_a_chunk.ensures ∙ (λ k. nat_le (up c.args.request.size (given.atom k)) (given.final_chunk k)))

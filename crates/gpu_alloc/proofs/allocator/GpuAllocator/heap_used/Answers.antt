@@ -11,5 +11,5 @@ returns g c =
     let heaps = c.self.inside.heaps.items in
     let known = rw (← c.self.view_is) at c.requires in
     let inside : c.args.heap < length heaps = omega (arith, length-map heaps offer_of) in
-    let is = ledger_at (properties_in c.self.inside.limits heaps) heaps c.args.heap c.index.result.now (finite.entries (whole c.self.inside.own c.self.inside.buddies.items c.self.inside.free_lists.items).held) c.self.invariant.books.ledgers inside c.index.ensures in
+    let is = ledger_at (properties_in c.self.inside.limits heaps) heaps c.args.heap c.index.result.now (finite.entries (whole c.self.inside.own c.self.inside.buddies.items c.self.inside.free_lists.items c.self.inside.fits.items).held) c.self.invariant.books.ledgers inside c.index.ensures in
     rw (← c.self.view_is) (cc is)

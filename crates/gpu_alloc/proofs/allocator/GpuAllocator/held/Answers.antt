@@ -3,43 +3,43 @@ use Rattle.std.specs.FinMap as finite
 use Rattle.std.specs.Ordering.{nat_cmp}
 use Rattle.gpu_alloc_block.specs.Parts.{Part, held_in}
 use Rattle.gpu_alloc.specs.Spans.{held_of}
-use Rattle.gpu_alloc.specs.Whole.{buddy_part, list_part, own_part}
-use Rattle.gpu_alloc.proofs.WholeParts.{first_holds, left_from, lists_left, next_buddy, next_buddy_left, next_left, next_list, none_left, rest_holds}
+use Rattle.gpu_alloc.specs.Whole.{buddy_part, fit_part, list_part, own_part}
+use Rattle.gpu_alloc.proofs.WholeParts.{first_holds, fits_left, left_from, lists_from, lists_left, next_buddy, next_buddy_left, next_fit, next_fit_left, next_left, next_list, none_left, rest_holds}
 use Rattle.gpu_alloc.proofs.allocator.GpuAllocator.held.Goals as goal
 
 pub returns-in-Some : goal.returns-in-Some
 returns-in-Some g c =
-    rw (← c.self.view_is) (sym (first_holds (own_part c.self.inside.own) (left_from c.self.inside.buddies.items c.self.inside.free_lists.items 0) c.args.object (held_of c.in-Some.row) (sym c.in-Some.ensures)))
+    rw (← c.self.view_is) (sym (first_holds (own_part c.self.inside.own) (left_from c.self.inside.buddies.items c.self.inside.free_lists.items c.self.inside.fits.items 0) c.args.object (held_of c.in-Some.row) (sym c.in-Some.ensures)))
 
 -- The buddy allocators.
 
 pub loop-memory_type-init : goal.loop-memory_type-init
 loop-memory_type-init g c =
-    rw (← c.self.view_is) (rest_holds (own_part c.self.inside.own) (left_from c.self.inside.buddies.items c.self.inside.free_lists.items 0) c.args.object (sym c.in_default.ensures))
+    rw (← c.self.view_is) (rest_holds (own_part c.self.inside.own) (left_from c.self.inside.buddies.items c.self.inside.free_lists.items c.self.inside.fits.items 0) c.args.object (sym c.in_default.ensures))
 
 pub buddy_chunk_of-requires-clause-typed : goal.buddy_chunk_of-requires-clause-typed
 buddy_chunk_of-requires-clause-typed g c =
     let count = rw (← c.self.view_is) at c.type_count-memory_type-end.ensures in
-    (next_buddy c.self.inside.limits _ _ _ _ _ c.self.invariant _ count c.loop-memory_type.memory_type c.index-buddy.result.now c.loop-memory_type-test.true c.index-buddy.ensures).for_type.memory_type
+    (next_buddy c.self.inside.limits _ _ _ _ _ _ c.self.invariant _ count c.loop-memory_type.memory_type c.index-buddy.result.now c.loop-memory_type-test.true c.index-buddy.ensures).for_type.memory_type
 
 pub buddy_chunk_of-requires-clause-named : goal.buddy_chunk_of-requires-clause-named
 buddy_chunk_of-requires-clause-named g c =
     let count = rw (← c.self.view_is) at c.type_count-memory_type-end.ensures in
-    (next_buddy c.self.inside.limits _ _ _ _ _ c.self.invariant _ count c.loop-memory_type.memory_type c.index-buddy.result.now c.loop-memory_type-test.true c.index-buddy.ensures).sound.space.one_object
+    (next_buddy c.self.inside.limits _ _ _ _ _ _ c.self.invariant _ count c.loop-memory_type.memory_type c.index-buddy.result.now c.loop-memory_type-test.true c.index-buddy.ensures).sound.space.one_object
 
 pub returns-in-Some-buddy_chunk_of : goal.returns-in-Some-buddy_chunk_of
 returns-in-Some-buddy_chunk_of g c =
     let count = rw (← c.self.view_is) at c.type_count-memory_type-end.ensures in
-    let left = next_buddy_left c.self.inside.limits _ _ _ _ _ c.self.invariant _ count c.loop-memory_type.memory_type c.index-buddy.result.now c.loop-memory_type-test.true c.index-buddy.ensures in
-    let rest = left_from c.self.inside.buddies.items c.self.inside.free_lists.items (c.loop-memory_type.memory_type + 1) in
+    let left = next_buddy_left c.self.inside.limits _ _ _ _ _ _ c.self.invariant _ count c.loop-memory_type.memory_type c.index-buddy.result.now c.loop-memory_type-test.true c.index-buddy.ensures in
+    let rest = left_from c.self.inside.buddies.items c.self.inside.free_lists.items c.self.inside.fits.items (c.loop-memory_type.memory_type + 1) in
     let here = first_holds (buddy_part c.index-buddy.result.now) rest c.args.object (held_of c.in-Some-buddy_chunk_of.row) (sym c.in-Some-buddy_chunk_of.ensures) in
     sym (c.loop-memory_type.invariant ∙ ap (λ (ps : List Part). finite.get (held_in ps) c.args.object) left ∙ here)
 
 pub loop-memory_type-preserved : goal.loop-memory_type-preserved
 loop-memory_type-preserved g c =
     let count = rw (← c.self.view_is) at c.type_count-memory_type-end.ensures in
-    let left = next_buddy_left c.self.inside.limits _ _ _ _ _ c.self.invariant _ count c.loop-memory_type.memory_type c.index-buddy.result.now c.loop-memory_type-test.true c.index-buddy.ensures in
-    let rest = left_from c.self.inside.buddies.items c.self.inside.free_lists.items (c.loop-memory_type.memory_type + 1) in
+    let left = next_buddy_left c.self.inside.limits _ _ _ _ _ _ c.self.invariant _ count c.loop-memory_type.memory_type c.index-buddy.result.now c.loop-memory_type-test.true c.index-buddy.ensures in
+    let rest = left_from c.self.inside.buddies.items c.self.inside.free_lists.items c.self.inside.fits.items (c.loop-memory_type.memory_type + 1) in
     c.loop-memory_type.invariant ∙ ap (λ (ps : List Part). finite.get (held_in ps) c.args.object) left
     ∙ rest_holds (buddy_part c.index-buddy.result.now) rest c.args.object (sym c.in_default-buddy_chunk_of.ensures)
 
@@ -49,38 +49,73 @@ pub loop-memory_type-2-init : goal.loop-memory_type-2-init
 loop-memory_type-2-init g c =
     let count = rw (← c.self.view_is) at c.type_count-memory_type-end.ensures in
     let past : c.type_count-memory_type-end.result ≤ c.loop-memory_type.memory_type = omega (arith, c.loop-memory_type-test.false) in
-    let left = lists_left c.self.inside.limits _ _ _ _ _ c.self.invariant _ count c.loop-memory_type.memory_type past in
+    let left = lists_left c.self.inside.limits _ _ _ _ _ _ c.self.invariant _ count c.loop-memory_type.memory_type past in
     c.loop-memory_type.invariant ∙ ap (λ (ps : List Part). finite.get (held_in ps) c.args.object) left
 
 pub chunk_of-requires-clause-typed : goal.chunk_of-requires-clause-typed
 chunk_of-requires-clause-typed g c =
     let count = rw (← c.self.view_is) at c.type_count-memory_type-end-2.ensures in
-    (next_list c.self.inside.limits _ _ _ _ _ c.self.invariant _ count c.loop-memory_type-2.memory_type c.index-list.result.now c.loop-memory_type-2-test.true c.index-list.ensures).for_type.memory_type
+    (next_list c.self.inside.limits _ _ _ _ _ _ c.self.invariant _ count c.loop-memory_type-2.memory_type c.index-list.result.now c.loop-memory_type-2-test.true c.index-list.ensures).for_type.memory_type
 
 pub chunk_of-requires-clause-named : goal.chunk_of-requires-clause-named
 chunk_of-requires-clause-named g c =
     let count = rw (← c.self.view_is) at c.type_count-memory_type-end-2.ensures in
-    (next_list c.self.inside.limits _ _ _ _ _ c.self.invariant _ count c.loop-memory_type-2.memory_type c.index-list.result.now c.loop-memory_type-2-test.true c.index-list.ensures).sound.one_object
+    (next_list c.self.inside.limits _ _ _ _ _ _ c.self.invariant _ count c.loop-memory_type-2.memory_type c.index-list.result.now c.loop-memory_type-2-test.true c.index-list.ensures).sound.one_object
 
 pub returns-in-Some-chunk_of : goal.returns-in-Some-chunk_of
 returns-in-Some-chunk_of g c =
     let count = rw (← c.self.view_is) at c.type_count-memory_type-end-2.ensures in
-    let left = next_left c.self.inside.limits _ _ _ _ _ c.self.invariant _ count c.loop-memory_type-2.memory_type c.index-list.result.now c.loop-memory_type-2-test.true c.index-list.ensures in
-    let rest = map list_part (drop (c.loop-memory_type-2.memory_type + 1) c.self.inside.free_lists.items) in
+    let left = next_left c.self.inside.limits _ _ _ _ _ _ c.self.invariant _ count c.loop-memory_type-2.memory_type c.index-list.result.now c.loop-memory_type-2-test.true c.index-list.ensures in
+    let rest = lists_from c.self.inside.free_lists.items c.self.inside.fits.items (c.loop-memory_type-2.memory_type + 1) in
     let here = first_holds (list_part c.index-list.result.now) rest c.args.object (held_of c.in-Some-chunk_of.row) (sym c.in-Some-chunk_of.ensures) in
     sym (c.loop-memory_type-2.invariant ∙ ap (λ (ps : List Part). finite.get (held_in ps) c.args.object) left ∙ here)
 
 pub loop-memory_type-2-preserved : goal.loop-memory_type-2-preserved
 loop-memory_type-2-preserved g c =
     let count = rw (← c.self.view_is) at c.type_count-memory_type-end-2.ensures in
-    let left = next_left c.self.inside.limits _ _ _ _ _ c.self.invariant _ count c.loop-memory_type-2.memory_type c.index-list.result.now c.loop-memory_type-2-test.true c.index-list.ensures in
-    let rest = map list_part (drop (c.loop-memory_type-2.memory_type + 1) c.self.inside.free_lists.items) in
+    let left = next_left c.self.inside.limits _ _ _ _ _ _ c.self.invariant _ count c.loop-memory_type-2.memory_type c.index-list.result.now c.loop-memory_type-2-test.true c.index-list.ensures in
+    let rest = lists_from c.self.inside.free_lists.items c.self.inside.fits.items (c.loop-memory_type-2.memory_type + 1) in
     c.loop-memory_type-2.invariant ∙ ap (λ (ps : List Part). finite.get (held_in ps) c.args.object) left
     ∙ rest_holds (list_part c.index-list.result.now) rest c.args.object (sym c.in_default-chunk_of.ensures)
 
-pub returns : goal.returns
-returns g c =
+-- The allocators of fit chunks.
+
+pub loop-memory_type-3-init : goal.loop-memory_type-3-init
+loop-memory_type-3-init g c =
     let count = rw (← c.self.view_is) at c.type_count-memory_type-end-2.ensures in
     let past : c.type_count-memory_type-end-2.result ≤ c.loop-memory_type-2.memory_type = omega (arith, c.loop-memory_type-2-test.false) in
-    let left = none_left c.self.inside.limits _ _ _ _ _ c.self.invariant _ count c.loop-memory_type-2.memory_type past in
-    sym (c.loop-memory_type-2.invariant ∙ ap (λ (ps : List Part). finite.get (held_in ps) c.args.object) left ∙ finite.get-empty nat_cmp c.args.object)
+    let left = fits_left c.self.inside.limits _ _ _ _ _ _ c.self.invariant _ count c.loop-memory_type-2.memory_type past in
+    c.loop-memory_type-2.invariant ∙ ap (λ (ps : List Part). finite.get (held_in ps) c.args.object) left
+
+pub fit_chunk_of-requires-clause-typed : goal.fit_chunk_of-requires-clause-typed
+fit_chunk_of-requires-clause-typed g c =
+    let count = rw (← c.self.view_is) at c.type_count-memory_type-end-3.ensures in
+    (next_fit c.self.inside.limits _ _ _ _ _ _ c.self.invariant _ count c.loop-memory_type-3.memory_type c.index-fit.result.now c.loop-memory_type-3-test.true c.index-fit.ensures).for_type.memory_type
+
+pub fit_chunk_of-requires-clause-named : goal.fit_chunk_of-requires-clause-named
+fit_chunk_of-requires-clause-named g c =
+    let count = rw (← c.self.view_is) at c.type_count-memory_type-end-3.ensures in
+    (next_fit c.self.inside.limits _ _ _ _ _ _ c.self.invariant _ count c.loop-memory_type-3.memory_type c.index-fit.result.now c.loop-memory_type-3-test.true c.index-fit.ensures).sound.space.one_object
+
+pub returns-in-Some-fit_chunk_of : goal.returns-in-Some-fit_chunk_of
+returns-in-Some-fit_chunk_of g c =
+    let count = rw (← c.self.view_is) at c.type_count-memory_type-end-3.ensures in
+    let left = next_fit_left c.self.inside.limits _ _ _ _ _ _ c.self.invariant _ count c.loop-memory_type-3.memory_type c.index-fit.result.now c.loop-memory_type-3-test.true c.index-fit.ensures in
+    let rest = map fit_part (drop (c.loop-memory_type-3.memory_type + 1) c.self.inside.fits.items) in
+    let here = first_holds (fit_part c.index-fit.result.now) rest c.args.object (held_of c.in-Some-fit_chunk_of.row) (sym c.in-Some-fit_chunk_of.ensures) in
+    sym (c.loop-memory_type-3.invariant ∙ ap (λ (ps : List Part). finite.get (held_in ps) c.args.object) left ∙ here)
+
+pub loop-memory_type-3-preserved : goal.loop-memory_type-3-preserved
+loop-memory_type-3-preserved g c =
+    let count = rw (← c.self.view_is) at c.type_count-memory_type-end-3.ensures in
+    let left = next_fit_left c.self.inside.limits _ _ _ _ _ _ c.self.invariant _ count c.loop-memory_type-3.memory_type c.index-fit.result.now c.loop-memory_type-3-test.true c.index-fit.ensures in
+    let rest = map fit_part (drop (c.loop-memory_type-3.memory_type + 1) c.self.inside.fits.items) in
+    c.loop-memory_type-3.invariant ∙ ap (λ (ps : List Part). finite.get (held_in ps) c.args.object) left
+    ∙ rest_holds (fit_part c.index-fit.result.now) rest c.args.object (sym c.in_default-fit_chunk_of.ensures)
+
+pub returns : goal.returns
+returns g c =
+    let count = rw (← c.self.view_is) at c.type_count-memory_type-end-3.ensures in
+    let past : c.type_count-memory_type-end-3.result ≤ c.loop-memory_type-3.memory_type = omega (arith, c.loop-memory_type-3-test.false) in
+    let left = none_left c.self.inside.limits _ _ _ _ _ _ c.self.invariant _ count c.loop-memory_type-3.memory_type past in
+    sym (c.loop-memory_type-3.invariant ∙ ap (λ (ps : List Part). finite.get (held_in ps) c.args.object) left ∙ finite.get-empty nat_cmp c.args.object)

@@ -26,3 +26,12 @@ returns-in-FreeListChunk-clause-objects g c = c.dealloc_in_list.ensures.objects
 
 pub returns-in-FreeListChunk-clause-agrees : goal.returns-in-FreeListChunk-clause-agrees
 returns-in-FreeListChunk-clause-agrees g c = c.dealloc_in_list.ensures.agrees
+
+pub returns-in-FitChunk-clause-freed : goal.returns-in-FitChunk-clause-freed
+returns-in-FitChunk-clause-freed g c = c.dealloc_in_fit.ensures.freed
+
+pub returns-in-FitChunk-clause-objects : goal.returns-in-FitChunk-clause-objects
+returns-in-FitChunk-clause-objects g c = c.dealloc_in_fit.ensures.objects
+
+pub returns-in-FitChunk-clause-agrees : goal.returns-in-FitChunk-clause-agrees
+returns-in-FitChunk-clause-agrees g c = c.dealloc_in_fit.ensures.agrees

@@ -12,6 +12,7 @@ use Rattle.gpu_alloc.specs.Inside.{state_in, span_of_leaf}
 use Rattle.gpu_alloc_base.specs.Case.{GivesInPlace, GivesInNewObject}
 use Rattle.gpu_alloc.specs.BuddySharing.{buddy_block}
 use Rattle.gpu_alloc.specs.Candidates.{buddy_candidate}
+use Rattle.gpu_alloc_block.specs.declared.sharing.Sharing.TheVariants.{Buddy as BuddiesChosen}
 use Rattle.gpu_alloc_block.specs.State.{State, Block}
 use Rattle.gpu_alloc.proofs.Linked.{consistent, kept_as}
 use Rattle.gpu_alloc.proofs.Atoms.{some_atom}
@@ -41,29 +42,32 @@ pub alloc-answer-requires-clause-agrees : goal.alloc-answer-requires-clause-agre
 alloc-answer-requires-clause-agrees g c =
     let known = rw (← c.self.view_is) at c.requires.known in
     let agrees = rw (← c.self.view_is) at c.requires.agrees in
-    let serving = serves c.self.inside.limits _ _ _ _ _ c.args.memory_type c.index_mut.result.now (consistent _ _ _ _ _ _ _ c.self.invariant) known c.index_mut.ensures.value in
+    let serving = serves c.self.inside.limits _ _ _ _ _ _ c.args.memory_type c.index_mut.result.now (consistent _ _ _ _ _ _ _ _ _ c.self.invariant) known c.index_mut.ensures.value in
     buddy_agrees _ c.args.memory_type _ serving _ _ known agrees
 
 pub alloc-answer-requires-clause-counted : goal.alloc-answer-requires-clause-counted
 alloc-answer-requires-clause-counted g c =
     let known = rw (← c.self.view_is) at c.requires.known in
-    counted_before c.self.inside.limits _ _ _ _ _ c.args.memory_type _ (consistent _ _ _ _ _ _ _ c.self.invariant) known c.index_mut.ensures.value _ c.index_mut-2.result.now c.heap_index-heap.ensures c.index_mut-2.ensures.value
+    counted_before c.self.inside.limits _ _ _ _ _ _ c.args.memory_type _ (consistent _ _ _ _ _ _ _ _ _ c.self.invariant) known c.index_mut.ensures.value _ c.index_mut-2.result.now c.heap_index-heap.ensures c.index_mut-2.ensures.value
 
 -- A grant.
 
 given : (g : Over) (c : goal.After-new-3 g)
-    → Given c.self.inside.limits c.self.inside.heaps.items c.self.inside.buddies.items c.self.inside.free_lists.items (whole c.self.inside.own c.self.inside.buddies.items c.self.inside.free_lists.items) c.self.inside.allocations_remains c.args.memory_type c.heap_index-heap.result
+    → Given c.self.inside.limits c.self.inside.heaps.items c.self.inside.buddies.items c.self.inside.free_lists.items c.self.inside.fits.items (whole c.self.inside.own c.self.inside.buddies.items c.self.inside.free_lists.items c.self.inside.fits.items) c.self.inside.allocations_remains c.args.memory_type c.heap_index-heap.result
     c.self.inside.buddies.items c.index_mut.result.now c.index_mut-2.result.now (allocation_bits c.flags-flags.result) (g.D.ObjectDevice.properties c.args.device.now) (g.D.ObjectDevice.objects c.args.device.now)
 given g c =
     let known = rw (← c.self.view_is) at c.requires.known in
     let agrees = rw (← c.self.view_is) at c.requires.agrees in
-    given_by c.self.inside.limits (consistent _ _ _ _ _ _ _ c.self.invariant) known c.index_mut.ensures.value c.heap_index-heap.ensures c.index_mut-2.ensures.value c.flags-flags.ensures agrees
+    given_by c.self.inside.limits (consistent _ _ _ _ _ _ _ _ _ c.self.invariant) known c.index_mut.ensures.value c.heap_index-heap.ensures c.index_mut-2.ensures.value c.flags-flags.ensures agrees
 
 abbrev before : (g : Over) → goal.After-new-3 g → State
-before g c = state_in c.self.inside.limits c.self.inside.heaps.items c.self.inside.buddies.items c.self.inside.free_lists.items (whole c.self.inside.own c.self.inside.buddies.items c.self.inside.free_lists.items) c.self.inside.allocations_remains
+before g c = state_in c.self.inside.limits c.self.inside.heaps.items c.self.inside.buddies.items c.self.inside.free_lists.items c.self.inside.fits.items (whole c.self.inside.own c.self.inside.buddies.items c.self.inside.free_lists.items c.self.inside.fits.items) c.self.inside.allocations_remains
 
 abbrev block : (g : Over) → goal.After-new-3 g → Block
 block g c = buddy_block (before g c) c.args.memory_type (span_of_leaf c.in-Ok.block)
+
+choice : (g : Over) (c : goal.After-new-3 g) → c.self.inside.limits.sharing ≡ BuddiesChosen
+choice g c = rw (← c.self.view_is) at c.requires.chosen
 
 block_is : (g : Over) (c : goal.After-new-3 g) → c.new-3.result ≡ block g c
 block_is g c =
@@ -72,20 +76,20 @@ block_is g c =
     c.new-3.ensures ∙ (λ k. record (block g c) { object = object k; offset = (leaf k).offset; size = (leaf k).size; props = c.props-props.ensures k; atom = c.atom-atom.ensures k })
 
 serves_now : (g : Over) (c : goal.After-new-3 g) → Serves (before g c) c.args.memory_type c.index_mut.result.now
-serves_now g c = serves c.self.inside.limits _ _ _ _ _ c.args.memory_type c.index_mut.result.now (consistent _ _ _ _ _ _ _ c.self.invariant) (given g c).known c.index_mut.ensures.value
+serves_now g c = serves c.self.inside.limits _ _ _ _ _ _ c.args.memory_type c.index_mut.result.now (consistent _ _ _ _ _ _ _ _ _ c.self.invariant) (given g c).known c.index_mut.ensures.value
 
 abbrev after : (g : Over) → goal.After-new-3 g → State
 after g c =
     let buddies = set c.self.inside.buddies.items c.args.memory_type c.alloc-answer.new.buddy in
-    state_in c.self.inside.limits (set c.self.inside.heaps.items c.heap_index-heap.result c.alloc-answer.new.heap) buddies c.self.inside.free_lists.items (whole c.self.inside.own buddies c.self.inside.free_lists.items) c.alloc-answer.new.allocations_remains
+    state_in c.self.inside.limits (set c.self.inside.heaps.items c.heap_index-heap.result c.alloc-answer.new.heap) buddies c.self.inside.free_lists.items c.self.inside.fits.items (whole c.self.inside.own buddies c.self.inside.free_lists.items c.self.inside.fits.items) c.alloc-answer.new.allocations_remains
 
 is : (g : Over) (c : goal.After-new-3 g)
-    → IsServed c.self.inside.own (given g c) c.self.invariant.apart _ _ c.in-Ok.ensures.allocates.0 _ c.in-Ok.ensures.allocates.2 c.in-Ok.ensures.objects (some_power c.in-Ok.ensures.granted.power) c.in-Ok.ensures.sound
+    → IsServed c.self.inside.own (given g c) c.self.invariant.apart (choice g c) _ _ c.in-Ok.ensures.allocates.0 _ c.in-Ok.ensures.allocates.2 c.in-Ok.ensures.objects (some_power c.in-Ok.ensures.granted.power) c.in-Ok.ensures.sound
     (account c.alloc-answer.new.buddy c.alloc-answer.new.heap c.alloc-answer.new.allocations_remains)
-is g c = served c.self.inside.own (given g c) c.self.invariant.apart _ _ c.in-Ok.ensures.allocates.0 _ c.in-Ok.ensures.allocates.2 c.in-Ok.ensures.objects (some_power c.in-Ok.ensures.granted.power) c.in-Ok.ensures.sound
+is g c = served c.self.inside.own (given g c) c.self.invariant.apart (choice g c) _ _ c.in-Ok.ensures.allocates.0 _ c.in-Ok.ensures.allocates.2 c.in-Ok.ensures.objects (some_power c.in-Ok.ensures.granted.power) c.in-Ok.ensures.sound
 
 pub invariant_of-self-2 : goal.invariant_of-self-2
-invariant_of-self-2 g c = let of = is g c in kept_as _ _ _ _ _ _ _ of.recorded of.parts
+invariant_of-self-2 g c = let of = is g c in kept_as _ _ _ _ _ _ _ _ _ of.recorded of.parts
 
 pub returns-clause-tries : goal.returns-clause-tries
 returns-clause-tries g c =
@@ -103,27 +107,27 @@ pub invariant_of-self : goal.invariant_of-self
 invariant_of-self g c =
     let known = rw (← c.self.view_is) at c.requires.known in
     let same = c.in-Err.ensures.refused in
-    let t = whole c.self.inside.own c.self.inside.buddies.items c.self.inside.free_lists.items in
-    kept_refused c.self.inside.limits _ _ _ _ _ c.args.memory_type c.index_mut.result.now (consistent _ _ _ _ _ _ _ c.self.invariant) known c.index_mut.ensures.value c.heap_index-heap.result c.index_mut-2.result.now c.heap_index-heap.ensures
+    let t = whole c.self.inside.own c.self.inside.buddies.items c.self.inside.free_lists.items c.self.inside.fits.items in
+    kept_refused c.self.inside.limits _ _ _ _ _ _ c.args.memory_type c.index_mut.result.now (consistent _ _ _ _ _ _ _ _ _ c.self.invariant) known c.index_mut.ensures.value c.heap_index-heap.result c.index_mut-2.result.now c.heap_index-heap.ensures
     c.index_mut-2.ensures.value _ _ _ same.0 same.1.0 same.1.1 t c.self.inside.own c.self.invariant
 
 pub returns-in-Err : goal.returns-in-Err
 returns-in-Err g c =
     let known = rw (← c.self.view_is) at c.requires.known in
-    let serving = serves c.self.inside.limits _ _ _ _ _ c.args.memory_type c.index_mut.result.now (consistent _ _ _ _ _ _ _ c.self.invariant) known c.index_mut.ensures.value in
+    let serving = serves c.self.inside.limits _ _ _ _ _ _ c.args.memory_type c.index_mut.result.now (consistent _ _ _ _ _ _ _ _ _ c.self.invariant) known c.index_mut.ensures.value in
     let same = c.in-Err.ensures.refused in
     let told = c.in-Err.ensures.allocates in
     let buddies = c.self.inside.buddies.items in
     let kept = same_set buddies c.args.memory_type c.alloc-answer.new.buddy c.index_mut.result.now c.index_mut.ensures.value same.0 in
-    let left = state_refused c.self.inside.limits _ _ _ _ _ c.args.memory_type c.index_mut.result.now (consistent _ _ _ _ _ _ _ c.self.invariant) known c.index_mut.ensures.value c.heap_index-heap.result c.index_mut-2.result.now c.heap_index-heap.ensures
-    c.index_mut-2.ensures.value _ _ _ same.0 same.1.0 same.1.1 (whole c.self.inside.own (set buddies c.args.memory_type c.alloc-answer.new.buddy) c.self.inside.free_lists.items)
-    (ap (λ (bs : List Buddy). (whole c.self.inside.own bs c.self.inside.free_lists.items).held) kept) (ap (λ (bs : List Buddy). (whole c.self.inside.own bs c.self.inside.free_lists.items).live) kept) in
-    let s : State = state_in c.self.inside.limits c.self.inside.heaps.items c.self.inside.buddies.items c.self.inside.free_lists.items (whole c.self.inside.own c.self.inside.buddies.items c.self.inside.free_lists.items) c.self.inside.allocations_remains in
+    let left = state_refused c.self.inside.limits _ _ _ _ _ _ c.args.memory_type c.index_mut.result.now (consistent _ _ _ _ _ _ _ _ _ c.self.invariant) known c.index_mut.ensures.value c.heap_index-heap.result c.index_mut-2.result.now c.heap_index-heap.ensures
+    c.index_mut-2.ensures.value _ _ _ same.0 same.1.0 same.1.1 (whole c.self.inside.own (set buddies c.args.memory_type c.alloc-answer.new.buddy) c.self.inside.free_lists.items c.self.inside.fits.items)
+    (ap (λ (bs : List Buddy). (whole c.self.inside.own bs c.self.inside.free_lists.items c.self.inside.fits.items).held) kept) (ap (λ (bs : List Buddy). (whole c.self.inside.own bs c.self.inside.free_lists.items c.self.inside.fits.items).live) kept) in
+    let s : State = state_in c.self.inside.limits c.self.inside.heaps.items c.self.inside.buddies.items c.self.inside.free_lists.items c.self.inside.fits.items (whole c.self.inside.own c.self.inside.buddies.items c.self.inside.free_lists.items c.self.inside.fits.items) c.self.inside.allocations_remains in
     rw (c.passing.ensures, ← c.self.view_is, left) (record {
       tries = (
         told.0,
         told.1,
-        refused_tries _ told.0 c.in-Err.refusal _ (refused_is (told_of _ c.args.memory_type _ serving c.index_mut-2.result.now c.args.request _ (type_heap_is c.self.inside.limits _ _ _ _ _ c.self.invariant.books c.args.memory_type _ c.index_mut-2.result.now known c.heap_index-heap.ensures c.index_mut-2.ensures.value) c.flags-flags.ensures) told.0 c.in-Err.refusal _ told.2),
+        refused_tries _ told.0 c.in-Err.refusal _ (refused_is (told_of _ c.args.memory_type _ serving c.index_mut-2.result.now c.args.request _ (type_heap_is c.self.inside.limits _ _ _ _ _ _ c.self.invariant.books c.args.memory_type _ c.index_mut-2.result.now known c.heap_index-heap.ensures c.index_mut-2.ensures.value) c.flags-flags.ensures) told.0 c.in-Err.refusal _ told.2),
       );
       objects = nothing_made s c.in-Err.refusal s _ _ c.in-Err.ensures.objects;
     })

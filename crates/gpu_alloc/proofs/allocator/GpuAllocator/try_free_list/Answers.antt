@@ -43,32 +43,32 @@ pub alloc-answer-requires-clause-fits : goal.alloc-answer-requires-clause-fits
 alloc-answer-requires-clause-fits g c =
     let known = rw (← c.self.view_is) at c.requires.known in
     let fits = rw (← c.self.view_is) at c.requires.fits in
-    fits_list c.self.inside.limits _ _ _ _ _ c.args.memory_type _ (consistent _ _ _ _ _ _ _ c.self.invariant) known c.index_mut.ensures.value c.args.request fits
+    fits_list c.self.inside.limits _ _ _ _ _ _ c.args.memory_type _ (consistent _ _ _ _ _ _ _ _ _ c.self.invariant) known c.index_mut.ensures.value c.args.request fits
 
 pub alloc-answer-requires-clause-agrees : goal.alloc-answer-requires-clause-agrees
 alloc-answer-requires-clause-agrees g c =
     let known = rw (← c.self.view_is) at c.requires.known in
     let agrees = rw (← c.self.view_is) at c.requires.agrees in
-    let serving = serves_own c.self.inside.limits _ _ _ _ _ c.args.memory_type c.index_mut.result.now (consistent _ _ _ _ _ _ _ c.self.invariant) known c.index_mut.ensures.value in
+    let serving = serves_own c.self.inside.limits _ _ _ _ _ _ c.args.memory_type c.index_mut.result.now (consistent _ _ _ _ _ _ _ _ _ c.self.invariant) known c.index_mut.ensures.value in
     list_agrees _ c.args.memory_type _ serving _ _ known agrees
 
 pub alloc-answer-requires-clause-counted : goal.alloc-answer-requires-clause-counted
 alloc-answer-requires-clause-counted g c =
     let known = rw (← c.self.view_is) at c.requires.known in
-    counted_before c.self.inside.limits _ _ _ _ _ c.args.memory_type _ (consistent _ _ _ _ _ _ _ c.self.invariant) known c.index_mut.ensures.value _ c.index_mut-2.result.now c.heap_index-heap.ensures c.index_mut-2.ensures.value
+    counted_before c.self.inside.limits _ _ _ _ _ _ c.args.memory_type _ (consistent _ _ _ _ _ _ _ _ _ c.self.invariant) known c.index_mut.ensures.value _ c.index_mut-2.result.now c.heap_index-heap.ensures c.index_mut-2.ensures.value
 
 -- A grant.
 
 given : (g : Over) (c : goal.After-new g)
-    → Given c.self.inside.limits c.self.inside.heaps.items c.self.inside.buddies.items c.self.inside.free_lists.items (whole c.self.inside.own c.self.inside.buddies.items c.self.inside.free_lists.items) c.self.inside.allocations_remains c.args.memory_type c.heap_index-heap.result
+    → Given c.self.inside.limits c.self.inside.heaps.items c.self.inside.buddies.items c.self.inside.free_lists.items c.self.inside.fits.items (whole c.self.inside.own c.self.inside.buddies.items c.self.inside.free_lists.items c.self.inside.fits.items) c.self.inside.allocations_remains c.args.memory_type c.heap_index-heap.result
     c.self.inside.free_lists.items c.index_mut.result.now c.index_mut-2.result.now (allocation_bits c.flags-flags.result) (g.D.ObjectDevice.properties c.args.device.now) (g.D.ObjectDevice.objects c.args.device.now)
 given g c =
     let known = rw (← c.self.view_is) at c.requires.known in
     let agrees = rw (← c.self.view_is) at c.requires.agrees in
-    given_by c.self.inside.limits (consistent _ _ _ _ _ _ _ c.self.invariant) known c.index_mut.ensures.value c.heap_index-heap.ensures c.index_mut-2.ensures.value c.flags-flags.ensures agrees
+    given_by c.self.inside.limits (consistent _ _ _ _ _ _ _ _ _ c.self.invariant) known c.index_mut.ensures.value c.heap_index-heap.ensures c.index_mut-2.ensures.value c.flags-flags.ensures agrees
 
 abbrev before : (g : Over) → goal.After-new g → State
-before g c = state_in c.self.inside.limits c.self.inside.heaps.items c.self.inside.buddies.items c.self.inside.free_lists.items (whole c.self.inside.own c.self.inside.buddies.items c.self.inside.free_lists.items) c.self.inside.allocations_remains
+before g c = state_in c.self.inside.limits c.self.inside.heaps.items c.self.inside.buddies.items c.self.inside.free_lists.items c.self.inside.fits.items (whole c.self.inside.own c.self.inside.buddies.items c.self.inside.free_lists.items c.self.inside.fits.items) c.self.inside.allocations_remains
 
 abbrev block : (g : Over) → goal.After-new g → Block
 block g c = list_block (before g c) c.args.memory_type c.in-Ok.block.chunk (span_of_slot c.in-Ok.block)
@@ -80,12 +80,12 @@ block_is g c =
     c.new.ensures ∙ (λ k. record (block g c) { object = object k; offset = (slot k).offset; size = (slot k).size; props = c.props-props.ensures k; atom = c.atom-atom.ensures k; kind = FreeListChunk (slot k).chunk })
 
 serves_now : (g : Over) (c : goal.After-new g) → ServesList (before g c) c.args.memory_type c.index_mut.result.now
-serves_now g c = serves_own c.self.inside.limits _ _ _ _ _ c.args.memory_type c.index_mut.result.now (consistent _ _ _ _ _ _ _ c.self.invariant) (given g c).known c.index_mut.ensures.value
+serves_now g c = serves_own c.self.inside.limits _ _ _ _ _ _ c.args.memory_type c.index_mut.result.now (consistent _ _ _ _ _ _ _ _ _ c.self.invariant) (given g c).known c.index_mut.ensures.value
 
 abbrev after : (g : Over) → goal.After-new g → State
 after g c =
     let lists = set c.self.inside.free_lists.items c.args.memory_type c.alloc-answer.new.self in
-    state_in c.self.inside.limits (set c.self.inside.heaps.items c.heap_index-heap.result c.alloc-answer.new.heap) c.self.inside.buddies.items lists (whole c.self.inside.own c.self.inside.buddies.items lists) c.alloc-answer.new.allocations_remains
+    state_in c.self.inside.limits (set c.self.inside.heaps.items c.heap_index-heap.result c.alloc-answer.new.heap) c.self.inside.buddies.items lists c.self.inside.fits.items (whole c.self.inside.own c.self.inside.buddies.items lists c.self.inside.fits.items) c.alloc-answer.new.allocations_remains
 
 is : (g : Over) (c : goal.After-new g)
     → IsServed c.self.inside.own (given g c) c.self.invariant.apart _ _ _ c.in-Ok.ensures.allocates.0 _ c.in-Ok.ensures.allocates.2 c.in-Ok.ensures.objects (some_bytes c.requires.askable.nonempty c.in-Ok.ensures.granted.enough) c.in-Ok.ensures.sound
@@ -93,7 +93,7 @@ is : (g : Over) (c : goal.After-new g)
 is g c = list_served c.self.inside.own (given g c) c.self.invariant.apart _ _ _ c.in-Ok.ensures.allocates.0 _ c.in-Ok.ensures.allocates.2 c.in-Ok.ensures.objects (some_bytes c.requires.askable.nonempty c.in-Ok.ensures.granted.enough) c.in-Ok.ensures.sound
 
 pub invariant_of-self-2 : goal.invariant_of-self-2
-invariant_of-self-2 g c = let served = is g c in kept_as _ _ _ _ _ _ _ served.recorded served.parts
+invariant_of-self-2 g c = let served = is g c in kept_as _ _ _ _ _ _ _ _ _ served.recorded served.parts
 
 pub returns-clause-tries : goal.returns-clause-tries
 returns-clause-tries g c =
@@ -116,26 +116,26 @@ invariant_of-self g c =
     let known = rw (← c.self.view_is) at c.requires.known in
     let same = c.in-Err.ensures.refused in
     let lists = c.self.inside.free_lists.items in
-    let t = whole c.self.inside.own c.self.inside.buddies.items lists in
-    kept_refused c.self.inside.limits _ _ _ _ _ c.args.memory_type c.index_mut.result.now (consistent _ _ _ _ _ _ _ c.self.invariant) known c.index_mut.ensures.value c.heap_index-heap.result c.index_mut-2.result.now c.heap_index-heap.ensures
+    let t = whole c.self.inside.own c.self.inside.buddies.items lists c.self.inside.fits.items in
+    kept_refused c.self.inside.limits _ _ _ _ _ _ c.args.memory_type c.index_mut.result.now (consistent _ _ _ _ _ _ _ _ _ c.self.invariant) known c.index_mut.ensures.value c.heap_index-heap.result c.index_mut-2.result.now c.heap_index-heap.ensures
     c.index_mut-2.ensures.value _ _ _ same.0 same.1.0 same.1.1 t c.self.inside.own c.self.invariant
 
 pub returns-in-Err : goal.returns-in-Err
 returns-in-Err g c =
     let known = rw (← c.self.view_is) at c.requires.known in
-    let serving = serves_own c.self.inside.limits _ _ _ _ _ c.args.memory_type c.index_mut.result.now (consistent _ _ _ _ _ _ _ c.self.invariant) known c.index_mut.ensures.value in
+    let serving = serves_own c.self.inside.limits _ _ _ _ _ _ c.args.memory_type c.index_mut.result.now (consistent _ _ _ _ _ _ _ _ _ c.self.invariant) known c.index_mut.ensures.value in
     let same = c.in-Err.ensures.refused in
     let told = c.in-Err.ensures.allocates in
     let lists = c.self.inside.free_lists.items in
     let kept = same_set lists c.args.memory_type c.alloc-answer.new.self c.index_mut.result.now c.index_mut.ensures.value same.0 in
-    let left = state_refused c.self.inside.limits _ _ _ _ _ c.args.memory_type c.index_mut.result.now (consistent _ _ _ _ _ _ _ c.self.invariant) known c.index_mut.ensures.value c.heap_index-heap.result c.index_mut-2.result.now c.heap_index-heap.ensures
-    c.index_mut-2.ensures.value _ _ _ same.0 same.1.0 same.1.1 (whole c.self.inside.own c.self.inside.buddies.items (set lists c.args.memory_type c.alloc-answer.new.self)) (ap (λ (ls : List Listing). (whole c.self.inside.own c.self.inside.buddies.items ls).held) kept) (ap (λ (ls : List Listing). (whole c.self.inside.own c.self.inside.buddies.items ls).live) kept) in
-    let s : State = state_in c.self.inside.limits c.self.inside.heaps.items c.self.inside.buddies.items c.self.inside.free_lists.items (whole c.self.inside.own c.self.inside.buddies.items c.self.inside.free_lists.items) c.self.inside.allocations_remains in
+    let left = state_refused c.self.inside.limits _ _ _ _ _ _ c.args.memory_type c.index_mut.result.now (consistent _ _ _ _ _ _ _ _ _ c.self.invariant) known c.index_mut.ensures.value c.heap_index-heap.result c.index_mut-2.result.now c.heap_index-heap.ensures
+    c.index_mut-2.ensures.value _ _ _ same.0 same.1.0 same.1.1 (whole c.self.inside.own c.self.inside.buddies.items (set lists c.args.memory_type c.alloc-answer.new.self) c.self.inside.fits.items) (ap (λ (ls : List Listing). (whole c.self.inside.own c.self.inside.buddies.items ls c.self.inside.fits.items).held) kept) (ap (λ (ls : List Listing). (whole c.self.inside.own c.self.inside.buddies.items ls c.self.inside.fits.items).live) kept) in
+    let s : State = state_in c.self.inside.limits c.self.inside.heaps.items c.self.inside.buddies.items c.self.inside.free_lists.items c.self.inside.fits.items (whole c.self.inside.own c.self.inside.buddies.items c.self.inside.free_lists.items c.self.inside.fits.items) c.self.inside.allocations_remains in
     rw (c.passing.ensures, ← c.self.view_is, left) (record {
       tries = (
         told.0,
         told.1,
-        refused_tries _ told.0 c.in-Err.refusal _ (refused_is (told_of _ c.args.memory_type _ serving c.index_mut-2.result.now c.args.request _ (type_heap_is c.self.inside.limits _ _ _ _ _ c.self.invariant.books c.args.memory_type _ c.index_mut-2.result.now known c.heap_index-heap.ensures c.index_mut-2.ensures.value) c.flags-flags.ensures) told.0 c.in-Err.refusal _ told.2),
+        refused_tries _ told.0 c.in-Err.refusal _ (refused_is (told_of _ c.args.memory_type _ serving c.index_mut-2.result.now c.args.request _ (type_heap_is c.self.inside.limits _ _ _ _ _ _ c.self.invariant.books c.args.memory_type _ c.index_mut-2.result.now known c.heap_index-heap.ensures c.index_mut-2.ensures.value) c.flags-flags.ensures) told.0 c.in-Err.refusal _ told.2),
       );
       objects = nothing_made s c.in-Err.refusal s _ _ c.in-Err.ensures.objects;
     })

@@ -28,28 +28,29 @@ use Rattle.gpu_alloc.specs.Allocation.{IsAsCounted}
 use Rattle.gpu_alloc.proofs.Consistency.{HoldsMore, booked-held, heap_there, ledger-room}
 use Rattle.gpu_alloc.proofs.Grants.{asks_own, own_object, state_held, decides_granted}
 use Rattle.gpu_alloc.proofs.HeapLists.{properties_kept, type_heap_is}
-use Rattle.gpu_alloc.proofs.Linked.{kept-room}
+use Rattle.gpu_alloc.proofs.Linked.{chosen_more, kept-room}
 use Rattle.gpu_alloc.proofs.allocator.GpuAllocator.try_object.Given.{Over}
 use Rattle.gpu_alloc_base.proofs.Outcomes.{when_ok}
 use Rattle.gpu_alloc.proofs.allocator.GpuAllocator.try_object.Goals as goal
+use Rattle.gpu_alloc_fit.specs.Fit.{Fitting}
 
 positive : (n : ℕ) → n ≢ 0 → 0 < n
 positive n not_zero = omega arith
 
 -- Room is made, and nothing else changes.
 
-state_kept : {A : Type 0} (l : Limits A) (heaps : List Heap) (buddies : List Buddy) (lists : List Listing) (new old : OwnTable) (remaining : ℕ) → new ≡ record old { room = new.room }
-    → state_in l heaps buddies lists (whole new buddies lists) remaining ≡ state_in l heaps buddies lists (whole old buddies lists) remaining
-state_kept l heaps buddies lists new old remaining kept = ap (λ t. state_in l heaps buddies lists (whole t buddies lists) remaining) kept
+state_kept : {A : Type 0} (l : Limits A) (heaps : List Heap) (buddies : List Buddy) (lists : List Listing) (fits : List Fitting) (new old : OwnTable) (remaining : ℕ) → new ≡ record old { room = new.room }
+    → state_in l heaps buddies lists fits (whole new buddies lists fits) remaining ≡ state_in l heaps buddies lists fits (whole old buddies lists fits) remaining
+state_kept l heaps buddies lists fits new old remaining kept = ap (λ t. state_in l heaps buddies lists fits (whole t buddies lists fits) remaining) kept
 
 pub invariant_of-self : goal.invariant_of-self
-invariant_of-self g c = kept-room _ _ _ _ _ _ _ _ c.reserve.ensures.kept c.self.invariant
+invariant_of-self g c = kept-room _ _ _ _ _ _ _ _ _ _ c.reserve.ensures.kept c.self.invariant
 
 pub invariant_of-self-in-Err-OutOfDeviceMemory : goal.invariant_of-self-in-Err-OutOfDeviceMemory
-invariant_of-self-in-Err-OutOfDeviceMemory g c = kept-room _ _ _ _ _ _ _ _ c.reserve.ensures.kept c.self.invariant
+invariant_of-self-in-Err-OutOfDeviceMemory g c = kept-room _ _ _ _ _ _ _ _ _ _ c.reserve.ensures.kept c.self.invariant
 
 pub invariant_of-self-in-Err-OutOfHostMemory : goal.invariant_of-self-in-Err-OutOfHostMemory
-invariant_of-self-in-Err-OutOfHostMemory g c = kept-room _ _ _ _ _ _ _ _ c.reserve.ensures.kept c.self.invariant
+invariant_of-self-in-Err-OutOfHostMemory g c = kept-room _ _ _ _ _ _ _ _ _ _ c.reserve.ensures.kept c.self.invariant
 
 pub index_mut-requires : goal.index_mut-requires
 index_mut-requires g c =
@@ -67,7 +68,7 @@ hold-requires-clause-room g c =
 -- What is known where the device granted an object: the state before, the new row and block, and what follows from the steps.
 
 abbrev before : (g : Over) → goal.After-new g → State
-before g c = state_in c.self.inside.limits c.self.inside.heaps.items c.self.inside.buddies.items c.self.inside.free_lists.items (whole c.self.inside.own c.self.inside.buddies.items c.self.inside.free_lists.items) c.self.inside.allocations_remains
+before g c = state_in c.self.inside.limits c.self.inside.heaps.items c.self.inside.buddies.items c.self.inside.free_lists.items c.self.inside.fits.items (whole c.self.inside.own c.self.inside.buddies.items c.self.inside.free_lists.items c.self.inside.fits.items) c.self.inside.allocations_remains
 
 abbrev object : (g : Over) → goal.After-new g → HeldObject
 object g c = own_object c.args.request.size c.args.memory_type
@@ -82,13 +83,13 @@ free g c =
     ap (λ (s : State). finite.get s.held c.object.result) c.self.view_is ∙ not_held c.args.self.now _ _ _ c.requires.agrees none
 
 came : (g : Over) (c : goal.After-new g)
-    → Makes (IsPlace (length c.self.inside.buddies.items)) (parts_of c.insert-key.new.self c.self.inside.buddies.items c.self.inside.free_lists.items) (finite.insert (before g c).held c.object.result (object g c)) (set_of.insert (before g c).live (span_at c.object.result 0 c.args.request.size))
+    → Makes (IsPlace (length c.self.inside.buddies.items) (length c.self.inside.free_lists.items)) (parts_of c.insert-key.new.self c.self.inside.buddies.items c.self.inside.free_lists.items c.self.inside.fits.items) (finite.insert (before g c).held c.object.result (object g c)) (set_of.insert (before g c).live (span_at c.object.result 0 c.args.request.size))
 came g c =
-    own_comes c.self.inside.own c.self.inside.buddies.items c.self.inside.free_lists.items c.self.invariant.apart c.insert-key.new.self (span_at c.object.result 0 c.args.request.size) (object g c) (free g c) refl
+    own_comes c.self.inside.own c.self.inside.buddies.items c.self.inside.free_lists.items c.self.inside.fits.items c.self.invariant.apart c.insert-key.new.self (span_at c.object.result 0 c.args.request.size) (object g c) (free g c) refl
     (c.insert-key.ensures.held ∙ (λ k. finite.insert (c.reserve.ensures.kept k).held c.object.result (object g c)))
     (c.insert-key.ensures.live ∙ (λ k. set_of.insert (c.reserve.ensures.kept k).live (span_at c.object.result 0 c.args.request.size)))
 
-more : (g : Over) (c : goal.After-new g) → HoldsMore _ _ _ _ c.self.invariant.books refl (whole c.insert-key.new.self c.self.inside.buddies.items c.self.inside.free_lists.items) (object g c) (span_at c.object.result 0 c.args.request.size)
+more : (g : Over) (c : goal.After-new g) → HoldsMore _ _ _ _ c.self.invariant.books refl (whole c.insert-key.new.self c.self.inside.buddies.items c.self.inside.free_lists.items c.self.inside.fits.items) (object g c) (span_at c.object.result 0 c.args.request.size)
 more g c =
     let known = rw (← c.self.view_is) at c.requires.known in
     let small : c.args.request.size < 2 ^ 64 = c.well_formed.1.1.0.1.1.0.1 in
@@ -106,15 +107,15 @@ asks g c = asks_own (positive c.self.inside.allocations_remains c.if-self-eq0.fa
 fits : (g : Over) (c : goal.After-new g) → c.index_mut.result.now.used + c.args.request.size ≤ c.index_mut.result.now.limit
 fits g c =
     let known = rw (← c.self.view_is) at c.requires.known in
-    let of = type_heap_is c.self.inside.limits c.self.inside.heaps.items c.self.inside.buddies.items c.self.inside.free_lists.items (whole c.self.inside.own c.self.inside.buddies.items c.self.inside.free_lists.items) c.self.inside.allocations_remains c.self.invariant.books c.args.memory_type _ c.index_mut.result.now known
+    let of = type_heap_is c.self.inside.limits c.self.inside.heaps.items c.self.inside.buddies.items c.self.inside.free_lists.items c.self.inside.fits.items (whole c.self.inside.own c.self.inside.buddies.items c.self.inside.free_lists.items c.self.inside.fits.items) c.self.inside.allocations_remains c.self.invariant.books c.args.memory_type _ c.index_mut.result.now known
     c.heap_index-heap.ensures c.index_mut.ensures.value in
     omega (arith, (asks g c).within, of.used, of.limit)
 
 state_is : (g : Over) (c : goal.After-new g)
-    → state_in c.self.inside.limits (set c.self.inside.heaps.items c.heap_index-heap.result c.hold.new.heap) c.self.inside.buddies.items c.self.inside.free_lists.items (whole c.insert-key.new.self c.self.inside.buddies.items c.self.inside.free_lists.items) (c.self.inside.allocations_remains - 1)
+    → state_in c.self.inside.limits (set c.self.inside.heaps.items c.heap_index-heap.result c.hold.new.heap) c.self.inside.buddies.items c.self.inside.free_lists.items c.self.inside.fits.items (whole c.insert-key.new.self c.self.inside.buddies.items c.self.inside.free_lists.items c.self.inside.fits.items) (c.self.inside.allocations_remains - 1)
     ≡ holding (before g c) (own_object c.args.request.size c.args.memory_type) (block g c)
 state_is g c =
-    state_held c.self.inside.limits _ c.self.inside.buddies.items c.self.inside.free_lists.items _ _ c.index_mut.result.now (whole c.self.inside.own c.self.inside.buddies.items c.self.inside.free_lists.items) (whole c.insert-key.new.self c.self.inside.buddies.items c.self.inside.free_lists.items) _ (object g c) (block g c) c.index_mut.ensures.value (ap (λ (h : Heap). h.size) c.hold.ensures.ledger) (ap (λ (h : Heap). h.limit) c.hold.ensures.ledger)
+    state_held c.self.inside.limits _ c.self.inside.buddies.items c.self.inside.free_lists.items c.self.inside.fits.items _ _ c.index_mut.result.now (whole c.self.inside.own c.self.inside.buddies.items c.self.inside.free_lists.items c.self.inside.fits.items) (whole c.insert-key.new.self c.self.inside.buddies.items c.self.inside.free_lists.items c.self.inside.fits.items) _ (object g c) (block g c) c.index_mut.ensures.value (ap (λ (h : Heap). h.size) c.hold.ensures.ledger) (ap (λ (h : Heap). h.limit) c.hold.ensures.ledger)
     (more g c).held (more g c).live
 
 block_is : (g : Over) (c : goal.After-new g) → c.new.result ≡ block g c
@@ -124,10 +125,12 @@ pub invariant_of-self-in-Ok : goal.invariant_of-self-in-Ok
 invariant_of-self-in-Ok g c =
     rw (properties_kept c.self.inside.limits c.self.inside.heaps.items c.heap_index-heap.result c.hold.new.heap c.index_mut.result.now c.index_mut.ensures.value (ap (λ (h : Heap). h.size) c.hold.ensures.ledger), c.hold.ensures.count)
     (record {
-      books = booked-held _ _ _ _ c.self.invariant.books refl (whole c.insert-key.new.self c.self.inside.buddies.items c.self.inside.free_lists.items) (object g c) (span_at c.object.result 0 c.args.request.size) (more g c) c.index_mut.result.now _ _
+      books = booked-held _ _ _ _ c.self.invariant.books refl (whole c.insert-key.new.self c.self.inside.buddies.items c.self.inside.free_lists.items c.self.inside.fits.items) (object g c) (span_at c.object.result 0 c.args.request.size) (more g c) c.index_mut.result.now _ _
           (positive c.self.inside.allocations_remains c.if-self-eq0.false) c.heap_index-heap.ensures c.index_mut.ensures.value c.hold.ensures.ledger (λ asked. fits g c);
       shared = c.self.invariant.shared;
       listed = c.self.invariant.listed;
+      fitted = c.self.invariant.fitted;
+      chosen = chosen_more _ (whole c.self.inside.own c.self.inside.buddies.items c.self.inside.free_lists.items c.self.inside.fits.items) (whole c.insert-key.new.self c.self.inside.buddies.items c.self.inside.free_lists.items c.self.inside.fits.items) c.object.result (object g c) c.self.invariant.chosen refl (came g c).held_is;
       apart = (came g c).apart;
     })
 
@@ -154,7 +157,7 @@ returns-in-Ok-clause-objects g c =
 
 pub returns-in-Err-OutOfHostMemory-clause-tries : goal.returns-in-Err-OutOfHostMemory-clause-tries
 returns-in-Err-OutOfHostMemory-clause-tries g c =
-    let same = state_kept c.self.inside.limits c.self.inside.heaps.items c.self.inside.buddies.items c.self.inside.free_lists.items c.reserve.new.self c.self.inside.own c.self.inside.allocations_remains c.reserve.ensures.kept in
+    let same = state_kept c.self.inside.limits c.self.inside.heaps.items c.self.inside.buddies.items c.self.inside.free_lists.items c.self.inside.fits.items c.reserve.new.self c.self.inside.own c.self.inside.allocations_remains c.reserve.ensures.kept in
     rw (← c.self.view_is) (
       Allocated c.args.request.size c.args.memory_type (flags_of (properties_in c.self.inside.limits c.self.inside.heaps.items)) (Err c.in-Err-OutOfHostMemory.field-0) ∷ [],
       (c.allocate_memory-answer.new.self, rw (← c.flags-flags.ensures) (rw c.in-Err-OutOfHostMemory.is at c.allocate_memory-answer.ensures), refl),
@@ -164,8 +167,8 @@ returns-in-Err-OutOfHostMemory-clause-tries g c =
 -- The device grants nothing: room was made, and the state is the one before.
 
 kept-is_err : (g : Over) (c : goal.Then-is_err g)
-    → state_in c.self.inside.limits c.self.inside.heaps.items c.self.inside.buddies.items c.self.inside.free_lists.items (whole c.reserve.new.self c.self.inside.buddies.items c.self.inside.free_lists.items) c.self.inside.allocations_remains ≡ c.args.self.now
-kept-is_err g c = state_kept c.self.inside.limits c.self.inside.heaps.items c.self.inside.buddies.items c.self.inside.free_lists.items c.reserve.new.self c.self.inside.own c.self.inside.allocations_remains c.reserve.ensures.kept ∙ c.self.view_is
+    → state_in c.self.inside.limits c.self.inside.heaps.items c.self.inside.buddies.items c.self.inside.free_lists.items c.self.inside.fits.items (whole c.reserve.new.self c.self.inside.buddies.items c.self.inside.free_lists.items c.self.inside.fits.items) c.self.inside.allocations_remains ≡ c.args.self.now
+kept-is_err g c = state_kept c.self.inside.limits c.self.inside.heaps.items c.self.inside.buddies.items c.self.inside.free_lists.items c.self.inside.fits.items c.reserve.new.self c.self.inside.own c.self.inside.allocations_remains c.reserve.ensures.kept ∙ c.self.view_is
 
 pub returns-then-is_err-clause-tries : goal.returns-then-is_err-clause-tries
 returns-then-is_err-clause-tries g c =
@@ -175,7 +178,7 @@ returns-then-is_err-clause-tries g c =
 
 pub returns-in-Err-OutOfDeviceMemory-clause-tries : goal.returns-in-Err-OutOfDeviceMemory-clause-tries
 returns-in-Err-OutOfDeviceMemory-clause-tries g c =
-    let same = state_kept c.self.inside.limits c.self.inside.heaps.items c.self.inside.buddies.items c.self.inside.free_lists.items c.reserve.new.self c.self.inside.own c.self.inside.allocations_remains c.reserve.ensures.kept in
+    let same = state_kept c.self.inside.limits c.self.inside.heaps.items c.self.inside.buddies.items c.self.inside.free_lists.items c.self.inside.fits.items c.reserve.new.self c.self.inside.own c.self.inside.allocations_remains c.reserve.ensures.kept in
     rw (← c.self.view_is) (
       Allocated c.args.request.size c.args.memory_type (flags_of (properties_in c.self.inside.limits c.self.inside.heaps.items)) (Err c.in-Err-OutOfDeviceMemory.field-0) ∷ [],
       (c.allocate_memory-answer.new.self, rw (← c.flags-flags.ensures) (rw c.in-Err-OutOfDeviceMemory.is at c.allocate_memory-answer.ensures), refl),
@@ -190,14 +193,14 @@ returns-in-Err-OutOfHostMemory-clause-objects g c = g.met.D.ObjectDevice.row _ _
 
 -- The new object's name is free in the table, and so is its span.
 
-no_object : (g : Over) (c : goal.After-insert-arg-1 g) → finite.get (whole c.self.inside.own c.self.inside.buddies.items c.self.inside.free_lists.items).held c.object.result ≡ None
+no_object : (g : Over) (c : goal.After-insert-arg-1 g) → finite.get (whole c.self.inside.own c.self.inside.buddies.items c.self.inside.free_lists.items c.self.inside.fits.items).held c.object.result ≡ None
 no_object g c =
     let made = g.met.D.ObjectDevice.row _ _ _ c.in-Ok.ensures in
     let none : g.D.ObjectDevice.objects c.args.device.now c.object.result ≡ None = rw c.object.ensures made.0 in
     ap (λ (s : State). finite.get s.held c.object.result) c.self.view_is ∙ not_held c.args.self.now _ _ _ c.requires.agrees none
 
 pub insert-key-requires-clause-free : goal.insert-key-requires-clause-free
-insert-key-requires-clause-free g c = unheld_then c.self.inside.own c.reserve.new.self c.self.inside.buddies.items c.self.inside.free_lists.items c.self.invariant.apart c.reserve.ensures.kept c.object.result (no_object g c)
+insert-key-requires-clause-free g c = unheld_then c.self.inside.own c.reserve.new.self c.self.inside.buddies.items c.self.inside.free_lists.items c.self.inside.fits.items c.self.invariant.apart c.reserve.ensures.kept c.object.result (no_object g c)
 
 pub heap_index-heap-requires : goal.heap_index-heap-requires
 heap_index-heap-requires g c = rw (← c.self.view_is) at c.requires.known

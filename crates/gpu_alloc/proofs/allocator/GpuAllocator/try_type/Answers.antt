@@ -7,18 +7,19 @@ use Rattle.gpu_alloc.specs.Allocation.{strategy, TriesBy, Tries}
 use Rattle.gpu_alloc.specs.Candidates.{candidate, own_candidate}
 use Rattle.gpu_alloc_block.specs.State.{State, Block}
 use Rattle.gpu_alloc.specs.declared.allocator.Strategy.{Strategy}
-use Rattle.gpu_alloc.specs.declared.allocator.Strategy.TheVariants.{OwnObject, InBuddyChunk, InFreeList}
+use Rattle.gpu_alloc.specs.declared.allocator.Strategy.TheVariants.{OwnObject, InBuddyChunk, InFreeList, InFitChunk}
 use Rattle.gpu_alloc_base.specs.declared.error.AllocationError.{AllocationError}
 use Rattle.gpu_alloc.specs.declared.request.Dedicated.{Dedicated}
 use Rattle.gpu_alloc.specs.declared.request.Request.{Request}
 use Rattle.gpu_alloc.proofs.Grants.{has_own}
-use Rattle.gpu_alloc.proofs.Strategies.{fits_its_list, shared_below}
+use Rattle.gpu_alloc.proofs.Strategies.{buddies_chosen, fits_chosen, fits_its_list, shared_below}
 use Rattle.gpu_alloc.proofs.allocator.GpuAllocator.try_type.Goals as goal
 
 before_is : (w : Strategy) (s : State) (r : Request) (t : ℕ) → (candidate w s r t).before ≡ s
 before_is OwnObject s r t = refl
 before_is InBuddyChunk s r t = refl
 before_is InFreeList s r t = refl
+before_is InFitChunk s r t = refl
 
 -- where the heap is no smaller than the request, trying its way of being served is trying the candidate
 tries_by : (w : Strategy) (s : State) (r : Request) (hint : Option Dedicated) (t : ℕ) (es : List Event) (answer : Result (Option Block) AllocationError) (new : State)
@@ -61,3 +62,19 @@ returns-in-InFreeList-clause-tries g c =
 
 pub try_free_list-requires-clause-fits : goal.try_free_list-requires-clause-fits
 try_free_list-requires-clause-fits g c = fits_its_list c.args.self.now c.args.request c.args.hint c.args.memory_type c.in-InFreeList.ensures
+
+pub returns-in-InFitChunk-clause-tries : goal.returns-in-InFitChunk-clause-tries
+returns-in-InFitChunk-clause-tries g c =
+    let s = c.args.self.now in
+    let tried = c.try_fit.ensures.tries in
+    let fits = shared_below s c.args.request c.args.hint c.args.memory_type InFitChunk c.in-InFitChunk.ensures (λ same. absurd (cc)) in
+    (tried.0, tried.1, tries_by InFitChunk s c.args.request c.args.hint c.args.memory_type tried.0 c.try_fit.result c.try_fit.new.self fits c.in-InFitChunk.ensures tried.2)
+
+pub try_buddy-requires-clause-chosen : goal.try_buddy-requires-clause-chosen
+try_buddy-requires-clause-chosen g c = buddies_chosen c.args.self.now c.args.request c.args.hint c.args.memory_type c.in-InBuddyChunk.ensures
+
+pub try_fit-requires-clause-chosen : goal.try_fit-requires-clause-chosen
+try_fit-requires-clause-chosen g c = (fits_chosen c.args.self.now c.args.request c.args.hint c.args.memory_type c.in-InFitChunk.ensures).0
+
+pub try_fit-requires-clause-fits : goal.try_fit-requires-clause-fits
+try_fit-requires-clause-fits g c = (fits_chosen c.args.self.now c.args.request c.args.hint c.args.memory_type c.in-InFitChunk.ensures).1

@@ -10,7 +10,7 @@ pub returns-then-request-min-2 : goal.returns-then-request-min-2
 returns-then-request-min-2 g c =
     let bound : c.min-else-contains.result ≡ min c.args.self.now.config.dedicated_threshold (heap_size c.args.self.now.properties c.args.memory_type / 32) =
     rw (← c.heap_size-part.ensures, ← c.self.view_is) c.min-else-contains.ensures in
-    small_lasting c.args.self.now c.args.request c.args.memory_type c.min-else-contains.result (sym c.contains.ensures ∙ c.if-contains.false) bound c.if-request-min-2.true
+    c.shared.ensures ∙ small_lasting c.args.self.now c.args.request c.args.memory_type c.min-else-contains.result (sym c.contains.ensures ∙ c.if-contains.false) bound c.if-request-min-2.true
 
 pub returns-else-request-min-2 : goal.returns-else-request-min-2
 returns-else-request-min-2 g c =

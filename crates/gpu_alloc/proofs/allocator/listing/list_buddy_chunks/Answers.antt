@@ -34,6 +34,6 @@ returns g c =
       is,
       (
         buddy_rows_are object c.args.buddy.now c.requires.named listed c.chunks-chunk-items.ensures c.args.memory_type c.requires.typed,
-        buddy_rows_once object c.args.buddy.now c.requires.named listed c.chunks-chunk-items.ensures c.args.memory_type,
+        buddy_rows_once object c.args.buddy.now c.requires.named listed c.chunks-chunk-items.ensures c.args.memory_type c.requires.typed,
       ),
     )

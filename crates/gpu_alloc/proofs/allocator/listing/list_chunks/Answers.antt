@@ -14,6 +14,6 @@ returns g c =
       is,
       (
         chunk_rows_are object c.args.list.now c.requires.named listed c.chunks-chunk-items.ensures c.args.memory_type c.requires.typed,
-        chunk_rows_once object c.args.list.now c.requires.named listed c.chunks-chunk-items.ensures c.args.memory_type,
+        chunk_rows_once object c.args.list.now c.requires.named listed c.chunks-chunk-items.ensures c.args.memory_type c.requires.typed,
       ),
     )

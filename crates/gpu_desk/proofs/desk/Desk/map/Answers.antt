@@ -94,7 +94,7 @@ pub returns-clause-keeps : goal.returns-clause-keeps
 returns-clause-keeps c =
     let asked = c.map-answer.ensures.asked in
     rw (← c.self.view_is) (record {
-      given = record { properties = refl; config = refl };
+      given = record { properties = refl; config = refl; sharing = refl };
       limits = refl;
       total = refl;
       gone = gone_over_write c.self.inside.blocks c.args.key c.in-Some-get_mut.block.now c.map-answer.new.self (sym c.in-Some-get_mut.ensures.value);

@@ -9,10 +9,10 @@ pub invariant_of-result : goal.invariant_of-result
 invariant_of-result c =
     let offers : c.in_ok-device.device.properties ≡ properties_of c.args.props = c.in_ok-device.ensures.offers ∙ c.again.ensures in
     let sound = rw c.in-Ok.ensures.opened at c.in-Ok.ensures.sound in
-    rw (c.in-Ok.ensures.opened, c.new-3.ensures.live, offers)
+    rw (c.in-Ok.ensures.opened, c.new-2.ensures.live, offers)
     (record {
-      kept = opening_is_kept c.args.config (properties_of c.args.props) (all_shown (properties_of c.args.props) c.in_ok-device.device.held.objects) c.in_ok-offer.offer c.in_ok-offer.ensures sound;
-      tagged = ap length c.new-4.ensures.items ∙ sym (ap length c.new-3.ensures.generations);
+      kept = opening_is_kept c.args.sharing c.args.config (properties_of c.args.props) (all_shown (properties_of c.args.props) c.in_ok-device.device.held.objects) c.in_ok-offer.offer c.in_ok-offer.ensures sound;
+      tagged = ap length c.new-3.ensures.items ∙ sym (ap length c.new-2.ensures.generations);
       page = c.requires.page;
       paged = empty_paged _ c.args.page;
     })

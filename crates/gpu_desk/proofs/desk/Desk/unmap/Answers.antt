@@ -18,7 +18,7 @@ invariant_of-self-2 c =
 pub returns-clause-keeps : goal.returns-clause-keeps
 returns-clause-keeps c =
     rw (← c.self.view_is) (record {
-      given = record { properties = refl; config = refl };
+      given = record { properties = refl; config = refl; sharing = refl };
       limits = refl;
       total = refl;
       gone = gone_over_write c.self.inside.blocks c.args.key c.in-Some.block.now c.unmap.new.self (sym c.in-Some.ensures.value);

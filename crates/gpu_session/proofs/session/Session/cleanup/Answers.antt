@@ -14,7 +14,7 @@ returns-clause-keeps g c =
     let done = c.cleanup.ensures in
     rw (← c.self.view_is)
     (record {
-      given = record { properties = done.leaves.properties; config = done.leaves.config };
+      given = record { properties = done.leaves.properties; config = done.leaves.config; sharing = done.leaves.sharing };
       granted = tt;
       refused = tt;
       balance = (done.total, λ empty. let ended = done.ends (nothing_live c.self.invariant.sound empty) in nothing_held _ _ done.total ended.0 ended.1);

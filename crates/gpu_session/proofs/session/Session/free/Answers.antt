@@ -47,7 +47,7 @@ returns-in-Some-clause-keeps g c =
     let done = c.dealloc.ensures in
     let kept = return_is_kept c.self.invariant (record { named = at; removes = done.removed; keeps = done.keeps; sound = done.sound; agrees = done.agrees }) in
     rw (← c.self.view_is, removed_by_name c.self.inside.blocks.entries c.swap_remove.new.self.entries c.args.name c.swap_remove.ensures.updates.0) (record {
-      given = record { properties = done.removed.properties; config = done.removed.config };
+      given = record { properties = done.removed.properties; config = done.removed.config; sharing = done.removed.sharing };
       granted = tt;
       refused = tt;
       balance = done.total;

@@ -86,7 +86,7 @@ returns-clause-keeps g c =
           let row = g.met.D.MemoryDevice.row c.self.inside.device (BytesGot _ _ w.get_bytes.new.bytes) w.get_bytes.new.self w.get_bytes.ensures in
           rw (← c.self.view_is, w.self-is)
           (record {
-            given = record { properties = refl; config = refl };
+            given = record { properties = refl; config = refl; sharing = refl };
             granted = tt;
             refused = tt;
             balance = refl;
@@ -96,7 +96,7 @@ returns-clause-keeps g c =
       | else-len-gt0 w ↦
           rw (w.self-is, ← c.self.view_is)
           (record {
-            given = record { properties = refl; config = refl };
+            given = record { properties = refl; config = refl; sharing = refl };
             granted = tt;
             refused = tt;
             balance = refl;

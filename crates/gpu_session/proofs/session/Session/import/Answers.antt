@@ -129,7 +129,7 @@ returns-in-Ok-import_memory-clause-keeps g c =
     let b = c.in-Ok-import_memory.block in
     let name_is : b.object ≡ name = ap (λ (x : Block). x.object) done.imported.block in
     rw (← c.self.view_is, c.keep.ensures.told, put) (record {
-      given = record { properties = done.leaves.properties; config = done.leaves.config };
+      given = record { properties = done.leaves.properties; config = done.leaves.config; sharing = done.leaves.sharing };
       granted = (b, get_put _ c.args.name b, ((refl, refl, refl, refl), done.imported.block ∙ ap (λ n. imported_block c.self.inside.allocator n c.args.memory_type c.args.offset c.args.size) (sym name_is)));
       refused = tt;
       balance = done.total;
@@ -165,7 +165,7 @@ returns-in-Err-import_memory-clause-keeps g c =
     let asked = rw c.in-Ok.is at c.allocate_memory-answer.ensures in
     let gone = rw handed at c.deallocate_memory.ensures in
     rw (← c.self.view_is, c.in-Err-import_memory.ensures.refused, c.reserve.ensures.entries) (record {
-      given = record { properties = refl; config = refl };
+      given = record { properties = refl; config = refl; sharing = refl };
       granted = tt;
       others = λ n x another there. (
         there,

@@ -31,7 +31,7 @@ returns-then-size-eq0-clause-step g c =
 pub returns-then-size-eq0-clause-keeps : goal.returns-then-size-eq0-clause-keeps
 returns-then-size-eq0-clause-keeps g c =
     let back = lent_back c.self.inside.blocks.entries c.args.name c.in-Some.block.now c.in-Some.ensures.value c.in-Some.block.now (c.get_mut.follows.lender c.in-Some.block.now).entries (λ some. ((c.get_mut.follows.holds c.in-Some.block.now).3 some).0) refl in
-    rw (← c.self.view_is, back) (record { given = record { properties = refl; config = refl }; granted = tt; refused = (refl, refl); balance = refl; others = λ n x another there. (there, λ k low high. (refl, refl)); bytes = tt })
+    rw (← c.self.view_is, back) (record { given = record { properties = refl; config = refl; sharing = refl }; granted = tt; refused = (refl, refl); balance = refl; others = λ n x another there. (there, λ k low high. (refl, refl)); bytes = tt })
 
 pub invariant_of-self-then-passes_end : goal.invariant_of-self-then-passes_end
 invariant_of-self-then-passes_end g c =
@@ -47,7 +47,7 @@ returns-then-passes_end-clause-step g c =
 pub returns-then-passes_end-clause-keeps : goal.returns-then-passes_end-clause-keeps
 returns-then-passes_end-clause-keeps g c =
     let back = lent_back c.self.inside.blocks.entries c.args.name c.in-Some.block.now c.in-Some.ensures.value c.in-Some.block.now (c.get_mut.follows.lender c.in-Some.block.now).entries (λ some. ((c.get_mut.follows.holds c.in-Some.block.now).3 some).0) refl in
-    rw (← c.self.view_is, back) (record { given = record { properties = refl; config = refl }; granted = tt; refused = (refl, refl); balance = refl; others = λ n x another there. (there, λ k low high. (refl, refl)); bytes = tt })
+    rw (← c.self.view_is, back) (record { given = record { properties = refl; config = refl; sharing = refl }; granted = tt; refused = (refl, refl); balance = refl; others = λ n x another there. (there, λ k low high. (refl, refl)); bytes = tt })
 
 pub map-requires-clause-agrees : goal.map-requires-clause-agrees
 map-requires-clause-agrees g c =
@@ -87,7 +87,7 @@ returns-clause-keeps g c =
           let opened = rw w.in-Ok.is at c.map.ensures.objects in
           rw (← c.self.view_is, w.result-is, put)
           (record {
-            given = record { properties = refl; config = refl };
+            given = record { properties = refl; config = refl; sharing = refl };
             granted = tt;
             refused = tt;
             balance = refl;
@@ -97,5 +97,5 @@ returns-clause-keeps g c =
       | in-Err w ↦
           let same : after ≡ before = rw w.in-Err.is at c.map.ensures.objects in
           rw (← c.self.view_is, w.result-is, put)
-          (record { given = record { properties = refl; config = refl }; granted = tt; refused = tt; balance = refl; others = others; bytes = same })
+          (record { given = record { properties = refl; config = refl; sharing = refl }; granted = tt; refused = tt; balance = refl; others = others; bytes = same })
     ]

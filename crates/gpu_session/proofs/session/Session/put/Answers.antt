@@ -96,7 +96,7 @@ returns-clause-keeps g c =
           put_leaves b x two (c.self.inside.allocator).properties (m.start + c.args.offset) c.args.bytes.now before after (omega (arith, lies.0)) (omega (arith, low, lies.1)) put) in
           rw (← c.self.view_is, w.self-is)
           (record {
-            given = record { properties = refl; config = refl };
+            given = record { properties = refl; config = refl; sharing = refl };
             granted = tt;
             refused = tt;
             balance = refl;
@@ -107,7 +107,7 @@ returns-clause-keeps g c =
           let none = rw c.as_slice-bytes.ensures at w.if-len-gt0.false in
           rw (w.self-is, ← c.self.view_is)
           (record {
-            given = record { properties = refl; config = refl };
+            given = record { properties = refl; config = refl; sharing = refl };
             granted = tt;
             refused = tt;
             balance = refl;

@@ -31,7 +31,7 @@ returns-then-passes_end-clause-step g c =
 pub returns-then-passes_end-clause-keeps : goal.returns-then-passes_end-clause-keeps
 returns-then-passes_end-clause-keeps g c =
     let back = lent_back c.self.inside.blocks.entries c.args.name c.in-Some.block.now c.in-Some.ensures.value c.in-Some.block.now (c.get_mut.follows.lender c.in-Some.block.now).entries (λ some. ((c.get_mut.follows.holds c.in-Some.block.now).3 some).0) refl in
-    rw (← c.self.view_is, back) (record { given = record { properties = refl; config = refl }; granted = tt; refused = (refl, refl); balance = refl; others = λ n x another there. (there, λ k low high. (refl, refl)); bytes = tt })
+    rw (← c.self.view_is, back) (record { given = record { properties = refl; config = refl; sharing = refl }; granted = tt; refused = (refl, refl); balance = refl; others = λ n x another there. (there, λ k low high. (refl, refl)); bytes = tt })
 
 pub invariant_of-self-in_default-zeros : goal.invariant_of-self-in_default-zeros
 invariant_of-self-in_default-zeros g c =
@@ -47,7 +47,7 @@ returns-in_default-zeros-clause-step g c =
 pub returns-in_default-zeros-clause-keeps : goal.returns-in_default-zeros-clause-keeps
 returns-in_default-zeros-clause-keeps g c =
     let back = lent_back c.self.inside.blocks.entries c.args.name c.in-Some.block.now c.in-Some.ensures.value c.in-Some.block.now (c.get_mut.follows.lender c.in-Some.block.now).entries (λ some. ((c.get_mut.follows.holds c.in-Some.block.now).3 some).0) refl in
-    rw (← c.self.view_is, back) (record { given = record { properties = refl; config = refl }; granted = tt; refused = (refl, refl); balance = refl; others = λ n x another there. (there, λ k low high. (refl, refl)); bytes = tt })
+    rw (← c.self.view_is, back) (record { given = record { properties = refl; config = refl; sharing = refl }; granted = tt; refused = (refl, refl); balance = refl; others = λ n x another there. (there, λ k low high. (refl, refl)); bytes = tt })
 
 pub read_bytes-requires-clause-agrees : goal.read_bytes-requires-clause-agrees
 read_bytes-requires-clause-agrees g c =
@@ -115,12 +115,12 @@ returns-clause-keeps g c =
           let told = taken_whole c.in-Ok.bytes.len c.read_bytes.new.bytes _ w.from_vec.result w.from_vec.ensures (c.read_bytes.auto.bytes ∙ c.as_mut_slice.ensures.len) in
           let read = subst (λ xs. ChangesBytes b c.args.len (IsReadThrough b c.args.offset xs) before after) (sym told) (rw count at w.in-Ok-read_bytes.ensures.read) in
           rw (← c.self.view_is, w.result-is, put)
-          (record { given = record { properties = refl; config = refl }; granted = tt; refused = tt; balance = refl; others = others; bytes = (b, at, read) })
+          (record { given = record { properties = refl; config = refl; sharing = refl }; granted = tt; refused = tt; balance = refl; others = others; bytes = (b, at, read) })
       | in-Err w ↦
           let asked = rw count at w.in-Err.ensures.refused in
           rw (← c.self.view_is, w.result-is, put)
           (record {
-            given = record { properties = refl; config = refl };
+            given = record { properties = refl; config = refl; sharing = refl };
             granted = tt;
             refused = tt;
             balance = refl;

@@ -14,7 +14,7 @@ loop-command-preserved g c =
     record {
       so_far = rw pushed (run_next_is (SoundStep g.D.MemoryDevice.step g.D.MemoryDevice.properties g.D.MemoryDevice.objects) _ c.loop-command.self _ c.args.commands.now c.loop-command.command-index c.command-item.result c.loop-command.replies.items c.serve-reply.result c.loop-command-test.true c.command-item.is before.so_far (record { before = before.sound; taken = served.step; keeps = served.keeps; after = c.keeps_sound-in-loop-command.ensures }));
       sound = c.keeps_sound-in-loop-command.ensures;
-      given = record { properties = served.keeps.given.properties ∙ before.given.properties; config = served.keeps.given.config ∙ before.given.config };
+      given = record { properties = served.keeps.given.properties ∙ before.given.properties; config = served.keeps.given.config ∙ before.given.config; sharing = served.keeps.given.sharing ∙ before.given.sharing };
       told = longer ∙ ap (λ n. n + 1) before.told;
       room = omega (arith, before.room, c.push.ensures.capacity);
     }

@@ -43,4 +43,4 @@ returns-clause-keeps g c =
     let closed = c.unmap-was_mapped.ensures.objects in
     let others = others_left (finite.from_entries {R = nat_cmp} c.self.inside.blocks.entries) c.args.name c.unmap-was_mapped.new.self before after (λ name x ne there. c.unmap-was_mapped.ensures.bytes x) in
     rw (← c.self.view_is, put)
-    (record { given = record { properties = refl; config = refl }; granted = tt; refused = tt; balance = refl; others = others; bytes = (b, at, closed_moves_none _ before after b closed) })
+    (record { given = record { properties = refl; config = refl; sharing = refl }; granted = tt; refused = tt; balance = refl; others = others; bytes = (b, at, closed_moves_none _ before after b closed) })

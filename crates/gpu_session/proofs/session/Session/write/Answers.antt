@@ -30,7 +30,7 @@ returns-then-passes_end-clause-step g c =
 pub returns-then-passes_end-clause-keeps : goal.returns-then-passes_end-clause-keeps
 returns-then-passes_end-clause-keeps g c =
     let back = lent_back c.self.inside.blocks.entries c.args.name c.in-Some.block.now c.in-Some.ensures.value c.in-Some.block.now (c.get_mut.follows.lender c.in-Some.block.now).entries (λ some. ((c.get_mut.follows.holds c.in-Some.block.now).3 some).0) refl in
-    rw (← c.self.view_is, back) (record { given = record { properties = refl; config = refl }; granted = tt; refused = (refl, refl); balance = refl; others = λ n x another there. (there, λ k low high. (refl, refl)); bytes = tt })
+    rw (← c.self.view_is, back) (record { given = record { properties = refl; config = refl; sharing = refl }; granted = tt; refused = (refl, refl); balance = refl; others = λ n x another there. (there, λ k low high. (refl, refl)); bytes = tt })
 
 pub write_bytes-requires-clause-agrees : goal.write_bytes-requires-clause-agrees
 write_bytes-requires-clause-agrees g c =
@@ -84,12 +84,12 @@ returns-clause-keeps g c =
       | in-Ok w ↦
           let written = rw c.as_slice-bytes.ensures at w.in-Ok.ensures.written in
           rw (← c.self.view_is, w.result-is, put)
-          (record { given = record { properties = refl; config = refl }; granted = tt; refused = tt; balance = refl; others = others; bytes = (b, at, record { through = written; all = c.rounded_ranges_lie_in_their_block.ensures.covers c.args.offset (length c.args.bytes.now) low }) })
+          (record { given = record { properties = refl; config = refl; sharing = refl }; granted = tt; refused = tt; balance = refl; others = others; bytes = (b, at, record { through = written; all = c.rounded_ranges_lie_in_their_block.ensures.covers c.args.offset (length c.args.bytes.now) low }) })
       | in-Err w ↦
           let asked = rw c.as_slice-bytes.ensures at w.in-Err.ensures.refused in
           rw (← c.self.view_is, w.result-is, put)
           (record {
-            given = record { properties = refl; config = refl };
+            given = record { properties = refl; config = refl; sharing = refl };
             granted = tt;
             refused = tt;
             balance = refl;

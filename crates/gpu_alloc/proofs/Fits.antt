@@ -1,0 +1,8 @@
+-- Each memory type's allocator of fit chunks, as the whole allocator's state tells of it.
+pub mod Answers
+pub mod Going
+pub mod Grants
+pub mod Returns
+pub mod Served
+pub mod Serving
+pub mod States

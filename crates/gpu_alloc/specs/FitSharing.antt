@@ -1,0 +1,101 @@
+-- Blocks in the fit chunks of a memory type, as the whole allocator's state tells of them.
+use Rattle.std.specs.Prelude.{◌≡◌, ℕ, zero, suc, ◌+◌, ◌-◌, ◌*◌, ◌/◌, Bool, List, [], ◌∷◌, Option, Some, None, max, min, nat_le, slice_get}
+use Rattle.std.specs.FinMap as map
+use Rattle.gpu_alloc_types.specs.Properties.{heap_size, atom_of, is_host_visible}
+use Rattle.gpu_alloc_block.specs.declared.block.Kind.TheVariants.{FitChunk}
+use Rattle.gpu_alloc.specs.declared.request.Request.{Request}
+use Rattle.gpu_alloc_base.specs.FreeRuns.{AreFree, IsListPlace}
+use Rattle.gpu_alloc_base.specs.FreeSpace.{IsMultipleOf}
+use Rattle.gpu_alloc.specs.FreeBytes.{IsFreeByte}
+use Rattle.gpu_alloc_base.specs.NewChunk.{ChunkQuestion, flags_of}
+use Rattle.gpu_alloc_base.specs.Sizes.{up, down, starting_size, final_size, grown_chunk, doubled_chunk}
+use Rattle.gpu_alloc_base.specs.declared.config.Config.{Config}
+use Rattle.gpu_alloc_block.specs.State.{HeldObject, Span, Block, TypeState, State, granted_block}
+
+-- The grain of fit chunks, in bytes: 256, or the atom where that is larger. Their sizes, and where blocks in them start
+-- and end, are multiples of it.
+abbrev pub grain : ℕ → ℕ
+grain atom = max 256 atom
+
+abbrev pub grain_of : State → ℕ → ℕ
+grain_of s t = grain (atom_of s.properties t)
+
+-- Sizes, for a memory type with this grain in a heap of this size.
+
+-- the first fit chunk's, as it is configured; 0 where that is below the grain
+abbrev pub first_fit : Config → ℕ → ℕ → ℕ
+first_fit c heap g = down (min c.starting_free_list_chunk (heap / 32)) g
+
+-- the largest fit chunk: four times the first one, and no larger than a largest free-list chunk
+abbrev pub largest_fit : Config → ℕ → ℕ → ℕ
+largest_fit c heap g = min (4 * starting_size c heap g) (final_size c heap g)
+
+-- the size that is looked for, in whole grains
+abbrev pub fit_size : State → Request → ℕ → ℕ
+fit_size s r t = up r.size (grain_of s t)
+
+-- the alignment that is used: the greater of the request's and the grain
+abbrev pub fit_alignment : State → Request → ℕ → ℕ
+fit_alignment s r t = max (r.align_mask + 1) (grain_of s t)
+
+-- in whole grains the request is no larger than a first fit chunk
+abbrev pub fits_first : State → Request → ℕ → Bool
+fits_first s r t = nat_le (fit_size s r t) (first_fit s.config (heap_size s.properties t) (grain_of s t))
+
+-- the object is held as a fit chunk of the memory type
+pub record IsFitChunk (s : State) (t object : ℕ) : Type 0 where
+  pub chunk : HeldObject
+  pub held : map.get s.held object ≡ Some chunk
+  pub of_type : chunk.memory_type ≡ t
+  pub of_kind : chunk.kind ≡ FitChunk
+
+-- somewhere in a held fit chunk of the memory type there is room for a block of this size, at a multiple of the alignment
+abbrev pub HasFitPlace : State → ℕ → ℕ → ℕ → Type 0
+HasFitPlace s t size alignment = (object start : ℕ) × IsListPlace (IsFreeByte s t FitChunk) size alignment object start
+
+-- the span is exactly as long, starts at a multiple of the alignment, and each byte of it is free: so it lies in one free
+-- run
+pub record IsInFreeRun (s : State) (t size alignment : ℕ) (span : Span) : Type 0 where
+  pub exact : span.size ≡ size
+  pub aligned : IsMultipleOf alignment span.offset
+  pub chunk : IsFitChunk s t span.object
+  pub free : AreFree (IsFreeByte s t FitChunk) span.object span.offset (span.offset + span.size)
+
+-- the least size of a memory type's next fit chunk, 0 where there is no such type
+abbrev pub fit_chunk_of : Option TypeState → ℕ
+fit_chunk_of None = 0
+fit_chunk_of (Some type) = type.fit_chunk
+
+abbrev pub next_fit_chunk : State → ℕ → ℕ
+next_fit_chunk s t = fit_chunk_of (slice_get s.types t)
+
+-- the largest fit chunk of a memory type
+abbrev pub largest_fit_chunk : State → ℕ → ℕ
+largest_fit_chunk s t = largest_fit s.config (heap_size s.properties t) (grain_of s t)
+
+-- what is asked for a chunk of which a block of this size is the front
+abbrev pub fit_question : State → ℕ → ℕ → ChunkQuestion
+fit_question s t size = record {
+  size = grown_chunk (next_fit_chunk s t) (largest_fit_chunk s t) size;
+  memory_type = t;
+  flags = flags_of s.properties;
+  mapped = is_host_visible s.properties t;
+}
+
+-- an unmapped block of a fit chunk
+abbrev pub fit_block : State → ℕ → Span → Block
+fit_block s t span = granted_block s t FitChunk span
+
+-- a memory type's next fit chunk will have this size at least
+unfoldable pub with_next_fit : List TypeState → ℕ → ℕ → List TypeState
+with_next_fit [] t size = []
+with_next_fit (type ∷ types) zero size = record type { fit_chunk = size } ∷ types
+with_next_fit (type ∷ types) (suc t) size = type ∷ with_next_fit types t size
+
+-- one more fit chunk is held
+abbrev pub with_fit_chunk : State → ℕ → ℕ → ℕ → State
+with_fit_chunk s t object size = record s {
+  held = map.insert s.held object (record { memory_type = t; counted = size; kind = FitChunk });
+  remaining = s.remaining - 1;
+  types = with_next_fit s.types t (doubled_chunk (largest_fit_chunk s t) size);
+}

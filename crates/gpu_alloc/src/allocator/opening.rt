@@ -1,0 +1,112 @@
+//! How an allocator is opened.
+
+ghost use Rattle.std.specs.Prelude.{◌≡◌, IfOk, IfErr};
+ghost use Rattle.gpu_alloc_types.specs.Properties.{IsUsable, properties_of};
+ghost use Rattle.gpu_alloc.specs.Opening.{opened, opened_by};
+ghost use Rattle.gpu_alloc.specs.Owned.{HoldsNothing};
+ghost use Rattle.gpu_alloc.specs.Sound as Sound;
+
+use super::GpuAllocator;
+use super::by_type::{
+    close_buddies, close_free_lists, empty_buddies, empty_fits, empty_free_lists, unused_heaps,
+};
+use crate::MemoryForUsage;
+use crate::limits::Limits;
+use crate::own::OwnObjects;
+use gpu_alloc_base::{AllocationError, Config};
+use gpu_alloc_block::Sharing;
+use gpu_alloc_types::{DeviceProperties, MemoryObject};
+use std::alloc::{AllocError, Allocator};
+
+impl<M: MemoryObject, A: Allocator + Copy> GpuAllocator<M, A> {
+    /// An allocator that holds nothing, for a device with these properties, which have to be its own. The device is not
+    /// asked. It may hold `max_memory_allocation_count` objects, and `config` decides which requests share one.
+    ///
+    /// `alloc` gives the memory of its tables. The properties have to be usable (`DeviceProperties::is_usable`). The
+    /// only refusal is `OutOfHostMemory`. Requests share buddy chunks: [`with_sharing`](GpuAllocator::with_sharing)
+    /// takes another choice.
+    pub fn new(
+        alloc: A,
+        config: Config,
+        props: DeviceProperties<'_>,
+    ) -> Result<Self, AllocationError>
+        requires { IsUsable (properties_of props) }
+        ensures opened { IfOk result (λ allocator. allocator ≡ opened config (properties_of props.entry)) }
+        ensures empty { IfOk result (HoldsNothing (properties_of props.entry)) }
+        ensures sound { IfOk result Sound.IsSound }
+        ensures refused { IfErr result (λ e. e ≡ AllocationError.OutOfHostMemory) }
+    {
+        GpuAllocator::with_sharing(alloc, config, props, Sharing::Buddy)
+    }
+
+    /// As [`new`](GpuAllocator::new), with the choice how requests that are not `TRANSIENT` share objects: in buddy chunks,
+    /// as in the original crate, or in fit chunks. It stays as it is ([`sharing`](GpuAllocator::sharing)).
+    pub fn with_sharing(
+        alloc: A,
+        config: Config,
+        props: DeviceProperties<'_>,
+        sharing: Sharing,
+    ) -> Result<Self, AllocationError>
+        requires { IsUsable (properties_of props) }
+        ensures opened { IfOk result (λ allocator. allocator ≡ opened_by sharing config (properties_of props.entry)) }
+        ensures empty { IfOk result (HoldsNothing (properties_of props.entry)) }
+        ensures sound { IfOk result Sound.IsSound }
+        ensures refused { IfErr result (λ e. e ≡ AllocationError.OutOfHostMemory) }
+    {
+        match GpuAllocator::open(alloc, config, props, sharing) {
+            Ok(allocator) => {
+                allocator.keeps_sound();
+                Ok(allocator)
+            }
+            Err(_) => Err(AllocationError::OutOfHostMemory),
+        }
+    }
+
+    fn open(
+        alloc: A,
+        config: Config,
+        props: DeviceProperties<'_>,
+        sharing: Sharing,
+    ) -> Result<Self, AllocError>
+        requires { IsUsable (properties_of props) }
+        ensures { IfOk result (λ allocator. allocator ≡ opened_by sharing config (properties_of props.entry)) }
+    {
+        let memory_types = Vec::from_slice(alloc, props.memory_types)?;
+        let heaps = unused_heaps(alloc, props.memory_heaps)?;
+        let memory_for_usage = MemoryForUsage::new(props.memory_types);
+        let buddies = empty_buddies(alloc, config, &props)?;
+        let free_lists = match empty_free_lists(alloc, config, &props) {
+            Ok(free_lists) => free_lists,
+            Err(refusal) => {
+                close_buddies(buddies);
+                return Err(refusal);
+            }
+        };
+        let fits = match empty_fits(alloc, config, &props) {
+            Ok(fits) => fits,
+            Err(refusal) => {
+                close_buddies(buddies);
+                close_free_lists(free_lists);
+                return Err(refusal);
+            }
+        };
+        Ok(GpuAllocator {
+            limits: Limits {
+                config,
+                sharing,
+                memory_types,
+                memory_for_usage,
+                max_memory_allocation_count: props.max_memory_allocation_count,
+                max_memory_allocation_size: props.max_memory_allocation_size,
+                non_coherent_atom_size: props.non_coherent_atom_size,
+                buffer_device_address: props.buffer_device_address,
+            },
+            heaps,
+            buddies,
+            free_lists,
+            fits,
+            own: OwnObjects::new(alloc),
+            allocations_remains: props.max_memory_allocation_count,
+        })
+    }
+}

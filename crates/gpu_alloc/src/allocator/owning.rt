@@ -1,0 +1,94 @@
+//! Whether a block is live here.
+
+ghost use Rattle.std.specs.Prelude.{◌≡◌, ◌↔◌, IsTrue, false};
+ghost use Rattle.gpu_alloc.specs.Sound as Sound;
+ghost use Rattle.gpu_alloc_block.specs.State.{IsOwned, is_shared};
+
+use super::GpuAllocator;
+use crate::MemoryBlock;
+use gpu_alloc_base::free_list_block::Slot;
+use gpu_alloc_block::Kind;
+use gpu_alloc_types::MemoryObject;
+use std::alloc::Allocator;
+
+impl<M: MemoryObject, A: Allocator> GpuAllocator<M, A> {
+    /// Whether a block is live here: its object, span, memory type and kind are. Which allocator made it is not asked.
+    ///
+    /// Its contract also tells what holds of every allocator between calls (`sound`): live spans are not empty and
+    /// share no byte, each lies in its object as the object's kind says, and in a buddy chunk has a power of two of bytes
+    /// and begins at a multiple of its size; an object of one block has no other, no object but a chunk of a free list or a
+    /// fit chunk is held without one, of a memory type at most one fit chunk is, the chunks of a free list have numbers of
+    /// their own, shared chunks are of the kind that was chosen, and of no heap is more held beside imports than it has.
+    pub fn owns(&self, block: &MemoryBlock<M>) -> bool
+        ensures owned { IsTrue result ↔ IsOwned self.now block.now }
+        ensures sound { Sound.IsSound self.now }
+    {
+        self.keeps_sound();
+        match block.kind() {
+            Kind::Dedicated | Kind::Imported => self.has_own(block),
+            Kind::BuddyChunk => self.has_in_chunk(block),
+            Kind::FreeListChunk(number) => self.has_in_list(block, number),
+            Kind::FitChunk => self.has_in_fit(block),
+        }
+    }
+
+    /// Whether a block with an object of its own is live here.
+    fn has_own(&self, block: &MemoryBlock<M>) -> bool
+        requires { is_shared (block.now).kind ≡ false }
+        ensures { IsTrue result ↔ IsOwned self.now block.now }
+    {
+        match self.own.find(block.key(), block.memory().object()) {
+            Some(row) => row.is(
+                block.offset(),
+                block.size(),
+                block.memory_type(),
+                block.kind(),
+            ),
+            None => false,
+        }
+    }
+
+    /// Whether a block of a buddy chunk is live here.
+    fn has_in_chunk(&self, block: &MemoryBlock<M>) -> bool
+        requires { (block.now).kind ≡ Kind.BuddyChunk }
+        ensures { IsTrue result ↔ IsOwned self.now block.now }
+    {
+        let object = block.memory().object();
+        match self.buddies.get(block.memory_type() as usize) {
+            Some(buddy) => buddy
+                .find(block.key(), object, block.offset(), block.size())
+                .is_some(),
+            None => false,
+        }
+    }
+
+    /// Whether a block of a free list's chunk of this number is live here.
+    fn has_in_list(&self, block: &MemoryBlock<M>, number: u64) -> bool
+        requires { (block.now).kind ≡ Kind.FreeListChunk number }
+        ensures { IsTrue result ↔ IsOwned self.now block.now }
+    {
+        let slot = Slot {
+            object: block.memory().object(),
+            chunk: number,
+            offset: block.offset(),
+            size: block.size(),
+        };
+        match self.free_lists.get(block.memory_type() as usize) {
+            Some(list) => list.is_live(block.key(), slot),
+            None => false,
+        }
+    }
+
+    /// Whether a block of a fit chunk is live here.
+    fn has_in_fit(&self, block: &MemoryBlock<M>) -> bool
+        requires { (block.now).kind ≡ Kind.FitChunk }
+        ensures { IsTrue result ↔ IsOwned self.now block.now }
+    {
+        let object = block.memory().object();
+        let (offset, size) = (block.offset(), block.size());
+        match self.fits.get(block.memory_type() as usize) {
+            Some(fit) => fit.find(block.key(), object, offset, size).is_some(),
+            None => false,
+        }
+    }
+}
