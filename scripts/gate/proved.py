@@ -10,12 +10,14 @@ import subprocess
 import sys
 import tempfile
 
-ROOT = os.path.dirname(os.path.dirname(os.path.realpath(__file__)))
+ROOT = os.path.realpath(f"{os.path.dirname(os.path.realpath(__file__))}/../..")
 OUT = f"{ROOT}/out"
+# The script that runs, by its path in the repository.
+NAME = os.path.relpath(os.path.realpath(sys.argv[0]), ROOT)
 
 
 def say(text):
-    print(f"scripts/{os.path.basename(sys.argv[0])}: {text}", file=sys.stderr, flush=True)
+    print(f"{NAME}: {text}", file=sys.stderr, flush=True)
 
 
 class Program:
@@ -76,7 +78,7 @@ def alone():
 
 def note_libraries():
     """Tells later runs of rt that the libraries which the gate has just built are of the sources as they stand. The gate leaves them without that note, and
-    scripts/library would prove all of them again. With a kit that notes it otherwise nothing is written, and that is what happens."""
+    scripts/gate/library would prove all of them again. With a kit that notes it otherwise nothing is written, and that is what happens."""
     kit = os.path.dirname(subprocess.run(["rt", "doc"], stdin=subprocess.DEVNULL, stdout=subprocess.PIPE, text=True, check=True).stdout.strip())
     sys.path.append(f"{kit}/bin")
     try:

@@ -14,9 +14,8 @@ import tempfile
 import time
 
 import proved
-from proved import say
+from proved import NAME, say
 
-NAME = f"scripts/{os.path.basename(sys.argv[0])}"
 USAGE, NO_INPUT, NO_TOOLCHAIN, NOT_BUILT, NOT_WRITABLE, INTERRUPTED = 64, 66, 69, 70, 73, 130
 # Scripts of this many bytes have about 1 MiB of replies, and of picture.
 LARGEST = {proved.SCRIPT: 600_000, proved.VIEW: 200_000}
