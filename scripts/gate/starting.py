@@ -1,8 +1,10 @@
-"""What scripts/run, scripts/report and scripts/picture have in common: a program of the repository that runs on a script.
+"""What scripts/run, scripts/report and scripts/picture have in common: a program of the repository that runs on a
+script.
 
-A kept program that was proved from exactly these sources is run at once. Else the program is compiled without proof, which takes under a minute; where that run can
-give no answer, since it writes at most 1 MiB, the program is proved first. Standard output has what the program prints alone. The exit status is the program's: 0 ran,
-1 a read or a write failed, 2 a line is wrong, 3 want of memory. Where no program ran to its end it is 64 or more, and nothing is printed.
+A kept program that was proved from exactly these sources is run at once. Else the program is compiled without proof,
+which takes under a minute; where that run can give no answer, since it writes at most 1 MiB, the program is proved
+first. Standard output has what the program prints alone. The exit status is the program's: 0 ran, 1 a read or a write
+failed, 2 a line is wrong, 3 want of memory. Where no program ran to its end it is 64 or more, and nothing is printed.
 """
 import os
 import re
@@ -39,7 +41,8 @@ def copied(name):
 
 
 def run(command, script, replies, **how):
-    """Runs a command on the script. Returns its status and what it said, if that is asked for. It ends where this run is ended."""
+    """Runs a command on the script. Returns its status and what it said, if that is asked for. It ends where this run
+    is ended."""
     script.seek(0)
     with subprocess.Popen(command, stdin=script, stdout=replies, text=True, errors="replace", **how) as ran:
         try:
@@ -51,7 +54,8 @@ def run(command, script, replies, **how):
 
 
 def unproved(program, words, script, replies):
-    """Runs the program on the script without proof. Returns the program's status, or nothing where that run gave no answer."""
+    """Runs the program on the script without proof. Returns the program's status, or nothing where that run gave no
+    answer."""
     say(f"this build is not proved, and keeps nothing: {NAME} --proved or scripts/test proves the program and keeps it")
     status, said = run(["rt", "try", "--", *words], script, replies, cwd=program.crate, stderr=subprocess.PIPE)
     verdict = said.rstrip("\n").rpartition("\n")[2]
@@ -103,7 +107,8 @@ def prove(program, words):
 
 
 def answer(program, words, proving, script, replies, wants_proof):
-    """Runs the program on the script as the first of these can: the kept one, one without proof, one that is proved now, in a run with the words `proving`."""
+    """Runs the program on the script as the first of these can: the kept one, one without proof, one that is proved
+    now, in a run with the words `proving`."""
     place = program.place()
     if not os.path.exists(place) and not wants_proof:
         size = os.fstat(script.fileno()).st_size
@@ -157,8 +162,9 @@ def main(program, words, options, reports, asked):
 
 
 def start(program, words=(), options=(), reports=()):
-    """Runs the program, with these words, on the script that this run is asked for; `options` are those that it takes, each with a number. `reports` are the words
-    with which it is run on a file whose name ends in .json, where it reads reports too."""
+    """Runs the program, with these words, on the script that this run is asked for; `options` are those that it takes,
+    each with a number. `reports` are the words with which it is run on a file whose name ends in .json, where it reads
+    reports too."""
     signal.signal(signal.SIGTERM, lambda *_: sys.exit(INTERRUPTED))
     try:
         sys.exit(main(program, list(words), options, list(reports), sys.argv[1:]))

@@ -1,6 +1,7 @@
 """Draws scripts of the whole language. What is drawn hangs on the generator alone.
 
-Objects that the host sees have real bytes, so where a script has such memory its numbers are either small or larger than any host.
+Objects that the host sees have real bytes, so where a script has such memory its numbers are either small or larger
+than any host.
 """
 from language import CAUSES, CONFIGS, KINDS, LONG, WORD
 

@@ -1,7 +1,8 @@
 """What a user is promised of the replies to a script, and the checker that holds replies to it.
 
-The checker keeps which spans are live, which objects are held for what, what the device was asked, and the bytes of both sides. All else (free ranges, places, which type
-and kind serve, sums) is worked out from these by the definitions, anew each time. Where several shortest pieces are free, the reply says which one was taken.
+The checker keeps which spans are live, which objects are held for what, what the device was asked, and the bytes of
+both sides. All else (free ranges, places, which type and kind serve, sums) is worked out from these by the definitions,
+anew each time. Where several shortest pieces are free, the reply says which one was taken.
 """
 import bisect
 import collections
@@ -116,7 +117,8 @@ class Block:
 
 
 Request = collections.namedtuple("Request", "size mask usage types hint")
-# How a request is to be served: the kind and the type, the places that may be taken, the size of the object that is asked for (or 0), and the block's size.
+# How a request is to be served: the kind and the type, the places that may be taken, the size of the object that is
+# asked for (or 0), and the block's size.
 Grant = collections.namedtuple("Grant", "kind type places asked size")
 
 
@@ -131,7 +133,8 @@ class World:
         self.ledgers = [0] * len(setup.heaps)
         # By memory type: what the latest request would ask of a heap that has less left.
         self.over = {}
-        # By memory type: the atom, the least block of a buddy, the size of the next chunk of each kind, the greatest of a free list.
+        # By memory type: the atom, the least block of a buddy, the size of the next chunk of each kind, the greatest of
+        # a free list.
         self.atoms, self.minimal, self.next, self.final = [], [], {}, []
         for index, (heap, props) in enumerate(setup.types):
             size, atom = setup.heaps[heap], setup.atom if props & (VISIBLE | COHERENT) == VISIBLE else 1
@@ -142,7 +145,8 @@ class World:
             self.final.append(down(min(max(final, starting, self.transient), size // 32), atom) or atom)
 
     def do(self, word, reply, fields):
-        """Holds a reply to its promises, does what the command did, and says how the reply is counted, if not as itself."""
+        """Holds a reply to its promises, does what the command did, and says how the reply is counted, if not as
+        itself."""
         number = self.fault(word, fields) or self.no_room(word, fields, reply)
         if number or reply.startswith("fault "):
             due = f"fault {number} {FAULTS[number]}" if number else "no fault"
@@ -279,7 +283,8 @@ class World:
         return self.setup.refusals.get((question, self.asked[question]))
 
     def object_refused(self, memory_type, size, is_shared, reply):
-        """Asks for an object, and for its mapping where it is shared and the host sees it. An object that was made has used its name."""
+        """Asks for an object, and for its mapping where it is shared and the host sees it. An object that was made has
+        used its name."""
         visible = self.is_visible(memory_type)
         cause = self.refusal("allocate")
         if not cause and visible and (size >= HUGE or size > SURE and reply == HOST):
@@ -443,7 +448,8 @@ class World:
         hold(Promise.CAUSE if is_refused else Promise.DUE if due.startswith("refused: ") else Promise.DONE, reply == due, f"{due} is due")
 
     def mapping_refused(self, block, is_asked):
-        """The refusal of a mapping of a block. Only that of an object of its own is asked of the device, and for no bytes nothing is."""
+        """The refusal of a mapping of a block. Only that of an object of its own is asked of the device, and for no
+        bytes nothing is."""
         if not self.is_visible(block.held.type) or block.mapping:
             return MAPPED if block.mapping else HIDDEN
         return REFUSALS.get(self.refusal("map")) if is_asked and block.held.kind in (DEDICATED, IMPORTED) else None
