@@ -81,9 +81,11 @@ def prove(program, words):
         if os.path.exists(place):
             return place
         log, begun, last = f"{proved.OUT}/{program.name}.log", time.monotonic(), ""
-        say(f"proves the program and the crates below it, a quarter of an hour or more the first time; {os.path.relpath(log)} has all that is said")
+        say("proves the program and the crates below it, a quarter of an hour or more the first time;"
+            f" {os.path.relpath(log)} has all output")
         # (Run on an empty script: what it prints then is no reply.)
-        how = {"cwd": program.crate, "stdin": subprocess.DEVNULL, "stdout": subprocess.DEVNULL, "stderr": subprocess.PIPE, "text": True, "errors": "replace"}
+        how = {"cwd": program.crate, "stdin": subprocess.DEVNULL, "stdout": subprocess.DEVNULL}
+        how |= {"stderr": subprocess.PIPE, "text": True, "errors": "replace"}
         with open(log, "w", encoding="utf-8") as file, subprocess.Popen(["rt", "run", "--", *words], **how) as ran:
             try:
                 for line in ran.stderr:
@@ -135,16 +137,17 @@ def main(program, words, options, reports, asked):
             wants_proof = True
         else:
             names.append(word)
-    if len(names) > 1 or not (names or wants_proof) or any(it.startswith("-") and it != "-" for it in names):
-        takes = "".join(f" [{it} N]" for it in options)
+    if len(names) > 1 or not (names or wants_proof) or any(name.startswith("-") and name != "-" for name in names):
+        takes = "".join(f" [{option} N]" for option in options)
         stop(USAGE, f"usage: {NAME}{takes} FILE | {NAME} --proved{takes} [FILE]  (- is standard input)")
-    proving = [*words, *(it for pair in numbers.items() for it in pair)]
+    proving = [*words, *(word for pair in numbers.items() for word in pair)]
     if not names:
         print(prove(program, proving))
         return 0
     if reports and names[0].endswith(".json"):
         if numbers:
-            stop(USAGE, f"{names[0]} is a report by its name, and has no lines after which it could be drawn: {NAME} takes {' or '.join(numbers)} with a script alone")
+            stop(USAGE, f"{names[0]} is a report by its name, and has no lines after which it could be drawn:"
+                 f" {NAME} takes {' or '.join(numbers)} with a script alone")
         words = reports
     else:
         words = proving
@@ -171,7 +174,8 @@ def start(program, words=(), options=(), reports=()):
     except KeyboardInterrupt:
         sys.exit(INTERRUPTED)
     except FileNotFoundError as error:
-        stop(NO_TOOLCHAIN, f"{error.filename}: {error.strerror}" + (": put the toolchain's folder of programs on the path" if error.filename == "rt" else ""))
+        hint = ": put the toolchain's folder of programs on the path" if error.filename == "rt" else ""
+        stop(NO_TOOLCHAIN, f"{error.filename}: {error.strerror}{hint}")
     except OSError as error:
         stop(NOT_WRITABLE, f"{error.filename}: {error.strerror}")
     except Exception as error:
