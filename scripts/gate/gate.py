@@ -78,7 +78,7 @@ class Watch(threading.Thread):
 
     def look(self):
         seen, now = set(), time.monotonic()
-        for pid in (it for it in os.listdir("/proc") if it.isdigit()):
+        for pid in filter(str.isdigit, os.listdir("/proc")):
             with contextlib.suppress(OSError, ValueError, IndexError):
                 parent = read(f"/proc/{pid}/stat").rpartition(") ")[2].split()[1]
                 if parent == self.pid or self.running.get(parent, UNKNOWN)[0] == RUNNER:
@@ -167,8 +167,8 @@ class Gate:
             if ended[4] and not of_tests:
                 self.proved.add(crate)
             elif not ended[4]:
-                for it in [it[:300] for it in self.block or [] if REASON.search(it)][:20]:
-                    print(it, flush=True)
+                for reason in list(filter(REASON.search, self.block or []))[:20]:
+                    print(reason[:300], flush=True)
             self.block = None
         elif self.block is not None:
             self.block.append(line)

@@ -14,7 +14,7 @@ def shrunk(script, broken, failing):
     in the end one by one."""
     lines, length, until = script.split(b"\n"), max(1, script.count(b"\n") // 2), time.monotonic() + LONGEST
     while len(lines) > 1 and time.monotonic() < until:
-        found = failing([b"\n".join(it) for it in without(lines, length)])
+        found = failing([b"\n".join(left) for left in without(lines, length)])
         if found:
             lines, broken = found[0].split(b"\n"), found[1]
             length = max(1, min(length, len(lines) // 2))
