@@ -1,12 +1,12 @@
 #!/usr/bin/env python3
 """Prints a script of many commands: [LIVE=N] [MIX=1] bench/long_script.py COMMANDS
 
-The first LIVE commands (100 where LIVE is not set) take a block each, each an object of its own. From then on a block is
-returned and its name takes another one, in an order that a fixed generator picks. The device is large enough for all of
-them, so that none is refused.
+The first LIVE commands (100 where LIVE is not set) take a block each, each an object of its own. From then on a block
+is returned and its name takes another one, in an order that a fixed generator picks. The device is large enough for all
+of them, so that none is refused.
 
-With MIX=1 the host sees the memory, the blocks are in turn objects of their own, buddies and tails of a free list, and after
-each new block some of its bytes are written and read.
+With MIX=1 the host sees the memory, the blocks are in turn objects of their own, buddies and tails of a free list, and
+after each new block some of its bytes are written and read.
 """
 import os
 import sys

@@ -5,7 +5,7 @@
 #include <string.h>
 
 typedef struct { uint64_t name; char *bytes; } object;
-static object objects[64]; /* those that the allocator holds; one of name 0 is none */
+static object objects[64]; /* those that the allocator holds; name 0 marks a free entry */
 static char *made;         /* what was made for a request, until the request is at its end */
 
 static object *find(uint64_t name) {

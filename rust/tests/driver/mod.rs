@@ -29,7 +29,7 @@ fn software_driver() -> Option<PathBuf> {
     })
 }
 
-/// Chooses the driver as `scripts/vulkan` does: the one that the environment names, or the software driver, or the
+/// Chooses the driver as `scripts/gate/vulkan` does: the one that the environment names, or the software driver, or the
 /// first.
 fn choose_driver() {
     static CHOSEN: Once = Once::new();

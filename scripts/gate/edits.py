@@ -1,6 +1,8 @@
-"""What an edit of crates/*/must-fail says: the wrong bodies that it holds, each under a line 'FUNCTION: what it does', and the texts that they stand in.
+"""What an edit of crates/*/must-fail says: the wrong bodies that it holds, each under a line 'FUNCTION: what it does',
+and the texts that they stand in.
 
-An edit in crates/*/must-fail-second holds second wrong bodies of functions that a crate's first edit turns: rt ci tries that one alone, and scripts/refuse_each both.
+An edit in crates/*/must-fail-second holds second wrong bodies of functions that a crate's first edit turns: rt ci tries
+that one alone, and scripts/gate/refuse_each both.
 """
 import os
 
@@ -16,7 +18,8 @@ def named(root, folder=FIRST):
     """Each edit of the repository in a crate's folder, as its crate and its name there."""
     for crate in sorted(os.listdir(f"{root}/crates")):
         place = f"{root}/crates/{crate}/{folder}"
-        yield from ((crate, name) for name in (sorted(os.listdir(place)) if os.path.isdir(place) else []) if name.endswith(".edit"))
+        names = sorted(os.listdir(place)) if os.path.isdir(place) else []
+        yield from ((crate, name) for name in names if name.endswith(".edit"))
 
 
 def unfit(root, folder):
@@ -29,7 +32,8 @@ def unfit(root, folder):
 
 
 def applied(edit, crate):
-    """Returns the functions that the edit names, and the texts of the crate's files as it leaves them, by their paths in the crate's folder."""
+    """Returns the functions that the edit names, and the texts of the crate's files as it leaves them, by their paths
+    in the crate's folder."""
     functions, texts, path, old = [], {}, "", ""
     for line in read(edit).splitlines():
         if line.startswith("file: "):

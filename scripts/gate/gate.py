@@ -1,8 +1,9 @@
 """Runs the merge gate, rt ci, as it is, and tells meanwhile what it does.
 
-rt ci prints what was said of a crate when its proof has ended, and of the edits and tests only at its end. What it is at shows in the processes that it
-starts, which are watched here: a check of a crate in the crate's own folder, a check of an edit in a folder rt-edit-* with the edited texts, and each test as a
-process of rattle-test. Where nothing is seen, as with another kit, the lines come from what rt ci prints alone, and its verdict is its own in any case.
+rt ci prints what was said of a crate when its proof has ended, and of the edits and tests only at its end. What it is
+at shows in the processes that it starts, which are watched here: a check of a crate in the crate's own folder, a check
+of an edit in a folder rt-edit-* with the edited texts, and each test as a process of rattle-test. Where nothing is
+seen, as with another kit, the lines come from what rt ci prints alone, and its verdict is its own in any case.
 """
 import contextlib
 import os
@@ -37,7 +38,8 @@ def tell(text, log=None):
 
 def jobs():
     """How many checks run at once: one a processor, as many as memory holds."""
-    found, free = len(os.sched_getaffinity(0)), 1024 * int(re.search(r"MemAvailable:\s+(\d+)", read("/proc/meminfo"))[1])
+    found = len(os.sched_getaffinity(0))
+    free = 1024 * int(re.search(r"MemAvailable:\s+(\d+)", read("/proc/meminfo"))[1])
     # (a control group may grant less)
     with contextlib.suppress(OSError, ValueError):
         quota, period = read("/sys/fs/cgroup/cpu.max").split()
@@ -48,7 +50,8 @@ def jobs():
 
 
 def bodies(root):
-    """The edits of each crate: the functions that they name and the texts that they leave. One that cannot be applied is for rt ci to refuse."""
+    """The edits of each crate: the functions that they name and the texts that they leave. One that cannot be applied
+    is for rt ci to refuse."""
     found = {}
     for crate, edit in named(root):
         try:
@@ -75,7 +78,7 @@ class Watch(threading.Thread):
 
     def look(self):
         seen, now = set(), time.monotonic()
-        for pid in (it for it in os.listdir("/proc") if it.isdigit()):
+        for pid in filter(str.isdigit, os.listdir("/proc")):
             with contextlib.suppress(OSError, ValueError, IndexError):
                 parent = read(f"/proc/{pid}/stat").rpartition(") ")[2].split()[1]
                 if parent == self.pid or self.running.get(parent, UNKNOWN)[0] == RUNNER:
@@ -91,7 +94,8 @@ class Watch(threading.Thread):
                 tell(f"{work[1]}/{work[2]}: its check took {now - begun:.0f} s", self.log)
 
     def work_of(self, pid, parent):
-        """Says what a process does: the proof of a crate or of its tests, the check of an edit, a test or the runner of tests, or nothing of these."""
+        """Says what a process does: the proof of a crate or of its tests, the check of an edit, a test or the runner of
+        tests, or nothing of these."""
         words, at = read(f"/proc/{pid}/cmdline").split("\0"), os.readlink(f"/proc/{pid}/cwd")
         if parent != self.pid:
             return "" if words[1].startswith("--") else ("test", words[1])
@@ -125,8 +129,10 @@ class Gate:
         with tempfile.TemporaryDirectory(prefix="wallthyme-gate-") as room:
             # (rt ci runs programs as nobody, below this folder)
             os.chmod(room, 0o711)
-            how = {"stdin": subprocess.DEVNULL, "stdout": subprocess.PIPE, "stderr": subprocess.STDOUT, "text": True, "errors": "replace"}
-            # Without a number of jobs rt ci sets memory aside for each crate by its size, and the largest two wait for each other.
+            how = {"stdin": subprocess.DEVNULL, "stdout": subprocess.PIPE, "stderr": subprocess.STDOUT}
+            how |= {"text": True, "errors": "replace"}
+            # Without a number of jobs rt ci sets memory aside for each crate by its size, and the largest two wait for
+            # each other.
             how["env"] = {**os.environ, "RT_JOBS": str(jobs), "TMPDIR": room}
             with subprocess.Popen(["rt", "ci"], cwd=root, **how) as ran:
                 self.watch = Watch(ran.pid, self.edits, log)
@@ -161,8 +167,8 @@ class Gate:
             if ended[4] and not of_tests:
                 self.proved.add(crate)
             elif not ended[4]:
-                for it in [it[:300] for it in self.block or [] if REASON.search(it)][:20]:
-                    print(it, flush=True)
+                for reason in list(filter(REASON.search, self.block or []))[:20]:
+                    print(reason[:300], flush=True)
             self.block = None
         elif self.block is not None:
             self.block.append(line)

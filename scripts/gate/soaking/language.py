@@ -10,12 +10,16 @@ CONFIGS = {
 KINDS, CAUSES = ("allocate", "map", "flush", "invalidate"), ("device", "host", "failed")
 # The greatest number in each field of a setup line or a command; BYTES is a field of bytes.
 BYTES = -1
-SETUP = {"config": None, "heap": (LONG,), "type": (WORD, 63), "limits": (WORD, LONG), "atom": (LONG,), "address": (), "refuse": None}
+SETUP = {
+    "config": None, "heap": (LONG,), "type": (WORD, 63), "limits": (WORD, LONG), "atom": (LONG,), "address": (),
+    "refuse": None,
+}
 REQUEST = (WORD, LONG, LONG, 255, WORD)
 COMMANDS = {
-    "alloc": REQUEST, "required": REQUEST, "preferred": REQUEST, "import": (WORD, WORD, LONG, LONG, LONG), "free": (WORD,),
-    "map": (WORD, LONG, LONG), "unmap": (WORD,), "write": (WORD, LONG, BYTES), "read": (WORD, LONG, LONG), "put": (WORD, LONG, BYTES),
-    "get": (WORD, LONG, LONG), "remaining": (WORD,), "cleanup": (), "ranges": (WORD,), "counts": (),
+    "alloc": REQUEST, "required": REQUEST, "preferred": REQUEST, "import": (WORD, WORD, LONG, LONG, LONG),
+    "free": (WORD,), "map": (WORD, LONG, LONG), "unmap": (WORD,), "write": (WORD, LONG, BYTES),
+    "read": (WORD, LONG, LONG), "put": (WORD, LONG, BYTES), "get": (WORD, LONG, LONG), "remaining": (WORD,),
+    "cleanup": (), "ranges": (WORD,), "counts": (),
 }
 Parsed = collections.namedtuple("Parsed", "setup commands wrong")
 
@@ -36,11 +40,11 @@ class Setup:
         return atom and len(self.types) <= 32 and all(heap < len(self.heaps) for heap, _ in self.types)
 
     def take(self, word, fields):
-        values = config(fields) if word == "config" else refusal(fields) if word == "refuse" else numbers(fields, SETUP[word])
+        values = numbers(fields, SETUP[word]) if SETUP[word] is not None else []
         if word == "config":
-            self.config = values
+            self.config = config(fields)
         elif word == "refuse":
-            self.refusals.setdefault(*values)
+            self.refusals.setdefault(*refusal(fields))
         elif word == "heap":
             self.heaps += values
         elif word == "type":
@@ -72,7 +76,7 @@ def field_of(field, greatest):
 def numbers(fields, row):
     if len(fields) != len(row):
         raise Wrong("wrong number of fields")
-    return [field_of(*it) for it in zip(fields, row)]
+    return [field_of(*pair) for pair in zip(fields, row)]
 
 
 def config(fields):

@@ -1,8 +1,10 @@
-"""What scripts/run, scripts/report and scripts/picture have in common: a program of the repository that runs on a script.
+"""What scripts/run, scripts/report and scripts/picture have in common: a program of the repository that runs on a
+script.
 
-A kept program that was proved from exactly these sources is run at once. Else the program is compiled without proof, which takes under a minute; where that run can
-give no answer, since it writes at most 1 MiB, the program is proved first. Standard output has what the program prints alone. The exit status is the program's: 0 ran,
-1 a read or a write failed, 2 a line is wrong, 3 want of memory. Where no program ran to its end it is 64 or more, and nothing is printed.
+A kept program that was proved from exactly these sources is run at once. Else the program is compiled without proof,
+which takes under a minute; where that run can give no answer, since it writes at most 1 MiB, the program is proved
+first. Standard output has what the program prints alone. The exit status is the program's: 0 ran, 1 a read or a write
+failed, 2 a line is wrong, 3 want of memory. Where no program ran to its end it is 64 or more, and nothing is printed.
 """
 import os
 import re
@@ -14,9 +16,8 @@ import tempfile
 import time
 
 import proved
-from proved import say
+from proved import NAME, say
 
-NAME = f"scripts/{os.path.basename(sys.argv[0])}"
 USAGE, NO_INPUT, NO_TOOLCHAIN, NOT_BUILT, NOT_WRITABLE, INTERRUPTED = 64, 66, 69, 70, 73, 130
 # Scripts of this many bytes have about 1 MiB of replies, and of picture.
 LARGEST = {proved.SCRIPT: 600_000, proved.VIEW: 200_000}
@@ -40,7 +41,8 @@ def copied(name):
 
 
 def run(command, script, replies, **how):
-    """Runs a command on the script. Returns its status and what it said, if that is asked for. It ends where this run is ended."""
+    """Runs a command on the script. Returns its status and what it said, if that is asked for. It ends where this run
+    is ended."""
     script.seek(0)
     with subprocess.Popen(command, stdin=script, stdout=replies, text=True, errors="replace", **how) as ran:
         try:
@@ -52,7 +54,8 @@ def run(command, script, replies, **how):
 
 
 def unproved(program, words, script, replies):
-    """Runs the program on the script without proof. Returns the program's status, or nothing where that run gave no answer."""
+    """Runs the program on the script without proof. Returns the program's status, or nothing where that run gave no
+    answer."""
     say(f"this build is not proved, and keeps nothing: {NAME} --proved or scripts/test proves the program and keeps it")
     status, said = run(["rt", "try", "--", *words], script, replies, cwd=program.crate, stderr=subprocess.PIPE)
     verdict = said.rstrip("\n").rpartition("\n")[2]
@@ -78,9 +81,11 @@ def prove(program, words):
         if os.path.exists(place):
             return place
         log, begun, last = f"{proved.OUT}/{program.name}.log", time.monotonic(), ""
-        say(f"proves the program and the crates below it, a quarter of an hour or more the first time; {os.path.relpath(log)} has all that is said")
+        say("proves the program and the crates below it, a quarter of an hour or more the first time;"
+            f" {os.path.relpath(log)} has all output")
         # (Run on an empty script: what it prints then is no reply.)
-        how = {"cwd": program.crate, "stdin": subprocess.DEVNULL, "stdout": subprocess.DEVNULL, "stderr": subprocess.PIPE, "text": True, "errors": "replace"}
+        how = {"cwd": program.crate, "stdin": subprocess.DEVNULL, "stdout": subprocess.DEVNULL}
+        how |= {"stderr": subprocess.PIPE, "text": True, "errors": "replace"}
         with open(log, "w", encoding="utf-8") as file, subprocess.Popen(["rt", "run", "--", *words], **how) as ran:
             try:
                 for line in ran.stderr:
@@ -104,7 +109,8 @@ def prove(program, words):
 
 
 def answer(program, words, proving, script, replies, wants_proof):
-    """Runs the program on the script as the first of these can: the kept one, one without proof, one that is proved now, in a run with the words `proving`."""
+    """Runs the program on the script as the first of these can: the kept one, one without proof, one that is proved
+    now, in a run with the words `proving`."""
     place = program.place()
     if not os.path.exists(place) and not wants_proof:
         size = os.fstat(script.fileno()).st_size
@@ -131,16 +137,17 @@ def main(program, words, options, reports, asked):
             wants_proof = True
         else:
             names.append(word)
-    if len(names) > 1 or not (names or wants_proof) or any(it.startswith("-") and it != "-" for it in names):
-        takes = "".join(f" [{it} N]" for it in options)
+    if len(names) > 1 or not (names or wants_proof) or any(name.startswith("-") and name != "-" for name in names):
+        takes = "".join(f" [{option} N]" for option in options)
         stop(USAGE, f"usage: {NAME}{takes} FILE | {NAME} --proved{takes} [FILE]  (- is standard input)")
-    proving = [*words, *(it for pair in numbers.items() for it in pair)]
+    proving = [*words, *(word for pair in numbers.items() for word in pair)]
     if not names:
         print(prove(program, proving))
         return 0
     if reports and names[0].endswith(".json"):
         if numbers:
-            stop(USAGE, f"{names[0]} is a report by its name, and has no lines after which it could be drawn: {NAME} takes {' or '.join(numbers)} with a script alone")
+            stop(USAGE, f"{names[0]} is a report by its name, and has no lines after which it could be drawn:"
+                 f" {NAME} takes {' or '.join(numbers)} with a script alone")
         words = reports
     else:
         words = proving
@@ -158,15 +165,17 @@ def main(program, words, options, reports, asked):
 
 
 def start(program, words=(), options=(), reports=()):
-    """Runs the program, with these words, on the script that this run is asked for; `options` are those that it takes, each with a number. `reports` are the words
-    with which it is run on a file whose name ends in .json, where it reads reports too."""
+    """Runs the program, with these words, on the script that this run is asked for; `options` are those that it takes,
+    each with a number. `reports` are the words with which it is run on a file whose name ends in .json, where it reads
+    reports too."""
     signal.signal(signal.SIGTERM, lambda *_: sys.exit(INTERRUPTED))
     try:
         sys.exit(main(program, list(words), options, list(reports), sys.argv[1:]))
     except KeyboardInterrupt:
         sys.exit(INTERRUPTED)
     except FileNotFoundError as error:
-        stop(NO_TOOLCHAIN, f"{error.filename}: {error.strerror}" + (": put the toolchain's folder of programs on the path" if error.filename == "rt" else ""))
+        hint = ": put the toolchain's folder of programs on the path" if error.filename == "rt" else ""
+        stop(NO_TOOLCHAIN, f"{error.filename}: {error.strerror}{hint}")
     except OSError as error:
         stop(NOT_WRITABLE, f"{error.filename}: {error.strerror}")
     except Exception as error:

@@ -1,5 +1,5 @@
-"""The proved programs that scripts/run, scripts/report and scripts/picture start and scripts/test leaves: out/NAME-HASH, where HASH is of all that each was proved
-from."""
+"""The proved programs that scripts/run, scripts/report and scripts/picture start and scripts/test leaves:
+out/NAME-HASH, where HASH is of all that each was proved from."""
 import contextlib
 import fcntl
 import glob
@@ -10,12 +10,19 @@ import subprocess
 import sys
 import tempfile
 
-ROOT = os.path.dirname(os.path.dirname(os.path.realpath(__file__)))
+ROOT = os.path.realpath(f"{os.path.dirname(os.path.realpath(__file__))}/../..")
 OUT = f"{ROOT}/out"
+# The script that runs, by its path in the repository.
+NAME = os.path.relpath(os.path.realpath(sys.argv[0]), ROOT)
 
 
 def say(text):
-    print(f"scripts/{os.path.basename(sys.argv[0])}: {text}", file=sys.stderr, flush=True)
+    print(f"{NAME}: {text}", file=sys.stderr, flush=True)
+
+
+def answered(*words):
+    """What rt prints, which has to end well."""
+    return subprocess.run(["rt", *words], stdin=subprocess.DEVNULL, stdout=subprocess.PIPE, check=True).stdout
 
 
 class Program:
@@ -25,17 +32,19 @@ class Program:
         self.name, self.crate = name, f"{ROOT}/crates/{name}"
 
     def place(self):
-        """Where it is kept as proved from the sources, specs and proofs as they stand, by the toolchain that is there."""
-        files = [it for part in ("src", "specs", "proofs") for it in glob.glob(f"{ROOT}/crates/*/{part}/**", recursive=True) if os.path.isfile(it)]
-        told = hashlib.sha256(subprocess.run(["rt", "version"], stdin=subprocess.DEVNULL, stdout=subprocess.PIPE, check=True).stdout)
+        """Where it is kept as proved from the sources, specs and proofs as they stand, by this toolchain."""
+        folders = [f"{ROOT}/crates/*/{part}/**" for part in ("src", "specs", "proofs")]
+        files = [path for folder in folders for path in glob.glob(folder, recursive=True) if os.path.isfile(path)]
+        summed = hashlib.sha256(answered("version"))
         for path in [f"{ROOT}/crates.txt", *sorted(files)]:
             with open(path, "rb") as file:
                 text = file.read()
-            told.update(f"{os.path.relpath(path, ROOT)} {len(text)}\n".encode() + text)
-        return f"{OUT}/{self.name}-{told.hexdigest()[:32]}"
+            summed.update(f"{os.path.relpath(path, ROOT)} {len(text)}\n".encode() + text)
+        return f"{OUT}/{self.name}-{summed.hexdigest()[:32]}"
 
     def keep(self, place):
-        """Keeps the program that was just proved there, in one step, and removes what was kept of other sources. A program that runs goes on."""
+        """Keeps the program that was just proved there, in one step, and removes what was kept of other sources. A
+        program that runs goes on."""
         with tempfile.TemporaryDirectory(dir=OUT) as room:
             shutil.copyfile(f"{self.crate}/out/{self.name}", f"{room}/program")
             os.chmod(f"{room}/program", 0o755)
@@ -63,7 +72,8 @@ def keep_record(place, text):
 
 @contextlib.contextmanager
 def alone():
-    """Waits until no other run of these scripts proves, and holds others back meanwhile. Makes out/ where there is none."""
+    """Waits until no other run of these scripts proves, and holds others back meanwhile. Makes out/ where there is
+    none."""
     os.makedirs(OUT, exist_ok=True)
     with open(f"{OUT}/lock", "w") as lock:
         try:
@@ -75,9 +85,10 @@ def alone():
 
 
 def note_libraries():
-    """Tells later runs of rt that the libraries which the gate has just built are of the sources as they stand. The gate leaves them without that note, and
-    scripts/library would prove all of them again. With a kit that notes it otherwise nothing is written, and that is what happens."""
-    kit = os.path.dirname(subprocess.run(["rt", "doc"], stdin=subprocess.DEVNULL, stdout=subprocess.PIPE, text=True, check=True).stdout.strip())
+    """Tells later runs of rt that the libraries which the gate has just built are of the sources as they stand. The
+    gate leaves them without that note, and scripts/gate/library would prove all of them again. With a kit that notes it
+    otherwise nothing is written, and that is what happens."""
+    kit = os.path.dirname(answered("doc").decode().strip())
     sys.path.append(f"{kit}/bin")
     try:
         import rtlib

@@ -1,7 +1,8 @@
 """What a user is promised of the replies to a script, and the checker that holds replies to it.
 
-The checker keeps which spans are live, which objects are held for what, what the device was asked, and the bytes of both sides. All else (free ranges, places, which type
-and kind serve, sums) is worked out from these by the definitions, anew each time. Where several shortest pieces are free, the reply says which one was taken.
+The checker keeps which spans are live, which objects are held for what, what the device was asked, and the bytes of
+both sides. All else (free ranges, places, which type and kind serve, sums) is worked out from these by the definitions,
+anew each time. Where several shortest pieces are free, the reply says which one was taken.
 """
 import bisect
 import collections
@@ -11,14 +12,15 @@ from language import LONG, WORD, parse
 
 DEDICATED, IMPORTED, BUDDY, LIST = "dedicated", "imported", "buddy", "free list"
 DEVICE, HOST, MANY, NO_TYPE = (
-    "refused: Device memory exhausted", "refused: Host memory exhausted", "refused: Reached limit on allocated memory objects count",
+    "refused: Device memory exhausted", "refused: Host memory exhausted",
+    "refused: Reached limit on allocated memory objects count",
     "refused: No compatible memory types from requested types support requested usage",
 )
 HIDDEN, MAPPED = "refused: Impossible to map non-host-visible memory", "refused: Block is already mapped"
 REFUSALS = {"device": DEVICE, "host": HOST, "failed": "refused: Failed to map memory object"}
 FAULTS = (
-    "", "NameInUse", "UnknownName", "BadSize", "BadAlignment", "NoDeviceAddress", "BadRange", "BadType", "NoRemaining", "TooManyRemaining", "BadImportEnd",
-    "NotMapped", "NoMemory",
+    "", "NameInUse", "UnknownName", "BadSize", "BadAlignment", "NoDeviceAddress", "BadRange", "BadType", "NoRemaining",
+    "TooManyRemaining", "BadImportEnd", "NotMapped", "NoMemory",
 )
 REQUESTS = ("alloc", "required", "preferred")
 LOCAL, VISIBLE, COHERENT, CACHED, UNFIT = 1, 2, 4, 8, 16 | 32
@@ -28,20 +30,28 @@ SURE, HUGE = 2**24, 2**48
 
 
 class Promise:
-    STATUS, WRONG_LINE, EACH, FORM = "the status", "the first wrong line is told", "one reply to each command", "a reply has its form"
+    STATUS, WRONG_LINE = "the status", "the first wrong line is reported"
+    EACH, FORM = "one reply to each command", "a reply has its form"
     END = "the last line counts objects and questions"
-    APART, INSIDE, ALIGNED, SIZE = "live blocks share no byte", "a block lies in its object", "a block is aligned", "a block is large enough"
-    ATOMS, TYPE, KIND = "blocks in shared non-coherent memory are whole atoms", "the first type in rank that is not passed serves", "a request is served by its kind"
-    ROOM, CHUNK, NAME = "a chunk is asked for only where none has room", "a new chunk has the size of its rule", "objects are named in the order of their grants"
+    APART, INSIDE = "live blocks share no byte", "a block lies in its object"
+    ALIGNED, SIZE = "a block is aligned", "a block is large enough"
+    ATOMS = "blocks in shared non-coherent memory are whole atoms"
+    TYPE, KIND = "the first type in rank that is not passed serves", "a request is served by its kind"
+    ROOM, CHUNK = "a chunk is asked for only where none has room", "a new chunk has the size of its rule"
+    NAME = "objects are named in the order of their grants"
     BUDGET = "a heap is asked for no more than it has left"
     PLACE = "a block is the front of a shortest piece or the tail of the last run"
-    CAUSE, DUE, NOTHING = "a refusal has its cause", "what is to be refused is refused", "what changes nothing shows nowhere"
+    CAUSE, DUE = "a refusal has its cause", "what is to be refused is refused"
+    NOTHING = "what changes nothing shows nowhere"
     FAULT, DONE = "the first fault is answered", "what misses no condition is done"
-    REMAINING, HELD, LEDGER = "what remains is counted", "the held objects are counted", "a ledger is the sum of what is held"
+    REMAINING, HELD = "what remains is counted", "the held objects are counted"
+    LEDGER = "a ledger is the sum of what is held"
     CHUNKS, FREE, MAXIMAL, MISSING, ORDER = (
-        "a free range lies in a held chunk", "a free range touches no block", "a free range is maximal", "no free range is missing", "free ranges stand in order",
+        "a free range lies in a held chunk", "a free range touches no block", "a free range is maximal",
+        "no free range is missing", "free ranges stand in order",
     )
-    LATEST, ALLOWED, BYTES = "a read gives the latest write", "a read gives a byte that was written", "a read gives what host and device have"
+    LATEST, ALLOWED = "a read gives the latest write", "a read gives a byte that was written"
+    BYTES = "a read gives what host and device have"
 
 
 class Broken(Exception):
@@ -97,9 +107,9 @@ class Object:
     def free(self):
         """Its longest free ranges; in a buddy chunk, its longest free pieces."""
         if self.known is None:
-            ends = [0] + [self.live[it] for it in self.starts]
-            gaps = [it for it in zip(ends, self.starts + [self.size]) if it[0] < it[1]]
-            self.known = [it for gap in gaps for it in pieces(*gap)] if self.kind == BUDDY else gaps
+            ends = [0] + [self.live[start] for start in self.starts]
+            gaps = [(start, end) for start, end in zip(ends, self.starts + [self.size]) if start < end]
+            self.known = [piece for gap in gaps for piece in pieces(*gap)] if self.kind == BUDDY else gaps
         return self.known
 
     def meets(self, start, end):
@@ -116,7 +126,8 @@ class Block:
 
 
 Request = collections.namedtuple("Request", "size mask usage types hint")
-# How a request is to be served: the kind and the type, the places that may be taken, the size of the object that is asked for (or 0), and the block's size.
+# How a request is to be served: the kind and the type, the places that may be taken, the size of the object that is
+# asked for (or 0), and the block's size.
 Grant = collections.namedtuple("Grant", "kind type places asked size")
 
 
@@ -131,7 +142,8 @@ class World:
         self.ledgers = [0] * len(setup.heaps)
         # By memory type: what the latest request would ask of a heap that has less left.
         self.over = {}
-        # By memory type: the atom, the least block of a buddy, the size of the next chunk of each kind, the greatest of a free list.
+        # By memory type: the atom, the least block of a buddy, the size of the next chunk of each kind, the greatest of
+        # a free list.
         self.atoms, self.minimal, self.next, self.final = [], [], {}, []
         for index, (heap, props) in enumerate(setup.types):
             size, atom = setup.heaps[heap], setup.atom if props & (VISIBLE | COHERENT) == VISIBLE else 1
@@ -142,7 +154,8 @@ class World:
             self.final.append(down(min(max(final, starting, self.transient), size // 32), atom) or atom)
 
     def do(self, word, reply, fields):
-        """Holds a reply to its promises, does what the command did, and says how the reply is counted, if not as itself."""
+        """Holds a reply to its promises, does what the command did, and says how the reply is counted, if not as
+        itself."""
         number = self.fault(word, fields) or self.no_room(word, fields, reply)
         if number or reply.startswith("fault "):
             due = f"fault {number} {FAULTS[number]}" if number else "no fault"
@@ -157,7 +170,9 @@ class World:
         if word in REQUESTS:
             name, size, mask, usage, _ = fields
             lacks_address = usage & ADDRESS and not self.setup.address
-            return 1 if name in self.blocks else 3 if not size else 4 if mask == LONG or mask & mask + 1 else 5 if lacks_address else 0
+            if name in self.blocks or not size:
+                return 1 if name in self.blocks else 3
+            return 4 if mask == LONG or mask & mask + 1 else 5 if lacks_address else 0
         if word == "import":
             return self.import_fault(*fields)
         if word == "ranges":
@@ -170,8 +185,10 @@ class World:
         end = offset + size
         if name in self.blocks or memory_type >= len(self.atoms):
             return 1 if name in self.blocks else 7
+        if not size or not object_size or end > object_size:
+            return 6 if size and object_size else 3
         is_cut = end % self.atoms[memory_type] and end != object_size
-        return 3 if not size or not object_size else 6 if end > object_size else 10 if is_cut else 0 if self.remaining else 8
+        return 10 if is_cut else 0 if self.remaining else 8
 
     def block_fault(self, word, name, offset=0, length=0):
         """The fault of a command on a block that is there."""
@@ -192,8 +209,10 @@ class World:
         """The types that a request permits and that serve its usage, the nearest first."""
         sees, loads, fast = usage & (ACCESS | UPLOAD | DOWNLOAD), usage & (UPLOAD | DOWNLOAD), not usage or usage & FAST
         wanted = ((8, LOCAL, fast), (4, VISIBLE, sees), (2, CACHED, usage & DOWNLOAD), (1, COHERENT, loads))
-        fit = ((sum(far for far, bit, want in wanted if bool(props & bit) != bool(want)), index) for index, (_, props) in enumerate(self.setup.types)
-               if types >> index & 1 and not props & UNFIT and (props & VISIBLE or not sees))
+        fit = []
+        for index, (_, props) in enumerate(self.setup.types):
+            if types >> index & 1 and not props & UNFIT and (props & VISIBLE or not sees):
+                fit.append((sum(far for far, bit, want in wanted if bool(props & bit) != bool(want)), index))
         return [index for _, index in sorted(fit)]
 
     def kind_for(self, memory_type, request):
@@ -257,7 +276,8 @@ class World:
 
     def fronts(self, memory_type, size):
         """The fronts of the shortest free pieces that are long enough."""
-        fit = [(end - start, held.name, start) for held in self.chunks[memory_type, BUDDY] for start, end in held.free() if end - start >= size]
+        free = ((held, *place) for held in self.chunks[memory_type, BUDDY] for place in held.free())
+        fit = [(end - start, held.name, start) for held, start, end in free if end - start >= size]
         shortest = min(fit)[0] if fit else 0
         return [(name, start, start + size) for length, name, start in fit if length == shortest]
 
@@ -279,7 +299,8 @@ class World:
         return self.setup.refusals.get((question, self.asked[question]))
 
     def object_refused(self, memory_type, size, is_shared, reply):
-        """Asks for an object, and for its mapping where it is shared and the host sees it. An object that was made has used its name."""
+        """Asks for an object, and for its mapping where it is shared and the host sees it. An object that was made has
+        used its name."""
         visible = self.is_visible(memory_type)
         cause = self.refusal("allocate")
         if not cause and visible and (size >= HUGE or size > SURE and reply == HOST):
@@ -343,7 +364,8 @@ class World:
         memory_type, object_name, offset, size = spans
         if grant.asked:
             self.hold_object(Object(object_name, memory_type, grant.asked, grant.asked, grant.kind))
-            self.next[memory_type, grant.kind] = min(2 * grant.asked, self.final[memory_type]) if grant.kind == LIST else grant.asked
+            grown = min(2 * grant.asked, self.final[memory_type]) if grant.kind == LIST else grant.asked
+            self.next[memory_type, grant.kind] = grown
         self.add_block(name, object_name, offset, size)
         return f"block, {grant.kind}{', new object' if grant.asked else ', in a place'}"
 
@@ -385,8 +407,8 @@ class World:
         self.version += 1
         if held.kind == LIST:
             chunks = self.chunks[held.type, LIST]
-            last = next(it for it in reversed(chunks) if it.free())
-            self.sweep([it for it in chunks if it is not last])
+            last = next(chunk for chunk in reversed(chunks) if chunk.free())
+            self.sweep([chunk for chunk in chunks if chunk is not last])
         else:
             self.sweep([held])
 
@@ -425,25 +447,29 @@ class World:
     def do_ranges(self, reply, memory_type):
         self.is_told_again(memory_type, reply)
         hold(Promise.FORM, re.fullmatch(r"ranges( none|( \d+:\d+-\d+)+)", reply), "free ranges are due")
-        told = [tuple(map(int, re.split("[:-]", it))) for it in reply.split()[1:] if it != "none"]
+        told = [tuple(map(int, re.split("[:-]", place))) for place in reply.split()[1:] if place != "none"]
         for name, start, end in told:
             held = self.objects.get(name)
             is_chunk = held and held.type == memory_type and held.kind in (BUDDY, LIST)
             hold(Promise.CHUNKS, is_chunk and start < end <= held.size, f"{name}:{start}-{end}")
             hold(Promise.FREE, not held.meets(start, end), f"{name}:{start}-{end}")
             hold(Promise.MAXIMAL, (start, end) in held.free(), f"{name}:{start}-{end}")
-        due = sorted((held.name, *it) for kind in (BUDDY, LIST) for held in self.chunks[memory_type, kind] for it in held.free())
+        chunks = (held for kind in (BUDDY, LIST) for held in self.chunks[memory_type, kind])
+        due = sorted((held.name, *place) for held in chunks for place in held.free())
         hold(Promise.MISSING, set(told) == set(due), f"{sorted(set(due) - set(told))}")
         hold(Promise.ORDER, told == due, "by object and start, each once")
 
     # Bytes.
 
     def is_expected(self, reply, due):
-        is_refused = reply.startswith("refused: ")
-        hold(Promise.CAUSE if is_refused else Promise.DUE if due.startswith("refused: ") else Promise.DONE, reply == due, f"{due} is due")
+        promise = Promise.DUE if due.startswith("refused: ") else Promise.DONE
+        if reply.startswith("refused: "):
+            promise = Promise.CAUSE
+        hold(promise, reply == due, f"{due} is due")
 
     def mapping_refused(self, block, is_asked):
-        """The refusal of a mapping of a block. Only that of an object of its own is asked of the device, and for no bytes nothing is."""
+        """The refusal of a mapping of a block. Only that of an object of its own is asked of the device, and for no
+        bytes nothing is."""
         if not self.is_visible(block.held.type) or block.mapping:
             return MAPPED if block.mapping else HIDDEN
         return REFUSALS.get(self.refusal("map")) if is_asked and block.held.kind in (DEDICATED, IMPORTED) else None
@@ -520,7 +546,8 @@ class World:
         if block.written:
             for at, byte in enumerate(data, offset):
                 values = block.written.get(at) or {byte}
-                hold(Promise.LATEST if len(values) == 1 else Promise.ALLOWED, byte in values, f"byte {at} is one of {sorted(values)}")
+                promise = Promise.LATEST if len(values) == 1 else Promise.ALLOWED
+                hold(promise, byte in values, f"byte {at} is one of {sorted(values)}")
         host, _ = self.sides(block.held)
         due = data if host is None else host[block.offset + offset:block.offset + offset + length]
         hold(Promise.BYTES, data == due, f"bytes {due.hex() or '-'} are due")
@@ -552,13 +579,15 @@ def judge(script, output, status, seen):
         return
     hold(Promise.STATUS, status == 0, f"it is {status}, and 0 is due: {output[:99]}")
     replies = output.decode("latin-1").split("\n")
-    hold(Promise.EACH, len(replies) == len(commands) + 2 and not replies[-1], f"{len(commands)} commands, {len(replies) - 2} replies")
+    is_whole = len(replies) == len(commands) + 2 and not replies[-1]
+    hold(Promise.EACH, is_whole, f"{len(commands)} commands, {len(replies) - 2} replies")
     world = World(setup)
     for at, ((word, fields), reply) in enumerate(zip(commands, replies)):
         try:
             said = world.do(word, reply, fields)
         except Broken as broken:
-            raise Broken(broken.promise, f"command {at + 1} ({word}) answers '{reply[:200]}': {broken.detail[:400]}") from None
+            detail = f"command {at + 1} ({word}) answers '{reply[:200]}': {broken.detail[:400]}"
+            raise Broken(broken.promise, detail) from None
         seen[kind_of(word, reply, said)] += 1
     end = f"end objects 0 allocations {world.asked['allocate']}"
     hold(Promise.END, replies[-2] == end, f"'{end}' is due, not '{replies[-2]}'")

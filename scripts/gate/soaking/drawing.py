@@ -1,6 +1,7 @@
-"""Draws scripts of the whole language. What is drawn hangs on the generator alone.
+"""Draws scripts of the whole language. What is drawn depends on the generator alone.
 
-Objects that the host sees have real bytes, so where a script has such memory its numbers are either small or larger than any host.
+Objects that the host sees have real bytes, so where a script has such memory its numbers are either small or larger
+than any host.
 """
 from language import CAUSES, CONFIGS, KINDS, LONG, WORD
 
@@ -8,8 +9,10 @@ SMALL = [0, 1, 31, 100] + [2**power + by for power in (1, 5, 6, 8, 10, 12, 13, 1
 BETWEEN = [2**20, 2**30, 2**31 + 1, WORD, 2**32, 2**40 - 1]
 LARGE = [2**62, 2**63 - 1, 2**63, 2**63 + 1, LONG - 1, LONG]
 # How often each command is drawn, by what a script is about.
-MIXED = {"alloc": 22, "required": 4, "preferred": 5, "import": 4, "free": 23, "map": 4, "unmap": 3, "write": 7, "read": 7, "put": 3, "get": 3,
-         "remaining": 2, "cleanup": 2, "ranges": 9, "counts": 8}
+MIXED = {
+    "alloc": 22, "required": 4, "preferred": 5, "import": 4, "free": 23, "map": 4, "unmap": 3, "write": 7, "read": 7,
+    "put": 3, "get": 3, "remaining": 2, "cleanup": 2, "ranges": 9, "counts": 8,
+}
 ABOUT = {
     "mixed": MIXED,
     "space": {**MIXED, "alloc": 60, "free": 55, "ranges": 30},
@@ -21,9 +24,12 @@ OF_BYTES = ("map", "unmap", "write", "read", "put", "get")
 NO_NUMBERS = ["-1", "+1", "x", "0x10", "1.0", "1_0", str(2**32), str(2**64), "9" * 30, "\x00", "\xb2"]
 NO_BYTES = ["0", "abc", "zz", "--", "0g", "-0", "0x00"]
 LATE = ["config potato", "heap 1", "type 0 1", "limits 1 1", "atom 1", "address", "refuse map 1 host", "heap"]
-STRANGE = ["sing 1", "Alloc 1 1 0 0 1", "allo", "counts\r", "\x00", "\xff\xfe", "refuse sing 1 host", "refuse map 0 host", "refuse map 1 sad", "refuse flush 1 failed",
-           "refuse map 1", "config sweet", "config 1 2 3", "config 1 2 3 4 5 6 x", "type 0 64", "heap -", "atom", "address 1", "limits 4294967296 1", "counts # now"]
-STRANGE += [f"{word} 1 0 {it}" for word in ("write", "put") for it in NO_BYTES]
+STRANGE = [
+    "sing 1", "Alloc 1 1 0 0 1", "allo", "counts\r", "\x00", "\xff\xfe", "refuse sing 1 host", "refuse map 0 host",
+    "refuse map 1 sad", "refuse flush 1 failed", "refuse map 1", "config sweet", "config 1 2 3", "config 1 2 3 4 5 6 x",
+    "type 0 64", "heap -", "atom", "address 1", "limits 4294967296 1", "counts # now",
+]
+STRANGE += [f"{word} 1 0 {data}" for word in ("write", "put") for data in NO_BYTES]
 UNUSABLE = ["atom 3", "atom 0", f"atom {2**63}", "type 99 1", "\n".join(["heap 1"] + ["type 0 1"] * 33)]
 NOISE = ["", "# a remark", " \t ", "#", "\t#counts"]
 
@@ -35,7 +41,8 @@ class Drawer:
         self.random = random
         self.about = random.choice(list(ABOUT))
         self.is_seen = self.about == "bytes" or random.random() < 0.5
-        self.live, self.names, self.usual = {}, random.choice([3, 8, 20, 40]), random.choice([70, 300, 300, 3000, 40000])
+        self.live, self.names = {}, random.choice([3, 8, 20, 40])
+        self.usual = random.choice([70, 300, 300, 3000, 40000])
 
     def chance(self, part):
         return self.random.random() < part
@@ -46,29 +53,34 @@ class Drawer:
             return self.random.choice(LARGE + BETWEEN * (not self.is_seen))
         if near and self.chance(0.3):
             return min(LONG, max(0, self.random.choice(near) + self.random.choice([-1, 0, 1])))
-        return self.random.choice(SMALL) if self.chance(0.15) else self.random.randrange(1, self.random.choice([5, 70, self.usual, self.usual]))
+        if self.chance(0.15):
+            return self.random.choice(SMALL)
+        return self.random.randrange(1, self.random.choice([5, 70, self.usual, self.usual]))
 
     def setup(self):
         random, lines = self.random, []
         # (most thresholds are large, since what is not below them has an object of its own)
-        own = [random.choice([self.number(), 2**15, 2**17]) if it < 3 else self.number() for it in range(7)]
+        own = [random.choice([self.number(), 2**15, 2**17]) if at < 3 else self.number() for at in range(7)]
         self.config = random.choice(list(CONFIGS.values())) if self.chance(0.5) else tuple(own)
-        named = [name for name, it in CONFIGS.items() if it == self.config]
+        named = [name for name, config in CONFIGS.items() if config == self.config]
         lines.append(f"config {named[0] if named else ' '.join(map(str, self.config))}")
         heaps = [self.heap() for _ in range(random.choice([1, 1, 2, 3]))]
-        self.near = [it for it in (*self.config[:5], *(it // 32 for it in heaps)) if not self.is_seen or it <= 2**20 or it >= 2**50]
+        sizes = (*self.config[:5], *(heap // 32 for heap in heaps))
+        self.near = [size for size in sizes if not self.is_seen or size <= 2**20 or size >= 2**50]
         self.atom = random.choice([1, 4, 64, 256, 4096] + [2**62] * (self.about == "extremes"))
-        lines += [f"heap {it}" for it in heaps]
+        lines += [f"heap {heap}" for heap in heaps]
         self.types = random.choice([1, 1, 2, 3, 5, 32])
         # (the first serves most requests)
         owners = [random.randrange(len(heaps)) for _ in range(self.types)]
         self.room = heaps[owners[0]]
-        lines += [f"type {it} {self.props() if at else random.choice([2, 6, 7]) if self.is_seen else 1}" for at, it in enumerate(owners)]
+        for at, heap in enumerate(owners):
+            lines.append(f"type {heap} {self.props() if at else random.choice([2, 6, 7]) if self.is_seen else 1}")
         lines += [f"atom {self.atom}"] * (self.atom > 1 or self.chance(0.1))
-        limits = [f"limits {random.choice([4096] * 4 + [0, 1, 2, 5, 9, WORD])} {random.choice([LONG] * 8 + [0, 100, 2**12, 2**20])}"]
+        count = random.choice([4096] * 4 + [0, 1, 2, 5, 9, WORD])
+        limits = [f"limits {count} {random.choice([LONG] * 8 + [0, 100, 2**12, 2**20])}"]
         limits *= self.chance(0.8 if self.about == "extremes" else 0.2)
         # (what is larger is refused, so that its name has no block)
-        self.most = min([max(heaps)] + [int(it.split()[2]) for it in limits])
+        self.most = min([max(heaps)] + [int(line.split()[2]) for line in limits])
         self.has_address = self.chance(0.2)
         lines += limits + ["address"] * self.has_address
         lines += [self.refusal() for _ in range(random.choice([0, 0, 1, 4, 12]))]
@@ -82,7 +94,8 @@ class Drawer:
             return self.random.choice(LARGE[1:] + [0, 1, 31] + BETWEEN * (not self.is_seen))
         if self.about == "full heaps":
             return self.random.choice([self.usual, 5 * self.usual, 12 * self.usual + 100, 2**14])
-        return self.random.choice([2**20, 2**20, 2**21, 2**21 + 1, 2**18 - 1, 2**16, self.random.choice([0, 31, 3200, 1024])])
+        small = self.random.choice([0, 31, 3200, 1024])
+        return self.random.choice([2**20, 2**20, 2**21, 2**21 + 1, 2**18 - 1, 2**16, small])
 
     def left(self):
         """How many bytes the heap of the first type has left, if each block has an object of its own there."""
@@ -96,19 +109,24 @@ class Drawer:
 
     def refusal(self):
         kind = self.random.choice(KINDS)
-        return f"refuse {kind} {self.random.choice([1, 1, 2, 3, 5, 9, 20])} {self.random.choice(CAUSES if kind == 'map' else CAUSES[:2])}"
+        nth, causes = self.random.choice([1, 1, 2, 3, 5, 9, 20]), CAUSES if kind == "map" else CAUSES[:2]
+        return f"refuse {kind} {nth} {self.random.choice(causes)}"
 
     def name(self, lives):
         """A name that probably has a block, or that probably has none."""
         if lives and self.live and self.chance(0.97):
             return self.random.choice(list(self.live))
-        free = [it for it in range(self.names) if it not in self.live]
-        return self.random.choice(free) if free and self.chance(0.9) else self.random.choice([0, WORD, self.random.randrange(self.names)])
+        free = [name for name in range(self.names) if name not in self.live]
+        if free and self.chance(0.9):
+            return self.random.choice(free)
+        return self.random.choice([0, WORD, self.random.randrange(self.names)])
 
     def mask(self):
         if self.about == "extremes" and self.chance(0.2):
             return self.random.choice([2**62 - 1, 2**63 - 1, LONG, 6])
-        return 0 if self.chance(0.6) else 2**self.random.randrange(17) - 1 if self.chance(0.95) else self.random.choice([2, 6, LONG])
+        if self.chance(0.6):
+            return 0
+        return 2**self.random.randrange(17) - 1 if self.chance(0.95) else self.random.choice([2, 6, LONG])
 
     def data(self):
         if self.chance(0.04):
@@ -118,15 +136,19 @@ class Drawer:
 
     def place(self, size, length):
         """An offset of that many bytes in a block of this size; sometimes past its end."""
-        return self.random.choice([0, max(0, size - length), self.random.randrange(min(size, 2**63) + 1), size // 2, size + 1 if self.chance(0.2) else 0])
+        inside, past = self.random.randrange(min(size, 2**63) + 1), size + 1 if self.chance(0.2) else 0
+        return self.random.choice([0, max(0, size - length), inside, size // 2, past])
 
     def request(self, word):
         name, usage = self.name(False), self.random.choice([0, 1, 2, 2, 4, 10] if self.is_seen else [0, 0, 1])
         usage = usage | 16 * self.chance(0.35) if self.chance(0.93) else self.random.randrange(256)
         is_full = self.about == "full heaps"
         size = max(self.number(self.near + [self.left()] * 5 * is_full), 0 if self.chance(0.02) else 1)
-        mask, types = self.mask(), 2**self.types - 1 if self.chance(0.85) else self.random.choice([0, 1, 2, WORD, self.random.getrandbits(32)])
-        if 0 < size <= (self.left() if is_full else self.most) and types & 1 and not mask & mask + 1 and (self.has_address or not usage & 32):
+        mask, types = self.mask(), 2**self.types - 1
+        if not self.chance(0.85):
+            types = self.random.choice([0, 1, 2, WORD, self.random.getrandbits(32)])
+        is_served = types & 1 and not mask & mask + 1 and (self.has_address or not usage & 32)
+        if is_served and 0 < size <= (self.left() if is_full else self.most):
             self.live.setdefault(name, [size, 0])
         return f"{word} {name} {size} {mask} {usage} {types}"
 
@@ -143,7 +165,7 @@ class Drawer:
     def of_block(self, word):
         """A command on a block."""
         is_mapped = word in ("put", "get", "unmap")
-        mapped = [it for it in self.live if self.live[it][1]] if is_mapped else []
+        mapped = [name for name in self.live if self.live[name][1]] if is_mapped else []
         name = self.random.choice(mapped) if mapped and self.chance(0.9) else self.name(True)
         known = self.live.get(name, [10, 0])
         size, data = known[is_mapped], self.data()
@@ -157,7 +179,8 @@ class Drawer:
         elif word in ("write", "put"):
             return f"{word} {name} {min(LONG, self.place(size, len(data) // 2))} {data}"
         elif word in ("read", "get"):
-            length = self.random.choice([1, 2, 8, min(size, 300)]) if self.chance(0.96) else self.random.choice([0, min(size, 9000), LONG, 2**63])
+            usual, rare = [1, 2, 8, min(size, 300)], [0, min(size, 9000), LONG, 2**63]
+            length = self.random.choice(usual if self.chance(0.96) else rare)
             length = size if size >= 2**50 and self.chance(0.5) else length
             return f"{word} {name} {min(LONG, self.place(size, length))} {length}"
         return f"{word} {name}"
@@ -173,7 +196,8 @@ class Drawer:
 
     def other(self, word):
         if word == "remaining":
-            return f"remaining {self.random.choice([0, 1, 2, 10, 10, 4096, 4096, WORD - self.random.randrange(self.names), WORD])}"
+            near = WORD - self.random.randrange(self.names)
+            return f"remaining {self.random.choice([0, 1, 2, 10, 10, 4096, 4096, near, WORD])}"
         if word == "ranges":
             return f"ranges {self.memory_type()}"
         return word if word in ("cleanup", "counts") else self.of_block(word)
@@ -181,7 +205,8 @@ class Drawer:
     def commands(self):
         words = list(ABOUT[self.about])
         # (memory that the host doesn't see has few calls on bytes)
-        often = [count if self.is_seen or self.about == "extremes" or word not in OF_BYTES else 1 for word, count in ABOUT[self.about].items()]
+        has_bytes, counts = self.is_seen or self.about == "extremes", ABOUT[self.about].items()
+        often = [count if has_bytes or word not in OF_BYTES else 1 for word, count in counts]
         drawn = []
         for word in self.random.choices(words, often, k=self.random.choice([5, 40, 120, 300])):
             drawn.append(self.command(word))
@@ -207,16 +232,21 @@ class Drawer:
         """The same line, written otherwise."""
         if self.chance(0.9):
             return line
-        fields = [f"00{it}" if it.isdigit() and self.chance(0.3) else it for it in line.split(" ")]
+        fields = [f"00{field}" if field.isdigit() and self.chance(0.3) else field for field in line.split(" ")]
         blank = self.random.choice([" ", "  ", "\t", " \t "])
-        return self.random.choice(["", blank]) + blank.join(fields) + self.random.choice(["", blank, "\r", blank + "\r"])
+        before, after = self.random.choice(["", blank]), self.random.choice(["", blank, "\r", blank + "\r"])
+        return before + blank.join(fields) + after
+
+    def noise(self):
+        """Now and then a line that says nothing."""
+        return [self.random.choice(NOISE)] if self.chance(0.05) else []
 
     def script(self):
         setup = self.setup()
         commands = self.commands()
         lines = self.broken(setup, commands) if self.chance(0.08) else setup + commands
         if self.chance(0.3):
-            lines = [it for line in lines for it in ([self.random.choice(NOISE)] if self.chance(0.05) else []) + [self.dressed(line)]]
+            lines = [one for line in lines for one in (*self.noise(), self.dressed(line))]
         return "\n".join(lines).encode("latin-1") + b"\n" * self.chance(0.9)
 
 
