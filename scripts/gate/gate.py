@@ -1,4 +1,4 @@
-"""Runs the merge gate, rt ci, as it is, and tells meanwhile what it does.
+"""Runs the merge gate, rt ci, as it is, and prints meanwhile what it does.
 
 rt ci prints what was said of a crate when its proof has ended, and of the edits and tests only at its end. What it is
 at shows in the processes that it starts, which are watched here: a check of a crate in the crate's own folder, a check
@@ -24,7 +24,7 @@ RUNNER = ("runner",)
 UNKNOWN = ("", 0)
 # The most memory that a check of a crate is seen to take, and a little more.
 EACH = 3_500_000_000
-# What is told of a block in which something is not proved.
+# What is printed of a block in which something is not proved.
 REASON = re.compile(r"error|no proof|NOT|: not proved|^rt: (?!chose)")
 
 
@@ -117,7 +117,7 @@ class Watch(threading.Thread):
 
 
 class Gate:
-    """One run of rt ci, with what it told."""
+    """One run of rt ci, with what it printed."""
 
     def __init__(self, root, log, jobs):
         self.log, self.block, self.is_reason = log, None, False
@@ -175,7 +175,7 @@ class Gate:
         elif line.startswith("rt: must-fail ") and ": refused, as it must be" in line:
             self.refused, self.is_reason = self.refused + 1, False
         elif line.startswith("rt: must-fail ") and "BAD EDIT" in line:
-            # (rt ci tells of an edit that it cannot apply, and passes all the same)
+            # (rt ci reports an edit that it cannot apply, and passes all the same)
             self.bad, self.is_reason = self.bad + 1, True
             print_timed(line[len("rt: "):])
         elif re.match(r"test .* \.\.\. ", line):
