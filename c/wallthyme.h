@@ -162,8 +162,8 @@ enum { WT_SHARED = 0, WT_PREFERRED = 1, WT_REQUIRED = 2 };
 /* wt_request.flags: the device is asked for nothing (proved). Of the permitted memory types that serve the usage, the
    first in rank that has a place in a shared object serves, even where a better one would serve by asking. WT_WOULD_ASK
    where none has one (proved), as with WT_REQUIRED; a memory type has none for a request that it would serve by an
-   object of its own. A size over the limit, and a usage that no permitted type serves, are refused before. How many more
-   objects may be held is of no account. */
+   object of its own. A size over the limit, and a usage that no permitted type serves, are refused before. It does not
+   matter how many more objects may be held. */
 #define WT_HELD_ONLY 2u
 
 /* wt_memory_type.props: the lower six bits of VkMemoryType::propertyFlags. Other bits are ignored; leave such

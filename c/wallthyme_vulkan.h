@@ -100,9 +100,9 @@ typedef struct wtv_create_info {
     PFN_vkGetInstanceProcAddr get_instance_proc_addr; /* loads the functions; null where the table has them all */
     const wtv_functions *functions;         /* taken instead of loaded ones, but where null; copied. Or null */
     const VkAllocationCallbacks *callbacks; /* go to each call of Vulkan that takes them; copied. Or null */
-    const wt_config *config;                /* null: what wtv_default_config says, with WT_FIT. One that is given says by
-                                               its own sharing how requests share objects: zeros there mean WT_BUDDY */
-    uint32_t other_objects; /* at most so many memory objects does the program make itself, beside this allocator */
+    const wt_config *config;                /* null: what wtv_default_config says, with WT_FIT. A given one decides by
+                                               its sharing how requests share objects: 0 is WT_BUDDY */
+    uint32_t other_objects; /* the most memory objects that the program makes itself, besides this allocator */
 } wtv_create_info;
 
 /* What memory a resource gets. Zeros are defaults. */
@@ -166,10 +166,10 @@ VkResult wtv_destroy(wtv_allocator *a, wtv_block *live, size_t room, size_t *cou
 
 /* The configuration of an allocator that is given none. With H the size of the largest device-local heap (of the
    largest heap, where none is), and U = H / 1024, rounded down to a power of two, at least 64 KiB and at most 8 MiB:
-   requests share fit chunks (WT_FIT) of U to 4 U, and get objects of their own over U (from U / 8 on where preferred, and
-   16 U for transient ones); free lists' chunks from U to 16 U. From 8 GiB on that is WT_CONFIG_PROTOTYPING with WT_FIT.
-   With sharing set to WT_BUDDY: buddy chunks from U on, in blocks of at least 1 KiB, and objects of their own from 4 U
-   on. */
+   requests share fit chunks (WT_FIT) of U to 4 U, and get objects of their own over U (from U / 8 on where preferred,
+   and 16 U for transient ones); free lists' chunks from U to 16 U. From 8 GiB on that is WT_CONFIG_PROTOTYPING with
+   WT_FIT. With sharing set to WT_BUDDY: buddy chunks from U on, in blocks of at least 1 KiB, and objects of their own
+   from 4 U on. */
 void wtv_default_config(const VkPhysicalDeviceMemoryProperties *memory, wt_config *config);
 
 /* ---- Buffers and images. ---- */
