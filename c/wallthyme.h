@@ -83,7 +83,7 @@ enum {
     /* Misuses. Nothing has changed. */
     WT_NOT_OPEN = 9,                   /* the allocator is closed */
     WT_ALREADY_OPEN = 10,              /* the allocator is open */
-    WT_BAD_PROPERTIES = 11,            /* over 32 memory types, one of a heap that does not exist, 2^32 heaps or more, an
+    WT_BAD_PROPERTIES = 11,            /* over 32 memory types, one of a missing heap, 2^32 heaps or more, an
                                           atom that is not a power of two of at most 2^62, a granularity that is
                                           neither 0 nor a power of two of at most 2^32, or a sharing that is neither
                                           WT_BUDDY nor WT_FIT */
@@ -389,8 +389,8 @@ uint32_t wt_candidates(wt_allocator *a, uint32_t usage, uint32_t memory_types, u
    mapped whole when it was made (WT_MAP_MADE). For any other (WT_ASK, as for wt_alloc), the question's range covers
    them; where the memory is not coherent, in whole atoms, cut at the block's end.
    WT_NOT_OPEN, WT_UNKNOWN_KEY, WT_BAD_SIZE, WT_BAD_RANGE, WT_NON_HOST_VISIBLE, WT_ALREADY_MAPPED, WT_BAD_ANSWER,
-   WT_OTHER_QUESTION, and the device's answers: nothing is changed, and what was mapped for it is the caller's to unmap.
-   */
+   WT_OTHER_QUESTION, and the device's answers: nothing is changed, and what was mapped for it is the caller's to
+   unmap. */
 uint32_t wt_map(wt_allocator *a, uint64_t key, uint64_t offset, uint64_t size, const wt_question *asked,
                 size_t asked_len, wt_range *mapped, wt_question *question);
 
