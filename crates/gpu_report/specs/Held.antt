@@ -39,7 +39,7 @@ is_found p (Some h) = is_of p h
 abbrev pub part_of : ℕ → ObjectKind → Part
 part_of t kind = record { memory_type = t; kind = kind }
 
--- the kinds of the first n memory types, by memory type, then kind
+-- all kinds of a memory type, and those of the first n memory types, by memory type, then kind
 abbrev pub parts_of : ℕ → List Part
 parts_of t =
     part_of t Dedicated ∷ part_of t Imported ∷ part_of t BuddyChunk ∷ part_of t FreeListChunk ∷ part_of t FitChunk ∷ []
