@@ -8,7 +8,6 @@ use std::marker::Model;
 
 /// The properties of a memory type, as a number of four bytes. (Next to the type's index they leave no padding. Padding
 /// would be zeroed and copied with each answer on the way to the caller.)
-/// unused ones would be zeroed and copied with each answer on the way to the caller.)
 #[derive(Drop)]
 pub(crate) struct KeptProps {
     bits: u32,

@@ -140,7 +140,6 @@ impl<M: MemoryObject, A: Allocator> Fits<M, A> {
     ///
     /// All tiles are searched only where the lists of free tiles show none with room. A request without a place is
     /// remembered until a block is returned or a chunk is added. A tile that a search found is tried by the next call.
-    /// until a block comes back or a chunk comes, and a tile that a search found is tried by the next call.
     pub fn has_place(&mut self, size: u64, align_mask: u64) -> bool
         requires nonempty { 0 < size }
         requires alignment { IsAlignMask align_mask }

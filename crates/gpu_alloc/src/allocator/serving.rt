@@ -17,7 +17,6 @@ impl<M: MemoryObject, A: Allocator + Copy> GpuAllocator<M, A> {
     /// is `true`, an object of its own fits an empty heap, so a caller may free blocks and ask again. It is no promise:
     /// the device may still refuse. A chunk for a block that shares one may be larger than its heap, above all because
     /// of its alignment. A heap's limit doesn't count, since it may be set anew.
-    /// its alignment above all. A heap's limit doesn't count, since it may be set anew.
     pub fn can_ever_serve(&self, request: Request) -> bool
         ensures { IsTrue result ↔ MayServe self.now request }
     {

@@ -55,7 +55,6 @@ struct NumberedKey {
 ///
 /// A chunk is found in time logarithmic in the held chunks. Where one is removed, the greater numbers move up in their
 /// vector, and no other chunk moves.
-/// move up in their vector, and no other chunk moves.
 #[derive(Drop)]
 pub(super) struct Chunks<M: MemoryObject, A: Allocator = Global> {
     rows: Slab<NumberedChunk<M>, A>,
