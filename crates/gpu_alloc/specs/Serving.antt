@@ -31,7 +31,7 @@ NeverServed = (s later : State) (r : Request) (es : List Event) (answer : Result
     → (MayServe s r → ⊥) → later.properties ≡ s.properties → Allocates later r None es answer new
     → Refuses later (lasting_refusal s r) es answer new
 
--- What a request that may be served comes to in an allocator that holds nothing, where an object may be held: the
+-- What a request that may be served comes to in an allocator that holds nothing, where an object may be held. The
 -- device is asked for an object of the request's own, unless host memory is missing.
 abbrev pub AsksForOwnObjects : Type 0
 AsksForOwnObjects =

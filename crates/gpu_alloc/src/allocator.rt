@@ -147,8 +147,11 @@ impl<M: MemoryObject, A: Allocator> GpuAllocator<M, A> {
     ///
     /// The request must be askable (`Request::is_askable`, with the device's `buffer_device_address`). The device must
     /// be the one that this allocator has served, so that the two agree. The errors, in the order in which they are
-    /// tested (the original crate's): `OutOfDeviceMemory` where the size is over the limit given to `new`;
-    /// `NoCompatibleMemoryTypes` where no memory type among the request's serves its usage.
+    /// tested (the original crate's):
+    ///
+    /// - `OutOfDeviceMemory` where the size is over the limit given to `new`
+    /// - `NoCompatibleMemoryTypes` where no memory type among the request's serves its usage
+    /// - the errors of the memory types, below.
     ///
     /// Then the memory types are tried in rank. A type is passed over in any of these cases:
     ///

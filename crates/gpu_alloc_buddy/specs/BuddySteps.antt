@@ -33,8 +33,8 @@ CountsBeginning b looks now splits after leaf =
 abbrev pub CountsHalving : Buddy → ℕ → ℕ → ℕ → Type 0
 CountsHalving b order splits after = (n : ℕ) × (chunk_size b (2 ^ order) ≡ 2 ^ n) × (after + order + 1 ≡ splits + n)
 
--- a place is looked for first where a chunk for the block is below 2^64 bytes and may not be asked for: no more objects
--- may be held, or the heap's limit leaves too few bytes
+-- a place is looked for first where a chunk for the block is below 2^64 bytes and may not be asked for. Then no more
+-- objects may be held, or the heap's limit leaves too few bytes
 abbrev pub LooksFirst : Account Buddy → ℕ → Type 0
 LooksFirst a size = Fits size × ((a.remaining ≡ 0) ⊎ (a.heap.limit < a.heap.used + chunk_size a.allocator size))
 

@@ -460,8 +460,8 @@ impl<M: MemoryObject, A: Allocator> FreeListAllocator<M, A> {
         Some(refusal)
     }
 
-    /// Why the device may not be asked for a chunk with a block of this size, or `None` where it may: no more objects
-    /// may be held, no number is left, or the heap has no room for it.
+    /// Why the device may not be asked for a chunk with a block of this size, or `None` where it may. No more objects
+    /// may be held, no number is left, or the heap has no room for the chunk.
     fn refuses_chunk(
         &self,
         size: u64,

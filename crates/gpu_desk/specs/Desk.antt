@@ -53,10 +53,10 @@ books s = record { allocator = s.allocator; blocks = s.blocks.live }
 abbrev pub objects : DeskState → ℕ → Option Object
 objects s = objects_of s.device
 
--- Blocks share no memory, as in a session: each key's block is a live span of a held object, no two share a byte (nor
--- an object where one of them has its own), nothing else is live, and allocator and device agree. No held object has a
--- name that waits to be read, and each such name waits once. Blocks for optimal resources share no page with linear
--- ones.
+-- Blocks share no memory, as in a session. Each key's block is a live span of a held object, and no two share a byte
+-- (nor an object where one of them has its own). Nothing else is live, and allocator and device agree. No held object
+-- has a name that waits to be read, and each such name waits once. Blocks for optimal resources share no page with
+-- linear ones.
 pub record IsSound (s : DeskState) : Type 0 where
   pub memory : session.IsSound s.device.properties (objects s) (books s)
   pub names : AreNamed s.device.held

@@ -37,10 +37,13 @@ impl<M: MemoryObject, A: Allocator> GpuAllocator<M, A> {
     /// not matter.
     ///
     /// The conditions are those of the other calls. The errors, in the order in which they are tested:
-    /// `OutOfDeviceMemory` where the size is over the limit given to `new`, or whole pages for it would have 2^64 bytes
-    /// or more; `NoCompatibleMemoryTypes` where no memory type among the request's serves its usage; `OutOfHostMemory`
-    /// where host memory is missing for a block that has a place. After an error and after `Ok(None)` the allocator is
-    /// unchanged. (The original crate has no such call.)
+    ///
+    /// - `OutOfDeviceMemory` where the size is over the limit given to `new`, or whole pages for it would have 2^64
+    ///   bytes or more
+    /// - `NoCompatibleMemoryTypes` where no memory type among the request's serves its usage
+    /// - `OutOfHostMemory` where host memory is missing for a block that has a place.
+    ///
+    /// After an error and after `Ok(None)` the allocator is unchanged. (The original crate has no such call.)
     pub fn alloc_held<D: ObjectDevice<M>>(
         &mut self,
         device: &mut D,

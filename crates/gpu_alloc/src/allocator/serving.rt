@@ -10,8 +10,8 @@ use gpu_alloc_usage::meaning;
 use std::alloc::Allocator;
 
 impl<M: MemoryObject, A: Allocator + Copy> GpuAllocator<M, A> {
-    /// Whether [`alloc`](GpuAllocator::alloc) may serve a request once enough blocks are returned: its size, in bytes,
-    /// is within the limit given to `new`, and one of its candidates lies in a heap that is at least as large.
+    /// Whether [`alloc`](GpuAllocator::alloc) may serve a request once enough blocks are returned. Its size, in bytes,
+    /// must be within the limit given to `new`, and one of its candidates must lie in a heap that is at least as large.
     ///
     /// Where this is `false`, no return helps: `alloc` refuses the request in every state, and asks nothing. Where it
     /// is `true`, an object of its own fits an empty heap, so a caller may free blocks and ask again. It is no promise:

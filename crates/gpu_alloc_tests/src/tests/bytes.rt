@@ -1,5 +1,5 @@
-//! The bytes of blocks: what is mapped, written and read, in coherent and non-coherent memory, of blocks that share an
-//! object and of blocks with one of their own, and what is left where the device refuses.
+//! The bytes of blocks: what is mapped, written and read, in coherent and non-coherent memory, and what is left where
+//! the device refuses. Some blocks share an object, and some have one of their own.
 
 use super::pair::{Asking, Call, Memory, Row, Step, play};
 use Call::{Map, Mapped, Read, Unmap, Unread, Write};

@@ -1,4 +1,4 @@
-//! Lists of calls of the free-list allocator, drawn from a fixed seed: where each block lies, what the device is asked
+//! Lists of calls of the free-list allocator, drawn from a fixed seed. Where each block lies, what the device is asked
 //! for, what is held and what is free is compared with plain lists of chunks and live blocks.
 
 ghost use Rattle.std.specs.Prelude.{◌≡◌, ◌<◌};

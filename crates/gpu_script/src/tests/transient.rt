@@ -105,8 +105,8 @@ const NON_COHERENT: [MemoryType; 1] = [MemoryType {
     props: MemoryPropertyFlags::HOST_VISIBLE,
 }];
 
-/// Heaps over memory that must be flushed by atoms of 64 bytes, and blocks of them: one with an object of its own, one
-/// that is the whole of the least chunk, and some that share one.
+/// Heaps over memory that must be flushed by atoms of 64 bytes, and blocks of them. One has an object of its own, one
+/// is the whole of the least chunk, and some share one.
 const ATOMS: [([MemoryHeap; 1], &[Step]); 3] = [
     (
         [MemoryHeap { size: 3200 }],
