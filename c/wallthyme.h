@@ -208,9 +208,10 @@ typedef struct wt_limits {
    WT_FIT: in fit chunks. Each block is as long as asked, in whole grains (256 bytes, or the atom where that is larger),
    in a free run that has room. Requests over the first fit chunk's size get an object of their own. (That size is
    starting_free_list_chunk, cut to 1/32 of the heap; where it is less than a grain, all requests do.) Later chunks grow
-   up to four times the first. For each memory type at most one fit chunk stays without a live block, until wt_cleanup.
-   The same requests hold less memory. But where its lists show no place, a call looks at all blocks and free runs in
-   the fit chunks of each memory type that it tries, before it asks for a chunk. */
+   up to four times the first, and no larger than a free list's largest. For each memory type at most one fit chunk
+   stays without a live block, until wt_cleanup. The same requests hold less memory. But where its lists show no place,
+   a call looks at all blocks and free runs in the fit chunks of each memory type that it tries, before it asks for a
+   chunk. */
 enum { WT_BUDDY = 0, WT_FIT = 1 };
 
 /* The sizes that steer the allocator, in bytes, as in gpu-alloc's Config, and how requests share objects. Any sizes

@@ -79,7 +79,7 @@ pub enum Sharing {
     ///
     /// Requests over the size of the first chunk ([`Config::starting_free_list_chunk`], at most a 32nd of the heap) get
     /// an object of their own; where that is less than a grain, all requests do. Later chunks grow up to four times the
-    /// first. Of each memory type at most one fit chunk stays without a live block, until
-    /// [`GpuAllocator::cleanup`](crate::GpuAllocator::cleanup).
+    /// first, and no larger than a free list's largest. Of each memory type at most one fit chunk stays without a live
+    /// block, until [`GpuAllocator::cleanup`](crate::GpuAllocator::cleanup).
     Fit,
 }
