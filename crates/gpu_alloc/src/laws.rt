@@ -5,7 +5,7 @@ ghost use Rattle.std.specs.FinSet as set;
 ghost use Rattle.gpu_alloc_types.specs.declared.types.FreeRange.{FreeRange};
 ghost use Rattle.gpu_alloc_block.specs.Agreement.{Agrees, KeptBlocksAgree};
 ghost use Rattle.gpu_alloc_block.specs.ByteCalls.{BytesMoved};
-ghost use Rattle.gpu_alloc.specs.Allocation.{strategy, AloneIsTold, CandidatesServe};
+ghost use Rattle.gpu_alloc.specs.Allocation.{strategy, AloneIsTold, CandidatesServe, ExactIsTold};
 ghost use Rattle.gpu_alloc.specs.Budget.{heap_budget, heap_bytes, AreLimits, HoldsNoImportOf, IsAskedWithinBudget, IsWithinHeaps};
 ghost use Rattle.gpu_alloc.specs.Exactness.{AreCanonical, AreFreePieces, AreLongEnough, ArePiecesApart};
 ghost use Rattle.gpu_alloc.specs.Exactness.{AreSpaced, AreFreeRuns, TellPlaces};
@@ -16,7 +16,7 @@ ghost use Rattle.gpu_alloc_buddy.specs.BuddyState.{Buddy, IsFreeAt};
 ghost use Rattle.gpu_alloc_base.specs.Config.{potato, prototyping};
 ghost use Rattle.gpu_alloc.specs.FreeBytes.{IsFreeByte};
 ghost use Rattle.gpu_alloc.specs.FreeRanges.{HasByte, IsFreeOf, IsFreeRangeOf};
-ghost use Rattle.gpu_alloc.specs.FitSharing.{HasFitPlace, fit_alignment, fit_question, fit_size, largest_fit};
+ghost use Rattle.gpu_alloc.specs.FitSharing.{FitChunksAreSmall, HasFitPlace, fit_alignment, fit_question, fit_size, largest_fit};
 ghost use Rattle.gpu_alloc.specs.FitSharing.{with_fit_chunk};
 ghost use Rattle.gpu_alloc_freelist.specs.FreeList.{HasPlace};
 ghost use Rattle.gpu_alloc_freelist.specs.FreeListState.{Space, IsFreeIn};
@@ -125,6 +125,13 @@ pub fn free_list_chunks_of_samples()
     ensures atom_aligned { list_alignment (over 3200 2 64) (bytes_for 60 16) 0 ≡ 64 }
     ensures question { (list_question (over 1048576 1 1) 0 20000).size ≡ 32768 }
     ensures seen { (list_question (over 3200 2 64) 0 64).mapped ≡ true }
+{}
+
+/// Sizes of fit chunks, of every configuration, heap and grain: the first one has room for every request that shares one,
+/// a later one is no smaller and at most four times as large, and none is larger than a 32nd of its heap, but for one of a
+/// single grain.
+pub fn fit_chunks_are_small()
+    ensures { FitChunksAreSmall }
 {}
 
 /// Blocks of fit chunks and those chunks, where they are chosen: sizes and alignments up to the grain, the questions for a
@@ -258,6 +265,12 @@ pub fn questions_within_the_budget_are_asked()
 /// (`GpuAllocator::serves_alone`): by this call what the clause `alone` says becomes known.
 pub fn own_objects_are_where_served_alone()
     ensures { AloneIsTold }
+{}
+
+/// A granted block of a fit chunk is exactly as long as asked, in whole grains, and starts at a grain and with the request's
+/// alignment: by this call what the clause `exact` says becomes known.
+pub fn blocks_of_fit_chunks_are_exact()
+    ensures { ExactIsTold }
 {}
 
 /// Each candidate of a request, which a granted block's memory type is, is a memory type that the request permits and
