@@ -17,7 +17,7 @@ use Rattle.gpu_alloc_base.specs.declared.error.AllocationError.TheVariants.{OutO
 use Rattle.gpu_alloc_base.specs.declared.error.AllocationError.TheVariants.{NoCompatibleMemoryTypes, TooManyObjects}
 use Rattle.gpu_alloc_usage.specs.Ranking.{candidates, compatible, implied}
 use Rattle.gpu_alloc.specs.Candidates.{candidate}
-use Rattle.gpu_alloc.specs.FitSharing.{fit_size, fits_first}
+use Rattle.gpu_alloc.specs.FitSharing.{fit_alignment, fit_size, fits_first}
 use Rattle.gpu_alloc.specs.Request.{in_pages, is_required}
 use Rattle.gpu_alloc_block.specs.State.{HeldObject, Span, Block, span_of, State, IsLive, IsOwned, AreApart, is_shared}
 use Rattle.gpu_alloc.specs.declared.allocator.Ask.{Ask}
@@ -240,9 +240,18 @@ pub record ServesRequest (s : State) (r : Request) (t : ℕ) : Type 0 where
 pub record CandidatesServe : Type 0 where
   pub each : (s : State) (r : Request) (t : ℕ) → IsCandidate s r t → ServesRequest s r t
 
--- a block of a fit chunk is as long as asked, in whole grains
-abbrev pub IsExact : State → Request → Block → Type 0
-IsExact s r b = b.kind ≡ FitChunk → b.size ≡ fit_size s r b.memory_type
+-- a block is as long as requested, in whole grains of this memory type, and starts at a grain and with the request's
+-- alignment
+abbrev pub IsAsAsked : State → Request → ℕ → Block → Type 0
+IsAsAsked s r t b = (b.size ≡ fit_size s r t) × IsMultipleOf (fit_alignment s r t) b.offset
+
+-- a block of a fit chunk is as requested
+unfoldable pub IsExact : State → Request → Block → Type 0
+IsExact s r b = b.kind ≡ FitChunk → IsAsAsked s r b.memory_type b
+
+-- that clause, spelled out
+abbrev pub ExactIsTold : Type 0
+ExactIsTold = (s : State) (r : Request) (b : Block) → IsExact s r b → b.kind ≡ FitChunk → IsAsAsked s r b.memory_type b
 
 -- what a caller may know of a granted block without following the decision
 pub record IsGranted (s : State) (r : Request) (new : State) (b : Block) : Type 0 where

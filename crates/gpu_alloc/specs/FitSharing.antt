@@ -1,5 +1,5 @@
 -- Blocks in the fit chunks of a memory type, in terms of the whole allocator's state.
-use Rattle.std.specs.Prelude.{◌≡◌, ℕ, zero, suc, ◌+◌, ◌-◌, ◌*◌, ◌/◌, Bool, List, [], ◌∷◌, Option, Some, None, max, min, nat_le, slice_get}
+use Rattle.std.specs.Prelude.{◌≡◌, ℕ, zero, suc, ◌+◌, ◌-◌, ◌*◌, ◌/◌, ◌<◌, ◌≤◌, Bool, List, [], ◌∷◌, Option, Some, None, max, min, nat_le, slice_get}
 use Rattle.std.specs.FinMap as map
 use Rattle.gpu_alloc_types.specs.Properties.{heap_size, atom_of, is_host_visible}
 use Rattle.gpu_alloc_block.specs.declared.block.Kind.TheVariants.{FitChunk}
@@ -29,6 +29,18 @@ first_fit c heap g = down (min c.starting_free_list_chunk (heap / 32)) g
 -- the largest fit chunk: four times the first, and no larger than the largest free-list chunk
 abbrev pub largest_fit : Config → ℕ → ℕ → ℕ
 largest_fit c heap g = min (4 * starting_size c heap g) (final_size c heap g)
+
+-- what these sizes guarantee: the first chunk has room for every request that shares one, a later one is no smaller and
+-- at most four times as large, and none is larger than a 32nd of the heap or a single grain
+pub record AreSmall (c : Config) (heap g : ℕ) : Type 0 where
+  pub room : first_fit c heap g ≤ starting_size c heap g
+  pub grows : starting_size c heap g ≤ largest_fit c heap g
+  pub four_times : largest_fit c heap g ≤ 4 * starting_size c heap g
+  pub part : largest_fit c heap g ≤ max g (heap / 32)
+
+-- every configuration has such sizes
+pub record FitChunksAreSmall : Type 0 where
+  pub each : (c : Config) (heap g : ℕ) → 0 < g → AreSmall c heap g
 
 -- the size of a block for a request, in whole grains
 abbrev pub fit_size : State → Request → ℕ → ℕ

@@ -6,7 +6,7 @@ ghost use Rattle.std.specs.FinSet as set;
 ghost use Rattle.gpu_alloc_types.specs.declared.types.FreeRange.{FreeRange};
 ghost use Rattle.gpu_alloc_block.specs.Agreement.{Agrees, KeptBlocksAgree};
 ghost use Rattle.gpu_alloc_block.specs.ByteCalls.{BytesMoved};
-ghost use Rattle.gpu_alloc.specs.Allocation.{strategy, AloneIsTold, CandidatesServe};
+ghost use Rattle.gpu_alloc.specs.Allocation.{strategy, AloneIsTold, CandidatesServe, ExactIsTold};
 ghost use Rattle.gpu_alloc.specs.Budget.{heap_budget, heap_bytes, AreLimits, HoldsNoImportOf, IsAskedWithinBudget, IsWithinHeaps};
 ghost use Rattle.gpu_alloc.specs.Exactness.{AreCanonical, AreFreePieces, AreLongEnough, ArePiecesApart};
 ghost use Rattle.gpu_alloc.specs.Exactness.{AreSpaced, AreFreeRuns, TellPlaces};
@@ -17,7 +17,7 @@ ghost use Rattle.gpu_alloc_buddy.specs.BuddyState.{Buddy, IsFreeAt};
 ghost use Rattle.gpu_alloc_base.specs.Config.{potato, prototyping};
 ghost use Rattle.gpu_alloc.specs.FreeBytes.{IsFreeByte};
 ghost use Rattle.gpu_alloc.specs.FreeRanges.{HasByte, IsFreeOf, IsFreeRangeOf};
-ghost use Rattle.gpu_alloc.specs.FitSharing.{HasFitPlace, fit_alignment, fit_question, fit_size, largest_fit};
+ghost use Rattle.gpu_alloc.specs.FitSharing.{FitChunksAreSmall, HasFitPlace, fit_alignment, fit_question, fit_size, largest_fit};
 ghost use Rattle.gpu_alloc.specs.FitSharing.{with_fit_chunk};
 ghost use Rattle.gpu_alloc_freelist.specs.FreeList.{HasPlace};
 ghost use Rattle.gpu_alloc_freelist.specs.FreeListState.{Space, IsFreeIn};
@@ -126,6 +126,13 @@ pub fn free_list_chunks_of_samples()
     ensures atom_aligned { list_alignment (over 3200 2 64) (bytes_for 60 16) 0 ≡ 64 }
     ensures question { (list_question (over 1048576 1 1) 0 20000).size ≡ 32768 }
     ensures seen { (list_question (over 3200 2 64) 0 64).mapped ≡ true }
+{}
+
+/// Sizes of fit chunks, for every configuration, heap and grain. The first one has room for every request that shares
+/// one. A later one is no smaller and at most four times as large. None is larger than a 32nd of its heap, or a single
+/// grain.
+pub fn fit_chunks_are_small()
+    ensures { FitChunksAreSmall }
 {}
 
 /// Fit chunks and their blocks, where fit chunks are chosen: sizes and alignments up to the grain, and the questions
@@ -260,6 +267,12 @@ pub fn questions_within_the_budget_are_asked()
 /// (`GpuAllocator::serves_alone`). After this call a caller knows what the clause `alone` says.
 pub fn own_objects_are_where_served_alone()
     ensures { AloneIsTold }
+{}
+
+/// A granted block of a fit chunk is exactly as long as requested, in whole grains, and starts at a grain and with the
+/// request's alignment. After this call a caller knows what the clause `exact` says.
+pub fn blocks_of_fit_chunks_are_exact()
+    ensures { ExactIsTold }
 {}
 
 /// Each candidate of a request is a memory type that the request permits and that may serve its usage. A granted
