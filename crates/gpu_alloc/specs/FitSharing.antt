@@ -30,8 +30,8 @@ first_fit c heap g = down (min c.starting_free_list_chunk (heap / 32)) g
 abbrev pub largest_fit : Config → ℕ → ℕ → ℕ
 largest_fit c heap g = min (4 * starting_size c heap g) (final_size c heap g)
 
--- what these sizes guarantee: the first chunk has room for every request that shares one, a later one is no smaller and
--- at most four times as large, and none is larger than a 32nd of the heap or a single grain
+-- what these sizes guarantee: the first chunk has room for every request that shares one, and a later one is no smaller
+-- and at most four times as large. None is larger than a 32nd of the heap or a single grain
 pub record AreSmall (c : Config) (heap g : ℕ) : Type 0 where
   pub room : first_fit c heap g ≤ starting_size c heap g
   pub grows : starting_size c heap g ≤ largest_fit c heap g
