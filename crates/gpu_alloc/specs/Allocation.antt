@@ -95,7 +95,7 @@ Tries s r hint t es (Err e) new = Decides s r hint t es (Err e) new
 abbrev pub ask : Request → Option Dedicated → ℕ → Ask
 ask r hint t = record { request = r; hint = hint }
 
--- one candidate was tried for what it is asked
+-- one candidate was tried for its request
 abbrev pub TriesAsked : State → (ℕ → Ask) → ℕ → List Event → Result (Option Block) AllocationError → State → Type 0
 TriesAsked s asked t es answer new = Tries s (asked t).request (asked t).hint t es answer new
 

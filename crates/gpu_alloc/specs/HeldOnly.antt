@@ -17,7 +17,7 @@ pub record HasPlaceBy (w : Strategy) (s : State) (r : Request) (t : ℕ) : Type 
   pub fits : (candidate w s r t).Fits
   pub place : (candidate w s r t).HasPlace
 
--- a candidate has a place for what it is asked
+-- a candidate has a place for its request
 abbrev pub HasPlaceFor : State → (ℕ → Ask) → ℕ → Type 0
 HasPlaceFor s asked t =
     HasPlaceBy (strategy s (asked t).request (asked t).hint t) s (asked t).request t

@@ -56,7 +56,7 @@ pub record ImportsAgree : Type 0 where
       (objects : ℕ → Option Object) → ImportAgrees s object memory_type offset size new b → Agrees s p objects
       → MayBeImported p objects object memory_type offset size → BlockAgrees b p objects
 
--- On every device, no byte of which changes, blocks in hand stay so. Where it agreed with the allocator and held such
+-- On every device, whose bytes do not change, blocks in hand stay so. Where it agreed with the allocator and held such
 -- an object, the block joins them. Of what was outside the allocator it takes the object and nothing else.
 pub record ImportsInHand (s : State) (object memory_type offset size : ℕ) (new : State) (b : Block) : Type 0 where
   pub kept : (p : Properties) (objects : ℕ → Option Object) (at : ℕ → Option Block) → AreKept s p objects at

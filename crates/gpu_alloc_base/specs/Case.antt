@@ -40,12 +40,12 @@ module _ {B S : Type 0} (c : Case B S) where
   abbrev pub IsBarred : Type 0
   IsBarred = (c.remaining ≡ 0) ⊎ (c.HasNumber → ⊥)
 
-  -- an object more may be asked for
+  -- one more object may be asked for
   pub record MayAsk : Type 0 where
     pub objects : 0 < c.remaining
     pub number : c.HasNumber
 
-  -- there is a question: it fits, there is no place, and an object more may be asked for
+  -- there is a question: it fits, there is no place, and one more object may be asked for
   pub record HasQuestion : Type 0 where
     pub fits : c.Fits
     pub no_place : c.HasPlace → ⊥
@@ -64,7 +64,7 @@ module _ {B S : Type 0} (c : Case B S) where
     pub has : HasQuestion
     pub within : IsWithinBudget
 
-  -- no refusal is certain yet: it fits, and there is a place, or an object more may be asked for within the budget
+  -- no refusal is certain yet: it fits, and there is a place, or one more object may be asked for within the budget
   pub record IsOpen : Type 0 where
     pub fits : c.Fits
     pub ways : c.HasPlace ⊎ (MayAsk × IsWithinBudget)

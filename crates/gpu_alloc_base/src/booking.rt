@@ -5,7 +5,7 @@ ghost use Rattle.std.specs.Prelude.{◌≡◌, ◌+◌, ◌-◌, ◌<◌, ◌≤
 
 use crate::heap::Heap;
 
-/// Books a new object of `size` bytes: its heap's ledger counts it, and one object less may still be held.
+/// Books a new object of `size` bytes: its heap's ledger counts it, and one object fewer may still be held.
 #[inline(always)]
 pub fn hold(heap: &mut Heap, allocations_remains: &mut u32, size: u64)
     requires room { heap.old.used + size < 2 ^ 128 }

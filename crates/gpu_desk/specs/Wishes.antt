@@ -20,7 +20,7 @@ abbrev pub plan_for : State → ℕ → Request → Wish → Plan
 plan_for s granularity r w =
     cond (goes_by_pages granularity w) (plan_in_pages s r w.dedicated granularity) (plan s r w.dedicated)
 
--- whether a memory type serves what it is asked by an object of the block's own
+-- whether a memory type serves its request by an object of the block's own
 abbrev pub is_own : State → Plan → ℕ → Bool
 is_own s p t = serves_alone s (p.asked t).request (p.asked t).hint t
 

@@ -151,7 +151,7 @@ impl<M: MemoryObject, A: Allocator> GpuAllocator<M, A> {
         }
     }
 
-    /// The first candidate in rank that has a place for what it is asked, or `None`.
+    /// The first candidate in rank that has a place for its request, or `None`.
     fn first_with_place(
         &mut self,
         request: &Request,
@@ -177,7 +177,7 @@ impl<M: MemoryObject, A: Allocator> GpuAllocator<M, A> {
         None
     }
 
-    /// Whether a memory type has a place for what it is asked: for whole pages where the same request in them is given.
+    /// Whether a memory type has a place for its request: for whole pages where the same request in them is given.
     fn has_place_asked(
         &mut self,
         request: &Request,
