@@ -26,9 +26,9 @@ small c heap g some = record {
   grows = starting_within c heap g some;
   four_times = omega arith;
   part =
-    let last = max (max c.final_free_list_chunk c.starting_free_list_chunk) (transient_threshold c) in
-    let final = cut_part heap g last in
-    omega (arith, final);
+      let last = max (max c.final_free_list_chunk c.starting_free_list_chunk) (transient_threshold c) in
+      let final = cut_part heap g last in
+      omega (arith, final);
 }
 
 pub fit_chunks_small : FitChunksAreSmall
