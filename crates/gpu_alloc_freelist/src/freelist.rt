@@ -571,7 +571,7 @@ impl<M: MemoryObject, A: Allocator> FreeListAllocator<M, A> {
     }
 }
 
-/// Takes a block back into a list, and counts nothing.
+/// Returns a block to a list, and counts nothing.
 fn insert_uncounted<M: MemoryObject, A: Allocator, L: Ledger>(
     freelist: &mut FreeList<M, A>,
     block: FreeListBlock<M>,

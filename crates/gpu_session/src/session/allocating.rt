@@ -15,7 +15,7 @@ use gpu_alloc::{AllocationError, Dedicated, MemoryBlock, Request};
 use gpu_alloc_types::{MemoryDevice, MemoryObject};
 use std::alloc::Allocator;
 
-/// Keeps a block under a name that has none, and tells of it. There has to be room for its entry.
+/// Keeps a block under a free name, and describes it in the reply. Room for its entry was made.
 fn keep<M: MemoryObject, A: Allocator + Copy>(
     blocks: &mut Blocks<M, A>,
     name: u32,
